@@ -1,0 +1,256 @@
+//! The command line, by `clap`.
+//!
+//! Each argument is made by a function of its own: many of them in one function take minutes to check.
+ghost use Rattle.std.specs.Prelude.{◌≡◌, IfOk, vec_len};
+ghost use Rattle.bplint_engine.specs.Commands.{PrintsOnePath};
+
+use bplint_engine::{Command, Verb};
+use clap::{Arg, ArgAction, ArgMatches, Error, value_parser};
+use std::alloc::{AllocError, Global};
+
+/// A command line that was taken.
+#[derive(Debug, Drop)]
+pub struct Line<'a> {
+    pub command: Command,
+    pub file: &'a str,
+    /// CERT, empty where the verb has none.
+    pub cert: &'a str,
+    /// OUT, and standard output where the verb has none.
+    pub out: &'a str,
+}
+
+fn hex<'a>(alloc: Global) -> Arg<'a> {
+    Arg::new(alloc, "hex")
+        .long("hex")
+        .action(ArgAction::SetTrue)
+        .help("FILE and CERT hold hexadecimal text, and OUT will")
+}
+
+fn operand<'a>(alloc: Global, name: &'a str, help: &'a str) -> Arg<'a> {
+    Arg::new(alloc, name).required(true).help(help)
+}
+
+fn file<'a>(alloc: Global) -> Arg<'a> {
+    operand(
+        alloc,
+        "FILE",
+        "A binary property list, or - for standard input",
+    )
+}
+
+fn out<'a>(alloc: Global) -> Arg<'a> {
+    operand(alloc, "OUT", "Where to write, or - for standard output")
+}
+
+fn sorted<'a>(alloc: Global) -> Arg<'a> {
+    Arg::new(alloc, "sorted")
+        .long("sorted")
+        .action(ArgAction::SetTrue)
+        .help("Write each dictionary's keys in sorted order too")
+}
+
+fn cert<'a>(alloc: Global) -> Arg<'a> {
+    operand(alloc, "CERT", "A certificate of FILE")
+}
+
+fn path<'a>(alloc: Global) -> Arg<'a> {
+    operand(
+        alloc,
+        "PATH",
+        "A key path, as /key/0, or the empty text for the whole",
+    )
+}
+
+fn paths<'a>(alloc: Global) -> Arg<'a> {
+    path(alloc).num_args(1..).action(ArgAction::Append)
+}
+
+fn limit<'a>(alloc: Global) -> Arg<'a> {
+    operand(
+        alloc,
+        "LIMIT",
+        "How many bytes to print at most, the line feed not counted",
+    )
+    .value_parser(value_parser!(u64))
+}
+
+fn subcommand<'a>(
+    alloc: Global,
+    name: &'a str,
+    about: &'a str,
+) -> Result<clap::Command<'a>, AllocError> {
+    clap::Command::new(alloc, name)
+        .about(about)
+        .arg(hex(alloc))?
+        .arg(file(alloc))
+}
+
+fn lint<'a>(alloc: Global) -> Result<clap::Command<'a>, AllocError> {
+    subcommand(alloc, "lint", "Says whether FILE holds a value")
+}
+
+fn certify<'a>(alloc: Global) -> Result<clap::Command<'a>, AllocError> {
+    subcommand(alloc, "certify", "Writes a certificate of FILE to OUT")?
+        .arg(sorted(alloc))?
+        .arg(out(alloc))
+}
+
+fn check<'a>(alloc: Global) -> Result<clap::Command<'a>, AllocError> {
+    subcommand(alloc, "check", "Checks a certificate of FILE")?.arg(cert(alloc))
+}
+
+fn get<'a>(alloc: Global) -> Result<clap::Command<'a>, AllocError> {
+    subcommand(alloc, "get", "Prints what lies under each PATH")?
+        .arg(cert(alloc))?
+        .arg(paths(alloc))
+}
+
+fn print<'a>(alloc: Global) -> Result<clap::Command<'a>, AllocError> {
+    let about = "Prints the value under PATH as old-style text";
+    subcommand(alloc, "print", about)?
+        .arg(cert(alloc))?
+        .arg(path(alloc))?
+        .arg(limit(alloc))
+}
+
+fn bplint<'a>(alloc: Global) -> Result<clap::Command<'a>, AllocError> {
+    clap::Command::new(alloc, "bplint")
+        .about("Lints, checks and reads binary property lists")
+        .version("0.1.0")
+        .subcommand_required(true)
+        .subcommand(lint(alloc)?)?
+        .subcommand(certify(alloc)?)?
+        .subcommand(check(alloc)?)?
+        .subcommand(get(alloc)?)?
+        .subcommand(print(alloc)?)
+}
+
+fn verb_of(name: &str) -> Verb {
+    match name {
+        "lint" => Verb::Lint,
+        "certify" => Verb::Certify,
+        "check" => Verb::Check,
+        "get" => Verb::Get,
+        _ => Verb::Print,
+    }
+}
+
+fn one_path(alloc: Global, text: &str) -> Result<Vec<String>, AllocError>
+    ensures { IfOk result (λ paths. vec_len paths ≡ 1) }
+{
+    let path = String::from_str(alloc, text)?;
+    Ok(vec![in alloc; path]?)
+}
+
+fn all_paths(alloc: Global, texts: &[&str]) -> Result<Vec<String>, AllocError> {
+    texts
+        .iter()
+        .map(|text| String::from_str(alloc, text))
+        .try_collect(alloc)
+}
+
+fn paths_of(alloc: Global, verb: Verb, matches: &ArgMatches<'_>) -> Result<Vec<String>, AllocError>
+    ensures { IfOk result (λ paths. verb ≡ Verb.Print → vec_len paths ≡ 1) }
+{
+    match verb {
+        Verb::Print => one_path(alloc, matches.get_str("PATH").unwrap_or("")),
+        Verb::Get => all_paths(alloc, matches.get_strs("PATH").unwrap_or(&[])),
+        Verb::Lint | Verb::Certify | Verb::Check => Ok(Vec::new(alloc)),
+    }
+}
+
+fn line_of<'a>(alloc: Global, verb: Verb, matches: &ArgMatches<'a>) -> Result<Line<'a>, AllocError>
+    ensures { IfOk result (λ line. PrintsOnePath line.command) }
+{
+    Ok(Line {
+        command: Command {
+            verb,
+            paths: paths_of(alloc, verb, matches)?,
+            limit: matches.get_one::<u64>("LIMIT").unwrap_or(0),
+            hex: matches.get_flag("hex"),
+            sorted: verb == Verb::Certify && matches.get_flag("sorted"),
+        },
+        file: matches.get_str("FILE").unwrap_or(""),
+        cert: matches.get_str("CERT").unwrap_or(""),
+        out: matches.get_str("OUT").unwrap_or("-"),
+    })
+}
+
+/// Takes a command line, or says why not in `clap`'s words.
+pub fn read_line<'a>(alloc: Global, words: &'a [String]) -> Result<Line<'a>, Error>
+    ensures { IfOk result (λ line. PrintsOnePath line.command) }
+{
+    let matches = bplint(alloc)?.try_get_matches_from(words)?;
+    match matches.subcommand() {
+        Some((name, below)) => Ok(line_of(alloc, verb_of(name), below)?),
+        None => Err(Error::from(AllocError)),
+    }
+}
+
+#[cfg(test)]
+mod tests {
+    use super::*;
+    use clap::error::ErrorKind;
+    use std::test::Fail;
+
+    fn words_of(alloc: Global, line: &str) -> Result<Vec<String>, AllocError> {
+        line.split(' ')
+            .map(|word| String::from_str(alloc, word))
+            .try_collect(alloc)
+    }
+
+    #[test]
+    fn lines_that_are_taken(rt: HostRuntime) -> Result<(), Fail> {
+        for (line, verb, paths, limit, hex, sorted) in [
+            ("bplint lint f", Verb::Lint, 0, 0, false, false),
+            ("bplint lint --hex -", Verb::Lint, 0, 0, true, false),
+            (
+                "bplint certify f o --sorted",
+                Verb::Certify,
+                0,
+                0,
+                false,
+                true,
+            ),
+            ("bplint check f c", Verb::Check, 0, 0, false, false),
+            ("bplint get f c /a  --hex", Verb::Get, 2, 0, true, false),
+            ("bplint print f c  0010", Verb::Print, 1, 10, false, false),
+            (
+                "bplint print f c /a 18446744073709551615",
+                Verb::Print,
+                1,
+                u64::MAX,
+                false,
+                false,
+            ),
+        ] {
+            let words = words_of(rt.alloc(), line)?;
+            let taken = read_line(rt.alloc(), &words)?;
+            assert_eq!(rt; taken.command.verb, verb, "in {line}");
+            assert_eq!(rt; taken.command.paths.len(), paths, "in {line}");
+            assert_eq!(rt; taken.command.limit, limit, "in {line}");
+            assert_eq!(rt; taken.command.hex, hex, "in {line}");
+            assert_eq!(rt; taken.command.sorted, sorted, "in {line}");
+        }
+        Ok(())
+    }
+
+    #[test]
+    fn lines_that_are_wrong(rt: HostRuntime) -> Result<(), Fail> {
+        for (line, kind) in [
+            ("bplint", ErrorKind::MissingSubcommand),
+            ("bplint nope", ErrorKind::InvalidSubcommand),
+            ("bplint check f", ErrorKind::MissingRequiredArgument),
+            ("bplint lint f --sorted", ErrorKind::UnknownArgument),
+            ("bplint print f c /a x", ErrorKind::ValueValidation),
+            ("bplint lint --help", ErrorKind::DisplayHelp),
+        ] {
+            let words = words_of(rt.alloc(), line)?;
+            let Err(error) = read_line(rt.alloc(), &words) else {
+                return Err(Fail::from("it was taken"));
+            };
+            assert_eq!(rt; error.kind(), kind, "in {line}");
+        }
+        Ok(())
+    }
+}

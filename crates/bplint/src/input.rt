@@ -1,0 +1,76 @@
+//! Inputs that are read whole.
+ghost use Rattle.std.specs.Prelude.{◌≡◌, ◌≤◌, IfOk, IfSome, vec_len};
+
+use crate::args::Line;
+use bplint_engine::{RunFault, Verb};
+use bplist_octets::ReadFault;
+use std::alloc::Global;
+use std::fs::{File, Files};
+use std::io::{ErrorKind, Read};
+
+/// How many bytes a whole input may have.
+pub const WHOLE_LIMIT: usize = 67_108_864;
+
+/// How many reads a whole input may take beyond its limit.
+pub const SPARE_READS: usize = 64;
+
+/// Reads to the end of the input. An interrupted read is tried again.
+fn read_whole<R: Read>(alloc: Global, reader: &mut R) -> Result<Vec<u8>, RunFault>
+    ensures bounded { IfOk result (λ v. vec_len v ≤ WHOLE_LIMIT) }
+    ensures bytes { IfOk result (λ v. IfSome (R.remaining reader.old) (λ xs. v.items ≡ xs)) }
+{
+    let mut all = Vec::new(alloc);
+    let mut chunk = [0; 16_384];
+    for _ in 0..WHOLE_LIMIT + SPARE_READS {
+        match reader.read(&mut chunk) {
+            Ok(0) => return Ok(all),
+            Ok(n) => {
+                if n > WHOLE_LIMIT - all.len() {
+                    return Err(RunFault::InputTooLong);
+                }
+                if all.extend_from_slice(&chunk[..n]).is_err() {
+                    return Err(RunFault::Memory);
+                }
+            }
+            Err(e) => {
+                if e.kind() != ErrorKind::Interrupted {
+                    return Err(RunFault::Read(ReadFault::Device));
+                }
+            }
+        }
+    }
+    Err(RunFault::Read(ReadFault::TooManyTurns))
+}
+
+/// Reads FILE whole, or standard input where it is `-`.
+pub fn read_operand<R: Files<File = File> + Input>(
+    rt: &R,
+    alloc: Global,
+    name: &str,
+) -> Result<Vec<u8>, RunFault> {
+    if name == "-" {
+        return read_whole(alloc, &mut rt.reader());
+    }
+    read_file(rt, alloc, name)
+}
+
+fn read_file<R: Files<File = File>>(
+    rt: &R,
+    alloc: Global,
+    name: &str,
+) -> Result<Vec<u8>, RunFault> {
+    let mut file = File::open(rt, name).map_err(|_| RunFault::Open)?;
+    read_whole(alloc, &mut file)
+}
+
+/// Reads CERT whole, where the verb has one.
+pub fn read_certificate<R: Files<File = File>>(
+    rt: &R,
+    alloc: Global,
+    line: &Line<'_>,
+) -> Result<Vec<u8>, RunFault> {
+    match line.command.verb {
+        Verb::Lint | Verb::Certify => Ok(Vec::new(alloc)),
+        Verb::Check | Verb::Get | Verb::Print => read_file(rt, alloc, line.cert),
+    }
+}

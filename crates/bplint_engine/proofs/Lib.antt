@@ -1,0 +1,9 @@
+mod CertifyAnswers
+mod GetAnswers
+mod Leaving
+mod LintAnswers
+mod Over
+mod PrintAnswers
+mod Queries
+mod Refused
+mod Sent

@@ -1,0 +1,131 @@
+-- What `print` says and leaves, from the answers of the cursor and of the printer.
+use Rattle.std.proofs.Common.{◌≡◌, ℕ, ◌+◌, List, [], ◌∷◌, ◌++◌, length, ap, sym, subst, refl, arith, Option, Result, Ok, Err}
+use Rattle.std.specs.Prelude.{IfOk, IfErr}
+use Rattle.std.proofs.Math.Logic.{∥∥₁_map}
+use Rattle.bplist_objects.specs.declared.frame.Frame.{Frame}
+use Rattle.bplist_objects.specs.Value.{Value}
+use Rattle.bplist_objects.specs.Holds.{Holds}
+use Rattle.bplist_cert.specs.CheckedFile.{CheckedFile}
+use Rattle.bplist_cert.specs.Lists.{Lists}
+use Rattle.bplist_cursor.specs.declared.faults.CursorFault.{CursorFault}
+use Rattle.bplist_cursor.specs.declared.faults.CursorFault.TheVariants as cursor_faults
+use Rattle.bplist_cursor.specs.declared.found.Node.{Node}
+use Rattle.bplist_cursor.specs.declared.found.Found.TheVariants.{At}
+use Rattle.bplist_cursor.specs.declared.found.Why.{Why}
+use Rattle.bplist_cursor.specs.declared.reply.Query.TheVariants.{Get}
+use Rattle.bplist_cursor.specs.Causes.{IsExcused}
+use Rattle.bplist_cursor.specs.Found.{IsFound, LeadTo, IsHeld}
+use Rattle.bplist_cursor.specs.Look.{look}
+use Rattle.bplist_ascii.specs.Sending.{Sending, Takes, TakesPart, AtMost}
+use Rattle.bplist_ascii.specs.Printed.{PrintFails, Prints}
+use Rattle.bplist_ascii.specs.declared.sink.WriteFault.{WriteFault}
+use Rattle.bplist_ascii.specs.declared.print_fault.PrintFault.{PrintFault}
+use Rattle.bplist_ascii.specs.declared.print_fault.PrintFault.TheVariants as print_faults
+use Rattle.bplist_ascii.proofs.SinkSteps.{out_start, out_takes, out_end, out_part, cut_more, takes_then_part}
+use Rattle.bplint_engine.specs.declared.fault.RunFault.{RunFault}
+use Rattle.bplint_engine.specs.declared.fault.RunFault.TheVariants as faults
+use Rattle.bplint_engine.specs.declared.output.Output.{Output}
+use Rattle.bplint_engine.specs.declared.said.Said.{Said}
+use Rattle.bplint_engine.specs.declared.said.Said.TheVariants.{All, SomeMissing}
+use Rattle.bplint_engine.specs.Answers.{Answer, gives, refuses, Answers, IsRefusal, Leaves, LeavesBy, LeavesFault}
+use Rattle.bplint_engine.specs.Asking.{AreQueries}
+use Rattle.bplint_engine.specs.Faults.{cursor_fault, print_fault}
+use Rattle.bplint_engine.specs.OutputLines.{missing_line}
+use Rattle.bplint_engine.specs.Printing.{NodeSays, PathSays, PrintSays, PrintGives}
+use Rattle.bplint_engine.specs.Vouching.{IsVouchedFor}
+use Rattle.bplint_engine.proofs.Leaving.{at_most, kept_self, said_as}
+
+-- the cursor met a failed read or a refused growth
+pub cursor_stopped : (Says : Answer → Type 0) (most : ℕ) (old : Option (List ℕ)) (fault : CursorFault) → IsExcused fault
+    → LeavesFault Says most old old (cursor_fault fault)
+cursor_stopped Says most old (cursor_faults.Read _) h = at_most old old most (kept_self old)
+cursor_stopped Says most old cursor_faults.Changed h = absurd h
+cursor_stopped Says most old cursor_faults.Memory h = at_most old old most (kept_self old)
+
+-- the text was not put in whole
+pub print_failed : (old new : Option (List ℕ)) (s u : Sending) (f : List ℕ) (F : Frame) (n : ℕ) (w : Value) (limit : ℕ) (fault : PrintFault)
+    → s ≡ record { sent = 0; held = [] } → PrintFails old new s u f F n w limit fault → AtMost old new (length s.held + limit)
+    → LeavesFault (NodeSays f F limit n w) limit old new (print_fault fault)
+print_failed old new s u f F n w limit (print_faults.NoAsciiForm part) start (none, formless, kept, _) bound = ((none, formless), kept)
+print_failed old new s u f F n w limit print_faults.TooLong start (t, is, long, kept, _) bound = ((t, is, long), kept)
+print_failed old new s u f F n w limit (print_faults.Write sent) start (t, is, fits, part) bound = (
+  All,
+  t ++ 10 ∷ [],
+  (t, is, fits, refl, refl),
+  cut_more old new t (10 ∷ []) sent (out_part old old new s [] t sent (out_start old s (ap (λ x. x.sent) start) (ap (λ x. x.held) start)) part),
+)
+print_failed old new s u f F n w limit (print_faults.Read _) start h (gone, few, added) =
+    (gone, omega (arith, ap (λ x. length x.held) start), added)
+print_failed old new s u f F n w limit print_faults.Changed start h bound = absurd h
+print_failed old new s u f F n w limit print_faults.Memory start h (gone, few, added) =
+    (gone, omega (arith, ap (λ x. length x.held) start), added)
+
+-- the text was put in, and its line feed was not
+pub end_failed : (old mid new : Option (List ℕ)) (s t : Sending) (f : List ℕ) (F : Frame) (n : ℕ) (w : Value) (limit sent : ℕ)
+    → s ≡ record { sent = 0; held = [] } → Prints old mid s t f F n w limit (Ok tt) → TakesPart mid new t (10 ∷ []) sent
+    → LeavesFault (NodeSays f F limit n w) limit old new (faults.Write sent)
+end_failed old mid new s t f F n w limit sent start (text, is, fits, takes) part =
+    let out = out_takes (out_start old s (ap (λ x. x.sent) start) (ap (λ x. x.held) start)) takes in
+    (All, text ++ 10 ∷ [], (text, is, fits, refl, refl), out_part old mid new t text (10 ∷ []) sent out part)
+
+-- text and line feed went out
+pub printed : (old mid new : Option (List ℕ)) (s t u : Sending) (f : List ℕ) (F : Frame) (n : ℕ) (w : Value) (limit : ℕ)
+    → s ≡ record { sent = 0; held = [] } → Prints old mid s t f F n w limit (Ok tt) → Takes mid new t u (10 ∷ []) → u.held ≡ []
+    → LeavesBy (NodeSays f F limit n w) limit old new (Ok All)
+printed old mid new s t u f F n w limit start (text, is, fits, takes) ended empty =
+    let out = out_takes (out_start old s (ap (λ x. x.sent) start) (ap (λ x. x.held) start)) takes in
+    (text ++ 10 ∷ [], (text, is, fits, refl, refl), out_end (out_takes out ended) empty)
+
+-- the answer for the node that a path leads to is that for the path
+node_to_path : (f : List ℕ) (F : Frame) (limit n : ℕ) (steps : List (List ℕ)) (v w : Value) → LeadTo f F F.top.0 steps n → look v steps ≡ Ok w
+    → (a : Answer) → NodeSays f F limit n w a → PathSays f F limit steps v a
+node_to_path f F limit n steps v w leads is (gives said bytes) h = subst (λ r. PrintGives limit r said bytes) (sym is) h
+node_to_path f F limit n steps v w leads is (refuses fault) h = (n, w, leads, is, h)
+
+pub at_node : (checked : CheckedFile) (v : Value) (steps : List (List ℕ)) (node : Node) (limit : ℕ) (old new : Option (List ℕ)) (result : Result Said RunFault)
+    → IsFound checked v steps (At node)
+    → ((w : Value) → IsHeld checked node.object.0 w → LeavesBy (NodeSays checked.source.octets checked.frame limit node.object.0 w) limit old new result)
+    → LeavesBy (PathSays checked.source.octets checked.frame limit steps v) limit old new result
+at_node checked v steps node limit old new result (leads, (w, is, held)) left =
+    said_as (NodeSays checked.source.octets checked.frame limit node.object.0 w) (PathSays checked.source.octets checked.frame limit steps v) limit old new result
+    (node_to_path checked.source.octets checked.frame limit node.object.0 steps v w leads is) (left w held)
+
+-- a path leads nowhere
+pub missing_says : (f : List ℕ) (F : Frame) (limit : ℕ) (steps : List (List ℕ)) (v : Value) (step : ℕ) (why : Why) (made : Result Output RunFault)
+    → look v steps ≡ Err (record { step = step; why = why })
+    → IfOk made (λ output. (output.said ≡ SomeMissing) × (output.bytes.items ≡ missing_line step why ++ 10 ∷ []))
+    → IfErr made (λ fault. fault ≡ faults.Memory) → Answers (PathSays f F limit steps v) made
+missing_says f F limit steps v step why (Ok output) is told _ = subst (λ r. PrintGives limit r output.said output.bytes.items) (sym is) told
+missing_says f F limit steps v step why (Err fault) is _ memory = subst (IsRefusal (PathSays f F limit steps v)) (sym memory) tt
+
+-- the answer for the value that the file holds is that of the command
+path_to_print : (f cert : List ℕ) (texts : List (List ℕ)) (limit : ℕ) (steps : List (List ℕ)) (F : Frame) (lists : Lists) (v : Value)
+    → AreQueries texts (Get steps ∷ []) → IsVouchedFor f cert F lists → Holds f F F.top.0 v
+    → (a : Answer) → PathSays f F limit steps v a → PrintSays f cert texts limit a
+path_to_print f cert texts limit steps F lists v are vouched holds (gives said bytes) h = (steps, F, lists, v, are, vouched, holds, h)
+path_to_print f cert texts limit steps F lists v are vouched holds (refuses (faults.NoAsciiForm part)) h = (steps, F, lists, v, are, vouched, holds, h)
+path_to_print f cert texts limit steps F lists v are vouched holds (refuses faults.TooLong) h = (steps, F, lists, v, are, vouched, holds, h)
+path_to_print f cert texts limit steps F lists v are vouched holds (refuses (faults.Fault fault)) (n, w, leads, is, h) = absurd h
+path_to_print f cert texts limit steps F lists v are vouched holds (refuses (faults.Circle ns)) (n, w, leads, is, h) = absurd h
+path_to_print f cert texts limit steps F lists v are vouched holds (refuses (faults.Path place)) (n, w, leads, is, h) = absurd h
+path_to_print f cert texts limit steps F lists v are vouched holds (refuses (faults.Read fault)) (n, w, leads, is, h) = absurd h
+path_to_print f cert texts limit steps F lists v are vouched holds (refuses faults.Hex) (n, w, leads, is, h) = absurd h
+path_to_print f cert texts limit steps F lists v are vouched holds (refuses faults.Changed) (n, w, leads, is, h) = absurd h
+path_to_print f cert texts limit steps F lists v are vouched holds (refuses (faults.Write sent)) (n, w, leads, is, h) = absurd h
+path_to_print f cert texts limit steps F lists v are vouched holds (refuses faults.Memory) (n, w, leads, is, h) = absurd h
+path_to_print f cert texts limit steps F lists v are vouched holds (refuses faults.Open) (n, w, leads, is, h) = absurd h
+path_to_print f cert texts limit steps F lists v are vouched holds (refuses faults.InputTooLong) (n, w, leads, is, h) = absurd h
+
+pub print_leaves : (f cert : List ℕ) (texts : List (List ℕ)) (limit : ℕ) (steps : List (List ℕ)) (F : Frame) (lists : Lists) (old new : Option (List ℕ))
+    (result : Result Said RunFault) → AreQueries texts (Get steps ∷ []) → IsVouchedFor f cert F lists → ∥ ((v : Value) × Holds f F F.top.0 v) ∥₁
+    → ((v : Value) → Holds f F F.top.0 v → LeavesBy (PathSays f F limit steps v) limit old new result)
+    → Leaves (PrintSays f cert texts limit) limit old new result
+print_leaves f cert texts limit steps F lists old new result are vouched value left =
+    ∥∥₁_map value (λ h. said_as (PathSays f F limit steps h.0) (PrintSays f cert texts limit) limit old new result
+    (path_to_print f cert texts limit steps F lists h.0 are vouched h.1) (left h.0 h.1))
+
+-- a line feed was put in, and a flush cut it
+pub line_cut : (old mid new : Option (List ℕ)) (s t : Sending) (r : Result (Unit {0}) WriteFault) → Takes old mid s t (10 ∷ [])
+    → IfErr r (λ fault. TakesPart mid new t [] fault.sent) → IfErr r (λ fault. TakesPart old new s (10 ∷ []) fault.sent)
+line_cut old mid new s t (Ok _) takes part = tt
+line_cut old mid new s t (Err fault) takes part = takes_then_part old mid new s t (10 ∷ []) [] fault.sent takes part

@@ -1,0 +1,17 @@
+-- What is asked of a command. Source: profile.
+use Rattle.std.specs.Prelude.{◌≡◌, ℕ, Bool, List, length}
+use Rattle.bplint_engine.specs.declared.command.Verb.{Verb}
+use Rattle.bplint_engine.specs.declared.command.Verb.TheVariants.{Print}
+
+-- a command: its verb, the path texts, how many bytes the text of Print may have, whether inputs and certificates are
+-- hexadecimal texts, and whether Certify writes key lists
+pub record Asked : Type 0 where
+  pub verb : Verb
+  pub paths : List (List ℕ)
+  pub limit : ℕ
+  pub hex : Bool
+  pub sorted : Bool
+
+-- Print has exactly one path
+abbrev pub PrintsOnePath : Asked → Type 0
+PrintsOnePath command = command.verb ≡ Print → length command.paths ≡ 1

@@ -1,0 +1,14 @@
+pub mod Answers
+pub mod Asking
+pub mod Certifying
+pub mod Checking
+pub mod Commands
+pub mod FaultLines
+pub mod Faults
+pub mod Getting
+pub mod Hexadecimal
+pub mod Linting
+pub mod OutputLines
+pub mod Printing
+pub mod Said
+pub mod Vouching

@@ -1,0 +1,78 @@
+-- The lines of standard output, without line feeds. Source: profile.
+use Rattle.std.specs.Prelude.{ℕ, List, ◌++◌, codes, true, false}
+use Rattle.std.specs.Fmt.{decimal, signed_decimal}
+use Rattle.hex.specs.Hex.{encode_lower}
+use Rattle.bplist_objects.specs.declared.kind.Kind.{Kind}
+use Rattle.bplist_objects.specs.declared.kind.Kind.TheVariants.{Null, False, True, Int, Real, Date, Bytes, Ascii, Wide, Uid, Array, Set, Dict}
+use Rattle.bplist_objects.specs.Value.{null, boolean, int, real, date, bytes, text, uid}
+use Rattle.bplist_objects.specs.Heads.{Content, leaf, array, set, dict}
+use Rattle.bplist_cursor.specs.declared.faces.Face.{Face}
+use Rattle.bplist_cursor.specs.declared.faces.Face.TheVariants as faces
+use Rattle.bplist_cursor.specs.declared.found.Why.{Why}
+use Rattle.bplist_cursor.specs.declared.found.Why.TheVariants.{NoKey, NoIndex, NotSteppable}
+use Rattle.bplist_cursor.specs.Texts.{text_of_units, text_of_bytes}
+
+-- the word of a kind
+abbrev pub kind_word : Kind → List ℕ
+kind_word Null = codes "null"
+kind_word False = codes "false"
+kind_word True = codes "true"
+kind_word Int = codes "int"
+kind_word Real = codes "real"
+kind_word Date = codes "date"
+kind_word Bytes = codes "data"
+kind_word Ascii = codes "text"
+kind_word Wide = codes "text"
+kind_word Uid = codes "uid"
+kind_word Array = codes "array"
+kind_word Set = codes "set"
+kind_word Dict = codes "dict"
+
+-- the word of what an object spells
+abbrev pub content_word : Content → List ℕ
+content_word (leaf null) = codes "null"
+content_word (leaf (boolean false)) = codes "false"
+content_word (leaf (boolean true)) = codes "true"
+content_word (leaf (int i)) = codes "int"
+content_word (leaf (real l)) = codes "real"
+content_word (leaf (date l)) = codes "date"
+content_word (leaf (bytes l)) = codes "data"
+content_word (leaf (text units)) = codes "text"
+content_word (leaf (uid x)) = codes "uid"
+content_word (array ms) = codes "array"
+content_word (set ms) = codes "set"
+content_word (dict ks ms) = codes "dict"
+
+-- the line of `lint`
+abbrev pub lint_line : ℕ → ℕ → List ℕ → List ℕ
+lint_line reached height word =
+    codes "ok reached " ++ (decimal reached ++ (codes " height " ++ (decimal height ++ (codes " top " ++ word))))
+
+-- the line of `check`
+abbrev pub check_line : ℕ → ℕ → List ℕ
+check_line objects height = codes "ok objects " ++ (decimal objects ++ (codes " height " ++ decimal height))
+
+-- the line of `get` for a value: its kind, and a leaf's value or a container's count
+abbrev pub face_line : Face → List ℕ
+face_line faces.Null = codes "null"
+face_line (faces.Bool false) = codes "false"
+face_line (faces.Bool true) = codes "true"
+face_line (faces.Int i) = codes "int " ++ signed_decimal i
+face_line (faces.Real l) = codes "real " ++ encode_lower l
+face_line (faces.Date l) = codes "date " ++ encode_lower l
+face_line (faces.Bytes l) = codes "data " ++ text_of_bytes l
+face_line (faces.Text units) = codes "text " ++ text_of_units units
+face_line (faces.Uid x) = codes "uid " ++ decimal x
+face_line (faces.Array count) = codes "array " ++ decimal count
+face_line (faces.Set count) = codes "set " ++ decimal count
+face_line (faces.Dict count) = codes "dict " ++ decimal count
+
+-- why a step can't be taken
+abbrev pub why_word : Why → List ℕ
+why_word NoKey = codes "NoKey"
+why_word NoIndex = codes "NoIndex"
+why_word NotSteppable = codes "NotSteppable"
+
+-- the line for a path that leads nowhere
+abbrev pub missing_line : ℕ → Why → List ℕ
+missing_line step why = codes "missing " ++ (decimal step ++ (codes " " ++ why_word why))

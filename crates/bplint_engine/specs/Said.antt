@@ -1,0 +1,51 @@
+-- What a run says. Source: profile.
+use Rattle.std.specs.Prelude.{◌≡◌, ℕ, List, [], Bool, true, false, MatchResult}
+use Rattle.bplint_engine.specs.declared.command.Verb.{Verb}
+use Rattle.bplint_engine.specs.declared.command.Verb.TheVariants.{Lint, Check, Get, Certify, Print}
+use Rattle.bplint_engine.specs.declared.fault.RunFault.TheVariants.{Hex}
+use Rattle.bplint_engine.specs.Answers.{Answer, refuses}
+use Rattle.bplint_engine.specs.Certifying.{CertifySays}
+use Rattle.bplint_engine.specs.Checking.{CheckSays}
+use Rattle.bplint_engine.specs.Commands.{Asked}
+use Rattle.bplint_engine.specs.Getting.{GetSays}
+use Rattle.bplint_engine.specs.Hexadecimal.{spelled}
+use Rattle.bplint_engine.specs.Linting.{LintSays}
+use Rattle.bplint_engine.specs.Printing.{PrintSays}
+
+-- the answer to a command by its verb
+abbrev pub SaysBy : Verb → Asked → List ℕ → List ℕ → Answer → Type 0
+SaysBy Lint command f cert answer = LintSays f answer
+SaysBy Check command f cert answer = CheckSays f cert answer
+SaysBy Certify command f cert answer = CertifySays command.sorted command.hex f answer
+SaysBy Get command f cert answer = GetSays f cert command.paths answer
+SaysBy Print command f cert answer = PrintSays f cert command.paths command.limit answer
+
+-- the answer to a command over a file and a certificate's bytes
+abbrev pub Says : Asked → List ℕ → List ℕ → Answer → Type 0
+Says command f cert answer = SaysBy command.verb command f cert answer
+
+-- how many bytes may have gone out where a read failed or memory was refused: with Print a part of the text
+abbrev pub most_by : Verb → ℕ → ℕ
+most_by Print limit = limit
+most_by _ limit = 0
+
+abbrev pub most : Asked → ℕ
+most command = most_by command.verb command.limit
+
+-- the verb looks at the certificate
+abbrev pub takes_cert : Verb → Bool
+takes_cert Lint = false
+takes_cert Certify = false
+takes_cert _ = true
+
+-- the answer to a command over the bytes of a file and the hexadecimal text of a certificate, if it is looked at
+abbrev pub SaysBeside : Bool → Asked → List ℕ → List ℕ → Answer → Type 0
+SaysBeside false command f text answer = Says command f [] answer
+SaysBeside true command f text answer =
+    MatchResult (spelled text) (λ cert. Says command f cert answer) (λ _. answer ≡ refuses Hex)
+
+-- the answer to a command over inputs: with `hex` over the bytes that the texts spell, the file's looked at first
+abbrev pub SaysOver : Bool → Asked → List ℕ → List ℕ → Answer → Type 0
+SaysOver false command file cert answer = Says command file cert answer
+SaysOver true command file cert answer =
+    MatchResult (spelled file) (λ f. SaysBeside (takes_cert command.verb) command f cert answer) (λ _. answer ≡ refuses Hex)

@@ -1,0 +1,30 @@
+//! Inputs that are hexadecimal text.
+ghost use Rattle.std.specs.Prelude.{◌≡◌, ◌⊎◌, IfOk, IfErr, Ok, IsErr};
+ghost use Rattle.bplint_engine.specs.Hexadecimal.{digits_of, spelled};
+
+use crate::fault::RunFault;
+use hex::FromHexError;
+use std::alloc::Global;
+
+/// The bytes that a hexadecimal text spells, with digits of either case. One line feed at its end
+/// is dropped. Any other text is the fault `Hex`.
+pub fn undo_hex(alloc: Global, text: &[u8]) -> Result<Vec<u8>, RunFault>
+    ensures bytes { IfOk result (λ bytes. spelled text.now ≡ Ok bytes.items) }
+    ensures refused { IfErr result (λ fault.
+        (fault ≡ RunFault.Memory) ⊎ ((fault ≡ RunFault.Hex) × IsErr (spelled text.now))) }
+{
+    match hex::decode(alloc, without_line_feed(text)) {
+        Ok(bytes) => Ok(bytes),
+        Err(FromHexError::OutOfMemory) => Err(RunFault::Memory),
+        Err(_) => Err(RunFault::Hex),
+    }
+}
+
+fn without_line_feed(text: &[u8]) -> &[u8]
+    ensures { result.now ≡ digits_of text.now }
+{
+    match text {
+        [digits @ .., b'\n'] => digits,
+        _ => text,
+    }
+}

@@ -1,0 +1,26 @@
+//! The engine of bplint: one command over a file and a certificate, its lines and its faults.
+#![tactic(auto)]
+
+mod asking;
+mod certifying;
+mod checking;
+mod command;
+mod fault;
+mod getting;
+mod hexadecimal;
+mod linting;
+mod output;
+mod output_lines;
+mod printing;
+mod running;
+mod said;
+mod sending;
+#[cfg(test)]
+mod tests;
+mod top;
+mod vouching;
+
+pub use command::{Command, Verb};
+pub use fault::RunFault;
+pub use running::{run_on, run_over};
+pub use said::Said;

@@ -1,0 +1,105 @@
+//! One command over a file and a certificate.
+ghost use Rattle.std.specs.Prelude.{◌≡◌, false, IsTrue};
+ghost use Rattle.bplist_octets.specs.Meaning.{OnlyReads};
+ghost use Rattle.bplint_engine.specs.Commands.{PrintsOnePath};
+ghost use Rattle.bplint_engine.specs.Answers.{Leaves, Sends, read_failed};
+ghost use Rattle.bplint_engine.specs.Said.{Says, SaysOver, most, takes_cert};
+
+use crate::certifying::certify_output;
+use crate::checking::check_output;
+use crate::command::{Command, Verb};
+use crate::fault::RunFault;
+use crate::getting::get_output;
+use crate::hexadecimal::undo_hex;
+use crate::linting::lint_output;
+use crate::output::Output;
+use crate::printing::print_answer;
+use crate::said::Said;
+use crate::sending::send_output;
+use bplist_octets::{SliceSource, Source};
+use std::alloc::Global;
+use std::io::Write;
+
+/// Runs a command over a source and a certificate's bytes, and hands the source back.
+pub fn run_on<S: Source, W: Write>(
+    alloc: Global,
+    command: &Command,
+    src: S,
+    cert: &[u8],
+    out: &mut W,
+) -> (Result<Said, RunFault>, S)
+    requires { PrintsOnePath command.now }
+    ensures source { OnlyReads (read_failed result.0) (S.means src) (S.means result.1) }
+    ensures exact { IsTrue (S.means src).honest → Leaves (Says command.now (S.means src).octets cert.now) (most command.now)
+        (W.contents out.old) (W.contents out.new) result.0 }
+{
+    match command.verb {
+        Verb::Lint => send_made(lint_output(alloc, src), out),
+        Verb::Check => send_made(check_output(alloc, src, cert), out),
+        Verb::Get => send_made(get_output(alloc, src, cert, &command.paths), out),
+        Verb::Certify => send_made(certify_output(alloc, src, command.sorted, command.hex), out),
+        Verb::Print => print_answer(alloc, src, cert, &command.paths, command.limit, out),
+    }
+}
+
+/// Writes what was made, and hands the source on.
+fn send_made<S: Source, W: Write>(
+    made: (Result<Output, RunFault>, S),
+    out: &mut W,
+) -> (Result<Said, RunFault>, S)
+    ensures sent { Sends (W.contents out.old) (W.contents out.new) made.0 result.0 }
+    ensures reads { read_failed result.0 ≡ read_failed made.0 }
+    ensures source { S.means result.1 ≡ S.means made.1 }
+{
+    let (made, src) = made;
+    (send_output(made, out), src)
+}
+
+/// Runs a command over the bytes of a file and a certificate. With `hex` these are hexadecimal texts;
+/// that of the certificate is looked at where the verb looks at the certificate.
+pub fn run_over<W: Write>(
+    alloc: Global,
+    command: &Command,
+    file: &[u8],
+    cert: &[u8],
+    out: &mut W,
+) -> Result<Said, RunFault>
+    requires { PrintsOnePath command.now }
+    ensures exact { Leaves (SaysOver command.now.hex command.now file.now cert.now) (most command.now)
+        (W.contents out.old) (W.contents out.new) result }
+    ensures whole { read_failed result ≡ false }
+{
+    if !command.hex {
+        return run_over_bytes(alloc, command, file, cert, out);
+    }
+    let file = undo_hex(alloc, file)?;
+    if !takes_certificate(command.verb) {
+        return run_over_bytes(alloc, command, &file, &[], out);
+    }
+    let cert = undo_hex(alloc, cert)?;
+    run_over_bytes(alloc, command, &file, &cert, out)
+}
+
+/// Whether the verb looks at the certificate.
+fn takes_certificate(verb: Verb) -> bool
+    ensures { result ≡ takes_cert verb }
+{
+    match verb {
+        Verb::Lint | Verb::Certify => false,
+        Verb::Check | Verb::Get | Verb::Print => true,
+    }
+}
+
+fn run_over_bytes<W: Write>(
+    alloc: Global,
+    command: &Command,
+    file: &[u8],
+    cert: &[u8],
+    out: &mut W,
+) -> Result<Said, RunFault>
+    requires { PrintsOnePath command.now }
+    ensures exact { Leaves (Says command.now file.now cert.now) (most command.now) (W.contents out.old) (W.contents out.new) result }
+    ensures whole { read_failed result ≡ false }
+{
+    run_on(alloc, command, SliceSource::new(file), cert, out).0
+}

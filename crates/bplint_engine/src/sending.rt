@@ -1,0 +1,35 @@
+//! The way of an answer to the writer.
+ghost use Rattle.std.specs.Prelude.{◌≡◌, MatchResult};
+ghost use Rattle.std.specs.Io.KnownBytes.{Appends};
+ghost use Rattle.bplist_ascii.specs.Sending.{IsCut};
+ghost use Rattle.bplint_engine.specs.Answers.{Sends, read_failed};
+
+use crate::fault::RunFault;
+use crate::output::Output;
+use crate::said::Said;
+use bplist_ascii::{Sink, WriteFault};
+use std::io::Write;
+
+/// Writes what was made, or hands its fault on.
+pub(crate) fn send_output<W: Write>(
+    made: Result<Output, RunFault>,
+    out: &mut W,
+) -> Result<Said, RunFault>
+    ensures sent { Sends (W.contents out.old) (W.contents out.new) made result }
+    ensures reads { read_failed result ≡ read_failed made }
+{
+    let output = made?;
+    send(out, &output.bytes)?;
+    Ok(output.said)
+}
+
+/// Writes all of the bytes.
+fn send<W: Write>(out: &mut W, bytes: &[u8]) -> Result<(), WriteFault>
+    ensures { MatchResult result
+        (λ _. Appends (W.contents out.old) (W.contents out.new) bytes.now)
+        (λ fault. IsCut (W.contents out.old) (W.contents out.new) bytes.now fault.sent) }
+{
+    let mut sink = Sink::new();
+    sink.put(out, bytes)?;
+    sink.flush(out)
+}

@@ -1,0 +1,38 @@
+//! A file with the bytes of a certificate.
+ghost use Rattle.std.specs.Prelude.{◌≡◌, IfOk, IsTrue, MatchResult};
+ghost use Rattle.bplist_octets.specs.Meaning.{OnlyReads};
+ghost use Rattle.bplist_objects.specs.Holds.{Holds};
+ghost use Rattle.bplist_objects.specs.Value.{Value};
+ghost use Rattle.bplint_engine.specs.Answers.{is_read};
+ghost use Rattle.bplint_engine.specs.Faults.{OnFault};
+ghost use Rattle.bplint_engine.specs.Vouching.{IsVouchedFor, IsVouchingFault};
+
+use crate::fault::RunFault;
+use bplist_cert::{Certificate, Checked, check};
+use bplist_octets::Source;
+use std::alloc::Global;
+
+/// The file with the certificate that these bytes spell, where it is one of the file.
+pub(crate) fn check_octets<S: Source>(
+    alloc: Global,
+    src: S,
+    cert: &[u8],
+) -> Result<Checked<S>, (RunFault, S)>
+    ensures handed { MatchResult result
+        (λ checked. checked.source ≡ S.means src)
+        (λ refused. OnlyReads (is_read refused.0) (S.means src) (S.means refused.1)) }
+    ensures exact { IsTrue (S.means src).honest → MatchResult result
+        (λ checked. IsVouchedFor (S.means src).octets cert.now checked.frame checked.certificate)
+        (λ refused. OnFault (IsVouchingFault (S.means src).octets cert.now) refused.0) }
+    ensures value { IsTrue (S.means src).honest → IfOk result (λ checked.
+        ∥ ((v : Value) × Holds (S.means src).octets checked.frame checked.frame.top.0 v) ∥₁) }
+{
+    let certificate = match Certificate::from_octets(alloc, cert) {
+        Ok(certificate) => certificate,
+        Err(refusal) => return Err((RunFault::from(refusal), src)),
+    };
+    match check(alloc, src, certificate) {
+        Ok(checked) => Ok(checked),
+        Err((refusal, src, _)) => Err((RunFault::from(refusal), src)),
+    }
+}

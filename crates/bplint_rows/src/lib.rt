@@ -1,0 +1,15 @@
+//! The worked rows of the format as tests of the engine: each by `run_over` and again by `run_on`.
+//!
+//! It has no code of its own. It stands apart from the engine so that a check of the engine need not prove its tests.
+#![tactic(auto)]
+
+#[cfg(test)]
+mod answers;
+#[cfg(test)]
+mod files;
+#[cfg(test)]
+mod hostile;
+#[cfg(test)]
+mod leaves;
+#[cfg(test)]
+mod runs;

@@ -1,0 +1,206 @@
+//! Runs of the engine.
+
+ghost use Rattle.std.specs.Prelude.{◌≢◌, IfOk};
+ghost use Rattle.bplint_engine.specs.Commands.{PrintsOnePath};
+
+use bplint_engine::{Command, RunFault, Said, Verb, run_on, run_over};
+use bplist_octets::SliceSource;
+use std::alloc::{AllocError, Global};
+use std::process::Abort;
+use std::test::Fail;
+
+/// The command of a verb that has no operands of its own.
+pub fn plain(alloc: Global, verb: Verb) -> Command
+    requires { verb ≢ Verb.Print }
+    ensures { PrintsOnePath result }
+{
+    Command {
+        verb,
+        paths: Vec::new(alloc),
+        limit: 0,
+        hex: false,
+        sorted: false,
+    }
+}
+
+/// The command `get` of these paths.
+pub fn get(alloc: Global, texts: &[&str]) -> Result<Command, AllocError>
+    ensures { IfOk result PrintsOnePath }
+{
+    let paths: Vec<String> = texts
+        .iter()
+        .map(|text| String::from_str(alloc, text))
+        .try_collect(alloc)?;
+    Ok(Command {
+        verb: Verb::Get,
+        paths,
+        limit: 0,
+        hex: false,
+        sorted: false,
+    })
+}
+
+/// The command `print` of a path, with its limit.
+pub fn print(alloc: Global, text: &str, limit: u64) -> Result<Command, AllocError>
+    ensures { IfOk result PrintsOnePath }
+{
+    let path = String::from_str(alloc, text)?;
+    Ok(Command {
+        verb: Verb::Print,
+        paths: vec![in alloc; path]?,
+        limit,
+        hex: false,
+        sorted: false,
+    })
+}
+
+/// What was written, or the line of the fault, with its status before it.
+pub fn told(alloc: Global, answer: Result<Said, RunFault>, written: &[u8]) -> Result<String, Fail> {
+    match answer {
+        Ok(Said::All) => Ok(format!(in alloc; "0 {}", String::from_utf8_lossy(alloc, written)?)?),
+        Ok(Said::SomeMissing) => Ok(format!(in alloc;
+            "1 {}",
+            String::from_utf8_lossy(alloc, written)?
+        )?),
+        Err(fault) => {
+            let status = fault.status();
+            let line = fault.line(alloc)?;
+            Ok(format!(in alloc; "{status} {line}\n")?)
+        }
+    }
+}
+
+/// Runs a command by `run_over` and by `run_on`, and compares both with the row's answer.
+pub fn answers(
+    rt: &impl Abort,
+    alloc: Global,
+    row: &str,
+    command: &Command,
+    file: &[u8],
+    cert: &[u8],
+    want: &str,
+) -> Result<(), Fail>
+    requires { PrintsOnePath command.now }
+{
+    let mut out = Vec::new(alloc);
+    let answer = run_over(alloc, command, file, cert, &mut out);
+    assert_eq!(rt;
+        told(alloc, answer, &out)?.as_str(),
+        want,
+        "row {row} by run_over"
+    );
+    let mut out = Vec::new(alloc);
+    let (answer, _source) = run_on(alloc, command, SliceSource::new(file), cert, &mut out);
+    assert_eq!(rt;
+        told(alloc, answer, &out)?.as_str(),
+        want,
+        "row {row} by run_on"
+    );
+    Ok(())
+}
+
+/// Lints a file.
+pub fn lints(
+    rt: &impl Abort,
+    alloc: Global,
+    row: &str,
+    file: &[u8],
+    want: &str,
+) -> Result<(), Fail> {
+    answers(rt, alloc, row, &plain(alloc, Verb::Lint), file, b"", want)
+}
+
+/// Checks a certificate; file and certificate are hexadecimal texts here and below.
+pub fn checks(
+    rt: &impl Abort,
+    alloc: Global,
+    row: &str,
+    file: &str,
+    cert: &str,
+    want: &str,
+) -> Result<(), Fail> {
+    let file = hex::decode(alloc, file)?;
+    let cert = hex::decode(alloc, cert)?;
+    answers(
+        rt,
+        alloc,
+        row,
+        &plain(alloc, Verb::Check),
+        &file,
+        &cert,
+        want,
+    )
+}
+
+/// Asks for paths.
+pub fn gets(
+    rt: &impl Abort,
+    alloc: Global,
+    row: &str,
+    paths: &[&str],
+    file: &str,
+    cert: &str,
+    want: &str,
+) -> Result<(), Fail> {
+    let file = hex::decode(alloc, file)?;
+    let cert = hex::decode(alloc, cert)?;
+    answers(rt, alloc, row, &get(alloc, paths)?, &file, &cert, want)
+}
+
+/// Prints what lies under a path.
+pub fn prints(
+    rt: &impl Abort,
+    alloc: Global,
+    row: &str,
+    path: &str,
+    limit: u64,
+    file: &str,
+    cert: &str,
+    want: &str,
+) -> Result<(), Fail> {
+    let file = hex::decode(alloc, file)?;
+    let cert = hex::decode(alloc, cert)?;
+    answers(
+        rt,
+        alloc,
+        row,
+        &print(alloc, path, limit)?,
+        &file,
+        &cert,
+        want,
+    )
+}
+
+/// Makes a certificate, and compares its hexadecimal text. `run_over` takes the file as such a text too.
+pub fn certifies(
+    rt: &impl Abort,
+    alloc: Global,
+    row: &str,
+    sorted: bool,
+    text: &str,
+    want: &str,
+) -> Result<(), Fail> {
+    let command = Command {
+        verb: Verb::Certify,
+        paths: Vec::new(alloc),
+        limit: 0,
+        hex: true,
+        sorted,
+    };
+    let mut out = Vec::new(alloc);
+    let answer = run_over(alloc, &command, text.as_bytes(), b"", &mut out);
+    assert_eq!(rt;
+        told(alloc, answer, &out)?.as_str(),
+        want,
+        "row {row} by run_over"
+    );
+    let file = hex::decode(alloc, text)?;
+    let mut out = Vec::new(alloc);
+    let (answer, _source) = run_on(alloc, &command, SliceSource::new(&file), b"", &mut out);
+    assert_eq!(rt;
+        told(alloc, answer, &out)?.as_str(),
+        want,
+        "row {row} by run_on"
+    );
+    Ok(())
+}

@@ -1,0 +1,49 @@
+-- What printing answers, by what the walk and the sink answer.
+use Rattle.std.proofs.Common.{◌≡◌, ◌<◌, ◌≤◌, ◌+◌, ℕ, List, [], ◌∷◌, ◌++◌, arith, length, refl, sym, ap, ◌∙◌, subst, Option, Some, None, append-nil}
+use Rattle.bplist_objects.specs.declared.frame.Frame.{Frame}
+use Rattle.bplist_objects.specs.Value.{Value}
+use Rattle.bplist_cursor.specs.OldStyle.{value_text, plain}
+use Rattle.bplist_ascii.specs.declared.print_fault.PrintFault.{PrintFault}
+use Rattle.bplist_ascii.specs.declared.print_fault.PrintFault.TheVariants.{NoAsciiForm, TooLong, Write, Read, Changed, Memory}
+use Rattle.bplist_ascii.specs.Sending.{Sending, Takes, TakesPart, IsOut, IsCut, AtMost}
+use Rattle.bplist_ascii.specs.Writing.{IsReadFault, AddFails, TakesWithin}
+use Rattle.bplist_ascii.specs.Printed.{FitsLimit, PrintFails}
+use Rattle.bplist_ascii.proofs.SinkSteps.{out_start, out_takes, out_part, out_long, cut_bounded}
+
+pub read_prints : (old new : Option (List ℕ)) (before after : Sending) (f : List ℕ) (F : Frame) (n : ℕ) (v : Value) (limit : ℕ) (e : PrintFault) → IsReadFault e → PrintFails old new before after f F n v limit e
+read_prints old new before after f F n v limit (Read fault) h = tt
+read_prints old new before after f F n v limit (Write sent) h = absurd h
+read_prints old new before after f F n v limit Memory h = absurd h
+read_prints old new before after f F n v limit Changed h = absurd h
+read_prints old new before after f F n v limit TooLong h = absurd h
+read_prints old new before after f F n v limit (NoAsciiForm m) h = absurd h
+
+pub walk_fails : (old new : Option (List ℕ)) (before after : Sending) (f : List ℕ) (F : Frame) (n : ℕ) (v : Value) (limit : ℕ) (e : PrintFault) (t : List ℕ) → value_text v ≡ Some t → plain v ≡ t → FitsLimit limit t
+    → (length (plain v) ≤ limit → AddFails old new before (plain v) e) → PrintFails old new before after f F n v limit e
+walk_fails old new before after f F n v limit e t some is fits h = go e (h (let long = ap length is in let low = fits.0 in omega (arith, long, low)))
+  where
+    go : (e : PrintFault) → AddFails old new before (plain v) e → PrintFails old new before after f F n v limit e
+    go (Write sent) p = (t, some, fits, subst (λ l. TakesPart old new before l sent) is p)
+    go (Read fault) p = tt
+    go Memory p = tt
+    go Changed p = absurd p
+    go TooLong p = absurd p
+    go (NoAsciiForm m) p = absurd p
+
+-- a text that a fresh sink took, and that is cut where the rest is sent
+pub cut_of_flush : (old mid new : Option (List ℕ)) (s t : Sending) (text : List ℕ) (k : ℕ) → s.sent ≡ 0 → s.held ≡ [] → Takes old mid s t text → TakesPart mid new t [] k → IsCut old new text k
+cut_of_flush old mid new s t text k none empty p q =
+    subst (λ l. IsCut old new l k) (append-nil text) (out_part old mid new t ([] ++ text) [] k (out_takes (out_start old s none empty) p) q)
+
+-- what a fresh sink took and sent
+pub sent_of_flush : (old mid new : Option (List ℕ)) (s t u : Sending) (text : List ℕ) → s.sent ≡ 0 → s.held ≡ [] → Takes old mid s t text → Takes mid new t u [] → IsOut old new u text
+sent_of_flush old mid new s t u text none empty p q =
+    subst (IsOut old new u) (append-nil text) (out_takes {written = [] ++ text} (out_takes (out_start old s none empty) p) q)
+
+pub most_of_flush : (old mid new : Option (List ℕ)) (s t u : Sending) (n : ℕ) → s.sent ≡ 0 → s.held ≡ [] → TakesWithin old mid s t n → Takes mid new t u [] → AtMost old new n
+most_of_flush old mid new s t u n none empty p q =
+    let o = sent_of_flush old mid new s t u p.0 none empty p.1 q in
+    let low = p.2 in
+    let long = out_long o in
+    let counted = o.counted in
+    (o.gone, omega (arith, low, long, counted), o.appended)

@@ -1,0 +1,118 @@
+-- What goes out, from call to call.
+use Rattle.std.proofs.Common.{◌≡◌, ℕ, ◌+◌, ◌≤◌, List, [], ◌++◌, arith, length, take, sym, ap, ◌∙◌, subst, append_assoc, append-nil}
+use Rattle.std.specs.Prelude.{Option}
+use Rattle.std.specs.Io.KnownBytes.{Appends}
+use Rattle.std.proofs.KnownBytes.{Appends-trans, Appends-nil}
+use Rattle.std.proofs.lemmas.List.{length-append, take-append-le, length-take-le}
+use lib.Seq.{take-append-add}
+use Rattle.bplist_ascii.specs.Sending.{Sending, Takes, TakesPart, IsOut, IsCut, AtMost}
+
+-- nothing was put in
+pub takes_nothing : (now : Option (List ℕ)) (s : Sending) → Takes now now s s []
+takes_nothing now s = record { gone = []; appended = Appends-nil now; counted = omega arith; all = append-nil s.held }
+
+-- bytes were held back
+pub takes_held : (now : Option (List ℕ)) (s s' : Sending) (bytes : List ℕ) → s' ≡ record { sent = s.sent; held = s.held ++ bytes } → Takes now now s s' bytes
+takes_held now s s' bytes is = record {
+  gone = [];
+  appended = Appends-nil now;
+  counted = let e : s'.sent ≡ s.sent = ap (λ r. r.sent) is in omega (arith, e);
+  all = ap (λ r. r.held) (sym is);
+}
+
+-- bytes went out past an empty buffer
+pub takes_sent : (old new : Option (List ℕ)) (s s' : Sending) (bytes : List ℕ) → s.held ++ bytes ≡ bytes → s'.held ≡ [] → s'.sent ≡ s.sent + length bytes → Appends old new bytes → Takes old new s s' bytes
+takes_sent old new s s' bytes empty empty' counted appended = record {
+  gone = bytes;
+  appended = appended;
+  counted = counted;
+  all = empty ∙ sym (append-nil bytes) ∙ ap (λ l. bytes ++ l) (sym empty');
+}
+
+-- what was put in first, and then more
+pub takes_more : {old mid new : Option (List ℕ)} {s t u : Sending} {xs ys : List ℕ} → Takes old mid s t xs → Takes mid new t u ys → Takes old new s u (xs ++ ys)
+takes_more {old} {mid} {new} {s} {t} {u} {xs} {ys} p q = record {
+  gone = p.gone ++ q.gone;
+  appended = Appends-trans old mid new p.gone q.gone p.appended q.appended;
+  counted = let a = p.counted in let b = q.counted in omega (arith, a, b, length-append p.gone q.gone);
+  all = sym (append_assoc s.held xs ys) ∙ ap (λ l. l ++ ys) p.all ∙ append_assoc p.gone t.held ys ∙ ap (λ l. p.gone ++ l) q.all ∙ sym (append_assoc p.gone q.gone u.held);
+}
+
+-- what was put in first went out with a part of more
+pub takes_then_part : (old mid new : Option (List ℕ)) (s t : Sending) (xs ys : List ℕ) (k : ℕ) → Takes old mid s t xs → TakesPart mid new t ys k → TakesPart old new s (xs ++ ys) k
+takes_then_part old mid new s t xs ys k p q =
+    let all : s.held ++ (xs ++ ys) ≡ p.gone ++ (t.held ++ ys) = sym (append_assoc s.held xs ys) ∙ ap (λ l. l ++ ys) p.all ∙ append_assoc p.gone t.held ys in
+    let a = p.counted in
+    let b = q.counted in
+    let fewer = q.fewer in
+    let long = ap length all in
+    record {
+      gone = length p.gone + q.gone;
+      fewer = omega (arith, long, fewer, length-append p.gone (t.held ++ ys));
+      counted = omega (arith, a, b);
+      appended = subst (Appends old new) (sym (ap (take (length p.gone + q.gone)) all ∙ take-append-add p.gone (t.held ++ ys) q.gone)) (Appends-trans old mid new p.gone (take q.gone (t.held ++ ys)) p.appended q.appended);
+    }
+
+-- what is cut is cut in a longer text
+pub part_of_more : (old new : Option (List ℕ)) (s : Sending) (xs ys : List ℕ) (k : ℕ) → TakesPart old new s xs k → TakesPart old new s (xs ++ ys) k
+part_of_more old new s xs ys k p =
+    let all : s.held ++ (xs ++ ys) ≡ (s.held ++ xs) ++ ys = sym (append_assoc s.held xs ys) in
+    let fewer = p.fewer in
+    let long = ap length all in
+    record {
+      gone = p.gone;
+      fewer = omega (arith, long, fewer, length-append (s.held ++ xs) ys);
+      counted = p.counted;
+      appended = subst (Appends old new) (sym (ap (take p.gone) all ∙ take-append-le p.gone (s.held ++ xs) ys (omega (arith, fewer)))) p.appended;
+    }
+
+-- before anything is put in
+pub out_start : (start : Option (List ℕ)) (s : Sending) → s.sent ≡ 0 → s.held ≡ [] → IsOut start start s []
+out_start start s none empty = record { gone = []; counted = sym none; appended = Appends-nil start; all = empty }
+
+-- a text goes on
+pub out_takes : {start old new : Option (List ℕ)} {s t : Sending} {written bytes : List ℕ} → IsOut start old s written → Takes old new s t bytes → IsOut start new t (written ++ bytes)
+out_takes {start} {old} {new} {s} {t} {written} {bytes} o p = record {
+  gone = o.gone ++ p.gone;
+  counted = let a = o.counted in let b = p.counted in omega (arith, a, b, length-append o.gone p.gone);
+  appended = Appends-trans start old new o.gone p.gone o.appended p.appended;
+  all = append_assoc o.gone p.gone t.held ∙ ap (λ l. o.gone ++ l) (sym p.all) ∙ sym (append_assoc o.gone s.held bytes) ∙ ap (λ l. l ++ bytes) o.all;
+}
+
+-- a text is cut where a write fails
+pub out_part : (start old new : Option (List ℕ)) (s : Sending) (written bytes : List ℕ) (k : ℕ) → IsOut start old s written → TakesPart old new s bytes k → IsCut start new (written ++ bytes) k
+out_part start old new s written bytes k o p =
+    let all : written ++ bytes ≡ o.gone ++ (s.held ++ bytes) = ap (λ l. l ++ bytes) (sym o.all) ∙ append_assoc o.gone s.held bytes in
+    let a = o.counted in
+    let b = p.counted in
+    let fewer = p.fewer in
+    let long = ap length all in
+    let is : k ≡ length o.gone + p.gone = omega (arith, a, b) in (
+      omega (arith, is, fewer, long, length-append o.gone (s.held ++ bytes)),
+      subst (Appends start new) (sym (ap (take k) all ∙ ap (λ i. take i (o.gone ++ (s.held ++ bytes))) is ∙ take-append-add o.gone (s.held ++ bytes) p.gone)) (Appends-trans start old new o.gone (take p.gone (s.held ++ bytes)) o.appended p.appended),
+    )
+
+-- what is cut in a text is cut in a longer one
+pub cut_more : (start now : Option (List ℕ)) (text more : List ℕ) (k : ℕ) → IsCut start now text k → IsCut start now (text ++ more) k
+cut_more start now text more k p =
+    let less = p.0 in
+    (omega (arith, less, length-append text more), subst (Appends start now) (sym (take-append-le k text more (omega (arith, less)))) p.1)
+
+-- with nothing held back, all of the text went out
+pub out_end : {start now : Option (List ℕ)} {s : Sending} {written : List ℕ} → IsOut start now s written → s.held ≡ [] → Appends start now written
+out_end {start} {now} {s} {written} o empty =
+    subst (Appends start now) (sym (append-nil o.gone) ∙ ap (λ l. o.gone ++ l) (sym empty) ∙ o.all) o.appended
+
+pub out_long : {start now : Option (List ℕ)} {s : Sending} {written : List ℕ} → IsOut start now s written → length written ≡ s.sent + length s.held
+out_long {start} {now} {s} {written} o =
+    let a = o.counted in
+    let long = ap length o.all in
+    omega (arith, a, long, length-append o.gone s.held)
+
+pub out_bounded : {start now : Option (List ℕ)} {s : Sending} {written : List ℕ} (n : ℕ) → s.sent ≤ n → IsOut start now s written → AtMost start now n
+out_bounded {start} {now} {s} {written} n low o = let a = o.counted in (o.gone, omega (arith, a, low), o.appended)
+
+pub cut_bounded : (start now : Option (List ℕ)) (text : List ℕ) (n k : ℕ) → length text ≤ n → IsCut start now text k → AtMost start now n
+cut_bounded start now text n k low p =
+    let less = p.0 in
+    (take k text, omega (arith, length-take-le k text (omega (arith, less)), less, low), p.1)

@@ -1,0 +1,208 @@
+-- What is put into a sink, piece by piece.
+use Rattle.std.proofs.Common.{IsTrue, take-append-drop, slice_index, ◌&&◌, ◌≡◌, ◌≢◌, ℕ, zero, suc, ◌+◌, ◌<◌, ◌≤◌, Bool, true, false, List, [], ◌∷◌, ◌++◌, arith, length, take, drop, refl, sym, ap, ◌∙◌, subst, append_assoc, append-nil, Result, Ok, Err}
+use Rattle.std.specs.Prelude.{Option, Some, OnErr}
+use Rattle.std.specs.List.{flat_map, list_all}
+use Rattle.std.specs.Io.KnownBytes.{Appends}
+use Rattle.std.proofs.KnownBytes.{Appends-trans, Appends-nil}
+use Rattle.std.proofs.lemmas.List.{length-append}
+use Rattle.std.proofs.lemmas.Grind.{flat_map-append}
+use Rattle.std.proofs.lemmas.List.Folds.{list_all-append}
+use Rattle.std.proofs.lemmas.List.{drop_more}
+use lib.Seq.{take-add}
+use Rattle.bplist_octets.specs.Octets.{part}
+use Rattle.bplist_ascii.specs.Sending.{Sending, Takes, TakesPart, AtMost}
+use Rattle.bplist_cursor.specs.Texts.{is_plain, text_of_units, quoted}
+use Rattle.bplist_ascii.specs.declared.style.Style.TheVariants.{Bare, Quoted}
+use Rattle.bplist_octets.specs.Meaning.{Meaning}
+use Rattle.bplist_objects.specs.declared.fault.ObjectFault.{ObjectFault}
+use Rattle.bplist_objects.specs.declared.fault.ObjectFault.TheVariants as objects
+use Rattle.bplist_objects.specs.Answers.{GivesFault, Never}
+use Rattle.bplist_ascii.specs.Writing.{IsReadFault, print_fault_of, styled, fits, is_bare_text, Adds, AddsText, AddFails, StaysWithin}
+use Rattle.bplist_ascii.specs.declared.print_fault.PrintFault.{PrintFault}
+use Rattle.bplist_ascii.specs.declared.print_fault.PrintFault.TheVariants.{NoAsciiForm, TooLong, Write, Read, Changed, Memory}
+use Rattle.bplist_ascii.proofs.SinkSteps.{takes_nothing, takes_more, takes_then_part, part_of_more}
+
+pub adds_nothing : (now : Option (List ℕ)) (s : Sending) (room : ℕ) → Adds now now s s room room []
+adds_nothing now s room = record { taken = takes_nothing now s; counted = omega arith }
+
+-- bytes, and then more
+pub adds_more : {old mid new : Option (List ℕ)} {s t u : Sending} {r r' r'' : ℕ} {xs ys : List ℕ} → Adds old mid s t r r' xs → Adds mid new t u r' r'' ys
+    → Adds old new s u r r'' (xs ++ ys)
+adds_more {old} {mid} {new} {s} {t} {u} {r} {r'} {r''} {xs} {ys} p q = record {
+  taken = takes_more p.taken q.taken;
+  counted = let a = p.counted in let b = q.counted in omega (arith, a, b, length-append xs ys);
+}
+
+-- what was put in has room
+pub adds_fit : {old new : Option (List ℕ)} {s t : Sending} {r r' : ℕ} {xs : List ℕ} → Adds old new s t r r' xs → StaysWithin old new s r
+adds_fit {old} {new} {s} {t} {r} {r'} {xs} p =
+    let gone = p.taken.gone in
+    let all : length (s.held ++ xs) ≡ length (gone ++ t.held) = ap length p.taken.all in
+    let counted = p.counted in
+    (gone, omega (arith, all, counted, length-append s.held xs, length-append gone t.held), p.taken.appended)
+
+-- what stays within the room that was left stays within all of it
+pub adds_within : (old mid new : Option (List ℕ)) {s t : Sending} {r r' : ℕ} {xs : List ℕ} → Adds old mid s t r r' xs → StaysWithin mid new t r' → StaysWithin old new s r
+adds_within old mid new {s} {t} {r} {r'} {xs} p q =
+    let gone = p.taken.gone in
+    let all : length (s.held ++ xs) ≡ length (gone ++ t.held) = ap length p.taken.all in
+    let counted = p.counted in
+    let most = q.1 in (
+      gone ++ q.0,
+      omega (arith, all, counted, most, length-append s.held xs, length-append gone t.held, length-append gone q.0),
+      Appends-trans old mid new gone q.0 p.taken.appended q.2,
+    )
+
+-- a fault where first bytes were put in, some more failed and others would have followed
+pub adds_fail : (old mid new : Option (List ℕ)) {s t : Sending} {r r' : ℕ} {xs : List ℕ} (ys zs whole : List ℕ) (e : PrintFault) → Adds old mid s t r r' xs
+    → (length ys ≤ r' → AddFails mid new t ys e) → whole ≡ xs ++ (ys ++ zs) → length whole ≤ r → AddFails old new s whole e
+adds_fail old mid new {s} {t} {r} {r'} {xs} ys zs whole e p q is low =
+    let counted = p.counted in
+    let long = ap length is in
+    let part = q (omega (arith, counted, low, long, length-append xs (ys ++ zs), length-append ys zs)) in
+    go e part
+  where
+    go : (e : PrintFault) → AddFails mid new t ys e → AddFails old new s whole e
+    go (Write sent) part = subst (λ l. TakesPart old new s l sent) (append_assoc xs ys zs ∙ sym is) (part_of_more old new s (xs ++ ys) zs sent (takes_then_part old mid new s t xs ys sent p.taken part))
+    go (Read fault) part = tt
+    go Memory part = tt
+    go Changed part = part
+    go TooLong part = part
+    go (NoAsciiForm n) part = part
+
+-- some bytes are a text where no premise is wanted
+pub text_of_adds : {old new : Option (List ℕ)} {s t : Sending} {r r' : ℕ} {P : Type 0} (xs ys : List ℕ) → Adds old new s t r r' xs → (P → xs ≡ ys) → AddsText old new s t r r' P ys
+text_of_adds xs ys p is = record { bytes = xs; adds = p; is = is }
+
+-- a text, and then more
+pub text_more : {old mid new : Option (List ℕ)} {s t u : Sending} {r r' r'' : ℕ} {P : Type 0} {xs : List ℕ} (ys zs : List ℕ) → AddsText old mid s t r r' P xs → Adds mid new t u r' r'' ys
+    → (P → xs ++ ys ≡ zs) → AddsText old new s u r r'' P zs
+text_more ys zs p q is = record { bytes = p.bytes ++ ys; adds = adds_more p.adds q; is = λ h. ap (λ l. l ++ ys) (p.is h) ∙ is h }
+
+pub text_adds : {old new : Option (List ℕ)} {s t : Sending} {r r' : ℕ} {P : Type 0} {xs : List ℕ} → AddsText old new s t r r' P xs → P → Adds old new s t r r' xs
+text_adds {old} {new} {s} {t} {r} {r'} {P} {xs} p h = subst (Adds old new s t r r') (p.is h) p.adds
+
+-- a list by what stands before a part of it, the part and what stands behind
+pub parts_of : (xs : List ℕ) (a n : ℕ) → xs ≡ take a xs ++ (part xs a n ++ drop n (drop a xs))
+parts_of xs a n = sym (take-append-drop a xs) ∙ ap (λ l. take a xs ++ l) (sym (take-append-drop n (drop a xs)))
+
+pub flat_part : (f : ℕ → List ℕ) (xs : List ℕ) (a n : ℕ) → flat_map f (take a xs) ++ flat_map f (part xs a n) ≡ flat_map f (take (a + n) xs)
+flat_part f xs a n = sym (flat_map-append f (take a xs) (part xs a n)) ∙ ap (flat_map f) (sym (take-add a n xs))
+
+pub flat_parts : (f : ℕ → List ℕ) (xs : List ℕ) (a n : ℕ) → flat_map f xs ≡ flat_map f (take a xs) ++ (flat_map f (part xs a n) ++ flat_map f (drop n (drop a xs)))
+flat_parts f xs a n =
+    ap (flat_map f) (parts_of xs a n)
+    ∙ flat_map-append f (take a xs) (part xs a n ++ drop n (drop a xs))
+    ∙ ap (λ l. flat_map f (take a xs) ++ l) (flat_map-append f (part xs a n) (drop n (drop a xs)))
+
+both_true : (a b : Bool) → (a && b) ≡ true → (a ≡ true) × (b ≡ true)
+both_true true b h = (refl, h)
+both_true false b h = cc h
+
+-- what all pass those of a part pass
+pub all_in_part : (p : ℕ → Bool) (xs : List ℕ) (a n : ℕ) → list_all p xs ≡ true → list_all p (part xs a n) ≡ true
+all_in_part p xs a n h =
+    let all = sym (ap (list_all p) (parts_of xs a n) ∙ list_all-append p (take a xs) (part xs a n ++ drop n (drop a xs))) ∙ h in
+    let rest = both_true (list_all p (take a xs)) (list_all p (part xs a n ++ drop n (drop a xs))) all in
+    (both_true (list_all p (part xs a n)) (list_all p (drop n (drop a xs))) (sym (list_all-append p (part xs a n) (drop n (drop a xs))) ∙ rest.1)).0
+
+pub part_one : (xs : List ℕ) (i : ℕ) → i < length xs → part xs i 1 ≡ slice_index xs i ∷ []
+part_one xs i l = ap (take 1) (drop_more xs i 0 l)
+
+flat_one : (f : ℕ → List ℕ) (xs : List ℕ) (i : ℕ) → i < length xs → flat_map f (part xs i 1) ≡ f (slice_index xs i)
+flat_one f xs i l = ap (flat_map f) (part_one xs i l) ∙ append-nil (f (slice_index xs i))
+
+-- one item more
+pub flat_next : (f : ℕ → List ℕ) (xs : List ℕ) (i : ℕ) → i < length xs → flat_map f (take i xs) ++ f (slice_index xs i) ≡ flat_map f (take (i + 1) xs)
+flat_next f xs i l = ap (λ ys. flat_map f (take i xs) ++ ys) (sym (flat_one f xs i l)) ∙ flat_part f xs i 1
+
+-- all by the items before one, the item and those behind
+pub flat_at : (f : ℕ → List ℕ) (xs : List ℕ) (i : ℕ) → i < length xs → flat_map f xs ≡ flat_map f (take i xs) ++ (f (slice_index xs i) ++ flat_map f (drop 1 (drop i xs)))
+flat_at f xs i l = flat_parts f xs i 1 ∙ ap (λ ys. flat_map f (take i xs) ++ (ys ++ flat_map f (drop 1 (drop i xs)))) (flat_one f xs i l)
+
+pub passes_at : (p : ℕ → Bool) (xs : List ℕ) (i : ℕ) → i < length xs → list_all p xs ≡ true → p (slice_index xs i) ≡ true
+passes_at p xs i l h = (both_true (p (slice_index xs i)) true (sym (ap (list_all p) (part_one xs i l)) ∙ all_in_part p xs i 1 h)).0
+
+-- what holds whatever is answered holds of an error
+pub on_err : {X E : Type 0} {P : Type 0} (r : Result X E) → P → OnErr r P
+on_err (Ok x) p = tt
+on_err (Err e) p = p
+
+pub length-bare : (us : List ℕ) → length (flat_map (styled Bare) us) ≡ length us
+length-bare [] = refl
+length-bare (u ∷ us) = ap suc (length-bare us)
+
+-- bytes, and then a text
+pub text_after : {old mid new : Option (List ℕ)} {s t u : Sending} {r r' r'' : ℕ} {P : Type 0} {xs ys : List ℕ} → Adds old mid s t r r' xs → AddsText mid new t u r' r'' P ys → AddsText old new s u r r'' P (xs ++ ys)
+text_after {xs = xs} p q = record { bytes = xs ++ q.bytes; adds = adds_more p q.adds; is = λ h. ap (λ l. xs ++ l) (q.is h) }
+
+-- any units can stand between quotes
+pub all_fit : (us : List ℕ) → list_all (fits Quoted) us ≡ true
+all_fit [] = refl
+all_fit (u ∷ us) = all_fit us
+
+pub all_more : (p : ℕ → Bool) (us : List ℕ) (a n : ℕ) → list_all p (take a us) ≡ true → list_all p (part us a n) ≡ true → list_all p (take (a + n) us) ≡ true
+all_more p us a n h k = ap (list_all p) (take-add a n us) ∙ list_all-append p (take a us) (part us a n) ∙ ap (λ b. b && list_all p (part us a n)) h ∙ k
+
+pub all_is_bare : (us : List ℕ) → 0 < length us → list_all is_plain us ≡ true → is_bare_text us ≡ true
+all_is_bare [] l h = absurd (omega (arith, l))
+all_is_bare (u ∷ us) l h = h
+
+bare_all : (us : List ℕ) → is_bare_text us ≡ true → list_all is_plain us ≡ true
+bare_all [] h = refl
+bare_all (u ∷ us) h = h
+
+not_true : (b : Bool) → (b ≡ true → ⊥) → b ≡ false
+not_true true h = absurd (h refl)
+not_true false h = refl
+
+-- a part that is not plain
+pub part_not_bare : (us : List ℕ) (a n : ℕ) → list_all is_plain (part us a n) ≡ false → false ≡ is_bare_text us
+part_not_bare us a n h = sym (not_true (is_bare_text us) (λ bare. let k = all_in_part is_plain us a n (bare_all us bare) in cc (h, k)))
+
+pub none_is_bare : (us : List ℕ) → length us ≡ 0 → false ≡ is_bare_text us
+none_is_bare [] h = refl
+none_is_bare (u ∷ us) h = absurd (omega (arith, h))
+
+pub bare_text : (us : List ℕ) → is_bare_text us ≡ true → (text_of_units us ≡ us) × (list_all (fits Bare) us ≡ true)
+bare_text [] h = absurd (cc h)
+bare_text (u ∷ us) h = (rw h refl, h)
+
+pub quoted_text : (us : List ℕ) → is_bare_text us ≡ false → text_of_units us ≡ quoted us
+quoted_text [] h = refl
+quoted_text (u ∷ us) h = rw h refl
+
+pub flat_bare : (us : List ℕ) → flat_map (styled Bare) us ≡ us
+flat_bare [] = refl
+flat_bare (u ∷ us) = ap (λ l. u ∷ l) (flat_bare us)
+
+-- a text that is another under its premise
+pub text_under : {old new : Option (List ℕ)} {s t : Sending} {r r' : ℕ} {P : Type 0} {xs ys : List ℕ} → (P → xs ≡ ys) → AddsText old new s t r r' P xs → AddsText old new s t r r' P ys
+text_under e p = record { bytes = p.bytes; adds = p.adds; is = λ h. p.is h ∙ e h }
+
+-- a fault of a text is one of the same text
+pub fails_under : (old new : Option (List ℕ)) (s : Sending) (room : ℕ) (e : PrintFault) {xs ys : List ℕ} → xs ≡ ys → (length xs ≤ room → AddFails old new s xs e) → length ys ≤ room → AddFails old new s ys e
+fails_under old new s room e is h = subst (λ l. length l ≤ room → AddFails old new s l e) is h
+
+-- without a fault of an object it is a failed read
+pub read_never : (e : ObjectFault) → GivesFault Never e → IsReadFault (print_fault_of e)
+read_never (objects.Fault x) h = h
+read_never (objects.Read x) h = tt
+
+-- after a failed read nothing is said
+pub read_fails : (old new : Option (List ℕ)) (s : Sending) (bytes : List ℕ) (e : PrintFault) → IsReadFault e → AddFails old new s bytes e
+read_fails old new s bytes (Read fault) h = tt
+read_fails old new s bytes (Write sent) h = absurd h
+read_fails old new s bytes Memory h = absurd h
+read_fails old new s bytes Changed h = absurd h
+read_fails old new s bytes TooLong h = absurd h
+read_fails old new s bytes (NoAsciiForm n) h = absurd h
+
+-- a text where more is given
+pub text_where : {old new : Option (List ℕ)} {s t : Sending} {r r' : ℕ} {P Q : Type 0} {xs ys : List ℕ} → (Q → P) → (Q → xs ≡ ys) → AddsText old new s t r r' P xs → AddsText old new s t r r' Q ys
+text_where given e p = record { bytes = p.bytes; adds = p.adds; is = λ h. p.is (given h) ∙ e h }
+
+-- a fault of a text that is read from a source is one of the text that another means the same as
+pub fails_same : (old new : Option (List ℕ)) (s : Sending) (room : ℕ) (e : PrintFault) (words : Meaning → List ℕ) {m m' : Meaning} → m ≡ m'
+    → (IsTrue m.honest → length (words m) ≤ room → AddFails old new s (words m) e) → IsTrue m'.honest → length (words m') ≤ room → AddFails old new s (words m') e
+fails_same old new s room e words same h = subst (λ m. IsTrue m.honest → length (words m) ≤ room → AddFails old new s (words m) e) same h

@@ -1,0 +1,33 @@
+use Rattle.std.proofs.Common.{rules, arith, ◌++◌, ◌∷◌, [], ◌≡◌, ◌+◌, ◌<◌, ◌≤◌, Err, length, refl, subst, sym, ap, ◌∙◌, IsTrue, ℕ, List}
+use Rattle.std.specs.List.{flat_map}
+use Rattle.bplist_objects.specs.Units.{units_of}
+use Rattle.bplist_cursor.specs.Texts.{quoted_unit, quoted}
+use Rattle.bplist_ascii.proofs.WriteSteps.{on_err, adds_fit, adds_within, adds_fail, text_after, text_more, text_adds, text_under, all_fit}
+use Rattle.bplist_ascii.proofs.leaves.write_quoted.Goals as goal
+
+pub returns-in_err-write_text_body-clause-fails : goal.returns-in_err-write_text_body-clause-fails
+returns-in_err-write_text_body-clause-fails g c =
+    let is : c.from_residual-in_err-write_text_body.result ≡ Err c.in_err-write_text_body.field-0.0 = search rules in
+    let f = (g.S.Source.means c.args.src.now).octets in
+    let all = units_of f c.args.head.now in
+    rw is (λ honest low. adds_fail _ _ _ (flat_map quoted_unit all) (34 ∷ []) (quoted all) _ c.in_ok-write.ensures.adds (c.in_err-write_text_body.ensures.fails honest (all_fit all)) refl low)
+
+pub returns-in_err-write_text_body-clause-bounded : goal.returns-in_err-write_text_body-clause-bounded
+returns-in_err-write_text_body-clause-bounded g c =
+    let is : c.from_residual-in_err-write_text_body.result ≡ Err c.in_err-write_text_body.field-0.0 = search rules in
+    rw is (adds_within _ _ _ c.in_ok-write.ensures.adds c.in_err-write_text_body.ensures.bounded)
+
+pub returns-in_err-write-2-clause-fails : goal.returns-in_err-write-2-clause-fails
+returns-in_err-write-2-clause-fails g c =
+    let is : c.from_residual-in_err-write-2.result ≡ Err c.in_err-write-2.field-0.0 = search rules in
+    let f = (g.S.Source.means c.args.src.now).octets in
+    let all = units_of f c.args.head.now in
+    rw is (λ honest low. adds_fail _ _ _ (34 ∷ []) [] (quoted all) _ (text_adds (text_after c.in_ok-write.ensures.adds c.in_ok-write_text_body.ensures.adds) honest) c.in_err-write-2.ensures.fails refl low)
+
+pub returns-in_err-write-2-clause-bounded : goal.returns-in_err-write-2-clause-bounded
+returns-in_err-write-2-clause-bounded g c =
+    let is : c.from_residual-in_err-write-2.result ≡ Err c.in_err-write-2.field-0.0 = search rules in
+    rw is (adds_within _ _ _ (text_after c.in_ok-write.ensures.adds c.in_ok-write_text_body.ensures.adds).adds c.in_err-write-2.ensures.bounded)
+
+pub returns-clause-adds : goal.returns-clause-adds
+returns-clause-adds g c = text_more _ _ (text_after c.in_ok-write.ensures.adds c.in_ok-write_text_body.ensures.adds) c.in_ok-write-2.ensures.adds (λ _. refl)

@@ -1,0 +1,32 @@
+use Rattle.std.proofs.Common.{rules, ◌≡◌, Err, sym, ap, ◌∙◌, IsTrue, true, false, ℕ, List}
+use Rattle.std.specs.List.{flat_map}
+use Rattle.bplist_objects.specs.Units.{units_of}
+use Rattle.bplist_cursor.specs.Texts.{text_of_units, quoted}
+use Rattle.bplist_ascii.specs.declared.style.Style.TheVariants.{Bare}
+use Rattle.bplist_ascii.specs.Writing.{styled}
+use Rattle.bplist_ascii.proofs.WriteSteps.{bare_text, quoted_text, flat_bare, text_under, fails_under, fails_same}
+use Rattle.bplist_ascii.proofs.leaves.write_text.Goals as goal
+
+pub returns-in_err-write_text_body-clause-fails : goal.returns-in_err-write_text_body-clause-fails
+returns-in_err-write_text_body-clause-fails g c =
+    let is : c.from_residual-in_err-write_text_body.result ≡ Err c.in_err-write_text_body.field-0.0 = search rules in
+    let us = units_of (g.S.Source.means c.args.src.now).octets c.args.head.now in
+    rw is (λ honest low.
+    let b = bare_text us (sym (c.in_ok-is_bare.ensures.exact honest) ∙ c.if-branch.true) in
+    let same : flat_map (styled Bare) us ≡ text_of_units us = flat_bare us ∙ sym b.0 in
+    fails_under _ _ _ _ _ same ((rw c.in_ok-is_bare.ensures.reads at c.in_err-write_text_body.ensures.fails) honest b.1) low)
+
+pub returns-then-branch-clause-adds : goal.returns-then-branch-clause-adds
+returns-then-branch-clause-adds g c =
+    let us = units_of (g.S.Source.means c.args.src.now).octets c.args.head.now in
+    text_under (λ honest.
+    let b = bare_text us (sym (c.in_ok-is_bare.ensures.exact honest) ∙ c.if-branch.true) in
+    flat_bare us ∙ sym b.0) (rw c.in_ok-is_bare.ensures.reads at c.in_ok-write_text_body.ensures.adds)
+
+pub returns-in_err-write_quoted-clause-fails : goal.returns-in_err-write_quoted-clause-fails
+returns-in_err-write_quoted-clause-fails g c =
+    let is : c.from_residual-in_err-write_quoted.result ≡ Err c.in_err-write_quoted.field-0.0 = search rules in
+    let us = units_of (g.S.Source.means c.args.src.now).octets c.args.head.now in
+    rw is (λ honest low.
+    let same : quoted us ≡ text_of_units us = sym (quoted_text us (sym (c.in_ok-is_bare.ensures.exact honest) ∙ c.if-branch.false)) in
+    fails_under _ _ _ _ _ same (fails_same _ _ _ _ _ (λ m. quoted (units_of m.octets c.args.head.now)) c.in_ok-is_bare.ensures.reads c.in_err-write_quoted.ensures.fails honest) low)

@@ -1,0 +1,21 @@
+use Rattle.std.proofs.Common.{◌≡◌, ◌≤◌, ◌+◌, ◌-◌, take, IsTrue}
+use Rattle.std.specs.List.{flat_map}
+use Rattle.bplist_objects.specs.Units.{units_of}
+use Rattle.bplist_ascii.specs.Writing.{AddsText, styled}
+use Rattle.bplist_ascii.specs.declared.style.Style.TheVariants.{Bare}
+use Rattle.bplist_ascii.proofs.leaves.write_text_body.Given as goal
+
+-- the source is as it was, and the units so far were put in
+abbrev pub invariant-loop-done : goal.invariant-loop-done
+invariant-loop-done g l =
+    let means = g.S.Source.means in
+    record {
+      same : means l.src ≡ means l.fn.src;
+      reached : l.done ≤ l.head.count;
+      so_far : AddsText (g.W.Write.contents l.fn.out) (g.W.Write.contents l.out) l.fn.sink l.sink l.fn.room l.room
+          (IsTrue (means l.fn.src).honest) (flat_map (styled l.style) (take l.done (units_of (means l.fn.src).octets l.head)));
+      falls : l.style ≡ Bare → l.room + l.done ≤ l.fn.room;
+    }
+
+abbrev pub decreases-loop-done : goal.decreases-loop-done
+decreases-loop-done g l = l.head.count - l.done

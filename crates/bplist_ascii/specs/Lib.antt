@@ -1,0 +1,5 @@
+pub mod Sending
+pub mod Writing
+pub mod Walks
+pub mod Searching
+pub mod Printed

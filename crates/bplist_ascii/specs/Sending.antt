@@ -1,0 +1,41 @@
+-- What goes out of the bytes that are put into a sink. Source: profile.
+use Rattle.std.specs.Prelude.{◌≡◌, ℕ, ◌+◌, ◌<◌, ◌≤◌, List, ◌++◌, length, take, Option}
+use Rattle.std.specs.Io.KnownBytes.{Appends}
+
+-- how many bytes a sink has sent, and the bytes that it holds back
+pub record Sending : Type 0 where
+  pub sent : ℕ
+  pub held : List ℕ
+
+-- where `before` bytes had gone out, a first part of these went out too, and fewer than all
+pub record SendsPart (old new : Option (List ℕ)) (before : ℕ) (bytes : List ℕ) (sent : ℕ) : Type 0 where
+  pub gone : ℕ
+  pub fewer : gone < length bytes
+  pub counted : sent ≡ before + gone
+  pub appended : Appends old new (take gone bytes)
+
+-- a sink took bytes: of what it held and these, a first part went out, and it holds the rest
+pub record Takes (old new : Option (List ℕ)) (before after : Sending) (bytes : List ℕ) : Type 0 where
+  pub gone : List ℕ
+  pub appended : Appends old new gone
+  pub counted : after.sent ≡ before.sent + length gone
+  pub all : before.held ++ bytes ≡ gone ++ after.held
+
+-- a write failed: of what the sink held and these bytes, a first part went out, and fewer than all
+abbrev pub TakesPart : Option (List ℕ) → Option (List ℕ) → Sending → List ℕ → ℕ → Type 0
+TakesPart old new before bytes sent = SendsPart old new before.sent (before.held ++ bytes) sent
+
+-- the text `written` was added to what the writer held at the start, but for what the sink holds back
+pub record IsOut (start now : Option (List ℕ)) (sink : Sending) (written : List ℕ) : Type 0 where
+  pub gone : List ℕ
+  pub counted : length gone ≡ sink.sent
+  pub appended : Appends start now gone
+  pub all : gone ++ sink.held ≡ written
+
+-- the first `sent` bytes of the text were added, and these are fewer than all
+abbrev pub IsCut : Option (List ℕ) → Option (List ℕ) → List ℕ → ℕ → Type 0
+IsCut start now text sent = (sent < length text) × Appends start now (take sent text)
+
+-- at most n bytes were added
+abbrev pub AtMost : Option (List ℕ) → Option (List ℕ) → ℕ → Type 0
+AtMost start now n = (gone : List ℕ) × (length gone ≤ n) × Appends start now gone

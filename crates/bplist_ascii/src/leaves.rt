@@ -1,0 +1,190 @@
+//! The texts of texts and of data, written from parts of their bodies.
+
+ghost use Rattle.std.specs.Prelude.{◌≡◌, ◌+◌, ◌<◌, ◌≤◌, true, length, flat_map, IfOk, OnOk, IfErr, OnErr, IsTrue};
+ghost use Rattle.std.specs.List.{list_all};
+ghost use Rattle.bplist_octets.specs.Octets.{part};
+ghost use Rattle.bplist_octets.specs.Meaning.{OnlyReads};
+ghost use Rattle.bplist_objects.specs.Safe.{IsSafeBody};
+ghost use Rattle.bplist_objects.specs.Units.{IsTextKind, units_of};
+ghost use Rattle.bplist_objects.specs.declared.kind.Kind.TheVariants.{Bytes};
+ghost use Rattle.bplist_cursor.specs.Texts.{hex_digits, text_of_units, text_of_bytes, quoted};
+ghost use Rattle.bplist_ascii.specs.Writing.{print_read, IsReadFault, AddsText, AddFails, StaysWithin, styled, fits, is_bare_text};
+ghost use Rattle.bplist_ascii.specs.declared.style.Style.TheVariants.{Bare};
+
+use crate::print_fault::PrintFault;
+use crate::sink::Sink;
+use crate::style::Style;
+use crate::texts::are_plain;
+use crate::writing::{write, write_digits, write_units};
+use bplist_objects::{Head, octets_at, read_units};
+use bplist_octets::Source;
+use std::io::Write;
+
+/// How many units or bytes of a body are read at once at most.
+const PART: usize = 128;
+
+/// Whether a text has a unit and all are letters and digits of ASCII.
+fn is_bare<S: Source>(src: &mut S, head: &Head) -> Result<bool, PrintFault>
+    requires kind { IsTextKind head.now.kind }
+    requires head { IsSafeBody (length (S.means src.old).octets) head.now }
+    ensures reads { OnlyReads (print_read result) (S.means src.old) (S.means src.new) }
+    ensures exact { IfOk result (λ bare. IsTrue (S.means src.old).honest → bare ≡ is_bare_text (units_of (S.means src.old).octets head.now)) }
+    ensures some { IfOk result (λ bare. bare ≡ true → 0 < head.now.count) }
+    ensures read { IfErr result IsReadFault }
+{
+    if head.count == 0 {
+        return Ok(false);
+    }
+    let mut buffer = [0; PART];
+    let mut done = 0;
+    while done < head.count {
+        let now = (head.count - done).min(PART as u64);
+        let units = &mut buffer[..now as usize];
+        read_units(src, head, done, units)?;
+        if !are_plain(units) {
+            return Ok(false);
+        }
+        done += now;
+    }
+    Ok(true)
+}
+
+/// Puts in the units of a text as a text of this style has them.
+fn write_text_body<S: Source, W: Write>(
+    src: &mut S,
+    head: &Head,
+    style: Style,
+    sink: &mut Sink,
+    out: &mut W,
+    room: &mut u64,
+) -> Result<(), PrintFault>
+    requires kind { IsTextKind head.now.kind }
+    requires head { IsSafeBody (length (S.means src.old).octets) head.now }
+    ensures reads { OnlyReads (print_read result) (S.means src.old) (S.means src.new) }
+    ensures adds { OnOk result (AddsText (W.contents out.old) (W.contents out.new) sink.old sink.new room.old room.new
+        (IsTrue (S.means src.old).honest) (flat_map (styled style) (units_of (S.means src.old).octets head.now))) }
+    ensures fails { IfErr result (λ e. IsTrue (S.means src.old).honest
+        → list_all (fits style) (units_of (S.means src.old).octets head.now) ≡ true
+        → length (flat_map (styled style) (units_of (S.means src.old).octets head.now)) ≤ room.old
+        → AddFails (W.contents out.old) (W.contents out.new) sink.old (flat_map (styled style) (units_of (S.means src.old).octets head.now)) e) }
+    ensures bounded { OnErr result (StaysWithin (W.contents out.old) (W.contents out.new) sink.old room.old) }
+    ensures falls { OnOk result (style ≡ Bare → room.new + head.now.count ≤ room.old) }
+{
+    let mut buffer = [0; PART];
+    let mut done = 0;
+    while done < head.count {
+        let now = (head.count - done).min(PART as u64);
+        let units = &mut buffer[..now as usize];
+        read_units(src, head, done, units)?;
+        write_units(sink, out, room, style, units)?;
+        done += now;
+    }
+    Ok(())
+}
+
+/// Puts in two hexadecimal digits for each byte of data.
+fn write_data_body<S: Source, W: Write>(
+    src: &mut S,
+    head: &Head,
+    sink: &mut Sink,
+    out: &mut W,
+    room: &mut u64,
+) -> Result<(), PrintFault>
+    requires kind { head.now.kind ≡ Bytes }
+    requires head { IsSafeBody (length (S.means src.old).octets) head.now }
+    ensures reads { OnlyReads (print_read result) (S.means src.old) (S.means src.new) }
+    ensures adds { OnOk result (AddsText (W.contents out.old) (W.contents out.new) sink.old sink.new room.old room.new
+        (IsTrue (S.means src.old).honest) (flat_map hex_digits (part (S.means src.old).octets head.now.body head.now.count))) }
+    ensures fails { IfErr result (λ e. IsTrue (S.means src.old).honest
+        → length (flat_map hex_digits (part (S.means src.old).octets head.now.body head.now.count)) ≤ room.old
+        → AddFails (W.contents out.old) (W.contents out.new) sink.old (flat_map hex_digits (part (S.means src.old).octets head.now.body head.now.count)) e) }
+    ensures bounded { OnErr result (StaysWithin (W.contents out.old) (W.contents out.new) sink.old room.old) }
+{
+    let mut buffer = [0; PART];
+    let mut done = 0;
+    while done < head.count {
+        let now = (head.count - done).min(PART as u64);
+        let bytes = &mut buffer[..now as usize];
+        octets_at(src, head, done, bytes)?;
+        write_digits(sink, out, room, bytes)?;
+        done += now;
+    }
+    Ok(())
+}
+
+/// Puts in the text of data.
+pub(crate) fn write_data<S: Source, W: Write>(
+    src: &mut S,
+    head: &Head,
+    sink: &mut Sink,
+    out: &mut W,
+    room: &mut u64,
+) -> Result<(), PrintFault>
+    requires kind { head.now.kind ≡ Bytes }
+    requires head { IsSafeBody (length (S.means src.old).octets) head.now }
+    ensures reads { OnlyReads (print_read result) (S.means src.old) (S.means src.new) }
+    ensures adds { OnOk result (AddsText (W.contents out.old) (W.contents out.new) sink.old sink.new room.old room.new
+        (IsTrue (S.means src.old).honest) (text_of_bytes (part (S.means src.old).octets head.now.body head.now.count))) }
+    ensures fails { IfErr result (λ e. IsTrue (S.means src.old).honest
+        → length (text_of_bytes (part (S.means src.old).octets head.now.body head.now.count)) ≤ room.old
+        → AddFails (W.contents out.old) (W.contents out.new) sink.old (text_of_bytes (part (S.means src.old).octets head.now.body head.now.count)) e) }
+    ensures bounded { OnErr result (StaysWithin (W.contents out.old) (W.contents out.new) sink.old room.old) }
+    ensures falls { OnOk result (room.new < room.old) }
+{
+    write(sink, out, room, b"<")?;
+    write_data_body(src, head, sink, out, room)?;
+    write(sink, out, room, b">")?;
+    Ok(())
+}
+
+/// Puts in a text between quotes.
+fn write_quoted<S: Source, W: Write>(
+    src: &mut S,
+    head: &Head,
+    sink: &mut Sink,
+    out: &mut W,
+    room: &mut u64,
+) -> Result<(), PrintFault>
+    requires kind { IsTextKind head.now.kind }
+    requires head { IsSafeBody (length (S.means src.old).octets) head.now }
+    ensures reads { OnlyReads (print_read result) (S.means src.old) (S.means src.new) }
+    ensures adds { OnOk result (AddsText (W.contents out.old) (W.contents out.new) sink.old sink.new room.old room.new
+        (IsTrue (S.means src.old).honest) (quoted (units_of (S.means src.old).octets head.now))) }
+    ensures fails { IfErr result (λ e. IsTrue (S.means src.old).honest
+        → length (quoted (units_of (S.means src.old).octets head.now)) ≤ room.old
+        → AddFails (W.contents out.old) (W.contents out.new) sink.old (quoted (units_of (S.means src.old).octets head.now)) e) }
+    ensures bounded { OnErr result (StaysWithin (W.contents out.old) (W.contents out.new) sink.old room.old) }
+    ensures falls { OnOk result (room.new < room.old) }
+{
+    write(sink, out, room, b"\"")?;
+    write_text_body(src, head, Style::Quoted, sink, out, room)?;
+    write(sink, out, room, b"\"")?;
+    Ok(())
+}
+
+/// Puts in the text of a text.
+pub(crate) fn write_text<S: Source, W: Write>(
+    src: &mut S,
+    head: &Head,
+    sink: &mut Sink,
+    out: &mut W,
+    room: &mut u64,
+) -> Result<(), PrintFault>
+    requires kind { IsTextKind head.now.kind }
+    requires head { IsSafeBody (length (S.means src.old).octets) head.now }
+    ensures reads { OnlyReads (print_read result) (S.means src.old) (S.means src.new) }
+    ensures adds { OnOk result (AddsText (W.contents out.old) (W.contents out.new) sink.old sink.new room.old room.new
+        (IsTrue (S.means src.old).honest) (text_of_units (units_of (S.means src.old).octets head.now))) }
+    ensures fails { IfErr result (λ e. IsTrue (S.means src.old).honest
+        → length (text_of_units (units_of (S.means src.old).octets head.now)) ≤ room.old
+        → AddFails (W.contents out.old) (W.contents out.new) sink.old (text_of_units (units_of (S.means src.old).octets head.now)) e) }
+    ensures bounded { OnErr result (StaysWithin (W.contents out.old) (W.contents out.new) sink.old room.old) }
+    ensures falls { OnOk result (room.new < room.old) }
+{
+    if is_bare(src, head)? {
+        write_text_body(src, head, Style::Bare, sink, out, room)?;
+        return Ok(());
+    }
+    write_quoted(src, head, sink, out, room)?;
+    Ok(())
+}

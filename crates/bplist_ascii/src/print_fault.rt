@@ -1,0 +1,63 @@
+//! Why a value was not printed.
+
+ghost use Rattle.std.specs.Prelude.{◌≡◌};
+ghost use Rattle.bplist_ascii.specs.Writing.{print_fault_of};
+ghost use Rattle.bplist_ascii.specs.declared.print_fault.PrintFault.TheVariants.{Write as write_failed, Read as read_failed, Memory as no_memory};
+
+use crate::sink::WriteFault;
+use bplist_objects::{ObjectFault, ObjectNo};
+use bplist_octets::ReadFault;
+use std::alloc::AllocFailed;
+
+/// Why a value was not printed.
+#[derive(Clone, Copy, Debug, PartialEq, Eq, Drop)]
+pub enum PrintFault {
+    /// The value has no text. This is the first object, in the order of writing, whose kind has no form.
+    NoAsciiForm(ObjectNo),
+    /// The text is longer than the limit, or has 18446744073709551615 bytes or more.
+    TooLong,
+    /// A write failed. The first `sent` bytes of the text went out, fewer than all.
+    Write { sent: u64 },
+    /// A read of the source failed.
+    Read(ReadFault),
+    /// The node is none of this file that the certificate vouches for, or the source gives other bytes than
+    /// those that were checked.
+    Changed,
+    /// A growth was refused.
+    Memory,
+}
+
+impl From<WriteFault> for PrintFault {
+    ghost from_gives = { λ fault e. e ≡ write_failed fault.sent };
+
+    fn from(fault: WriteFault) -> PrintFault {
+        PrintFault::Write { sent: fault.sent }
+    }
+}
+
+impl From<ReadFault> for PrintFault {
+    ghost from_gives = { λ fault e. e ≡ read_failed fault };
+
+    fn from(fault: ReadFault) -> PrintFault {
+        PrintFault::Read(fault)
+    }
+}
+
+impl From<ObjectFault> for PrintFault {
+    ghost from_gives = { λ fault e. e ≡ print_fault_of fault };
+
+    fn from(fault: ObjectFault) -> PrintFault {
+        match fault {
+            ObjectFault::Fault(_) => PrintFault::Changed,
+            ObjectFault::Read(fault) => PrintFault::Read(fault),
+        }
+    }
+}
+
+impl<T: Drop> From<AllocFailed<T>> for PrintFault {
+    ghost from_gives = { λ _ e. e ≡ no_memory };
+
+    fn from(_failed: AllocFailed<T>) -> PrintFault {
+        PrintFault::Memory
+    }
+}

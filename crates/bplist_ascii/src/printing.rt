@@ -1,0 +1,101 @@
+//! The old-style text of a value, written to a writer.
+
+ghost use Rattle.std.specs.Prelude.{◌≡◌, Err, OnOk, OnErr, IsTrue};
+ghost use Rattle.bplist_objects.specs.Value.{Value};
+ghost use Rattle.bplist_objects.specs.Holds.{Holds};
+ghost use Rattle.bplist_cert.specs.Valid.{IsVouchedBy};
+ghost use Rattle.bplist_cursor.specs.Kept.{Keeps};
+ghost use Rattle.bplist_cursor.specs.Sizes.{AreMeasures};
+ghost use Rattle.bplist_ascii.specs.Sending.{AtMost};
+ghost use Rattle.bplist_ascii.specs.Writing.{print_read, TakesWithin, StaysWithin};
+ghost use Rattle.bplist_ascii.specs.Printed.{Prints, IsPrinted};
+ghost use Rattle.bplist_ascii.specs.declared.print_fault.PrintFault.TheVariants.{Changed};
+
+use crate::formless::first_formless;
+use crate::print_fault::PrintFault;
+use crate::sink::Sink;
+use crate::walk::write_value;
+use bplist_cert::Checked;
+use bplist_cursor::{Form, Measures, Node};
+use bplist_octets::Source;
+use std::alloc::Global;
+use std::io::Write;
+
+/// Puts the old-style text of a node's value into a sink.
+///
+/// This is [`print`] for a caller who has more to write after the text: `Ok` means that the sink took the text, and some
+/// of it may still be held back. Conditions and faults are those of `print`; `sent` of `Write` counts all bytes of the
+/// sink, and `NoAsciiForm` and `TooLong` leave sink and writer as they were.
+pub fn print_into<S: Source, W: Write>(
+    alloc: Global,
+    checked: &mut Checked<S>,
+    measures: &Measures,
+    node: Node,
+    limit: u64,
+    sink: &mut Sink,
+    out: &mut W,
+) -> Result<(), PrintFault>
+    requires measured { IsTrue checked.old.source.honest
+        → AreMeasures checked.old.source.octets checked.old.frame checked.old.certificate.heights measures.now }
+    ensures reads { Keeps (print_read result) checked.old checked.new }
+    ensures exact { IsTrue checked.old.source.honest → IsVouchedBy checked.old.certificate.heights node.object.0 → (v : Value)
+        → Holds checked.old.source.octets checked.old.frame node.object.0 v
+        → Prints (W.contents out.old) (W.contents out.new) sink.old sink.new checked.old.source.octets checked.old.frame
+        node.object.0 v limit result }
+    ensures unvouched { (IsVouchedBy checked.old.certificate.heights node.object.0 → ⊥) → result ≡ Err Changed }
+    ensures bounded { OnErr result (StaysWithin (W.contents out.old) (W.contents out.new) sink.old limit) }
+    ensures fits { OnOk result (TakesWithin (W.contents out.old) (W.contents out.new) sink.old sink.new limit) }
+{
+    let frame = checked.frame();
+    if checked.height(node.object) == 0 {
+        return Err(PrintFault::Changed);
+    }
+    match measures.form(node.object) {
+        None => Err(PrintFault::Changed),
+        Some(Form::NoForm) => {
+            let part = first_formless(checked, measures, node.object)?;
+            Err(PrintFault::NoAsciiForm(part))
+        }
+        Some(Form::Length(length)) => {
+            if length > limit || length == u64::MAX {
+                return Err(PrintFault::TooLong);
+            }
+            write_value(alloc, checked, &frame, node.object, limit, sink, out)?;
+            Ok(())
+        }
+    }
+}
+
+/// Writes the old-style text of a node's value, where it has at most `limit` bytes.
+///
+/// The measures must be those that `measure` answers for this `Checked`, where its source is honest. The containers on the
+/// way to the part that is being written wait on a stack, so memory is taken by the depth of the value alone; texts and
+/// data are read and written in parts. An interrupted write is tried again, up to 64 times in all.
+///
+/// `NoAsciiForm` is decided first, then `TooLong`, and both write nothing. After `Write` the first `sent` bytes of the text
+/// are out, fewer than all; after `Read`, `Changed` and `Memory` a first part of it may be. `Changed` is answered for a node
+/// whose object the certificate does not vouch for, and where the source gives other bytes than those that were checked.
+/// Over any source at most `limit` bytes go out, and the `Checked` stays as it was, save the count of failures of its
+/// source.
+pub fn print<S: Source, W: Write>(
+    alloc: Global,
+    checked: &mut Checked<S>,
+    measures: &Measures,
+    node: Node,
+    limit: u64,
+    out: &mut W,
+) -> Result<(), PrintFault>
+    requires measured { IsTrue checked.old.source.honest
+        → AreMeasures checked.old.source.octets checked.old.frame checked.old.certificate.heights measures.now }
+    ensures reads { Keeps (print_read result) checked.old checked.new }
+    ensures exact { IsTrue checked.old.source.honest → IsVouchedBy checked.old.certificate.heights node.object.0 → (v : Value)
+        → Holds checked.old.source.octets checked.old.frame node.object.0 v
+        → IsPrinted (W.contents out.old) (W.contents out.new) checked.old.source.octets checked.old.frame node.object.0 v limit result }
+    ensures unvouched { (IsVouchedBy checked.old.certificate.heights node.object.0 → ⊥) → result ≡ Err Changed }
+    ensures bounded { AtMost (W.contents out.old) (W.contents out.new) limit }
+{
+    let mut sink = Sink::new();
+    print_into(alloc, checked, measures, node, limit, &mut sink, out)?;
+    sink.flush(out)?;
+    Ok(())
+}

@@ -1,0 +1,182 @@
+//! What stands between a text and its writer.
+
+ghost use Rattle.std.specs.Prelude.{◌≡◌, ◌+◌, ◌-◌, ◌^◌, ◌<◌, ◌≤◌, ◌↔◌, [], ◌++◌, length, take, OnOk, IfErr, IsTrue};
+ghost use Rattle.std.specs.Io.KnownBytes.{Appends};
+ghost use Rattle.bplist_ascii.specs.Sending.{Sending, SendsPart, Takes, TakesPart};
+
+use std::io::{ErrorKind, Write};
+use std::marker::Model;
+
+/// How many bytes wait for one write.
+const BUFFERED: usize = 4096;
+
+/// How many interrupted writes a sink tries again, in all.
+const RETRIES: u32 = 64;
+
+/// A write failed. The first `sent` bytes of all that was put into the sink went out, and nothing else.
+#[derive(Clone, Copy, Debug, PartialEq, Eq)]
+pub struct WriteFault {
+    pub sent: u64,
+}
+
+/// How many bytes went out, and how many interrupted writes were tried again.
+#[derive(Drop)]
+struct Tally {
+    sent: u64,
+    interrupts: u32,
+}
+
+impl Tally {
+    /// Sends all of the bytes.
+    fn send<W: Write>(&mut self, out: &mut W, bytes: &[u8]) -> Result<(), WriteFault>
+        requires { self.old.sent + length bytes.now < 2 ^ 64 }
+        ensures appended { OnOk result (Appends (W.contents out.old) (W.contents out.new) bytes.now) }
+        ensures counted { OnOk result (self.new.sent ≡ self.old.sent + length bytes.now) }
+        ensures part { IfErr result (λ e. SendsPart (W.contents out.old) (W.contents out.new) self.old.sent bytes.now e.sent) }
+        ensures stands { IfErr result (λ e. self.new.sent ≡ e.sent) }
+    {
+        let mut sent = 0;
+        while sent < bytes.len() {
+            match out.write(&bytes[sent..]) {
+                Ok(0) => return Err(WriteFault { sent: self.sent }),
+                Ok(n) => {
+                    sent += n;
+                    self.sent += n as u64;
+                }
+                Err(error) => {
+                    if !self.tries_again(error.kind()) {
+                        return Err(WriteFault { sent: self.sent });
+                    }
+                    self.interrupts += 1;
+                }
+            }
+        }
+        Ok(())
+    }
+
+    fn tries_again(&self, kind: ErrorKind) -> bool
+        ensures { IsTrue result → self.now.interrupts < 64 }
+    {
+        kind == ErrorKind::Interrupted && self.interrupts < RETRIES
+    }
+}
+
+/// Bytes on their way to a writer, through a buffer on the stack.
+///
+/// A sink serves one call: it counts what goes out and the interrupted writes over all that is put into it. An
+/// interrupted write is tried again, up to 64 times in all. A write of nothing is a fault, and so is a text of more
+/// than 18446744073709551615 bytes.
+///
+/// Contracts see the number of bytes that went out and the bytes that are held back.
+#[derive(Drop)]
+pub struct Sink {
+    buffer: [u8; BUFFERED],
+    used: usize,
+    tally: Tally,
+}
+
+impl Model for Sink {
+    ghost Value = { Sending };
+
+    ghost view = { λ s. record { sent = s.tally.sent; held = take s.used s.buffer } };
+
+    ghost invariant = { λ s. (s.used ≤ 4096) × (s.tally.sent + s.used < 2 ^ 64) };
+}
+
+impl Sink {
+    /// A sink that has sent nothing and holds nothing back.
+    pub fn new() -> Sink
+        ensures { result ≡ record { sent = 0; held = [] } }
+    {
+        Sink {
+            buffer: [0; BUFFERED],
+            used: 0,
+            tally: Tally {
+                sent: 0,
+                interrupts: 0,
+            },
+        }
+    }
+
+    /// Adds bytes. They go out now or with a later call.
+    ///
+    /// A fault tells how many of all the bytes that were put into the sink went out. What the sink held back is
+    /// dropped then.
+    pub fn put<W: Write>(&mut self, out: &mut W, bytes: &[u8]) -> Result<(), WriteFault>
+        ensures taken { OnOk result (Takes (W.contents out.old) (W.contents out.new) self.old self.new bytes.now) }
+        ensures part { IfErr result (λ e. TakesPart (W.contents out.old) (W.contents out.new) self.old bytes.now e.sent) }
+        ensures dropped { IfErr result (λ e. self.new ≡ record { sent = e.sent; held = [] }) }
+    {
+        if !self.can_count(bytes) {
+            return Err(self.refuse());
+        }
+        if !self.has_room(bytes) {
+            self.flush(out)?;
+        }
+        if self.has_room(bytes) {
+            self.hold(bytes);
+            return Ok(());
+        }
+        self.pass_on(out, bytes)
+    }
+
+    /// Sends what is held back.
+    ///
+    /// A fault is that of [`Sink::put`].
+    pub fn flush<W: Write>(&mut self, out: &mut W) -> Result<(), WriteFault>
+        ensures taken { OnOk result (Takes (W.contents out.old) (W.contents out.new) self.old self.new []) }
+        ensures empty { OnOk result (self.new.held ≡ []) }
+        ensures part { IfErr result (λ e. TakesPart (W.contents out.old) (W.contents out.new) self.old [] e.sent) }
+        ensures dropped { IfErr result (λ e. self.new ≡ record { sent = e.sent; held = [] }) }
+    {
+        let used = self.used;
+        self.used = 0;
+        self.tally.send(out, &self.buffer[..used])
+    }
+
+    /// Whether the bytes can be counted with all that came before them.
+    fn can_count(&self, bytes: &[u8]) -> bool
+        ensures { IsTrue result ↔ (self.now.sent + length self.now.held + length bytes.now < 2 ^ 64) }
+    {
+        bytes.len() as u64 <= u64::MAX - self.tally.sent - self.used as u64
+    }
+
+    fn has_room(&self, bytes: &[u8]) -> bool
+        ensures { IsTrue result ↔ (length self.now.held + length bytes.now ≤ 4096) }
+    {
+        bytes.len() <= BUFFERED - self.used
+    }
+
+    /// Holds bytes back.
+    fn hold(&mut self, bytes: &[u8])
+        requires room { length self.old.held + length bytes.now ≤ 4096 }
+        requires counted { self.old.sent + length self.old.held + length bytes.now < 2 ^ 64 }
+        ensures { self.new ≡ record { sent = self.old.sent; held = self.old.held ++ bytes.now } }
+    {
+        let end = self.used + bytes.len();
+        self.buffer[self.used..end].copy_from_slice(bytes);
+        self.used = end;
+    }
+
+    /// Sends bytes past the empty buffer.
+    fn pass_on<W: Write>(&mut self, out: &mut W, bytes: &[u8]) -> Result<(), WriteFault>
+        requires empty { self.old.held ≡ [] }
+        requires counted { self.old.sent + length bytes.now < 2 ^ 64 }
+        ensures taken { OnOk result (Takes (W.contents out.old) (W.contents out.new) self.old self.new bytes.now) }
+        ensures part { IfErr result (λ e. TakesPart (W.contents out.old) (W.contents out.new) self.old bytes.now e.sent) }
+        ensures dropped { IfErr result (λ e. self.new ≡ record { sent = e.sent; held = [] }) }
+    {
+        self.tally.send(out, bytes)
+    }
+
+    /// Drops what is held back, and says how many bytes went out.
+    fn refuse(&mut self) -> WriteFault
+        ensures stands { result.sent ≡ self.old.sent }
+        ensures dropped { self.new ≡ record { sent = self.old.sent; held = [] } }
+    {
+        self.used = 0;
+        WriteFault {
+            sent: self.tally.sent,
+        }
+    }
+}

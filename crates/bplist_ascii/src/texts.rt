@@ -1,0 +1,138 @@
+//! The old-style texts of texts and of data.
+
+ghost use Rattle.std.specs.Prelude.{◌≡◌, ◌≤◌, ◌++◌, ℕ, List, length, take, IfOk, OnOk};
+ghost use Rattle.std.specs.List.{list_all};
+ghost use Rattle.bplist_cursor.specs.Texts as spec;
+
+use std::alloc::{AllocError, Global};
+use std::marker::Model;
+
+/// The old-style text of a text with these 16-bit units: the units themselves where there is one and each is a
+/// letter or a digit of ASCII, else a quoted text, whatever the units are.
+///
+/// The error is a growth that was refused.
+pub fn text_of_units(alloc: Global, units: &[u16]) -> Result<Vec<u8>, AllocError>
+    ensures { IfOk result (λ text. text.items ≡ spec.text_of_units units.now) }
+{
+    let mut text = Vec::new(alloc);
+    if !units.is_empty() && are_plain(units) {
+        for unit in units {
+            text.push(*unit as u8)?;
+        }
+        return Ok(text);
+    }
+    text.push(b'"')?;
+    for unit in units {
+        add_quoted(*unit, &mut text)?;
+    }
+    text.push(b'"')?;
+    Ok(text)
+}
+
+/// The old-style text of data: two lower-case hexadecimal digits a byte, between `<` and `>`.
+///
+/// The error is a growth that was refused.
+pub fn text_of_bytes(alloc: Global, bytes: &[u8]) -> Result<Vec<u8>, AllocError>
+    ensures { IfOk result (λ text. text.items ≡ spec.text_of_bytes bytes.now) }
+{
+    let mut text = Vec::new(alloc);
+    text.push(b'<')?;
+    for byte in bytes {
+        add_digits(*byte, &mut text)?;
+    }
+    text.push(b'>')?;
+    Ok(text)
+}
+
+pub(crate) fn are_plain(units: &[u16]) -> bool
+    ensures { result ≡ list_all spec.is_plain units.now }
+{
+    units.iter().all(|unit| is_plain(*unit))
+}
+
+/// Whether a unit is one of A-Z, a-z and 0-9.
+pub(crate) fn is_plain(unit: u16) -> bool
+    ensures { result ≡ spec.is_plain unit }
+{
+    matches!(unit, 0x30..=0x39 | 0x41..=0x5A | 0x61..=0x7A)
+}
+
+/// Adds a unit as it stands between quotes.
+fn add_quoted(unit: u16, text: &mut Vec<u8>) -> Result<(), AllocError>
+    ensures { OnOk result (text.new.items ≡ text.old.items ++ spec.quoted_unit unit) }
+{
+    text.extend_from_slice(QuotedUnit::new(unit).as_slice())
+}
+
+/// Adds the two hexadecimal digits of a byte.
+fn add_digits(byte: u8, text: &mut Vec<u8>) -> Result<(), AllocError>
+    ensures { OnOk result (text.new.items ≡ text.old.items ++ spec.hex_digits byte) }
+{
+    text.extend_from_slice(&digits_of(byte))
+}
+
+/// The two hexadecimal digits of a byte.
+#[tactic(auto, unfolding(hex::specs::Hex::encode_with))]
+pub(crate) fn digits_of(byte: u8) -> [u8; 2]
+    ensures { result ≡ spec.hex_digits byte }
+{
+    let mut digits = [0; 2];
+    // Two digits are the room that one byte wants, so this is never refused.
+    let _ = hex::encode_to_slice([byte], &mut digits);
+    digits
+}
+
+/// A unit as it stands between quotes, in one to six bytes.
+///
+/// Contracts see these bytes.
+#[derive(Drop)]
+pub(crate) struct QuotedUnit {
+    bytes: [u8; 6],
+    used: usize,
+}
+
+impl Model for QuotedUnit {
+    ghost Value = { List ℕ };
+
+    ghost view = { λ q. take q.used q.bytes };
+
+    ghost invariant = { λ q. q.used ≤ 6 };
+}
+
+impl QuotedUnit {
+    /// The unit between quotes.
+    pub(crate) fn new(unit: u16) -> QuotedUnit
+        ensures { result ≡ spec.quoted_unit unit }
+    {
+        match unit {
+            0x22 => QuotedUnit::of(b"\\\""),
+            0x5C => QuotedUnit::of(b"\\\\"),
+            0x0A => QuotedUnit::of(b"\\n"),
+            0x20..=0x7E => QuotedUnit::of(&[unit as u8]),
+            _ => {
+                let high = digits_of((unit / 256) as u8);
+                let low = digits_of((unit % 256) as u8);
+                QuotedUnit::of(&[b'\\', b'U', high[0], high[1], low[0], low[1]])
+            }
+        }
+    }
+
+    /// The bytes.
+    pub(crate) fn as_slice(&self) -> &[u8]
+        ensures { result.now ≡ self.now }
+    {
+        &self.bytes[..self.used]
+    }
+
+    fn of(bytes: &[u8]) -> QuotedUnit
+        requires { length bytes.now ≤ 6 }
+        ensures { result ≡ bytes.now }
+    {
+        let mut quoted = [0; 6];
+        quoted[..bytes.len()].copy_from_slice(bytes);
+        QuotedUnit {
+            bytes: quoted,
+            used: bytes.len(),
+        }
+    }
+}

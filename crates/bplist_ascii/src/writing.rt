@@ -1,0 +1,99 @@
+//! Bytes that are put into a sink where there is room for so many.
+
+ghost use Rattle.std.specs.Prelude.{◌≡◌, ◌+◌, ◌<◌, ◌≤◌, false, true, length, flat_map, IfOk, OnOk, IfErr, OnErr, IsTrue, [], ◌∷◌};
+ghost use Rattle.std.specs.List.{list_all};
+ghost use Rattle.bplist_cursor.specs.Texts.{quoted_unit, hex_digits};
+ghost use Rattle.bplist_ascii.specs.Writing.{print_read, Adds, AddFails, StaysWithin, styled, fits};
+
+use crate::print_fault::PrintFault;
+use crate::sink::Sink;
+use crate::style::Style;
+use crate::texts::{QuotedUnit, digits_of, is_plain};
+use std::io::Write;
+
+/// Puts bytes in. What goes past the room is answered `Changed`, since the text was measured.
+pub(crate) fn write<W: Write>(
+    sink: &mut Sink,
+    out: &mut W,
+    room: &mut u64,
+    bytes: &[u8],
+) -> Result<(), PrintFault>
+    ensures unread { print_read result ≡ false }
+    ensures adds { OnOk result (Adds (W.contents out.old) (W.contents out.new) sink.old sink.new room.old room.new bytes.now) }
+    ensures fails { IfErr result (λ e. length bytes.now ≤ room.old → AddFails (W.contents out.old) (W.contents out.new) sink.old bytes.now e) }
+    ensures bounded { OnErr result (StaysWithin (W.contents out.old) (W.contents out.new) sink.old room.old) }
+{
+    if bytes.len() as u64 > *room {
+        return Err(PrintFault::Changed);
+    }
+    sink.put(out, bytes)?;
+    *room -= bytes.len() as u64;
+    Ok(())
+}
+
+/// Puts a unit in as a text of this style has it. Over the units that such a text can have, `Changed` comes only
+/// where there is no room.
+fn write_unit<W: Write>(
+    sink: &mut Sink,
+    out: &mut W,
+    room: &mut u64,
+    style: Style,
+    unit: u16,
+) -> Result<(), PrintFault>
+    ensures unread { print_read result ≡ false }
+    ensures adds { OnOk result (Adds (W.contents out.old) (W.contents out.new) sink.old sink.new room.old room.new (styled style unit)) }
+    ensures fails { IfErr result (λ e. fits style unit ≡ true → length (styled style unit) ≤ room.old
+        → AddFails (W.contents out.old) (W.contents out.new) sink.old (styled style unit) e) }
+    ensures bounded { OnErr result (StaysWithin (W.contents out.old) (W.contents out.new) sink.old room.old) }
+{
+    match style {
+        Style::Bare => {
+            if !is_plain(unit) {
+                return Err(PrintFault::Changed);
+            }
+            write(sink, out, room, &[unit as u8])
+        }
+        Style::Quoted => write(sink, out, room, QuotedUnit::new(unit).as_slice()),
+    }
+}
+
+/// Puts units in as a text of this style has them.
+pub(crate) fn write_units<W: Write>(
+    sink: &mut Sink,
+    out: &mut W,
+    room: &mut u64,
+    style: Style,
+    units: &[u16],
+) -> Result<(), PrintFault>
+    ensures unread { print_read result ≡ false }
+    ensures adds { OnOk result (Adds (W.contents out.old) (W.contents out.new) sink.old sink.new room.old room.new
+        (flat_map (styled style) units.now)) }
+    ensures fails { IfErr result (λ e. list_all (fits style) units.now ≡ true → length (flat_map (styled style) units.now) ≤ room.old
+        → AddFails (W.contents out.old) (W.contents out.new) sink.old (flat_map (styled style) units.now) e) }
+    ensures bounded { OnErr result (StaysWithin (W.contents out.old) (W.contents out.new) sink.old room.old) }
+{
+    for unit in units {
+        write_unit(sink, out, room, style, *unit)?;
+    }
+    Ok(())
+}
+
+/// Puts in two hexadecimal digits for each byte.
+pub(crate) fn write_digits<W: Write>(
+    sink: &mut Sink,
+    out: &mut W,
+    room: &mut u64,
+    bytes: &[u8],
+) -> Result<(), PrintFault>
+    ensures unread { print_read result ≡ false }
+    ensures adds { OnOk result (Adds (W.contents out.old) (W.contents out.new) sink.old sink.new room.old room.new
+        (flat_map hex_digits bytes.now)) }
+    ensures fails { IfErr result (λ e. length (flat_map hex_digits bytes.now) ≤ room.old
+        → AddFails (W.contents out.old) (W.contents out.new) sink.old (flat_map hex_digits bytes.now) e) }
+    ensures bounded { OnErr result (StaysWithin (W.contents out.old) (W.contents out.new) sink.old room.old) }
+{
+    for byte in bytes {
+        write(sink, out, room, &digits_of(*byte))?;
+    }
+    Ok(())
+}

@@ -1,0 +1,55 @@
+//! What a line asks for.
+
+use crate::lines::{Line, bytes_of_hex};
+use anyhow::{Context, Result, anyhow, bail};
+use bplist_cursor::{Node, Path, Query};
+use bplist_objects::ObjectNo;
+use std::alloc::Global;
+
+/// One call of the library.
+#[derive(Drop)]
+pub enum Request {
+    Answer(Query),
+    Nodes(ObjectNo),
+    Form(ObjectNo),
+    Member(Node, u64),
+    BytesOf(Node),
+    References,
+}
+
+/// The call that a line asks for.
+pub fn request_of(alloc: Global, line: Line<'_>) -> Result<Request> {
+    let operands = line.operands;
+    match line.call {
+        "size" => Ok(Request::Answer(Query::Size(path(alloc, operands)?))),
+        "keys" => Ok(Request::Answer(Query::Keys(path(alloc, operands)?))),
+        "nodes" => Ok(Request::Nodes(object(operands)?)),
+        "form" => Ok(Request::Form(object(operands)?)),
+        "member" => member(operands),
+        "bytes_of" => Ok(Request::BytesOf(Node {
+            object: object(operands)?,
+        })),
+        "references" => Ok(Request::References),
+        other => bail!("a call named {other}"),
+    }
+}
+
+fn member(operands: &str) -> Result<Request> {
+    let (number, i) = operands
+        .split_once('\t')
+        .context("a member without its number")?;
+    let node = Node {
+        object: object(number)?,
+    };
+    Ok(Request::Member(node, i.parse().context("the number of a member")?))
+}
+
+fn object(text: &str) -> Result<ObjectNo> {
+    Ok(ObjectNo(text.parse().context("the number of an object")?))
+}
+
+fn path(alloc: Global, text: &str) -> Result<Path> {
+    let bytes = bytes_of_hex(alloc, text)?;
+    let text = std::str::from_utf8(&bytes).context("a path that is no text")?;
+    Path::parse(alloc, text).map_err(|fault| anyhow!("a path with the fault {fault:?}"))
+}

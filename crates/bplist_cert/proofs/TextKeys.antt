@@ -1,0 +1,156 @@
+-- The keys of a dictionary by the definitions and by index.
+use Rattle.std.proofs.Common.{◌≡◌, ℕ, zero, suc, ◌+◌, ◌-◌, ◌*◌, ◌<◌, inl, inr, List, [], ◌∷◌, length, slice_index, slice_index_or, Less, refl, sym, ap, ◌∙◌, subst, arith}
+use Rattle.std.specs.List.{AllZip}
+use Rattle.std.proofs.lemmas.Bool.{cases_order}
+use Rattle.std.proofs.lemmas.List.{get_or_default}
+use Rattle.bplist_objects.specs.declared.frame.Frame.{Frame}
+use Rattle.bplist_objects.specs.declared.kind.Kind.{Kind}
+use Rattle.bplist_objects.specs.declared.kind.Kind.TheVariants as kinds
+use Rattle.bplist_objects.specs.declared.head.Head.{Head}
+use Rattle.bplist_objects.specs.Numbers.{num_at, nums_at}
+use Rattle.bplist_objects.specs.Value.{text}
+use Rattle.bplist_objects.specs.Heads.{leaf, content_of, Spells}
+use Rattle.bplist_objects.specs.Holds.{AreDistinct}
+use Rattle.bplist_objects.specs.Units.{IsTextKind, units_at, units_of, compare_units}
+use Rattle.bplist_objects.proofs.References.{length-nums_at, nth-nums_at}
+use Rattle.bplist_objects.proofs.UnitOrder.{compare_units-less_less, compare_units-not_less}
+use Rattle.bplist_cert.specs.Valid.{SpellsText}
+use Rattle.bplist_cert.specs.Heights.{ref}
+use Rattle.bplist_cert.specs.Keys.{IsText, IsKey, HaveTexts, KeysDiffer, AreInOrder}
+use Rattle.bplist_cert.proofs.Ordered.{text_once}
+use Rattle.bplist_cert.proofs.Onto.{onto}
+
+-- ---- two lists, item by item
+zip_length : {A B : Type 0} (R : A → B → Type 0) (xs : List A) (ys : List B) → AllZip R xs ys → length xs ≡ length ys
+zip_length R [] [] z = refl
+zip_length R [] (y ∷ ys) z = absurd z
+zip_length R (x ∷ xs) [] z = absurd z
+zip_length R (x ∷ xs) (y ∷ ys) z = ap suc (zip_length R xs ys z.1)
+
+zip_at : {A B : Type 0} (R : A → B → Type 0) (xs : List A) (ys : List B) (k : ℕ) (d : A) (e : B) → AllZip R xs ys → k < length xs → R (slice_index_or xs k d) (slice_index_or ys k e)
+zip_at R [] ys k d e z l = absurd (omega (arith, l))
+zip_at R (x ∷ xs) [] k d e z l = absurd z
+zip_at R (x ∷ xs) (y ∷ ys) zero d e z l = z.0
+zip_at R (x ∷ xs) (y ∷ ys) (suc k) d e z l = zip_at R xs ys k d e z.1 (omega (arith, l))
+
+-- ---- texts
+-- the content of a text's head is the text of its units
+text_content : (f : List ℕ) (F : Frame) (kind : Kind) (count body : ℕ) → IsTextKind kind → content_of f F kind count body ≡ leaf (text (units_at f kind count body))
+text_content f F kinds.Ascii count body t = refl
+text_content f F kinds.Wide count body t = refl
+text_content f F _ count body t = absurd t
+
+-- a head whose content is a text is a text's
+text_kind : (f : List ℕ) (F : Frame) (kind : Kind) (count body : ℕ) (u : List ℕ) → leaf (text u) ≡ content_of f F kind count body → IsTextKind kind × (u ≡ units_at f kind count body)
+text_kind f F kinds.Ascii count body u e = (tt, cc e)
+text_kind f F kinds.Wide count body u e = (tt, cc e)
+text_kind f F _ count body u e = absurd (cc e)
+
+module _ (f : List ℕ) (F : Frame) (m : ℕ) where
+  -- what spells a text is one, with these units
+  pub spelled_text : (u : List ℕ) → m < F.objects → SpellsText f F m u → (key : Head) × IsText f F m key × (u ≡ units_of f key)
+  spelled_text u lt s =
+      let is = text_kind f F s.shape.kind s.shape.count s.shape.body u s.means in
+      (s.shape, record { within = lt; is = (s.has, subst (Spells f F m) s.means s); kind = is.0 }, is.1)
+
+  -- a text spells its units
+  pub text_spelled : (key : Head) → IsText f F m key → SpellsText f F m (units_of f key)
+  text_spelled key is = subst (Spells f F m) (text_content f F key.kind key.count key.body is.kind) is.is.1
+
+-- texts one by one
+texts_list : (f : List ℕ) (F : Frame) (place width count : ℕ) → ((k : ℕ) → k < count → (u : List ℕ) × SpellsText f F (num_at f (place + k * width) width) u) → (us : List (List ℕ)) × AllZip (SpellsText f F) (nums_at f place width count) us
+texts_list f F place width zero h = ([], tt)
+texts_list f F place width (suc count) h =
+    let first : place + 0 * width ≡ place = omega arith in
+    let own = h 0 (omega arith) in
+    let rest = texts_list f F (place + width) width count (λ k l.
+    let e : place + suc k * width ≡ (place + width) + k * width = omega arith in
+    subst (λ a. (u : List ℕ) × SpellsText f F (num_at f a width) u) e (h (suc k) (omega (arith, l)))) in
+    (own.0 ∷ rest.0, (subst (λ a. SpellsText f F (num_at f a width) own.0) first own.1, rest.1))
+
+module _ (f : List ℕ) (F : Frame) (head : Head) where
+  -- the keys of a dictionary with this head
+  abbrev pub key_refs : List ℕ
+  key_refs = nums_at f head.body F.ref_size head.count
+
+  -- texts by index are texts by the definitions
+  pub texts_are : HaveTexts f F head head.count → (us : List (List ℕ)) × AllZip (SpellsText f F) key_refs us
+  texts_are texts = texts_list f F head.body F.ref_size head.count (λ k l. let t = texts k l in (units_of f t.0, text_spelled f F (ref f F head k) t.0 t.1))
+
+  module _ (us : List (List ℕ)) (zip : AllZip (SpellsText f F) key_refs us) where
+    pub all_units : length us ≡ head.count
+    all_units = sym (zip_length (SpellsText f F) key_refs us zip) ∙ length-nums_at f head.body F.ref_size head.count
+
+    spells_at : (k : ℕ) → k < head.count → SpellsText f F (ref f F head k) (slice_index_or us k [])
+    spells_at k l =
+        let many = length-nums_at f head.body F.ref_size head.count in
+        subst (λ m. SpellsText f F m (slice_index_or us k [])) (nth-nums_at f head.body F.ref_size head.count k l)
+        (zip_at (SpellsText f F) key_refs us k 0 [] zip (omega (arith, l, many)))
+
+    -- texts by the definitions are texts by index
+    pub have_texts : ((k : ℕ) → k < head.count → ref f F head k < F.objects) → HaveTexts f F head head.count
+    have_texts low k l = let t = spelled_text f F (ref f F head k) (slice_index_or us k []) (low k l) (spells_at k l) in (t.0, t.1)
+
+    -- the units of a key
+    pub units_at_key : (k : ℕ) (key : Head) → k < head.count → IsKey f F head k key → slice_index_or us k [] ≡ units_of f key
+    units_at_key k key l is =
+        let t = spelled_text f F (ref f F head k) (slice_index_or us k []) is.within (spells_at k l) in
+        t.2 ∙ ap (units_of f) (text_once f F (ref f F head k) t.0 key t.1 is)
+
+    -- keys that differ by index differ by the definitions
+    pub distinct : HaveTexts f F head head.count → KeysDiffer f F head head.count → AreDistinct us
+    distinct texts differ i j d lt below e =
+        let high : j < head.count = omega (arith, below, all_units) in
+        let low : i < head.count = omega (arith, lt, high) in
+        let a = texts i low in
+        let b = texts j high in
+        differ i j lt high a.0 b.0 a.1 b.1
+        (sym (units_at_key i a.0 low a.1) ∙ get_or_default us i [] d (omega (arith, low, all_units)) ∙ e ∙ get_or_default us j d [] below ∙ units_at_key j b.0 high b.1)
+
+    -- and the other way round
+    pub differ : AreDistinct us → KeysDiffer f F head head.count
+    differ apart i j lt high a b x y e =
+        apart i j [] lt (omega (arith, high, all_units))
+        (units_at_key i a (omega (arith, lt, high)) x ∙ e ∙ sym (units_at_key j b high y))
+
+-- keys that a list has in order differ
+module _ (f : List ℕ) (F : Frame) (head : Head) (list : List ℕ) (texts : HaveTexts f F head head.count) (order : AreInOrder f F head list head.count) where
+  abbrev position : ℕ → ℕ
+  position j = slice_index list j
+
+  far : (i n : ℕ) (a b : Head) → suc (i + n) < head.count → IsKey f F head (position i) a → IsKey f F head (position (suc (i + n))) b → compare_units (units_of f a) (units_of f b) ≡ Less
+  far i zero a b l x y =
+      let e : suc (i + 0) ≡ suc i = omega arith in
+      (order (suc (i + 0)) l).1 i a b (sym e) x y
+  far i (suc n) a b l x y =
+      let e : suc (i + suc n) ≡ suc (suc (i + n)) = omega arith in
+      let y' = subst (λ j. IsKey f F head (position j) b) e y in
+      let between = texts (position (suc (i + n))) ((order (suc (i + n)) (omega (arith, l))).0) in
+      let first = far i n a between.0 (omega (arith, l)) x between.1 in
+      let second = (order (suc (suc (i + n))) (omega (arith, l))).1 (suc (i + n)) between.0 b refl between.1 y' in
+      compare_units-less_less (units_of f a) (units_of f between.0) (units_of f b) first second
+
+  ascends : (i j : ℕ) (a b : Head) → i < j → j < head.count → IsKey f F head (position i) a → IsKey f F head (position j) b → compare_units (units_of f a) (units_of f b) ≡ Less
+  ascends i j a b lt l x y =
+      let e : suc (i + (j - suc i)) ≡ j = omega (arith, lt) in
+      far i (j - suc i) a b (omega (arith, e, l)) x (subst (λ k. IsKey f F head (position k) b) (sym e) y)
+
+  apart : (i j : ℕ) → i < j → j < head.count → position i ≡ position j → ⊥
+  apart i j lt l e =
+      let a = texts (position i) ((order i (omega (arith, lt, l))).0) in
+      let up = ascends i j a.0 a.0 lt l a.1 (subst (λ p. IsKey f F head p a.0) e a.1) in
+      compare_units-not_less (units_of f a.0) (units_of f a.0) refl up
+
+  pub ordered_differ : KeysDiffer f F head head.count
+  ordered_differ i j lt l a b x y e =
+      let p = onto head.count position (λ k m. (order k m).0) apart i (omega (arith, lt, l)) in
+      let q = onto head.count position (λ k m. (order k m).0) apart j l in
+      let x' = subst (λ k. IsKey f F head k a) (sym p.2) x in
+      let y' = subst (λ k. IsKey f F head k b) (sym q.2) y in
+      elim (cases_order p.0 q.0) [
+        | inl same ↦ let z : i ≡ j = sym p.2 ∙ ap position same ∙ q.2 in omega (arith, lt, z)
+        | inr r ↦ elim r [
+          | inl before ↦ compare_units-not_less (units_of f a) (units_of f b) e (ascends p.0 q.0 a b before q.1 x' y')
+          | inr behind ↦ compare_units-not_less (units_of f b) (units_of f a) (sym e) (ascends q.0 p.0 b a behind p.1 y' x')
+        ]
+      ]

@@ -1,0 +1,204 @@
+-- One vouched object after the other.
+use Rattle.std.proofs.Common.{◌≡◌, ℕ, suc, ◌<◌, ◌≤◌, ◌+◌, ◌-◌, ◌⊎◌, inl, inr, List, [], ◌∷◌, ◌++◌, length, slice_index, Result, Ok, Err, Option, Some, None, refl, sym, ◌∙◌, subst, arith}
+use Rattle.std.proofs.lemmas.Bool.{cases_lt}
+use Rattle.bplist_objects.specs.declared.rule.Rule.{Rule}
+use Rattle.bplist_objects.specs.declared.rule.Rule.TheVariants as rules
+use Rattle.bplist_objects.specs.declared.fault.Fault.{Fault}
+use Rattle.bplist_objects.specs.declared.fault.ObjectFault.{ObjectFault}
+use Rattle.bplist_objects.specs.declared.fault.ObjectFault.TheVariants as errors
+use Rattle.bplist_objects.specs.declared.frame.Frame.{Frame}
+use Rattle.bplist_objects.specs.declared.frame.ObjectNo.{ObjectNo}
+use Rattle.bplist_objects.specs.declared.head.Head.{Head}
+use Rattle.bplist_objects.specs.declared.kind.Kind.TheVariants as kinds
+use Rattle.bplist_objects.specs.Frame.{off, IsFrame}
+use Rattle.bplist_objects.specs.Safe.{ref_count}
+use Rattle.bplist_objects.specs.Answers.{GivesFault, Never}
+use Rattle.bplist_objects.specs.Announced.{HasHead}
+use Rattle.bplist_objects.specs.FrameRules.{IsFrameFault}
+use Rattle.bplist_objects.specs.Rules.{KeepsAll, IsFirstFault}
+use Rattle.bplist_objects.specs.ObjectRules.{KeepsByObject, IsObjectFault, object_rules}
+use Rattle.bplist_objects.specs.Extents.{HasExtent, IsOverfull}
+use Rattle.bplist_objects.proofs.Lists.{all_weaker, all_at}
+use Rattle.bplist_objects.proofs.Filling.{most_none, most_more, most_same}
+use Rattle.bplist_objects.proofs.RuleLaws.{first_fault_after}
+use Rattle.bplist_objects.proofs.BodyLaws.{HasHead-unique}
+use Rattle.bplist_objects.proofs.Ties.{kept_spells}
+use Rattle.bplist_cert.specs.declared.heights.Wanted.TheVariants.{Vouched, Below}
+use Rattle.bplist_cert.specs.declared.refusal.Refusal.{Refusal}
+use Rattle.bplist_cert.specs.declared.refusal.Refusal.TheVariants as refusals
+use Rattle.bplist_cert.specs.Lists.{Keyed, Lists, lists, HasStarts, HasCount}
+use Rattle.bplist_cert.specs.Valid.{IsVouchedBy}
+use Rattle.bplist_cert.specs.Heights.{AreMet, IsHeightFault}
+use Rattle.bplist_cert.specs.Keys.{HaveTexts, KeysDiffer}
+use Rattle.bplist_cert.specs.CheckRules.{KeepsByCheck, BreaksAtCheck, IsCheckFault, check_rules, vouched_rules, last_rule, HasOrder, KeepsLast, IsLastFault, IsKeysFault}
+use Rattle.bplist_cert.specs.PairFault.{Sums, IsHeld, Running, KeepBelow, IsVouchedFault, IsPairFault}
+use Rattle.bplist_cert.specs.Refusals.{GivesRefusal, Judges, refusal_of}
+
+pub keeps_append : (keeps : Rule → Type 0) (xs ys : List Rule) → KeepsAll keeps xs → KeepsAll keeps ys → KeepsAll keeps (xs ++ ys)
+keeps_append keeps [] ys k l = l
+keeps_append keeps (x ∷ xs) ys k l = (k.0, keeps_append keeps xs ys k.1 l)
+
+in_front : (keeps : Rule → Type 0) (breaks : Rule → Option ObjectNo → ℕ → Type 0) (xs ys : List Rule) (fault : Fault) → IsFirstFault keeps breaks xs fault → IsFirstFault keeps breaks (xs ++ ys) fault
+in_front keeps breaks [] ys fault h = absurd h
+in_front keeps breaks (x ∷ xs) ys fault (inl h) = inl h
+in_front keeps breaks (x ∷ xs) ys fault (inr h) = inr (h.0, in_front keeps breaks xs ys fault h.1)
+
+-- the rule of keys beside rule 21, by the head
+pub last_kept : (f : List ℕ) (F : Frame) (heights : List ℕ) (keys : Option Keyed) (n : ℕ) (head : Head) → HasHead f F n head → (head.kind ≡ kinds.Dict → KeepsLast f F keys n head)
+    → KeepsByCheck f F (lists heights keys) n (last_rule keys)
+last_kept f F heights None n head has v = λ other h. subst (λ (x : Head). x.kind ≡ kinds.Dict → KeysDiffer f F x x.count) (HasHead-unique f F n head other has h) v
+last_kept f F heights (Some keyed) n head has v = λ other h. subst (λ (x : Head). x.kind ≡ kinds.Dict → HasOrder f F (Some keyed) n x) (HasHead-unique f F n head other has h) v
+
+last_broken : (f : List ℕ) (F : Frame) (heights : List ℕ) (keys : Option Keyed) (n : ℕ) (head : Head) → HasHead f F n head → head.kind ≡ kinds.Dict → (fault : Fault)
+    → IsLastFault f F (length heights) keys n head fault → (fault.rule ≡ last_rule keys) × BreaksAtCheck f F (lists heights keys) n (last_rule keys) fault.object fault.place
+last_broken f F heights None n head has kind fault (rule, object, (i, first, place)) = (rule, (object, (head, i, has, kind, first, place)))
+last_broken f F heights (Some keyed) n head has kind fault (rule, object, broken) = (rule, (object, (head, has, kind, broken)))
+
+-- the keys of a dictionary, whose keys are texts
+pub keys_judged : (f : List ℕ) (F : Frame) (count : ℕ) (keys : Option Keyed) (n : ℕ) (head : Head) → head.kind ≡ kinds.Dict → HaveTexts f F head head.count → (result : Result (Unit {0}) Refusal)
+    → Judges (λ _. KeepsLast f F keys n head) (IsLastFault f F count keys n head) result
+    → Judges (λ _. head.kind ≡ kinds.Dict → HaveTexts f F head head.count × KeepsLast f F keys n head) (IsKeysFault f F count keys n head) result
+keys_judged f F count keys n head kind texts (Ok x) h = λ _. (texts, h)
+keys_judged f F count keys n head kind texts (Err (refusals.Fault fault)) h = (kind, inr (texts, h))
+keys_judged f F count keys n head kind texts (Err (refusals.Read r)) h = tt
+keys_judged f F count keys n head kind texts (Err refusals.Memory) h = tt
+
+-- there are as many starts as objects
+pub starts_counted : (heights : List ℕ) (keys : Option Keyed) (count : ℕ) → length heights ≡ count → HasStarts heights keys → HasCount keys count
+starts_counted heights None count e h = tt
+starts_counted heights (Some keyed) count e h = h ∙ e
+
+module _ (f : List ℕ) (F : Frame) (heights : List ℕ) (keys : Option Keyed) (n : ℕ) where
+  abbrev Keeps : Rule → Type 0
+  Keeps rule = KeepsByCheck f F (lists heights keys) n rule
+
+  abbrev Breaks : Rule → Option ObjectNo → ℕ → Type 0
+  Breaks rule object place = BreaksAtCheck f F (lists heights keys) n rule object place
+
+  abbrev Broken : Fault → Type 0
+  Broken fault = IsCheckFault f F (lists heights keys) n (check_rules keys) fault
+
+  -- a fault of the object by itself
+  pub object_fault : (e : ObjectFault) → GivesFault (IsObjectFault f F n object_rules) e → GivesRefusal Broken (refusal_of e)
+  object_fault (errors.Fault fault) h = in_front Keeps Breaks object_rules (vouched_rules keys) fault h
+  object_fault (errors.Read r) h = tt
+
+  module _ (frame : IsFrame f F) (lt : n < F.objects) (head : Head) (has : HasHead f F n head) (kept : KeepsAll (KeepsByObject f F n) object_rules) (vouched : IsVouchedBy heights n) (t : ℕ) (sums : Sums f F heights n t) where
+    abbrev now : ℕ
+    now = t + (head.«end» - off f F n)
+
+    extent : HasExtent f F n (head.«end» - off f F n)
+    extent = let spells = kept_spells f F n frame lt head has kept in (head, spells.0, omega (arith, spells.0.body, spells.0.«end»))
+
+    -- with the object, the running sum
+    more : Sums f F heights (suc n) now
+    more =
+        let e = head.«end» - off f F n in
+        record {
+          objects = n ∷ sums.objects;
+          differ = ((λ c. let b = all_at _ sums.objects n sums.inside c in omega (arith, b.1)), sums.differ);
+          inside = ((vouched, omega arith), all_weaker _ _ (λ m p. (p.0, omega (arith, p.1))) sums.objects sums.inside);
+          take_all = (e, t, extent, sums.take_all, omega arith);
+          most = most_more f F (IsVouchedBy heights) n e t extent sums.most;
+        }
+
+    -- the sum is too large
+    pub overfull_fault : (fault : Fault) → fault.rule ≡ rules.Overfull → fault.object ≡ Some (record { 0 = n }) → fault.place ≡ off f F n → F.table < now + 8 → Broken fault
+    overfull_fault fault rule object place large =
+        first_fault_after Keeps Breaks object_rules (vouched_rules keys) fault kept
+        (inl (rule, (object, ((more.objects, now, more.differ, all_weaker _ _ (λ k p. (p.0, omega (arith, p.1))) more.objects more.inside, more.take_all, large), place))))
+
+    module _ (room : now + 8 ≤ F.table) where
+      not_overfull : IsOverfull f F (IsVouchedBy heights) n → ⊥
+      not_overfull (ns, r, d, a, w, large) =
+          let b = more.most ns r d (all_weaker _ _ (λ k p. (p.0, omega (arith, p.1))) ns a) w in
+          omega (arith, b, large)
+
+      vouched_any : AreMet f F heights head Vouched (ref_count head.kind head.count) → Keeps rules.ChildNotVouched
+      vouched_any v other h = subst (λ (x : Head). AreMet f F heights x Vouched (ref_count x.kind x.count)) (HasHead-unique f F n head other has h) v
+
+      lower_any : AreMet f F heights head (Below (slice_index heights n)) (ref_count head.kind head.count) → Keeps rules.HeightNotLess
+      lower_any v other h = subst (λ (x : Head). AreMet f F heights x (Below (slice_index heights n)) (ref_count x.kind x.count)) (HasHead-unique f F n head other has h) v
+
+      texts_any : (head.kind ≡ kinds.Dict → HaveTexts f F head head.count) → Keeps rules.KeyKind
+      texts_any v other h = subst (λ (x : Head). x.kind ≡ kinds.Dict → HaveTexts f F x x.count) (HasHead-unique f F n head other has h) v
+
+      -- a fault of the heights
+      pub heights_fault : (e : ObjectFault) → GivesFault (IsHeightFault f F heights n head) e → GivesRefusal Broken (refusal_of e)
+      heights_fault (errors.Fault fault) (inl (rule, object, (i, first, place))) =
+          first_fault_after Keeps Breaks object_rules (vouched_rules keys) fault kept
+          (inr (not_overfull, inl (rule, (object, (head, i, has, first, place)))))
+      heights_fault (errors.Fault fault) (inr (met, (rule, object, (i, first, place)))) =
+          first_fault_after Keeps Breaks object_rules (vouched_rules keys) fault kept
+          (inr (not_overfull, inr (vouched_any met, inl (rule, (object, (head, i, has, first, place))))))
+      heights_fault (errors.Read r) h = tt
+
+      module _ (met : AreMet f F heights head Vouched (ref_count head.kind head.count)) (low : AreMet f F heights head (Below (slice_index heights n)) (ref_count head.kind head.count)) where
+        -- a fault of the keys
+        pub keys_fault : (e : Refusal) → GivesRefusal (IsKeysFault f F (length heights) keys n head) e → GivesRefusal Broken e
+        keys_fault (refusals.Fault fault) (kind, inl (rule, object, (i, first, place))) =
+            first_fault_after Keeps Breaks object_rules (vouched_rules keys) fault kept
+            (inr (not_overfull, inr (vouched_any met, inr (lower_any low, inl (rule, (object, (head, i, has, kind, first, place)))))))
+        keys_fault (refusals.Fault fault) (kind, inr (texts, last)) =
+            first_fault_after Keeps Breaks object_rules (vouched_rules keys) fault kept
+            (inr (not_overfull, inr (vouched_any met, inr (lower_any low, inr (texts_any (λ _. texts), inl (last_broken f F heights keys n head has kind fault last))))))
+        keys_fault (refusals.Read r) h = tt
+        keys_fault refusals.Memory h = tt
+
+        -- the object keeps all rules
+        pub held : (head.kind ≡ kinds.Dict → HaveTexts f F head head.count × KeepsLast f F keys n head) → IsHeld f F (lists heights keys) n now
+        held last = record {
+          sums = more;
+          room = room;
+          kept = keeps_append Keeps object_rules (vouched_rules keys) kept (not_overfull, (vouched_any met, (lower_any low, (texts_any (λ kind. (last kind).0), (last_kept f F heights keys n head has (λ kind. (last kind).1), tt)))));
+        }
+
+  none_more : (IsVouchedBy heights n → ⊥) → (t : ℕ) → Sums f F heights n t → Sums f F heights (suc n) t
+  none_more never t sums = record {
+    objects = sums.objects;
+    differ = sums.differ;
+    inside = all_weaker _ _ (λ m p. (p.0, omega (arith, p.1))) sums.objects sums.inside;
+    take_all = sums.take_all;
+    most = most_same f F (IsVouchedBy heights) n t never sums.most;
+  }
+
+  below_by : KeepBelow f F (lists heights keys) n → (IsVouchedBy heights n → KeepsAll Keeps (check_rules keys)) → KeepBelow f F (lists heights keys) (suc n)
+  below_by below here m lt v = go (cases_lt m n)
+    where
+      go : (m < n) ⊎ (n ≤ m) → KeepsAll (KeepsByCheck f F (lists heights keys) m) (check_rules keys)
+      go (inl a) = below m a v
+      go (inr b) =
+          let e : n ≡ m = omega (arith, lt, b) in
+          subst (λ k. KeepsAll (KeepsByCheck f F (lists heights keys) k) (check_rules keys)) e (here (subst (IsVouchedBy heights) (sym e) v))
+
+  -- an object that is not vouched for
+  pub passed : (slice_index heights n ≡ 0) → (t : ℕ) → Running f F (lists heights keys) n t → Running f F (lists heights keys) (suc n) t
+  passed none t run =
+      let never : IsVouchedBy heights n → ⊥ = λ v. omega (arith, v, none) in
+      record { sums = none_more never t run.sums; room = run.room; kept = below_by run.kept (λ v. absurd (never v)) }
+
+  -- the answer for a vouched object is that of the walk
+  pub stepped : IsVouchedBy heights n → (t : ℕ) → Running f F (lists heights keys) n t → (result : Result ℕ Refusal)
+      → Judges (IsHeld f F (lists heights keys) n) Broken result → Judges (Running f F (lists heights keys) (suc n)) (IsVouchedFault f F (lists heights keys)) result
+  stepped v t run (Ok t') h = record { sums = h.sums; room = h.room; kept = below_by run.kept (λ _. h.kept) }
+  stepped v t run (Err (refusals.Fault fault)) h = record { object = n; vouched = v; first = h; least = run.kept }
+  stepped v t run (Err (refusals.Read r)) h = tt
+  stepped v t run (Err refusals.Memory) h = tt
+
+-- before the first object
+pub start : (f : List ℕ) (F : Frame) (certificate : Lists) → IsFrame f F → Running f F certificate 0 0
+start f F certificate frame = record {
+  sums = record { objects = []; differ = tt; inside = tt; take_all = refl; most = most_none f F (IsVouchedBy certificate.heights) };
+  room = omega (arith, frame.table_early);
+  kept = λ m lt v. absurd (omega arith);
+}
+
+-- a fault of the file as a whole
+pub frame_fault : (f : List ℕ) (certificate : Lists) (e : ObjectFault) → GivesFault (IsFrameFault f) e → GivesRefusal (IsPairFault f certificate) (refusal_of e)
+frame_fault f certificate (errors.Fault fault) h = inl h
+frame_fault f certificate (errors.Read r) h = tt
+
+-- a call that answers no fault is refused for a failed read or a growth alone
+pub never_refused : (Q : Fault → Type 0) (e : ObjectFault) → GivesFault Never e → GivesRefusal Q (refusal_of e)
+never_refused Q (errors.Fault fault) h = absurd h
+never_refused Q (errors.Read r) h = tt

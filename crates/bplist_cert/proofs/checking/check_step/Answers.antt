@@ -1,0 +1,13 @@
+use Rattle.std.proofs.Common.{◌∙◌, sym, arith}
+use Rattle.bplist_cert.specs.Valid.{IsVouchedBy}
+use Rattle.bplist_cert.proofs.Walking.{passed, stepped}
+use Rattle.bplist_cert.proofs.checking.check_step.Goals as goal
+
+pub returns-then-height_at-eq0-clause-exact : goal.returns-then-height_at-eq0-clause-exact
+returns-then-height_at-eq0-clause-exact g c = λ honest framed place run.
+    passed (g.S.Source.means c.args.src.now).octets c.args.frame.now c.args.heights.now c.args.keys.now c.args.n.0 (sym c.height_at.ensures ∙ c.if-height_at-eq0.true) c.args.used run
+
+pub returns-clause-exact : goal.returns-clause-exact
+returns-clause-exact g c = λ honest framed place run.
+    let v : IsVouchedBy c.args.heights.now c.args.n.0 = omega (arith, c.height_at.ensures, c.if-height_at-eq0.false) in
+    stepped (g.S.Source.means c.args.src.now).octets c.args.frame.now c.args.heights.now c.args.keys.now c.args.n.0 v c.args.used run c.check_object.result (c.check_object.ensures.exact honest framed place v run.sums)

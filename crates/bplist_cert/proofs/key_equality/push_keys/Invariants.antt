@@ -1,0 +1,17 @@
+use Rattle.std.proofs.Common.{◌≡◌, ◌+◌, IsTrue}
+use Rattle.bplist_objects.specs.Frame.{IsFrame}
+use Rattle.bplist_cert.specs.Keys.{HaveTexts}
+use Rattle.bplist_cert.specs.KeyUnits.{AreBounds, AreParts, IsKeyWith}
+use Rattle.bplist_cert.proofs.key_equality.push_keys.Given as goal
+
+-- the source is as it was, and the units of the keys so far stand between the bounds
+abbrev pub invariant-loop-k : goal.invariant-loop-k
+invariant-loop-k g l =
+    let means = g.S.Source.means in
+    record {
+      same : means l.src ≡ means l.fn.src;
+      bounds : AreBounds l.keys.units.items l.keys.bounds.items (l.done + l.k);
+      so_far : IsTrue (means l.fn.src).honest → IsFrame (means l.fn.src).octets l.frame → HaveTexts (means l.fn.src).octets l.frame l.head l.head.count
+          → AreParts (IsKeyWith (means l.fn.src).octets l.frame l.head) l.fn.keys.units.items l.fn.keys.bounds.items l.done
+          → AreParts (IsKeyWith (means l.fn.src).octets l.frame l.head) l.keys.units.items l.keys.bounds.items (l.done + l.k);
+    }

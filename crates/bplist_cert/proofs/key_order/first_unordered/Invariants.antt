@@ -1,0 +1,20 @@
+use Rattle.std.proofs.Common.{◌≡◌, IsTrue, length, IfSome}
+use Rattle.bplist_objects.specs.Frame.{IsFrame}
+use Rattle.bplist_objects.specs.Safe.{IsSafeBody}
+use Rattle.bplist_objects.specs.Units.{IsTextKind}
+use Rattle.bplist_cert.specs.Keys.{HaveTexts, AreInOrder}
+use Rattle.bplist_cert.proofs.Ordered.{IsBefore}
+use Rattle.bplist_cert.proofs.key_order.first_unordered.Given as goal
+
+-- the source is as it was, the numbers so far are positions whose keys ascend, and the last of them is kept
+abbrev pub invariant-loop-j : goal.invariant-loop-j
+invariant-loop-j g l =
+    let means = g.S.Source.means in
+    record {
+      same : means l.src ≡ means l.fn.src;
+      ordered : IsTrue (means l.fn.src).honest → IsFrame (means l.fn.src).octets l.frame → HaveTexts (means l.fn.src).octets l.frame l.head l.head.count
+          → AreInOrder (means l.fn.src).octets l.frame l.head l.list l.j;
+      last : IsTrue (means l.fn.src).honest → IsFrame (means l.fn.src).octets l.frame → HaveTexts (means l.fn.src).octets l.frame l.head l.head.count
+          → IsBefore (means l.fn.src).octets l.frame l.head l.list l.j l.before;
+      safe : IfSome l.before (λ key. IsTextKind key.kind × IsSafeBody (length (means l.fn.src).octets) key);
+    }

@@ -1,0 +1,5 @@
+use Rattle.bplist_cert.proofs.Staying.{stays}
+use Rattle.bplist_cert.proofs.laws.checked_stays.Goals as goal
+
+pub returns : goal.returns
+returns c = stays

@@ -1,0 +1,5 @@
+use Rattle.bplist_cert.proofs.Spelling.{octets_once}
+use Rattle.bplist_cert.proofs.laws.one_certificate.Goals as goal
+
+pub returns : goal.returns
+returns c = octets_once

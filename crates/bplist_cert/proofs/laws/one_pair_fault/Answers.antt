@@ -1,0 +1,5 @@
+use Rattle.bplist_cert.proofs.Unique.{one_pair_fault}
+use Rattle.bplist_cert.proofs.laws.one_pair_fault.Goals as goal
+
+pub returns : goal.returns
+returns c = one_pair_fault

@@ -1,0 +1,5 @@
+use Rattle.bplist_cert.proofs.Accepting.{fault_refutes}
+use Rattle.bplist_cert.proofs.laws.pair_fault_excludes.Goals as goal
+
+pub returns : goal.returns
+returns c = fault_refutes

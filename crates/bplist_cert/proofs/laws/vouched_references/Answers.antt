@@ -1,0 +1,5 @@
+use Rattle.bplist_cert.proofs.Vouching.{references_lower}
+use Rattle.bplist_cert.proofs.laws.vouched_references.Goals as goal
+
+pub returns : goal.returns
+returns c = references_lower

@@ -1,0 +1,42 @@
+-- A file with a certificate that the check has accepted. Source: profile.
+use Rattle.std.specs.Prelude.{◌≡◌, ℕ, ◌≤◌, IsTrue, List, [], ◌∷◌, length, Option, Some, None}
+use Rattle.bplist_octets.specs.Meaning.{Meaning}
+use Rattle.bplist_objects.specs.declared.frame.Frame.{Frame}
+use Rattle.bplist_objects.specs.Frame.{trailer}
+use Rattle.bplist_objects.specs.Safe.{IsSafeFrame, frame_numbers}
+use Rattle.bplist_cert.specs.Lists.{Keyed, Lists}
+use Rattle.bplist_cert.specs.Sorted.{IsAccepted}
+
+-- what the source means, the frame, and the lists of the certificate
+pub record CheckedFile : Type 0 where
+  pub source : Meaning
+  pub frame : Frame
+  pub certificate : Lists
+
+-- what is known of it wherever it is
+pub record IsChecked (checked : CheckedFile) : Type 0 where
+  pub safe : IsSafeFrame (length checked.source.octets) checked.frame
+  pub count : length checked.certificate.heights ≡ checked.frame.objects
+  pub spelled : IsTrue checked.source.honest → checked.frame ≡ trailer checked.source.octets
+  pub large : IsTrue checked.source.honest → length checked.source.octets ≤ 4294967295
+  pub accepted : IsTrue checked.source.honest → ∥ IsAccepted checked.source.octets checked.frame checked.certificate ∥₁
+
+abbrev pub starts_in : Option Keyed → List ℕ
+starts_in None = []
+starts_in (Some keyed) = keyed.starts
+
+abbrev pub positions_in : Option Keyed → List ℕ
+positions_in None = []
+positions_in (Some keyed) = keyed.positions
+
+-- the version of a certificate, as a list of one number
+abbrev pub version_in : Option Keyed → List ℕ
+version_in None = 1 ∷ []
+version_in (Some keyed) = 2 ∷ []
+
+-- as a source it means what its source means, and holds frame and certificate besides
+abbrev pub meaning_of : CheckedFile → Meaning
+meaning_of checked = record checked.source {
+  beside = frame_numbers checked.frame ∷ checked.certificate.heights ∷ starts_in checked.certificate.keys
+      ∷ positions_in checked.certificate.keys ∷ version_in checked.certificate.keys ∷ checked.source.beside;
+}

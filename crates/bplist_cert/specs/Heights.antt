@@ -1,0 +1,57 @@
+-- The heights of the references of a vouched object, by index (rules 28 and 29). Source: profile.
+use Rattle.std.specs.Prelude.{◌≡◌, ◌⊎◌, ℕ, ◌+◌, ◌*◌, ◌<◌, ◌≤◌, List, length, slice_index, Some}
+use Rattle.bplist_objects.specs.declared.rule.Rule.{Rule}
+use Rattle.bplist_objects.specs.declared.rule.Rule.TheVariants as rules
+use Rattle.bplist_objects.specs.declared.fault.Fault.{Fault}
+use Rattle.bplist_objects.specs.declared.frame.Frame.{Frame}
+use Rattle.bplist_objects.specs.declared.head.Head.{Head}
+use Rattle.bplist_objects.specs.Safe.{ref_count}
+use Rattle.bplist_objects.specs.Scan.{nth_number}
+use Rattle.bplist_cert.specs.declared.heights.Wanted.{Wanted}
+use Rattle.bplist_cert.specs.declared.heights.Wanted.TheVariants.{Vouched, Below}
+
+-- reference i of an object with this head
+abbrev pub ref : List ℕ → Frame → Head → ℕ → ℕ
+ref f F head i = nth_number f head.body F.ref_size i
+
+-- the height is as it is wanted
+abbrev pub Meets : Wanted → ℕ → Type 0
+Meets Vouched height = 1 ≤ height
+Meets (Below bound) height = height < bound
+
+-- the heights of the first so many references are as they are wanted
+abbrev pub AreMet : List ℕ → Frame → List ℕ → Head → Wanted → ℕ → Type 0
+AreMet f F heights head wanted count = (k : ℕ) → k < count → Meets wanted (slice_index heights (ref f F head k))
+
+-- reference i is the first whose height is not
+pub record IsFirstUnmet (f : List ℕ) (F : Frame) (heights : List ℕ) (head : Head) (wanted : Wanted) (i : ℕ) : Type 0 where
+  pub within : i < ref_count head.kind head.count
+  pub unmet : Meets wanted (slice_index heights (ref f F head i)) → ⊥
+  pub before : AreMet f F heights head wanted i
+
+-- the same of references by a list of their numbers
+abbrev pub AreMetBy : List ℕ → Wanted → List ℕ → ℕ → Type 0
+AreMetBy heights wanted refs count = (k : ℕ) → k < count → Meets wanted (slice_index heights (slice_index refs k))
+
+pub record IsFirstUnmetBy (heights : List ℕ) (wanted : Wanted) (refs : List ℕ) (i : ℕ) : Type 0 where
+  pub within : i < length refs
+  pub unmet : Meets wanted (slice_index heights (slice_index refs i)) → ⊥
+  pub before : AreMetBy heights wanted refs i
+
+-- the rule that is broken by a height which is not as it is wanted
+abbrev pub rule_of : Wanted → Rule
+rule_of Vouched = rules.ChildNotVouched
+rule_of (Below bound) = rules.HeightNotLess
+
+-- the fault of the first reference of object n whose height is not as it is wanted
+abbrev pub IsUnmetFault : List ℕ → Frame → List ℕ → ℕ → Head → Wanted → Fault → Type 0
+IsUnmetFault f F heights n head wanted fault =
+    (fault.rule ≡ rule_of wanted) × (fault.object ≡ Some (record { 0 = n }))
+    × ((i : ℕ) × IsFirstUnmet f F heights head wanted i × (fault.place ≡ head.body + i * F.ref_size))
+
+-- the fault of the first of rules 28 and 29 that is broken
+abbrev pub IsHeightFault : List ℕ → Frame → List ℕ → ℕ → Head → Fault → Type 0
+IsHeightFault f F heights n head fault =
+    IsUnmetFault f F heights n head Vouched fault
+    ⊎ (AreMet f F heights head Vouched (ref_count head.kind head.count)
+    × IsUnmetFault f F heights n head (Below (slice_index heights n)) fault)

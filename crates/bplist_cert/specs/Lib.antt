@@ -1,0 +1,15 @@
+pub mod Lists
+pub mod Encoding
+pub mod Versions
+pub mod Valid
+pub mod Sorted
+pub mod Heights
+pub mod Keys
+pub mod CheckRules
+pub mod PairFault
+pub mod Refusals
+pub mod CheckedFile
+pub mod Repeats
+pub mod KeyUnits
+pub mod KeyPlaces
+pub mod Listing

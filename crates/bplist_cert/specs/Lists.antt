@@ -1,0 +1,40 @@
+-- Certificates as their lists. Source: profile.
+use Rattle.std.specs.Prelude.{◌≡◌, ℕ, ◌^◌, ◌<◌, List, length, slice_index, Option, Some, None, ⊤}
+
+-- the key lists of a version 2 certificate: where each dictionary's list starts, and the positions of the keys
+pub record Keyed : Type 0 where
+  pub starts : List ℕ
+  pub positions : List ℕ
+
+-- the lists of a certificate: a height for each object, and in version 2 the key lists
+pub record Lists : Type 0 where
+  pub heights : List ℕ
+  pub keys : Option Keyed
+
+abbrev pub lists : List ℕ → Option Keyed → Lists
+lists heights keys = record { heights = heights; keys = keys }
+
+-- there are as many starts as heights
+abbrev pub HasStarts : List ℕ → Option Keyed → Type 0
+HasStarts heights None = ⊤
+HasStarts heights (Some keyed) = length keyed.starts ≡ length heights
+
+-- in version 2 there are so many starts
+abbrev pub HasCount : Option Keyed → ℕ → Type 0
+HasCount None count = ⊤
+HasCount (Some keyed) count = length keyed.starts ≡ count
+
+-- the list spells numbers of 32 bits
+abbrev pub AreWords : List ℕ → Type 0
+AreWords xs = (k : ℕ) → slice_index xs k < 2 ^ 32
+
+abbrev pub AreKeyed : Option Keyed → Type 0
+AreKeyed None = ⊤
+AreKeyed (Some keyed) = AreWords keyed.starts × AreWords keyed.positions
+
+-- the lists that a certificate can have
+pub record IsCertificate (lists : Lists) : Type 0 where
+  pub count : length lists.heights < 2 ^ 64
+  pub heights : AreWords lists.heights
+  pub keys : AreKeyed lists.keys
+  pub starts : HasStarts lists.heights lists.keys

@@ -1,0 +1,79 @@
+-- The first fault of a file and a certificate. Source: profile.
+use Rattle.std.specs.Prelude.{◌≡◌, ◌≢◌, ◌⊎◌, ℕ, suc, ◌+◌, ◌*◌, ◌<◌, ◌≤◌, List, length, slice_index, Some, None}
+use Rattle.std.specs.List.{AllByRecursion}
+use Rattle.bplist_objects.specs.declared.rule.Rule.TheVariants as rules
+use Rattle.bplist_objects.specs.declared.fault.Fault.{Fault}
+use Rattle.bplist_objects.specs.declared.frame.Frame.{Frame}
+use Rattle.bplist_objects.specs.Frame.{IsFrame}
+use Rattle.bplist_objects.specs.FrameRules.{IsFrameFault}
+use Rattle.bplist_objects.specs.Rules.{KeepsAll}
+use Rattle.bplist_objects.specs.Reach.{Differ}
+use Rattle.bplist_objects.specs.Extents.{TakeOctets, AtMost}
+use Rattle.bplist_cert.specs.Lists.{Lists}
+use Rattle.bplist_cert.specs.Valid.{IsVouchedBy}
+use Rattle.bplist_cert.specs.CheckRules.{KeepsByCheck, IsCheckFault, check_rules}
+
+-- each vouched object below n keeps the rules of the check
+abbrev pub KeepBelow : List ℕ → Frame → Lists → ℕ → Type 0
+KeepBelow f F certificate n =
+    (m : ℕ) → m < n → IsVouchedBy certificate.heights m
+    → KeepsAll (KeepsByCheck f F certificate m) (check_rules certificate.keys)
+
+-- the fault is that of the least vouched object that breaks one of them
+pub record IsVouchedFault (f : List ℕ) (F : Frame) (certificate : Lists) (fault : Fault) : Type 0 where
+  pub object : ℕ
+  pub vouched : IsVouchedBy certificate.heights object
+  pub first : IsCheckFault f F certificate object (check_rules certificate.keys) fault
+  pub least : KeepBelow f F certificate object
+
+-- together the vouched objects below n take t bytes
+pub record Sums (f : List ℕ) (F : Frame) (heights : List ℕ) (n t : ℕ) : Type 0 where
+  pub objects : List ℕ
+  pub differ : Differ objects
+  pub inside : AllByRecursion (λ m. IsVouchedBy heights m × (m < n)) objects
+  pub take_all : TakeOctets f F objects t
+  pub most : AtMost f F (λ m. IsVouchedBy heights m × (m < n)) t
+
+-- vouched object n keeps the rules, and with it the vouched objects take t bytes, for which there is room
+pub record IsHeld (f : List ℕ) (F : Frame) (certificate : Lists) (n t : ℕ) : Type 0 where
+  pub sums : Sums f F certificate.heights (suc n) t
+  pub room : t + 8 ≤ F.table
+  pub kept : KeepsAll (KeepsByCheck f F certificate n) (check_rules certificate.keys)
+
+-- so far the vouched objects keep the rules, and take so many bytes, for which there is room
+pub record Running (f : List ℕ) (F : Frame) (certificate : Lists) (n t : ℕ) : Type 0 where
+  pub sums : Sums f F certificate.heights n t
+  pub room : t + 8 ≤ F.table
+  pub kept : KeepBelow f F certificate n
+
+-- the heights are as many as the objects, the top has one, and all vouched objects keep the rules
+pub record IsKept (f : List ℕ) (F : Frame) (certificate : Lists) : Type 0 where
+  pub framed : IsFrame f F
+  pub count : length certificate.heights ≡ F.objects
+  pub top : IsVouchedBy certificate.heights F.top.0
+  pub total : ℕ
+  pub running : Running f F certificate F.objects total
+
+-- rule 26: the heights are not as many as the objects
+abbrev pub IsCountFault : Frame → List ℕ → Fault → Type 0
+IsCountFault F heights fault =
+    (length heights ≢ F.objects) × (fault ≡ record { rule = rules.CertCount; object = None; place = 8 })
+
+-- rule 27: the top's height is 0
+abbrev pub IsTopFault : Frame → List ℕ → Fault → Type 0
+IsTopFault F heights fault =
+    (length heights ≡ F.objects) × (slice_index heights F.top.0 ≡ 0)
+    × (fault ≡ record { rule = rules.TopNotVouched; object = Some F.top; place = 16 + 4 * F.top.0 })
+
+-- the first fault of a certificate of a file with this frame
+abbrev pub IsCertFault : List ℕ → Frame → Lists → Fault → Type 0
+IsCertFault f F certificate fault =
+    IsCountFault F certificate.heights fault
+    ⊎ IsTopFault F certificate.heights fault
+    ⊎ ((length certificate.heights ≡ F.objects) × IsVouchedBy certificate.heights F.top.0
+    × IsVouchedFault f F certificate fault)
+
+-- the first fault of a file and a certificate: rules 1 to 13 in order, then 26, then 27, then that of the least vouched object
+abbrev pub IsPairFault : List ℕ → Lists → Fault → Type 0
+IsPairFault f certificate fault =
+    IsFrameFault f fault ⊎ ((F : Frame) × IsFrame f F × IsCertFault f F certificate fault)

@@ -1,0 +1,106 @@
+//! A source with a certificate that the check has accepted.
+
+ghost use Rattle.std.specs.Prelude.{◌≡◌, slice_index, IsTrue};
+ghost use Rattle.bplist_cert.specs.CheckedFile.{IsChecked};
+
+use crate::certificate::Certificate;
+use bplist_objects::{Frame, ObjectNo};
+use bplist_octets::{ReadFault, SliceSource, Source};
+use std::marker::Model;
+
+/// A source, its frame, and a certificate that vouches for its objects. It is itself a source.
+#[derive(Drop)]
+pub struct Checked<S: Source> {
+    source: S,
+    frame: Frame,
+    certificate: Certificate,
+}
+
+impl<S: Source> Model for Checked<S> {
+    ghost use Rattle.bplist_cert.specs.CheckedFile.{CheckedFile, IsChecked};
+
+    ghost Value = { CheckedFile };
+
+    ghost view = { λ c. record { source = S.means c.source; frame = c.frame; certificate = c.certificate } };
+
+    ghost invariant = { λ c. IsChecked (record { source = S.means c.source; frame = c.frame; certificate = c.certificate }) };
+}
+
+impl<S: Source> Source for Checked<S> {
+    ghost use Rattle.bplist_cert.specs.CheckedFile.{meaning_of};
+
+    ghost means = { λ c. meaning_of c };
+
+    fn len(&self) -> u64 {
+        self.source.len()
+    }
+
+    fn read_at(&mut self, at: u64, into: &mut [u8]) -> Result<(), ReadFault> {
+        self.source.read_at(at, into)
+    }
+}
+
+impl<S: Source> Checked<S> {
+    /// A source with what the check has found.
+    pub(crate) fn new(source: S, frame: Frame, certificate: Certificate) -> Checked<S>
+        requires { IsChecked (record { source = S.means source; frame = frame; certificate = certificate }) }
+        ensures source { result.source ≡ S.means source }
+        ensures frame { result.frame ≡ frame }
+        ensures certificate { result.certificate ≡ certificate }
+    {
+        Checked {
+            source,
+            frame,
+            certificate,
+        }
+    }
+
+    /// The frame of the file.
+    pub fn frame(&self) -> Frame
+        ensures frame { result ≡ self.now.frame }
+        ensures checked { IsChecked self.now }
+    {
+        self.frame
+    }
+
+    /// The height of object `n`, 0 for one that is not vouched for and for one outside.
+    pub fn height(&self, n: ObjectNo) -> u32
+        ensures { result ≡ slice_index self.now.certificate.heights n.0 }
+    {
+        match self.certificate.heights.get(n.0 as usize) {
+            Some(height) => *height,
+            None => 0,
+        }
+    }
+
+    /// The certificate.
+    pub fn certificate(&self) -> &Certificate
+        ensures { result.now ≡ self.now.certificate }
+    {
+        &self.certificate
+    }
+
+    /// The source and the certificate again.
+    pub fn into_parts(self) -> (S, Certificate)
+        ensures source { S.means result.0 ≡ self.source }
+        ensures certificate { result.1 ≡ self.certificate }
+    {
+        let Checked {
+            source,
+            frame: _,
+            certificate,
+        } = self;
+        (source, certificate)
+    }
+}
+
+impl<'a> Checked<SliceSource<'a>> {
+    /// The bytes of the file. The source is honest, and no read of it fails.
+    pub fn octets(&self) -> &'a [u8]
+        ensures octets { result.now ≡ self.now.source.octets }
+        ensures honest { IsTrue self.now.source.honest }
+        ensures failures { self.now.source.failures ≡ 0 }
+    {
+        self.source.borrow(0, self.source.len())
+    }
+}

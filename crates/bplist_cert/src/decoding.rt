@@ -1,0 +1,132 @@
+//! Certificates from bytes.
+
+ghost use Rattle.std.specs.Prelude.{◌≡◌, ◌+◌, ◌*◌, ◌^◌, ◌<◌, ◌≤◌, length, take, drop, IfOk, MatchResult, ◌↔◌, ◌%◌, IsTrue, ⊤};
+ghost use Rattle.bplist_cert.specs.declared.certificate.CertRefusal.TheVariants.{Memory};
+ghost use Rattle.bplist_octets.specs.Octets.{part, num};
+ghost use Rattle.bplist_cert.specs.Lists.{Lists, IsCertificate, AreWords, AreKeyed, HasCount};
+ghost use Rattle.bplist_cert.specs.Encoding.{octets_of, magic, words, key_words, told, IsMagicFault, IsLengthFault, IsCertRefusal};
+ghost use Rattle.bplist_cert.specs.Versions.{magic_of, FitsVersion};
+
+use crate::certificate::{CertRefusal, Certificate, KeyLists};
+use crate::encoding::{KEYED_MAGIC, PLAIN_MAGIC};
+use bplist_objects::{Fault, Rule};
+use bplist_octets::sized;
+use std::alloc::{AllocError, Global};
+
+/// The version of a certificate's bytes.
+#[derive(Clone, Copy, Debug, PartialEq, Eq, Drop)]
+pub(crate) enum Version {
+    /// Heights alone.
+    Plain,
+    /// Heights and key lists.
+    Keyed,
+}
+
+impl Certificate {
+    /// The certificate whose bytes these are, or else rule 24 at place 0 or rule 25 at their number.
+    pub fn from_octets(alloc: Global, octets: &[u8]) -> Result<Certificate, CertRefusal>
+        ensures yes { IfOk result (λ certificate. IsCertificate certificate × (octets.now ≡ octets_of certificate)) }
+        ensures exact { (certificate : Lists) → IsCertificate certificate → octets.now ≡ octets_of certificate
+            → MatchResult result (λ other. other ≡ certificate) (λ refusal. refusal ≡ Memory) }
+        ensures refused { MatchResult result (λ _. ⊤) (IsCertRefusal octets.now) }
+    {
+        let version = version_of(octets)?;
+        let count = count_of(octets, version)?;
+        let heights = read_words(alloc, part_of(octets, 16, 4 * count))?;
+        let keys = read_keys(alloc, octets, version, count)?;
+        Ok(Certificate { heights, keys })
+    }
+}
+
+/// The version that the magic tells.
+fn version_of(octets: &[u8]) -> Result<Version, Fault>
+    ensures { MatchResult result (λ version. take 8 octets.now ≡ magic_of version) (IsMagicFault octets.now) }
+{
+    if octets.starts_with(&PLAIN_MAGIC) {
+        return Ok(Version::Plain);
+    }
+    if octets.starts_with(&KEYED_MAGIC) {
+        return Ok(Version::Keyed);
+    }
+    Err(Fault {
+        rule: Rule::CertMagic,
+        object: None,
+        place: 0,
+    })
+}
+
+/// The number of heights, where the bytes are as many as it asks for.
+fn count_of(octets: &[u8], version: Version) -> Result<usize, Fault>
+    requires { take 8 octets.now ≡ magic_of version }
+    ensures { MatchResult result
+        (λ count. (count ≡ told octets.now) × FitsVersion version count (length octets.now))
+        (IsLengthFault octets.now) }
+{
+    let len = octets.len();
+    if len >= 16 {
+        let count = sized(part_of(octets, 8, 8));
+        if fits(version, count, len) {
+            return Ok(count as usize);
+        }
+    }
+    Err(Fault {
+        rule: Rule::CertLength,
+        object: None,
+        place: len as u64,
+    })
+}
+
+/// So many bytes are what a certificate of this version and so many heights takes.
+fn fits(version: Version, count: u64, len: usize) -> bool
+    ensures { IsTrue result ↔ FitsVersion version count len }
+{
+    match version {
+        Version::Plain => len as u128 == 16 + 4 * count as u128,
+        Version::Keyed => len as u128 >= 16 + 8 * count as u128 && len % 4 == 0,
+    }
+}
+
+/// The key lists behind so many heights, in version 2.
+fn read_keys(
+    alloc: Global,
+    octets: &[u8],
+    version: Version,
+    count: usize,
+) -> Result<Option<KeyLists>, AllocError>
+    requires { FitsVersion version count (length octets.now) }
+    ensures version { IfOk result (λ keys. magic keys ≡ magic_of version) }
+    ensures spelled { IfOk result (λ keys. drop (16 + 4 * count) octets.now ≡ key_words keys) }
+    ensures keyed { IfOk result (λ keys. AreKeyed keys) }
+    ensures starts { IfOk result (λ keys. HasCount keys count) }
+{
+    match version {
+        Version::Plain => Ok(None),
+        Version::Keyed => {
+            let starts = read_words(alloc, part_of(octets, 16 + 4 * count, 4 * count))?;
+            let positions = read_words(alloc, &octets[16 + 8 * count..])?;
+            Ok(Some(KeyLists { starts, positions }))
+        }
+    }
+}
+
+/// The numbers of 4 bytes each that the bytes spell.
+fn read_words(alloc: Global, octets: &[u8]) -> Result<Vec<u32>, AllocError>
+    requires { length octets.now % 4 ≡ 0 }
+    ensures spelled { IfOk result (λ numbers. octets.now ≡ words numbers.items) }
+    ensures words { IfOk result (λ numbers. AreWords numbers.items) }
+{
+    let count = octets.len() / 4;
+    let mut numbers = Vec::with_capacity(alloc, count)?;
+    for i in 0..count {
+        numbers.push(sized(part_of(octets, 4 * i, 4)) as u32)?;
+    }
+    Ok(numbers)
+}
+
+/// The `n` bytes from a place on.
+fn part_of(octets: &[u8], place: usize, n: usize) -> &[u8]
+    requires { place + n ≤ length octets.now }
+    ensures { result.now ≡ part octets.now place n }
+{
+    &octets[place..place + n]
+}

@@ -1,0 +1,78 @@
+//! The bytes of a certificate.
+
+ghost use Rattle.std.specs.Prelude.{◌≡◌, ◌++◌, IfOk, OnOk};
+ghost use Rattle.bplist_cert.specs.Lists.{IsCertificate, AreWords, AreKeyed};
+ghost use Rattle.bplist_cert.specs.Encoding.{octets_of, words, key_words, magic};
+
+use crate::certificate::{Certificate, KeyLists};
+use std::alloc::{AllocError, Global};
+
+/// What the bytes of a version 1 certificate begin with.
+pub(crate) const PLAIN_MAGIC: [u8; 8] = *b"bplcert1";
+
+/// What the bytes of a version 2 certificate begin with.
+pub(crate) const KEYED_MAGIC: [u8; 8] = *b"bplcert2";
+
+impl Certificate {
+    /// The bytes of the certificate: the magic of its version, the number of heights in 8 bytes, the
+    /// heights, and in version 2 the starts and the positions, 4 bytes each and greatest byte first.
+    /// The one refusal is that of a growth.
+    pub fn to_octets(&self, alloc: Global) -> Result<Vec<u8>, AllocError>
+        ensures { IfOk result (λ octets. IsCertificate self.now × (octets.items ≡ octets_of self.now)) }
+    {
+        let count = self.heights.len() as u64;
+        let mut octets = Vec::with_capacity(alloc, self.octet_count())?;
+        octets.extend_from_slice(&magic_of(&self.keys))?;
+        octets.extend_from_slice(&count.to_be_bytes())?;
+        push_words(&mut octets, &self.heights)?;
+        push_keys(&mut octets, &self.keys)?;
+        Ok(octets)
+    }
+
+    /// How many bytes the certificate takes.
+    fn octet_count(&self) -> usize {
+        let words = match &self.keys {
+            None => self.heights.len(),
+            Some(keys) => {
+                let starts = self.heights.len().saturating_add(keys.starts.len());
+                starts.saturating_add(keys.positions.len())
+            }
+        };
+        words.saturating_mul(4).saturating_add(16)
+    }
+}
+
+/// The magic of a certificate's version.
+fn magic_of(keys: &Option<KeyLists>) -> [u8; 8]
+    ensures { result ≡ magic keys.now }
+{
+    match keys {
+        None => PLAIN_MAGIC,
+        Some(_) => KEYED_MAGIC,
+    }
+}
+
+/// Puts numbers of 4 bytes each behind the bytes.
+fn push_words(octets: &mut Vec<u8>, numbers: &[u32]) -> Result<(), AllocError>
+    ensures octets { OnOk result (octets.new.items ≡ octets.old.items ++ words numbers.now) }
+    ensures words { AreWords numbers.now }
+{
+    for number in numbers {
+        octets.extend_from_slice(&number.to_be_bytes())?;
+    }
+    Ok(())
+}
+
+/// Puts the key lists, if there are some, behind the bytes.
+fn push_keys(octets: &mut Vec<u8>, keys: &Option<KeyLists>) -> Result<(), AllocError>
+    ensures octets { OnOk result (octets.new.items ≡ octets.old.items ++ key_words keys.now) }
+    ensures keyed { OnOk result (AreKeyed keys.now) }
+{
+    match keys {
+        None => Ok(()),
+        Some(keys) => {
+            push_words(octets, &keys.starts)?;
+            push_words(octets, &keys.positions)
+        }
+    }
+}

@@ -1,0 +1,186 @@
+//! The heights of references: rules 28 and 29.
+
+ghost use Rattle.std.specs.Prelude.{◌≡◌, ◌↔◌, ◌+◌, ◌*◌, ◌≤◌, ◌<◌, length, slice_index, IsTrue, IfOk, IfSome, MatchOption, is_err};
+ghost use Rattle.bplist_octets.specs.Meaning.{OnlyReads};
+ghost use Rattle.bplist_objects.specs.Safe.{IsSafe, IsSafeHead, ref_count};
+ghost use Rattle.bplist_objects.specs.Answers.{Gives, read_failed};
+ghost use Rattle.bplist_cert.specs.Heights.{Meets, AreMet, AreMetBy, IsFirstUnmet, IsFirstUnmetBy, IsUnmetFault, IsHeightFault, rule_of};
+ghost use Rattle.bplist_cert.specs.declared.heights.Wanted.TheVariants.{Vouched, Below};
+
+use bplist_objects::{Fault, Frame, Head, ObjectFault, ObjectNo, Rule, read_refs, refs_of};
+use bplist_octets::{ReadFault, Source};
+
+/// How many references are read at once at most.
+const BLOCK: usize = 512;
+
+/// What the height of a reference has to be.
+#[derive(Clone, Copy, Debug, PartialEq, Eq, Drop)]
+pub(crate) enum Wanted {
+    /// At least 1.
+    Vouched,
+    /// Below that of the object.
+    Below(u32),
+}
+
+impl Wanted {
+    /// The height is as it is wanted.
+    fn meets(self, height: u32) -> bool
+        ensures { IsTrue result ↔ Meets self height }
+    {
+        match self {
+            Wanted::Vouched => height >= 1,
+            Wanted::Below(bound) => height < bound,
+        }
+    }
+
+    /// The rule that a height breaks which is not.
+    fn rule(self) -> Rule
+        ensures { result ≡ rule_of self }
+    {
+        match self {
+            Wanted::Vouched => Rule::ChildNotVouched,
+            Wanted::Below(_) => Rule::HeightNotLess,
+        }
+    }
+}
+
+/// The height of an object, 0 outside.
+pub(crate) fn height_at(heights: &[u32], n: u64) -> u32
+    ensures { result ≡ slice_index heights.now n }
+{
+    if n < heights.len() as u64 {
+        heights[n as usize]
+    } else {
+        0
+    }
+}
+
+/// The first of these references whose height is not as it is wanted.
+fn first_unmet_in(heights: &[u32], refs: &[u64], wanted: Wanted) -> Option<usize>
+    ensures { MatchOption result (AreMetBy heights.now wanted refs.now (length refs.now))
+        (IsFirstUnmetBy heights.now wanted refs.now) }
+{
+    for (i, m) in refs.iter().enumerate() {
+        if !wanted.meets(height_at(heights, *m)) {
+            return Some(i);
+        }
+    }
+    None
+}
+
+/// The first reference of a block whose height is not as it is wanted, where those before the block are.
+fn search_refs<S: Source>(
+    src: &mut S,
+    frame: &Frame,
+    heights: &[u32],
+    head: &Head,
+    wanted: Wanted,
+    done: u64,
+    block: &mut [u64],
+) -> Result<Option<u64>, ReadFault>
+    requires safe { IsSafe (length (S.means src.old).octets) frame.now }
+    requires head { IsSafeHead frame.now head.now }
+    requires within { done + length block.old ≤ ref_count head.now.kind head.now.count }
+    ensures reads { OnlyReads (is_err result) (S.means src.old) (S.means src.new) }
+    ensures found { IfOk result (λ found. IsTrue (S.means src.old).honest
+        → AreMet (S.means src.old).octets frame.now heights.now head.now wanted done
+        → MatchOption found
+        (AreMet (S.means src.old).octets frame.now heights.now head.now wanted (done + length block.old))
+        (IsFirstUnmet (S.means src.old).octets frame.now heights.now head.now wanted)) }
+    ensures inside { IfOk result (λ found. IfSome found (λ i. i < ref_count head.now.kind head.now.count)) }
+{
+    let _len = src.len();
+    read_refs(src, frame, head, done, block)?;
+    match first_unmet_in(heights, block, wanted) {
+        Some(i) => Ok(Some(done + i as u64)),
+        None => Ok(None),
+    }
+}
+
+/// The first reference whose height is not as it is wanted.
+fn first_unmet<S: Source>(
+    src: &mut S,
+    frame: &Frame,
+    heights: &[u32],
+    head: &Head,
+    wanted: Wanted,
+) -> Result<Option<u64>, ReadFault>
+    requires safe { IsSafe (length (S.means src.old).octets) frame.now }
+    requires head { IsSafeHead frame.now head.now }
+    ensures reads { OnlyReads (is_err result) (S.means src.old) (S.means src.new) }
+    ensures found { IfOk result (λ found. IsTrue (S.means src.old).honest → MatchOption found
+        (AreMet (S.means src.old).octets frame.now heights.now head.now wanted (ref_count head.now.kind head.now.count))
+        (IsFirstUnmet (S.means src.old).octets frame.now heights.now head.now wanted)) }
+    ensures inside { IfOk result (λ found. IfSome found (λ i. i < ref_count head.now.kind head.now.count)) }
+{
+    let _len = src.len();
+    let refs = refs_of(head);
+    let mut buffer = [0u64; BLOCK];
+    let mut done = 0u64;
+    while done < refs {
+        let now = (refs - done).min(BLOCK as u64);
+        let block = &mut buffer[..now as usize];
+        if let Some(i) = search_refs(src, frame, heights, head, wanted, done, block)? {
+            return Ok(Some(i));
+        }
+        done += now;
+    }
+    Ok(None)
+}
+
+/// Looks for a reference of object `n` whose height is not as it is wanted.
+fn check_refs<S: Source>(
+    src: &mut S,
+    frame: &Frame,
+    heights: &[u32],
+    n: ObjectNo,
+    head: &Head,
+    wanted: Wanted,
+) -> Result<(), ObjectFault>
+    requires safe { IsSafe (length (S.means src.old).octets) frame.now }
+    requires head { IsSafeHead frame.now head.now }
+    ensures reads { OnlyReads (read_failed result) (S.means src.old) (S.means src.new) }
+    ensures exact { IsTrue (S.means src.old).honest
+        → Gives (λ _. AreMet (S.means src.old).octets frame.now heights.now head.now wanted (ref_count head.now.kind head.now.count))
+        (IsUnmetFault (S.means src.old).octets frame.now heights.now n.0 head.now wanted) result }
+{
+    match first_unmet(src, frame, heights, head, wanted)? {
+        None => Ok(()),
+        Some(i) => Err(ObjectFault::Fault(Fault {
+            rule: wanted.rule(),
+            object: Some(n),
+            place: ref_place(frame, head, i, src.len()),
+        })),
+    }
+}
+
+/// The place of reference `i` in a file of so many bytes.
+pub(crate) fn ref_place(frame: &Frame, head: &Head, i: u64, len: u64) -> u64
+    requires safe { IsSafe len frame.now }
+    requires head { IsSafeHead frame.now head.now }
+    requires within { i < ref_count head.now.kind head.now.count }
+    ensures { result ≡ head.now.body + i * frame.now.ref_size }
+{
+    head.body + i * frame.ref_size as u64
+}
+
+/// Looks at the heights of the references of object `n`, which is vouched for, by its head.
+pub(crate) fn check_heights<S: Source>(
+    src: &mut S,
+    frame: &Frame,
+    heights: &[u32],
+    n: ObjectNo,
+    head: &Head,
+) -> Result<(), ObjectFault>
+    requires safe { IsSafe (length (S.means src.old).octets) frame.now }
+    requires head { IsSafeHead frame.now head.now }
+    ensures reads { OnlyReads (read_failed result) (S.means src.old) (S.means src.new) }
+    ensures exact { IsTrue (S.means src.old).honest
+        → Gives (λ _. AreMet (S.means src.old).octets frame.now heights.now head.now Vouched (ref_count head.now.kind head.now.count)
+        × AreMet (S.means src.old).octets frame.now heights.now head.now (Below (slice_index heights.now n.0)) (ref_count head.now.kind head.now.count))
+        (IsHeightFault (S.means src.old).octets frame.now heights.now n.0 head.now) result }
+{
+    check_refs(src, frame, heights, n, head, Wanted::Vouched)?;
+    let own = height_at(heights, n.0 as u64);
+    check_refs(src, frame, heights, n, head, Wanted::Below(own))
+}

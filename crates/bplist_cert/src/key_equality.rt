@@ -1,0 +1,263 @@
+//! Keys with the same units: rule 22.
+
+ghost use Rattle.std.specs.Prelude.{◌≡◌, ◌+◌, ◌*◌, ◌<◌, ◌≤◌, ℕ, suc, length, slice_index, slice_index_or, [], ◌++◌, IsTrue, IfOk, IfSome, OnOk, MatchOption, ⊤};
+ghost use Rattle.bplist_octets.specs.Meaning.{OnlyReads};
+ghost use Rattle.bplist_objects.specs.Frame.{IsFrame};
+ghost use Rattle.bplist_objects.specs.Safe.{IsSafe, IsSafeHead, IsSafeBody};
+ghost use Rattle.bplist_objects.specs.Units.{IsTextKind, units_of};
+ghost use Rattle.bplist_objects.specs.declared.kind.Kind.TheVariants.{Dict};
+ghost use Rattle.bplist_cert.specs.Keys.{HaveTexts, KeysDiffer, IsFirstTwice, IsTwiceFault};
+ghost use Rattle.bplist_cert.specs.Heights.{ref};
+ghost use Rattle.bplist_cert.specs.KeyUnits.{AreBounds, AreParts, IsKeyWith, IsShared, digits};
+ghost use Rattle.bplist_cert.specs.Repeats.{IsLeastOrNone};
+ghost use Rattle.bplist_cert.specs.Refusals.{Judges, refused_read};
+ghost use Rattle.bplist_objects.specs.Answers.{Never};
+
+use crate::heights::ref_place;
+use crate::key_places::{BLOCK, read_places};
+use crate::key_units::KeyUnits;
+use crate::keys::{keyless, text_at};
+use crate::refusal::Refusal;
+use bplist_objects::{Fault, Frame, Head, ObjectNo, Rule, read_units, ref_at};
+use bplist_octets::Source;
+use std::alloc::Global;
+
+/// How many units of a key are read at once at most.
+const UNITS: usize = 128;
+
+/// Puts the units of a key behind those before it.
+fn push_units<S: Source>(src: &mut S, key: &Head, units: &mut Vec<u16>) -> Result<(), Refusal>
+    requires kind { IsTextKind key.now.kind }
+    requires head { IsSafeBody (length (S.means src.old).octets) key.now }
+    ensures reads { OnlyReads (refused_read result) (S.means src.old) (S.means src.new) }
+    ensures units { OnOk result (IsTrue (S.means src.old).honest
+        → units.new.items ≡ units.old.items ++ units_of (S.means src.old).octets key.now) }
+    ensures never { Judges (λ _. ⊤) Never result }
+    ensures more { OnOk result (length units.new.items ≡ length units.old.items + key.now.count) }
+{
+    let mut buffer = [0u16; UNITS];
+    let mut done = 0u64;
+    while done < key.count {
+        let now = (key.count - done).min(UNITS as u64) as usize;
+        let block = &mut buffer[..now];
+        read_units(src, key, done, block)?;
+        units.extend_from_slice(block)?;
+        done += now as u64;
+    }
+    Ok(())
+}
+
+/// A number as four units, the highest 16 bits first.
+fn digits_of(number: u64) -> [u16; 4]
+    ensures { result ≡ digits number }
+{
+    let high = number / 65536;
+    let higher = high / 65536;
+    [
+        (higher / 65536) as u16,
+        (higher % 65536) as u16,
+        (high % 65536) as u16,
+        (number % 65536) as u16,
+    ]
+}
+
+/// The numbers of the key references of a dictionary, each as four units.
+fn read_references<S: Source>(
+    alloc: Global,
+    src: &mut S,
+    frame: &Frame,
+    head: &Head,
+) -> Result<KeyUnits, Refusal>
+    requires safe { IsSafe (length (S.means src.old).octets) frame.now }
+    requires head { IsSafeHead frame.now head.now }
+    requires dict { head.now.kind ≡ Dict }
+    ensures reads { OnlyReads (refused_read result) (S.means src.old) (S.means src.new) }
+    ensures bounds { IfOk result (λ keys. AreBounds keys.units.items keys.bounds.items head.now.count) }
+    ensures exact { IsTrue (S.means src.old).honest
+        → Judges (λ keys. AreParts (λ k us. us ≡ digits (ref (S.means src.old).octets frame.now head.now k))
+        keys.units.items keys.bounds.items head.now.count) Never result }
+{
+    let mut units = Vec::new(alloc);
+    let mut bounds = Vec::new(alloc);
+    bounds.push(0)?;
+    let count = head.count;
+    let mut i = 0u64;
+    while i < count {
+        let m = ref_at(src, frame, head, i)?;
+        units.extend_from_slice(&digits_of(m))?;
+        bounds.push(units.len())?;
+        i += 1;
+    }
+    Ok(KeyUnits { units, bounds })
+}
+
+/// Puts the units of a block of keys of dictionary `n`, whose keys are texts, behind those before it. Where
+/// one is none after all, since the source gives other bytes than before, it is the key's fault.
+fn push_keys<S: Source>(
+    src: &mut S,
+    frame: &Frame,
+    n: ObjectNo,
+    head: &Head,
+    done: u64,
+    refs: &mut [u64],
+    places: &mut [u64],
+    keys: &mut KeyUnits,
+) -> Result<(), Refusal>
+    requires safe { IsSafe (length (S.means src.old).octets) frame.now }
+    requires head { IsSafeHead frame.now head.now }
+    requires dict { head.now.kind ≡ Dict }
+    requires within { done + length refs.old ≤ head.now.count }
+    requires many { length places.old ≡ length refs.old }
+    requires bounds { AreBounds keys.old.units.items keys.old.bounds.items done }
+    ensures reads { OnlyReads (refused_read result) (S.means src.old) (S.means src.new) }
+    ensures bounds { OnOk result (AreBounds keys.new.units.items keys.new.bounds.items (done + length refs.old)) }
+    ensures exact { IsTrue (S.means src.old).honest → IsFrame (S.means src.old).octets frame.now
+        → HaveTexts (S.means src.old).octets frame.now head.now head.now.count
+        → AreParts (IsKeyWith (S.means src.old).octets frame.now head.now) keys.old.units.items keys.old.bounds.items done
+        → Judges (λ _. AreParts (IsKeyWith (S.means src.old).octets frame.now head.now) keys.new.units.items keys.new.bounds.items
+        (done + length refs.old)) Never result }
+{
+    read_places(src, frame, head, done, refs, places)?;
+    let count = refs.len();
+    for k in 0..count {
+        let Some(key) = text_at(src, frame, refs[k], places[k])? else {
+            return Err(Refusal::Fault(keyless(frame, n, head, done + k as u64, src.len())));
+        };
+        push_units(src, &key, &mut keys.units)?;
+        keys.bounds.push(keys.units.len())?;
+    }
+    Ok(())
+}
+
+/// The units of the first `count` keys of dictionary `n`, whose keys are texts.
+pub(crate) fn read_keys<S: Source>(
+    alloc: Global,
+    src: &mut S,
+    frame: &Frame,
+    n: ObjectNo,
+    head: &Head,
+    count: u64,
+) -> Result<KeyUnits, Refusal>
+    requires safe { IsSafe (length (S.means src.old).octets) frame.now }
+    requires head { IsSafeHead frame.now head.now }
+    requires dict { head.now.kind ≡ Dict }
+    requires within { count ≤ head.now.count }
+    ensures reads { OnlyReads (refused_read result) (S.means src.old) (S.means src.new) }
+    ensures bounds { IfOk result (λ keys. AreBounds keys.units.items keys.bounds.items count) }
+    ensures exact { IsTrue (S.means src.old).honest → IsFrame (S.means src.old).octets frame.now
+        → HaveTexts (S.means src.old).octets frame.now head.now head.now.count
+        → Judges (λ keys. AreParts (IsKeyWith (S.means src.old).octets frame.now head.now) keys.units.items keys.bounds.items count)
+        Never result }
+{
+    let mut keys = KeyUnits::without_parts(alloc)?;
+    let mut refs = [0u64; BLOCK];
+    let mut places = [0u64; BLOCK];
+    let mut done = 0u64;
+    while done < count {
+        let now = (count - done).min(BLOCK as u64);
+        let block = &mut refs[..now as usize];
+        let at = &mut places[..now as usize];
+        push_keys(src, frame, n, head, done, block, at, &mut keys)?;
+        done += now;
+    }
+    Ok(keys)
+}
+
+/// The first key reference of a dictionary that names the object of an earlier one.
+fn first_shared<S: Source>(
+    alloc: Global,
+    src: &mut S,
+    frame: &Frame,
+    head: &Head,
+) -> Result<Option<u64>, Refusal>
+    requires safe { IsSafe (length (S.means src.old).octets) frame.now }
+    requires head { IsSafeHead frame.now head.now }
+    requires dict { head.now.kind ≡ Dict }
+    ensures reads { OnlyReads (refused_read result) (S.means src.old) (S.means src.new) }
+    ensures exact { IsTrue (S.means src.old).honest
+        → Judges (IsLeastOrNone (IsShared (S.means src.old).octets frame.now head.now)) Never result }
+    ensures inside { IfOk result (λ found. IfSome found (λ i. i < head.now.count)) }
+{
+    let references = read_references(alloc, src, frame, head)?;
+    Ok(references.first_repeated(alloc, head.count)?)
+}
+
+/// The first of the first `count` keys of dictionary `n`, whose keys are texts, that has the units of an
+/// earlier one.
+fn first_equal<S: Source>(
+    alloc: Global,
+    src: &mut S,
+    frame: &Frame,
+    n: ObjectNo,
+    head: &Head,
+    count: u64,
+) -> Result<Option<u64>, Refusal>
+    requires safe { IsSafe (length (S.means src.old).octets) frame.now }
+    requires head { IsSafeHead frame.now head.now }
+    requires dict { head.now.kind ≡ Dict }
+    requires within { count ≤ head.now.count }
+    ensures reads { OnlyReads (refused_read result) (S.means src.old) (S.means src.new) }
+    ensures exact { IsTrue (S.means src.old).honest → IsFrame (S.means src.old).octets frame.now
+        → HaveTexts (S.means src.old).octets frame.now head.now head.now.count
+        → Judges (λ found. MatchOption found (KeysDiffer (S.means src.old).octets frame.now head.now count)
+        (IsFirstTwice (S.means src.old).octets frame.now head.now)) Never result }
+    ensures inside { IfOk result (λ found. IfSome found (λ i. i < count)) }
+{
+    let keys = read_keys(alloc, src, frame, n, head, count)?;
+    Ok(keys.first_repeated(alloc, count)?)
+}
+
+/// The first key of dictionary `n`, whose keys are texts, that has the units of an earlier one. Keys that
+/// name one object are found by its number, so that a text which many keys share is read once.
+fn first_twice<S: Source>(
+    alloc: Global,
+    src: &mut S,
+    frame: &Frame,
+    n: ObjectNo,
+    head: &Head,
+) -> Result<Option<u64>, Refusal>
+    requires safe { IsSafe (length (S.means src.old).octets) frame.now }
+    requires head { IsSafeHead frame.now head.now }
+    requires dict { head.now.kind ≡ Dict }
+    ensures reads { OnlyReads (refused_read result) (S.means src.old) (S.means src.new) }
+    ensures exact { IsTrue (S.means src.old).honest → IsFrame (S.means src.old).octets frame.now
+        → HaveTexts (S.means src.old).octets frame.now head.now head.now.count
+        → Judges (λ found. MatchOption found (KeysDiffer (S.means src.old).octets frame.now head.now head.now.count)
+        (IsFirstTwice (S.means src.old).octets frame.now head.now)) Never result }
+    ensures inside { IfOk result (λ found. IfSome found (λ i. i < head.now.count)) }
+{
+    match first_shared(alloc, src, frame, head)? {
+        None => first_equal(alloc, src, frame, n, head, head.count),
+        Some(shared) => match first_equal(alloc, src, frame, n, head, shared)? {
+            None => Ok(Some(shared)),
+            Some(equal) => Ok(Some(equal)),
+        },
+    }
+}
+
+/// Looks for a key of dictionary `n`, whose keys are texts, that has the units of an earlier one.
+pub fn check_twice<S: Source>(
+    alloc: Global,
+    src: &mut S,
+    frame: &Frame,
+    n: ObjectNo,
+    head: &Head,
+) -> Result<(), Refusal>
+    requires safe { IsSafe (length (S.means src.old).octets) frame.now }
+    requires head { IsSafeHead frame.now head.now }
+    requires dict { head.now.kind ≡ Dict }
+    ensures reads { OnlyReads (refused_read result) (S.means src.old) (S.means src.new) }
+    ensures exact { IsTrue (S.means src.old).honest → IsFrame (S.means src.old).octets frame.now
+        → HaveTexts (S.means src.old).octets frame.now head.now head.now.count
+        → Judges (λ _. KeysDiffer (S.means src.old).octets frame.now head.now head.now.count)
+        (IsTwiceFault (S.means src.old).octets frame.now n.0 head.now) result }
+{
+    match first_twice(alloc, src, frame, n, head)? {
+        None => Ok(()),
+        Some(i) => Err(Refusal::Fault(Fault {
+            rule: Rule::KeyTwice,
+            object: Some(n),
+            place: ref_place(frame, head, i, src.len()),
+        })),
+    }
+}

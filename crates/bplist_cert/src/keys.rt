@@ -1,0 +1,193 @@
+//! The keys of dictionaries: rule 21.
+
+ghost use Rattle.std.specs.Prelude.{◌≡◌, ◌+◌, ◌*◌, ◌≤◌, ◌<◌, length, IsTrue, IfOk, IfSome, MatchOption, Some, is_err};
+ghost use Rattle.bplist_octets.specs.Meaning.{OnlyReads};
+ghost use Rattle.bplist_objects.specs.Frame.{IsFrame};
+ghost use Rattle.bplist_objects.specs.Safe.{IsSafe, IsSafeHead, IsSafeBody};
+ghost use Rattle.bplist_objects.specs.Units.{IsTextKind};
+ghost use Rattle.bplist_objects.specs.Answers.{Gives, Never, read_failed};
+ghost use Rattle.bplist_objects.specs.declared.kind.Kind.TheVariants.{Dict};
+ghost use Rattle.bplist_objects.specs.declared.rule.Rule.TheVariants.{KeyKind};
+ghost use Rattle.bplist_objects.specs.declared.head.Head.{Head as head_record};
+ghost use Rattle.bplist_cert.specs.Keys.{IsText, IsKey, HaveTexts, IsFirstKeyless, IsKeylessFault};
+ghost use Rattle.bplist_cert.specs.KeyPlaces.{IsPlaced, ArePlaced, AreTexts, IsFirstOther};
+
+use crate::heights::ref_place;
+use crate::key_places::{BLOCK, place_of, read_places};
+use bplist_objects::{Fault, Frame, Head, Kind, ObjectFault, ObjectNo, Rule, head_at, ref_at};
+use bplist_octets::{ReadFault, Source};
+
+/// The head of object number `m`, which stands at `place`, where it spells a text.
+pub(crate) fn text_at<S: Source>(
+    src: &mut S,
+    frame: &Frame,
+    m: u64,
+    place: u64,
+) -> Result<Option<Head>, ReadFault>
+    requires safe { IsSafe (length (S.means src.old).octets) frame.now }
+    ensures reads { OnlyReads (is_err result) (S.means src.old) (S.means src.new) }
+    ensures found { IfOk result (λ found. IsTrue (S.means src.old).honest → IsFrame (S.means src.old).octets frame.now
+        → IsPlaced (S.means src.old).octets frame.now m place
+        → MatchOption found ((key : head_record) → IsText (S.means src.old).octets frame.now m key → ⊥)
+        (IsText (S.means src.old).octets frame.now m)) }
+    ensures safe { IfOk result (λ found. IfSome found (λ key. IsTextKind key.kind × IsSafeBody (length (S.means src.old).octets) key)) }
+{
+    if m >= frame.objects as u64 {
+        return Ok(None);
+    }
+    match head_at(src, frame, ObjectNo(m as u32), place) {
+        Ok(head) => match head.kind {
+            Kind::Ascii | Kind::Wide => Ok(Some(head)),
+            _ => Ok(None),
+        },
+        Err(ObjectFault::Fault(_)) => Ok(None),
+        Err(ObjectFault::Read(fault)) => Err(fault),
+    }
+}
+
+/// The first of these objects, which stand at these places, that is no text.
+fn first_other<S: Source>(
+    src: &mut S,
+    frame: &Frame,
+    refs: &[u64],
+    places: &[u64],
+) -> Result<Option<usize>, ReadFault>
+    requires safe { IsSafe (length (S.means src.old).octets) frame.now }
+    requires many { length places.now ≡ length refs.now }
+    ensures reads { OnlyReads (is_err result) (S.means src.old) (S.means src.new) }
+    ensures found { IfOk result (λ found. IsTrue (S.means src.old).honest → IsFrame (S.means src.old).octets frame.now
+        → ArePlaced (S.means src.old).octets frame.now refs.now places.now (length refs.now)
+        → MatchOption found (AreTexts (S.means src.old).octets frame.now refs.now (length refs.now))
+        (IsFirstOther (S.means src.old).octets frame.now refs.now)) }
+    ensures inside { IfOk result (λ found. IfSome found (λ i. i < length refs.now)) }
+{
+    for i in 0..refs.len() {
+        let Some(_) = text_at(src, frame, refs[i], places[i])? else {
+            return Ok(Some(i));
+        };
+    }
+    Ok(None)
+}
+
+/// The first key of a block that is no text, where those before the block are.
+fn search_keys<S: Source>(
+    src: &mut S,
+    frame: &Frame,
+    head: &Head,
+    done: u64,
+    refs: &mut [u64],
+    places: &mut [u64],
+) -> Result<Option<u64>, ReadFault>
+    requires safe { IsSafe (length (S.means src.old).octets) frame.now }
+    requires head { IsSafeHead frame.now head.now }
+    requires dict { head.now.kind ≡ Dict }
+    requires within { done + length refs.old ≤ head.now.count }
+    requires many { length places.old ≡ length refs.old }
+    ensures reads { OnlyReads (is_err result) (S.means src.old) (S.means src.new) }
+    ensures found { IfOk result (λ found. IsTrue (S.means src.old).honest → IsFrame (S.means src.old).octets frame.now
+        → HaveTexts (S.means src.old).octets frame.now head.now done
+        → MatchOption found (HaveTexts (S.means src.old).octets frame.now head.now (done + length refs.old))
+        (IsFirstKeyless (S.means src.old).octets frame.now head.now)) }
+    ensures inside { IfOk result (λ found. IfSome found (λ i. i < head.now.count)) }
+{
+    let _count = head.count;
+    read_places(src, frame, head, done, refs, places)?;
+    match first_other(src, frame, refs, places)? {
+        Some(i) => Ok(Some(done + i as u64)),
+        None => Ok(None),
+    }
+}
+
+/// The first key of a dictionary that is no text.
+fn first_keyless<S: Source>(
+    src: &mut S,
+    frame: &Frame,
+    head: &Head,
+) -> Result<Option<u64>, ReadFault>
+    requires safe { IsSafe (length (S.means src.old).octets) frame.now }
+    requires head { IsSafeHead frame.now head.now }
+    requires dict { head.now.kind ≡ Dict }
+    ensures reads { OnlyReads (is_err result) (S.means src.old) (S.means src.new) }
+    ensures found { IfOk result (λ found. IsTrue (S.means src.old).honest → IsFrame (S.means src.old).octets frame.now
+        → MatchOption found (HaveTexts (S.means src.old).octets frame.now head.now head.now.count)
+        (IsFirstKeyless (S.means src.old).octets frame.now head.now)) }
+    ensures inside { IfOk result (λ found. IfSome found (λ i. i < head.now.count)) }
+{
+    let count = head.count;
+    let mut refs = [0u64; BLOCK];
+    let mut places = [0u64; BLOCK];
+    let mut done = 0u64;
+    while done < count {
+        let now = (count - done).min(BLOCK as u64);
+        let block = &mut refs[..now as usize];
+        let at = &mut places[..now as usize];
+        if let Some(i) = search_keys(src, frame, head, done, block, at)? {
+            return Ok(Some(i));
+        }
+        done += now;
+    }
+    Ok(None)
+}
+
+/// Looks for a key of dictionary `n` that is no text.
+pub fn check_texts<S: Source>(
+    src: &mut S,
+    frame: &Frame,
+    n: ObjectNo,
+    head: &Head,
+) -> Result<(), ObjectFault>
+    requires safe { IsSafe (length (S.means src.old).octets) frame.now }
+    requires head { IsSafeHead frame.now head.now }
+    requires dict { head.now.kind ≡ Dict }
+    ensures reads { OnlyReads (read_failed result) (S.means src.old) (S.means src.new) }
+    ensures exact { IsTrue (S.means src.old).honest → IsFrame (S.means src.old).octets frame.now
+        → Gives (λ _. HaveTexts (S.means src.old).octets frame.now head.now head.now.count)
+        (IsKeylessFault (S.means src.old).octets frame.now n.0 head.now) result }
+{
+    match first_keyless(src, frame, head)? {
+        None => Ok(()),
+        Some(i) => Err(ObjectFault::Fault(keyless(frame, n, head, i, src.len()))),
+    }
+}
+
+/// The fault of key `i` of dictionary `n`, in a file of so many bytes.
+pub(crate) fn keyless(frame: &Frame, n: ObjectNo, head: &Head, i: u64, len: u64) -> Fault
+    requires safe { IsSafe len frame.now }
+    requires head { IsSafeHead frame.now head.now }
+    requires dict { head.now.kind ≡ Dict }
+    requires within { i < head.now.count }
+    ensures { (result.rule ≡ KeyKind) × (result.object ≡ Some n) × (result.place ≡ head.now.body + i * frame.now.ref_size) }
+{
+    Fault {
+        rule: Rule::KeyKind,
+        object: Some(n),
+        place: ref_place(frame, head, i, len),
+    }
+}
+
+/// The head of key `i` of dictionary `n`, whose keys are texts. Where one is none after all, since the
+/// source gives other bytes than before, it is the key's fault.
+pub(crate) fn key_head<S: Source>(
+    src: &mut S,
+    frame: &Frame,
+    n: ObjectNo,
+    head: &Head,
+    i: u64,
+) -> Result<Head, ObjectFault>
+    requires safe { IsSafe (length (S.means src.old).octets) frame.now }
+    requires head { IsSafeHead frame.now head.now }
+    requires dict { head.now.kind ≡ Dict }
+    requires within { i < head.now.count }
+    ensures reads { OnlyReads (read_failed result) (S.means src.old) (S.means src.new) }
+    ensures exact { IsTrue (S.means src.old).honest → IsFrame (S.means src.old).octets frame.now
+        → HaveTexts (S.means src.old).octets frame.now head.now head.now.count
+        → Gives (IsKey (S.means src.old).octets frame.now head.now i) Never result }
+    ensures safe { IfOk result (λ key. IsTextKind key.kind × IsSafeBody (length (S.means src.old).octets) key) }
+{
+    let m = ref_at(src, frame, head, i)?;
+    let place = place_of(src, frame, m)?;
+    match text_at(src, frame, m, place)? {
+        Some(key) => Ok(key),
+        None => Err(ObjectFault::Fault(keyless(frame, n, head, i, src.len()))),
+    }
+}

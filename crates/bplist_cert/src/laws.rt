@@ -1,0 +1,69 @@
+//! Laws of the definitions: each is the contract of a function that does nothing.
+
+ghost use Rattle.std.specs.Prelude.{◌≡◌, ℕ, ◌<◌, List, slice_index, Bool};
+ghost use Rattle.bplist_octets.specs.Meaning.{OnlyReads};
+ghost use Rattle.bplist_objects.specs.declared.fault.Fault.{Fault as fault};
+ghost use Rattle.bplist_objects.specs.declared.frame.Frame.{Frame as frame};
+ghost use Rattle.bplist_objects.specs.declared.head.Head.{Head as head};
+ghost use Rattle.bplist_objects.specs.Value.{Value};
+ghost use Rattle.bplist_objects.specs.Heads.{Content, Spells};
+ghost use Rattle.bplist_objects.specs.Holds.{Holds};
+ghost use Rattle.bplist_objects.specs.Reach.{Chain, Reach, Refs};
+ghost use Rattle.bplist_cert.specs.Lists.{Lists, IsCertificate};
+ghost use Rattle.bplist_cert.specs.Encoding.{octets_of};
+ghost use Rattle.bplist_cert.specs.Valid.{IsVouchedBy, IsValid, HoldsOneValue};
+ghost use Rattle.bplist_cert.specs.Sorted.{IsAccepted};
+ghost use Rattle.bplist_cert.specs.Keys.{HaveTexts, KeysDiffer, AreInOrder};
+ghost use Rattle.bplist_cert.specs.PairFault.{IsPairFault};
+ghost use Rattle.bplist_cert.specs.CheckedFile.{CheckedFile, meaning_of};
+
+/// Two certificates with the same bytes are the same.
+pub fn one_certificate()
+    ensures { (a b : Lists) → IsCertificate a → IsCertificate b → octets_of a ≡ octets_of b → a ≡ b }
+{}
+
+/// Under valid heights each vouched object holds exactly one value, and so does the file.
+pub fn vouched_values()
+    ensures object { (f : List ℕ) (F : frame) (heights : List ℕ) → IsValid f F heights → (n : ℕ) → IsVouchedBy heights n
+        → (v : Value) × Holds f F n v × ((w : Value) → Holds f F n w → w ≡ v) }
+    ensures file { (f : List ℕ) (F : frame) (heights : List ℕ) → IsValid f F heights → HoldsOneValue f }
+{}
+
+/// Under valid heights each object that the top reaches is vouched for and spells a content, its references
+/// are numbers of objects, and no chain of references leads from it to itself.
+pub fn reached_objects()
+    ensures vouched { (f : List ℕ) (F : frame) (heights : List ℕ) → IsValid f F heights → (n : ℕ) → Reach f F n → IsVouchedBy heights n }
+    ensures content { (f : List ℕ) (F : frame) (heights : List ℕ) → IsValid f F heights → (n : ℕ) → Reach f F n
+        → (c : Content) × Spells f F n c }
+    ensures references { (f : List ℕ) (F : frame) (heights : List ℕ) → IsValid f F heights → (n m : ℕ) → Reach f F n → Refs f F n m
+        → m < F.objects }
+    ensures no_circle { (f : List ℕ) (F : frame) (heights : List ℕ) → IsValid f F heights → (n : ℕ) → Reach f F n → Chain f F n n → ⊥ }
+{}
+
+/// Under valid heights the references of a vouched object are vouched for and lower.
+pub fn vouched_references()
+    ensures { (f : List ℕ) (F : frame) (heights : List ℕ) → IsValid f F heights → (n m : ℕ) → IsVouchedBy heights n → Refs f F n m
+        → IsVouchedBy heights m × (slice_index heights m < slice_index heights n) }
+{}
+
+/// The keys of a key list that has them in order differ.
+pub fn ordered_keys_differ()
+    ensures { (f : List ℕ) (F : frame) (h : head) (list : List ℕ) → HaveTexts f F h h.count → AreInOrder f F h list h.count
+        → KeysDiffer f F h h.count }
+{}
+
+/// Where a fault of a file and a certificate is found the certificate is not one of the file.
+pub fn pair_fault_excludes()
+    ensures { (f : List ℕ) (F : frame) (certificate : Lists) (a : fault) → IsPairFault f certificate a → IsAccepted f F certificate → ⊥ }
+{}
+
+/// The first fault of a file and a certificate is one, with its rule, its object and its place.
+pub fn one_pair_fault()
+    ensures { (f : List ℕ) (certificate : Lists) (a b : fault) → IsPairFault f certificate a → IsPairFault f certificate b → a ≡ b }
+{}
+
+/// A call that only reads a checked file leaves its frame and its certificate, and only reads its source.
+pub fn checked_stays()
+    ensures { (failed : Bool) (old new : CheckedFile) → OnlyReads failed (meaning_of old) (meaning_of new)
+        → OnlyReads failed old.source new.source × (new.frame ≡ old.frame) × (new.certificate ≡ old.certificate) }
+{}

@@ -1,0 +1,63 @@
+//! Why a certificate is refused.
+
+ghost use Rattle.std.specs.Prelude.{◌≡◌, MatchResult};
+ghost use Rattle.bplist_objects.specs.declared.fault.ObjectFault.{ObjectFault as object_fault};
+ghost use Rattle.bplist_objects.specs.declared.fault.ObjectFault.TheVariants.{Fault as object_broken, Read as object_read};
+ghost use Rattle.bplist_cert.specs.declared.refusal.Refusal.TheVariants.{Memory, Read, Fault as is_fault};
+
+use bplist_objects::{Fault, ObjectFault};
+use bplist_octets::ReadFault;
+use std::alloc::{AllocError, AllocFailed};
+
+/// Why a certificate is refused: a broken rule, a failed read, or a growth that was refused.
+#[derive(Clone, Copy, Debug, PartialEq, Eq, Drop)]
+pub enum Refusal {
+    Fault(Fault),
+    Read(ReadFault),
+    Memory,
+}
+
+impl From<Fault> for Refusal {
+    ghost from_gives = { λ fault e. e ≡ is_fault fault };
+
+    fn from(fault: Fault) -> Refusal {
+        Refusal::Fault(fault)
+    }
+}
+
+impl From<ReadFault> for Refusal {
+    ghost from_gives = { λ fault e. e ≡ Read fault };
+
+    fn from(fault: ReadFault) -> Refusal {
+        Refusal::Read(fault)
+    }
+}
+
+impl From<ObjectFault> for Refusal {
+    ghost use Rattle.bplist_cert.specs.Refusals.{refusal_of};
+
+    ghost from_gives = { λ fault e. e ≡ refusal_of fault };
+
+    fn from(fault: ObjectFault) -> Refusal {
+        match fault {
+            ObjectFault::Fault(fault) => Refusal::Fault(fault),
+            ObjectFault::Read(fault) => Refusal::Read(fault),
+        }
+    }
+}
+
+impl From<AllocError> for Refusal {
+    ghost from_gives = { λ _ e. e ≡ Memory };
+
+    fn from(_error: AllocError) -> Refusal {
+        Refusal::Memory
+    }
+}
+
+impl<T: Drop> From<AllocFailed<T>> for Refusal {
+    ghost from_gives = { λ _ e. e ≡ Memory };
+
+    fn from(_failed: AllocFailed<T>) -> Refusal {
+        Refusal::Memory
+    }
+}

@@ -1,0 +1,135 @@
+-- What the certificate of a checked file says of what a path leads to.
+use Rattle.std.proofs.Common.{arith, ◌≡◌, ◌<◌, ◌+◌, ℕ, zero, suc, List, [], ◌∷◌, length, map, drop, slice_index_or, Result, Ok, Err, refl, sym, ap, ◌∙◌, subst, IsTrue, Contains, true, false}
+use Rattle.std.proofs.lemmas.Grind.{not_there}
+use Rattle.std.proofs.Math.Logic.{∥∥₁_map}
+use Rattle.bplist_objects.specs.declared.frame.Frame.{Frame}
+use Rattle.bplist_objects.specs.Value.{Value}
+use Rattle.bplist_objects.specs.Heads.{Content, Spells, refs}
+use Rattle.bplist_objects.specs.Holds.{Holds}
+use Rattle.bplist_objects.proofs.Fronts.{one_head}
+use Rattle.bplist_cert.proofs.Vouching.{object_holds, references_lower}
+use Rattle.bplist_cert.specs.Valid.{IsVouchedBy, IsValid}
+use Rattle.bplist_cert.specs.CheckedFile.{CheckedFile, IsChecked}
+use Rattle.bplist_cursor.specs.Look.{stepped, look, look_from, after_step}
+use Rattle.bplist_cursor.specs.Leads.{Leads}
+use Rattle.bplist_cursor.specs.Found.{LeadTo, IsHeld}
+use Rattle.bplist_cursor.specs.KeySearch.{halvings, halvings_at, on_taken, RisesAtMost}
+use Rattle.bplist_cursor.specs.declared.found.Why.{Why}
+use Rattle.std.specs.Bool.{⊤}
+use Rattle.bplist_cursor.specs.Causes.{IsUnread, IsExcused, GivesCursor, is_unread}
+use Rattle.bplist_cursor.specs.Kept.{Keeps}
+use Rattle.bplist_octets.proofs.Sources.{never_fails}
+use Rattle.bplist_cursor.specs.declared.faults.Unread.{Unread}
+use Rattle.bplist_cursor.specs.declared.faults.Unread.TheVariants as unread
+use Rattle.bplist_cursor.specs.declared.faults.CursorFault.{CursorFault}
+use Rattle.bplist_cursor.specs.declared.faults.CursorFault.TheVariants as faults
+use Rattle.bplist_cursor.proofs.CheckedFrames.{stable_le, frame_of_checked}
+use Rattle.bplist_cursor.proofs.Counts.{few_refs}
+use Rattle.bplist_cursor.proofs.Looking.{leads_held}
+use Rattle.bplist_cursor.proofs.Taking.{taken_there}
+
+pub split_at : {X : Type 0} (units : X → List ℕ) (xs : List X) (k : ℕ) (d : X) → k < length xs → drop k (map units xs) ≡ units (slice_index_or xs k d) ∷ drop (suc k) (map units xs)
+split_at units [] k d l = absurd (omega arith)
+split_at units (x ∷ xs) zero d l = refl
+split_at units (x ∷ xs) (suc k) d l = split_at units xs k d (omega arith)
+
+pub drop_all : {X : Type 0} (units : X → List ℕ) (xs : List X) → drop (length xs) (map units xs) ≡ []
+drop_all units [] = refl
+drop_all units (x ∷ xs) = drop_all units xs
+
+module _ (checked : CheckedFile) where
+  -- after k steps, with so many comparisons made since: at object n
+  pub record Along (v : Value) (steps : List (List ℕ)) (k n before made : ℕ) : Type 0 where
+    pub value : Value
+    pub led : look_from k value (drop k steps) ≡ look v steps
+    pub holds : IsHeld checked n value
+    pub leads : (m : ℕ) → LeadTo checked.source.octets checked.frame n (drop k steps) m → LeadTo checked.source.octets checked.frame checked.frame.top.0 steps m
+    pub spent : RisesAtMost checked (before + halvings v steps) (made + halvings value (drop k steps)) 0
+
+module _ (checked : CheckedFile) (is : IsChecked checked) (honest : IsTrue checked.source.honest) where
+  abbrev f : List ℕ
+  f = checked.source.octets
+
+  abbrev F : Frame
+  F = checked.frame
+
+  abbrev heights : List ℕ
+  heights = checked.certificate.heights
+
+  pub valid : ∥ IsValid f F heights ∥₁
+  valid = ∥∥₁_map (is.accepted honest) (λ a. a.valid)
+
+  -- the top is vouched for
+  pub top_vouched : IsVouchedBy heights F.top.0
+  top_vouched = stable_le _ _ (λ no. not_there valid (λ p. no p.top))
+
+  -- and so is each object that one that is vouched for refers to
+  pub lower_vouched : (n m : ℕ) (content : Content) → IsVouchedBy heights n → Spells f F n content → Contains (refs content) m → IsVouchedBy heights m
+  lower_vouched n m content vouched s c = stable_le _ _ (λ no. not_there valid (λ p. no (references_lower f F heights p n m vouched (content, s, c)).0))
+
+  -- it holds a value
+  pub value_there : (n : ℕ) → IsVouchedBy heights n → ∥ ((v : Value) × Holds f F n v) ∥₁
+  value_there n vouched = ∥∥₁_map valid (λ p. let h = object_holds f F heights p n vouched in (h.0, h.1))
+
+  pub begin : (v : Value) (steps : List (List ℕ)) (before : ℕ) → Holds f F F.top.0 v → Along checked v steps 0 F.top.0 before before
+  begin v steps before h = record { value = v; led = refl; holds = (top_vouched, h); leads = λ m l. l; spent = λ keyed e. omega arith }
+
+  module _ (v : Value) (steps : List (List ℕ)) (k n before made more : ℕ) (s : List ℕ) (e : drop k steps ≡ s ∷ drop (suc k) steps) (a : Along checked v steps k n before made) where
+    pub on : (m : ℕ) → RisesAtMost checked made more (halvings_at a.value) → Leads f F n s m → Along checked v steps (k + 1) m before more
+    on m rises b =
+        let q = leads_held f F (one_head f F) a.value n s m a.holds.1 (λ h sp. few_refs f F (frame_of_checked checked is honest) n h sp) b in
+        let z : suc k ≡ k + 1 = omega arith in
+        let there = taken_there f F a.value n s m a.holds.1 b.0 b.1 b.2 in
+        record {
+          value = q.0;
+          led = sym (ap (λ d. look_from k a.value d) e ∙ ap (λ x. after_step k x (λ w. look_from (k + 1) w (drop (suc k) steps))) q.1 ∙ ap (λ j. look_from (k + 1) q.0 (drop j steps)) z) ∙ a.led;
+          holds = (lower_vouched n m b.0 a.holds.0 b.1 there, q.2);
+          leads = λ j l. a.leads j (subst (λ d. LeadTo f F n d j) (sym e) (m, b, subst (λ i. LeadTo f F m (drop i steps) j) (sym z) l));
+          spent = λ keyed has.
+              let old = a.spent keyed has in
+              let rise = rises keyed has in
+              let sum = ap (λ d. halvings a.value d) e ∙ ap (λ x. halvings_at a.value + on_taken x (λ w. halvings w (drop (suc k) steps))) q.1 ∙ ap (λ j. halvings_at a.value + halvings q.0 (drop j steps)) z in
+              omega (arith, old, rise, sum);
+        }
+
+    pub off : (y : Why) → stepped a.value s ≡ Err y → look v steps ≡ Err (record { step = k; why = y })
+    off y x = sym a.led ∙ ap (λ d. look_from k a.value d) e ∙ ap (λ x. after_step k x (λ w. look_from (k + 1) w (drop (suc k) steps))) x
+
+    pub spent_off : (y : Why) → stepped a.value s ≡ Err y → RisesAtMost checked made more (halvings_at a.value) → RisesAtMost checked before more (halvings v steps)
+    spent_off y x rises keyed has =
+        let old = a.spent keyed has in
+        let rise = rises keyed has in
+        let sum = ap (λ d. halvings a.value d) e ∙ ap (λ x. halvings_at a.value + on_taken x (λ w. halvings w (drop (suc k) steps))) x in
+        omega (arith, old, rise, sum)
+
+  module _ (v : Value) (steps : List (List ℕ)) (k n before made : ℕ) (e : drop k steps ≡ []) (a : Along checked v steps k n before made) where
+    pub done : LeadTo f F F.top.0 steps n × ((w : Value) × (look v steps ≡ Ok w) × IsHeld checked n w)
+    done = (a.leads n (subst (λ d. LeadTo f F n d n) (sym e) refl), (a.value, sym a.led ∙ ap (λ d. look_from k a.value d) e, a.holds))
+
+    pub spent_done : RisesAtMost checked before made (halvings v steps)
+    spent_done keyed has = let old = a.spent keyed has in omega (arith, old)
+
+  -- why nothing was read, where the answer for any value of the object says it
+  pub unread_for : (n : ℕ) → IsVouchedBy heights n → (e : Unread) → ((v : Value) → Holds f F n v → IsUnread e) → IsUnread e
+  unread_for n vouched (unread.Read x) h = tt
+  unread_for n vouched unread.Changed h = absurd (not_there (value_there n vouched) (λ p. h p.0 p.1))
+
+  -- and why there is no answer
+  pub excused_for : (n : ℕ) → IsVouchedBy heights n → (e : CursorFault) → ((v : Value) → Holds f F n v → IsExcused e) → IsExcused e
+  excused_for n vouched (faults.Read x) h = tt
+  excused_for n vouched faults.Changed h = absurd (not_there (value_there n vouched) (λ p. h p.0 p.1))
+  excused_for n vouched faults.Memory h = tt
+
+  -- what holds of the answer for any value of the object holds of it without one
+  pub quiet : (n : ℕ) → IsVouchedBy heights n → {X : Type 0} (P : Value → X → Type 0) (r : Result X CursorFault)
+      → ((v : Value) → Holds f F n v → GivesCursor (P v) r) → GivesCursor (λ _. ⊤) r
+  quiet n vouched P (Ok x) h = tt
+  quiet n vouched P (Err e) h = excused_for n vouched e h
+
+-- a source without failures has not failed
+pub never_read : (old new : CheckedFile) (e : Unread) → Keeps (is_unread e) old new → new.source.failures ≡ 0 → IsUnread e → ⊥
+never_read old new (unread.Read x) k z h =
+    let before : old.source.failures ≡ 0 = omega (arith, k.source.rises, z) in
+    let no_read : true ≡ false = never_fails true old.source new.source before z k.source in
+    cc no_read
+never_read old new unread.Changed k z h = h

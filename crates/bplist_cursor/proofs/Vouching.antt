@@ -1,0 +1,47 @@
+-- What is known of an object that a checked file vouches for, where its source is honest.
+use Rattle.std.proofs.Common.{◌<◌, ℕ, length, slice_index, Result, Ok, Err, IfErr, IsTrue, subst}
+use Rattle.std.specs.List.{AllByRecursion}
+use Rattle.std.proofs.lemmas.Grind.{not_there}
+use Rattle.std.proofs.lemmas.List.Elements.{All-get_or, All-from_recursion}
+use Rattle.bplist_objects.specs.Heads.{Content, Spells, refs}
+use Rattle.bplist_objects.proofs.Fronts.{one_head}
+use Rattle.bplist_cert.specs.CheckedFile.{CheckedFile, IsChecked}
+use Rattle.bplist_cert.specs.Valid.{IsVouchedBy}
+use Rattle.bplist_cursor.specs.declared.faults.CursorFault.{CursorFault}
+use Rattle.bplist_cursor.specs.declared.faults.CursorFault.TheVariants as faults
+use Rattle.bplist_cursor.specs.declared.faults.Unread.{Unread}
+use Rattle.bplist_cursor.specs.declared.faults.Unread.TheVariants as unread
+use Rattle.bplist_cursor.specs.Causes.{GivesCursor, IsExcused, IsUnread, cursor_fault_of}
+use Rattle.bplist_cursor.proofs.CheckedFrames.{stable_le}
+
+excused : (e : CursorFault) → ((IsExcused e → ⊥) → ⊥) → IsExcused e
+excused (faults.Read x) h = tt
+excused faults.Changed h = h (λ x. x)
+excused faults.Memory h = tt
+
+pub gives_weaker : {X : Type 0} (P Q : X → Type 0) (r : Result X CursorFault) → ((x : X) → P x → Q x) → GivesCursor P r → GivesCursor Q r
+gives_weaker P Q (Ok x) on h = on x h
+gives_weaker P Q (Err e) on h = h
+
+-- what is not Changed to an inner call is not Changed to a caller
+pub unread_excused : (e : Unread) → IsUnread e → IsExcused (cursor_fault_of e)
+unread_excused (unread.Read x) h = tt
+unread_excused unread.Changed h = h
+
+module _ (checked : CheckedFile) (is : IsChecked checked) (honest : IsTrue checked.source.honest) (n : ℕ) (vouched : IsVouchedBy checked.certificate.heights n) where
+  -- it spells something, so what is not Changed for each content is not Changed
+  pub never_changed : {X : Type 0} (P : Content → X → Type 0) (r : Result X CursorFault)
+      → ((content : Content) → Spells checked.source.octets checked.frame n content → GivesCursor (P content) r) → IfErr r IsExcused
+  never_changed P (Ok x) h = tt
+  never_changed P (Err e) h =
+      excused e (λ no. not_there (is.accepted honest) (λ a. let v = a.valid.vouched n vouched in no (h v.content v.spells)))
+
+  -- its references are vouched for
+  pub vouched_reference : (content : Content) → Spells checked.source.octets checked.frame n content → (k : ℕ) → k < length (refs content)
+      → IsVouchedBy checked.certificate.heights (slice_index (refs content) k)
+  vouched_reference content s k l = stable_le 1 _ (λ no. not_there (is.accepted honest) (λ a.
+      let v = a.valid.vouched n vouched in
+      let same = one_head checked.source.octets checked.frame n v.content content v.spells s in
+      let P : ℕ → Type 0 = λ m. IsVouchedBy checked.certificate.heights m × (slice_index checked.certificate.heights m < slice_index checked.certificate.heights n) in
+      let lower = subst (λ c. AllByRecursion P (refs c)) same v.lower in
+      no (All-get_or P (refs content) k 0 l (All-from_recursion P (refs content) lower)).0))

@@ -1,0 +1,14 @@
+use Rattle.std.proofs.Common.{◌≡◌, IfSome, sym, subst}
+use Rattle.bplist_cursor.specs.Causes.{GivesCursor}
+use Rattle.bplist_cursor.specs.Found.{IsFound, AreMeasuresOf}
+use Rattle.bplist_cursor.specs.Queries.{steps_in}
+use Rattle.bplist_cursor.proofs.KeyReplies.{reply_found}
+use Rattle.bplist_cursor.proofs.answers.answer_by.Goals as goal
+
+pub returns-in-At-clause-exact : goal.returns-in-At-clause-exact
+returns-in-At-clause-exact g c = λ honest table v h.
+    let checked = c.args.checked.now in
+    let query = c.args.query.now in
+    let is = subst (IsFound checked v (steps_in query)) c.in-At.is ((rw c.path_of.ensures at c.in_ok-node.ensures.exact) honest v h) in
+    subst (λ x. GivesCursor (λ told. (told ≡ x) × IfSome c.answer_at.new.measures (AreMeasuresOf checked)) c.answer_at.result) (sym (reply_found v is.1.0 query is.1.1))
+    ((rw c.in_ok-node.ensures.reads at c.answer_at.ensures.exact) honest table is.1.0 is.1.2)

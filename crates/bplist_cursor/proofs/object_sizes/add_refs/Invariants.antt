@@ -1,0 +1,20 @@
+use Rattle.std.proofs.Common.{◌≡◌, ◌≤◌, ◌-◌, IsTrue, drop, Some}
+use Rattle.bplist_objects.specs.Heads.{refs, content_at}
+use Rattle.bplist_cursor.specs.Sizes.{added}
+use Rattle.bplist_cursor.specs.declared.measures.Size.{Size}
+use Rattle.bplist_cursor.proofs.object_sizes.add_refs.Given as goal
+
+-- the source is as it was, and what is left to add to the total so far gives what all gives
+abbrev pub invariant-loop-done : goal.invariant-loop-done
+invariant-loop-done g l =
+    let means = g.S.Source.means in
+    record {
+      same : means l.src ≡ means l.fn.src;
+      reached : l.done ≤ l.refs;
+      left : IsTrue (means l.fn.src).honest → (whole : Size)
+          → added l.sizes l.fn.start (refs (content_at (means l.fn.src).octets l.frame l.head)) ≡ Some whole
+          → added l.sizes l.total (drop l.done (refs (content_at (means l.fn.src).octets l.frame l.head))) ≡ Some whole;
+    }
+
+abbrev pub decreases-loop-done : goal.decreases-loop-done
+decreases-loop-done g l = l.refs - l.done

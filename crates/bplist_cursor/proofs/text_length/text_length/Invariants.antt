@@ -1,0 +1,20 @@
+use Rattle.std.proofs.Common.{◌-◌, ◌≡◌, ◌≤◌, ◌+◌, length, flat_map, take, IsTrue}
+use Rattle.std.specs.List.{list_all}
+use Rattle.bplist_objects.specs.Units.{units_of}
+use Rattle.bplist_cursor.specs.Nodes.{cap}
+use Rattle.bplist_cursor.specs.Texts.{is_plain, quoted_unit}
+use Rattle.bplist_cursor.proofs.text_length.text_length.Given as goal
+
+-- the source is as it was, and the units so far are plain or not, and take so many bytes between quotes
+abbrev pub invariant-loop-done : goal.invariant-loop-done
+invariant-loop-done g l =
+    let means = g.S.Source.means in
+    record {
+      same : means l.src ≡ means l.fn.src;
+      reached : l.done ≤ l.head.count;
+      plain : IsTrue (means l.fn.src).honest → l.plain ≡ list_all is_plain (take l.done (units_of (means l.fn.src).octets l.fn.head));
+      quoted : IsTrue (means l.fn.src).honest → l.quoted ≡ cap (2 + length (flat_map quoted_unit (take l.done (units_of (means l.fn.src).octets l.fn.head))));
+    }
+
+abbrev pub decreases-loop-done : goal.decreases-loop-done
+decreases-loop-done g l = l.head.count - l.done

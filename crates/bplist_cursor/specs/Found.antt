@@ -1,0 +1,38 @@
+-- Where a path leads. Source: profile.
+use Rattle.std.specs.Prelude.{◌≡◌, ℕ, List, [], ◌∷◌, map, Ok, Err, Vec}
+use Rattle.std.specs.Global.{Global}
+use Rattle.bplist_objects.specs.declared.frame.Frame.{Frame}
+use Rattle.bplist_objects.specs.Value.{Value}
+use Rattle.bplist_objects.specs.Holds.{Holds}
+use Rattle.bplist_cert.specs.CheckedFile.{CheckedFile}
+use Rattle.bplist_cert.specs.Valid.{IsVouchedBy}
+use Rattle.bplist_cursor.specs.Look.{look}
+use Rattle.bplist_cursor.specs.Sizes.{Table, AreMeasures}
+use Rattle.bplist_cursor.specs.Leads.{Leads}
+use Rattle.bplist_cursor.specs.declared.found.Found.{Found}
+use Rattle.bplist_cursor.specs.declared.found.Found.TheVariants.{At, Missing}
+
+-- the units of steps
+abbrev pub units_of : List (Vec ℕ Global) → List (List ℕ)
+units_of steps = map (λ step. step.items) steps
+
+module _ (f : List ℕ) (F : Frame) where
+  -- the references that are taken for the steps lead from object n to m
+  abbrev pub LeadTo : ℕ → List (List ℕ) → ℕ → Type 0
+  LeadTo n [] m = n ≡ m
+  LeadTo n (s ∷ steps) m = (k : ℕ) × Leads f F n s k × LeadTo k steps m
+
+-- object n of the checked file is vouched for and holds v
+abbrev pub IsHeld : CheckedFile → ℕ → Value → Type 0
+IsHeld checked n v = IsVouchedBy checked.certificate.heights n × Holds checked.source.octets checked.frame n v
+
+-- the references taken for the steps lead from the top to the node, which holds what look gives; or look says which step can't be taken
+abbrev pub IsFound : CheckedFile → Value → List (List ℕ) → Found → Type 0
+IsFound checked v steps (At node) =
+    LeadTo checked.source.octets checked.frame checked.frame.top.0 steps node.object.0
+    × ((w : Value) × (look v steps ≡ Ok w) × IsHeld checked node.object.0 w)
+IsFound checked v steps (Missing k y) = look v steps ≡ Err (record { step = k; why = y })
+
+-- the table has the sizes of the values that the objects of the checked file hold
+abbrev pub AreMeasuresOf : CheckedFile → Table → Type 0
+AreMeasuresOf checked sizes = AreMeasures checked.source.octets checked.frame checked.certificate.heights sizes

@@ -1,0 +1,71 @@
+-- Looking up a key by halving a sorted key list. Source: profile.
+use Rattle.std.specs.Prelude.{◌≡◌, ℕ, zero, suc, ◌+◌, ◌^◌, ◌<◌, ◌≤◌, ltb, List, [], ◌∷◌, length, slice_index, if◌then◌else◌, Result, Ok, Err, Option, Some, None}
+use Rattle.std.specs.declared.cmp.Ordering.{Ordering}
+use Rattle.std.specs.declared.cmp.Ordering.TheVariants.{Less}
+use Rattle.bplist_objects.specs.declared.frame.Frame.{Frame}
+use Rattle.bplist_objects.specs.declared.kind.Kind.{Kind}
+use Rattle.bplist_objects.specs.declared.kind.Kind.TheVariants.{Dict}
+use Rattle.bplist_objects.specs.Value.{Value, leaf, array, set, dict, keys, text}
+use Rattle.bplist_objects.specs.Heads.{Content, Spells}
+use Rattle.bplist_objects.specs.Units.{compare_units}
+use Rattle.bplist_cert.specs.CheckedFile.{CheckedFile}
+use Rattle.bplist_cert.specs.Lists.{Keyed}
+use Rattle.bplist_cursor.specs.Look.{stepped}
+use Rattle.bplist_cursor.specs.declared.found.Why.{Why}
+use Rattle.bplist_cursor.specs.declared.faults.Unread.{Unread}
+use Rattle.bplist_cursor.specs.declared.faults.Unread.TheVariants.{Changed}
+
+-- the number of binary digits: the least d with n below 2^d, so that 0 has none
+abbrev pub digits_2 : ℕ → ℕ
+digits_2 zero = 0
+digits_2 (suc n) = if ltb (suc n) (2 ^ digits_2 n) then digits_2 n else suc (digits_2 n)
+
+-- so many comparisons suffice for a step at an object with this kind and count
+abbrev pub halvings_of : Kind → ℕ → ℕ
+halvings_of Dict count = digits_2 count
+halvings_of _ count = 0
+
+-- so many comparisons suffice for a step at this value
+abbrev pub halvings_at : Value → ℕ
+halvings_at (dict ps) = digits_2 (length (keys ps))
+halvings_at (leaf l) = 0
+halvings_at (array vs) = 0
+halvings_at (set vs) = 0
+
+-- so many more where the step is taken
+abbrev pub on_taken : Result Value Why → (Value → ℕ) → ℕ
+on_taken (Ok w) go = go w
+on_taken (Err why) go = 0
+
+-- the sum, over the dictionaries at which one of the steps is tried, of the number of binary digits of their count of pairs
+abbrev pub halvings : Value → List (List ℕ) → ℕ
+halvings v [] = 0
+halvings v (s ∷ steps) = halvings_at v + on_taken (stepped v s) (λ w. halvings w steps)
+
+-- with a version 2 certificate the counter rises by no more than this
+abbrev pub RisesAtMost : CheckedFile → ℕ → ℕ → ℕ → Type 0
+RisesAtMost checked old new most = (keyed : Keyed) → checked.certificate.keys ≡ Some keyed → new ≤ old + most
+
+module _ (f : List ℕ) (F : Frame) where
+  -- key i was compared with these units
+  abbrev pub IsCompared : List ℕ → ℕ → List ℕ → ℕ × Ordering → Type 0
+  IsCompared ks i units found =
+      (found.0 ≡ i) × ((us : List ℕ) → Spells f F (slice_index ks i) (Content.leaf (text us)) → found.1 ≡ compare_units us units)
+
+  -- the list has the places of these keys in ascending order of their units
+  pub record IsKeyList (ks list : List ℕ) : Type 0 where
+    pub within : (j : ℕ) → j < length ks → slice_index list j < length ks
+    pub ascend : (i j : ℕ) → i < j → j < length ks → (us vs : List ℕ)
+        → Spells f F (slice_index ks (slice_index list i)) (Content.leaf (text us))
+        → Spells f F (slice_index ks (slice_index list j)) (Content.leaf (text vs)) → compare_units us vs ≡ Less
+
+-- the key list of dictionary n of so many pairs is wholly there, and begins at this number of the positions; or there are no key lists
+abbrev pub ListStarts : CheckedFile → ℕ → ℕ → Option ℕ → Type 0
+ListStarts checked n count None = checked.certificate.keys ≡ None
+ListStarts checked n count (Some start) =
+    (keyed : Keyed) × (checked.certificate.keys ≡ Some keyed) × (start ≡ slice_index keyed.starts n) × (start + count ≤ length keyed.positions)
+
+-- there are key lists, and that of dictionary n is not wholly there
+abbrev pub IsUnlisted : CheckedFile → ℕ → ℕ → Unread → Type 0
+IsUnlisted checked n count e =
+    (e ≡ Changed) × ((keyed : Keyed) × (checked.certificate.keys ≡ Some keyed) × (length keyed.positions < slice_index keyed.starts n + count))

@@ -1,0 +1,32 @@
+-- The reference that is taken for a step. Source: profile.
+use Rattle.std.specs.Prelude.{◌≡◌, ℕ, ◌<◌, List, length, slice_index, ⊤}
+use Rattle.std.specs.Fmt.{decimal}
+use Rattle.bplist_objects.specs.declared.frame.Frame.{Frame}
+use Rattle.bplist_objects.specs.Value.{text}
+use Rattle.bplist_cursor.specs.declared.found.Why.{Why}
+use Rattle.bplist_cursor.specs.declared.found.Why.TheVariants.{NoKey, NoIndex, NotSteppable}
+use Rattle.bplist_objects.specs.Heads.{Content, leaf, array, set, dict, Spells}
+
+module _ (f : List ℕ) (F : Frame) where
+  -- among the references of this content, m is the one for the step with these units
+  abbrev pub IsTaken : Content → List ℕ → ℕ → Type 0
+  IsTaken (dict ks ms) s m = (i : ℕ) × (i < length ks) × Spells f F (slice_index ks i) (leaf (text s)) × (slice_index ms i ≡ m)
+  IsTaken (array ms) s m = (i : ℕ) × (i < length ms) × (decimal i ≡ s) × (slice_index ms i ≡ m)
+  IsTaken (set ms) s m = ⊥
+  IsTaken (leaf l) s m = ⊥
+
+  -- from object n the step leads to object m
+  abbrev pub Leads : ℕ → List ℕ → ℕ → Type 0
+  Leads n s m = (c : Content) × Spells f F n c × IsTaken c s m
+
+  -- each key reference of a dictionary names an object that spells a text
+  abbrev pub HasTextKeys : Content → Type 0
+  HasTextKeys (dict ks ms) = (i : ℕ) → i < length ks → (slice_index ks i < F.objects) × ((u : List ℕ) × Spells f F (slice_index ks i) (leaf (text u)))
+  HasTextKeys _ = ⊤
+
+-- why a step can't be taken where no reference is taken for it
+abbrev pub why_of : Content → Why
+why_of (dict ks ms) = NoKey
+why_of (array ms) = NoIndex
+why_of (set ms) = NotSteppable
+why_of (leaf l) = NotSteppable

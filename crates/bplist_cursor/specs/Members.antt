@@ -1,0 +1,64 @@
+-- The members of a value in their order: of a dictionary each key before its value. Source: profile.
+use Rattle.std.specs.Prelude.{◌≡◌, ℕ, zero, suc, ◌+◌, ◌*◌, List, ◌∷◌, slice_get, Option, Some, None, ⊤}
+use Rattle.bplist_objects.specs.declared.frame.Frame.{Frame}
+use Rattle.bplist_objects.specs.declared.kind.Kind.{Kind}
+use Rattle.bplist_objects.specs.declared.kind.Kind.TheVariants.{Dict}
+use Rattle.bplist_objects.specs.Value.{Value, leaf, array, set, dict, Values, no_values, value, Pairs, no_pairs, pair, text}
+use Rattle.bplist_objects.specs.Heads.{Content}
+use Rattle.bplist_objects.specs.Holds.{Holds}
+use Rattle.bplist_cursor.specs.declared.found.Node.{Node}
+
+-- value number i
+abbrev pub nth_value : Values → ℕ → Option Value
+nth_value no_values i = None
+nth_value (value v vs) zero = Some v
+nth_value (value v vs) (suc i) = nth_value vs i
+
+-- number 2j is the text of key j, and 2j + 1 is value j
+abbrev pub nth_of_pairs : Pairs → ℕ → Option Value
+nth_of_pairs no_pairs i = None
+nth_of_pairs (pair u v ps) zero = Some (leaf (text u))
+nth_of_pairs (pair u v ps) (suc zero) = Some v
+nth_of_pairs (pair u v ps) (suc (suc i)) = nth_of_pairs ps i
+
+-- member i of a value; a leaf has none
+abbrev pub member_of : Value → ℕ → Option Value
+member_of (leaf l) i = None
+member_of (array vs) i = nth_value vs i
+member_of (set vs) i = nth_value vs i
+member_of (dict ps) i = nth_of_pairs ps i
+
+-- number 2j is key j, and 2j + 1 is value j
+abbrev pub nth_in_turn : List ℕ → List ℕ → ℕ → Option ℕ
+nth_in_turn (k ∷ ks) (m ∷ ms) zero = Some k
+nth_in_turn (k ∷ ks) (m ∷ ms) (suc zero) = Some m
+nth_in_turn (k ∷ ks) (m ∷ ms) (suc (suc i)) = nth_in_turn ks ms i
+nth_in_turn _ _ i = None
+
+-- the object that the reference for member i names
+abbrev pub member_reference : Content → ℕ → Option ℕ
+member_reference (Content.leaf l) i = None
+member_reference (Content.array ms) i = slice_get ms i
+member_reference (Content.set ms) i = slice_get ms i
+member_reference (Content.dict ks ms) i = nth_in_turn ks ms i
+
+-- the node of an object
+abbrev pub node_of : ℕ → Node
+node_of n = record { object = record { 0 = n } }
+
+-- the node of that object, if there is one
+abbrev pub named : Option ℕ → Option Node
+named None = None
+named (Some n) = Some (node_of n)
+
+-- among the references of an object of this kind and count, number k is the one for member i
+abbrev pub IsNumberOf : Kind → ℕ → ℕ → ℕ → Type 0
+IsNumberOf Dict count i k = ((j : ℕ) → i ≡ 2 * j → k ≡ j) × ((j : ℕ) → i ≡ 2 * j + 1 → k ≡ count + j)
+IsNumberOf _ count i k = k ≡ i
+
+module _ (f : List ℕ) (F : Frame) where
+  -- the node's object holds the member, or there is neither node nor member
+  abbrev pub HoldsMember : Option Value → Option Node → Type 0
+  HoldsMember (Some w) (Some node) = Holds f F node.object.0 w
+  HoldsMember None None = ⊤
+  HoldsMember _ _ = ⊥

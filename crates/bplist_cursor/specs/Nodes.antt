@@ -1,0 +1,25 @@
+-- The number of nodes of a value's tree. Source: profile.
+use Rattle.std.specs.Prelude.{ℕ, ◌+◌, min}
+use Rattle.bplist_objects.specs.Value.{Value, leaf, array, set, dict, Values, no_values, value, Pairs, no_pairs, pair}
+
+-- the number, or the last that 64 bits hold where it is greater
+abbrev pub cap : ℕ → ℕ
+cap n = min n 18446744073709551615
+
+abbrev mutual
+  -- how many nodes the tree has: a container is one more than its members, and each key is a member
+  pub nodes : Value → ℕ
+  nodes (leaf l) = 1
+  nodes (array vs) = 1 + nodes_of vs
+  nodes (set vs) = 1 + nodes_of vs
+  nodes (dict ps) = 1 + nodes_of_pairs ps
+
+  -- how many nodes these values have
+  pub nodes_of : Values → ℕ
+  nodes_of no_values = 0
+  nodes_of (value v vs) = nodes v + nodes_of vs
+
+  -- how many nodes these keys and values have
+  pub nodes_of_pairs : Pairs → ℕ
+  nodes_of_pairs no_pairs = 0
+  nodes_of_pairs (pair u v ps) = 1 + nodes v + nodes_of_pairs ps

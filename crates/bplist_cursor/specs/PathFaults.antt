@@ -1,0 +1,9 @@
+-- What a fault of a path text says.
+use Rattle.std.specs.Prelude.{ℕ, ⊤}
+use Rattle.bplist_cursor.specs.declared.path.PathFault.{PathFault}
+use Rattle.bplist_cursor.specs.declared.path.PathFault.TheVariants.{Text, Memory}
+
+-- a fact of the place of a wrong text; a refused growth says nothing
+abbrev pub OnText : (ℕ → Type 0) → PathFault → Type 0
+OnText P (Text place) = P place
+OnText P Memory = ⊤

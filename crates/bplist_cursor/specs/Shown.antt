@@ -1,0 +1,20 @@
+-- What an object shows of the value that it holds. Source: profile.
+use Rattle.std.specs.Prelude.{ℕ, ◌*◌, ◌<◌, length, ⊤}
+use Rattle.bplist_objects.specs.Heads.{Content, leaf, array, set, dict}
+use Rattle.bplist_cursor.specs.declared.faces.Face.{Face}
+use Rattle.bplist_cursor.specs.declared.faces.Face.TheVariants as faces
+use Rattle.bplist_cursor.specs.Replies.{leaf_face}
+
+-- the face of the value that an object with this content holds
+abbrev pub content_face : Content → Face
+content_face (leaf l) = leaf_face l
+content_face (array ms) = faces.Array (length ms)
+content_face (set ms) = faces.Set (length ms)
+content_face (dict ks ms) = faces.Dict (length ks)
+
+-- each reference that the face counts takes one of so many bytes at least, and not all of them
+abbrev pub HasRoom : ℕ → Face → Type 0
+HasRoom len (faces.Array count) = count < len
+HasRoom len (faces.Set count) = count < len
+HasRoom len (faces.Dict count) = 2 * count < len
+HasRoom len _ = ⊤

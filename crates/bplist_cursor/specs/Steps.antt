@@ -1,0 +1,41 @@
+-- Where one step goes, from function to function. Source: profile.
+use Rattle.std.specs.Prelude.{◌≡◌, ℕ, ◌<◌, List, length, slice_index, MatchOption, Option, Err, ⊤}
+use Rattle.bplist_objects.specs.declared.frame.Frame.{Frame}
+use Rattle.bplist_objects.specs.Value.{Value, text}
+use Rattle.bplist_objects.specs.Heads.{Content, Spells, leaf, refs}
+use Rattle.bplist_cursor.specs.Look.{stepped}
+use Rattle.bplist_cursor.specs.Leads.{IsTaken, Leads, why_of}
+use Rattle.bplist_cursor.specs.declared.stepping.Place.{Place}
+use Rattle.bplist_cursor.specs.declared.stepping.Place.TheVariants as place
+use Rattle.bplist_cursor.specs.declared.stepping.Step.{Step}
+use Rattle.bplist_cursor.specs.declared.stepping.Step.TheVariants as step
+
+-- the step goes to one of so many objects, if it goes
+abbrev pub IsInside : ℕ → Step → Type 0
+IsInside objects (step.On m) = m.0 < objects
+IsInside objects (step.Not _) = ⊤
+
+-- the step takes one of so many references, if it takes one
+abbrev pub IsPlaceBelow : ℕ → Place → Type 0
+IsPlaceBelow count (place.Of i) = i < count
+IsPlaceBelow count (place.Nowhere _) = ⊤
+
+module _ (f : List ℕ) (F : Frame) where
+  -- these are objects that spell texts
+  abbrev pub HaveTexts : List ℕ → Type 0
+  HaveTexts ks = (i : ℕ) → i < length ks → (u : List ℕ) × Spells f F (slice_index ks i) (leaf (text u))
+
+  -- the key at this place spells s, or no key does
+  abbrev pub IsKeyPlace : List ℕ → List ℕ → Option ℕ → Type 0
+  IsKeyPlace ks s o = MatchOption o ((i : ℕ) → i < length ks → Spells f F (slice_index ks i) (leaf (text s)) → ⊥)
+      (λ i. (i < length ks) × Spells f F (slice_index ks i) (leaf (text s)))
+
+  -- where the step s goes from object n, which holds v
+  abbrev pub IsStep : ℕ → Value → List ℕ → Step → Type 0
+  IsStep n v s (step.On m) = Leads f F n s m.0
+  IsStep n v s (step.Not y) = stepped v s ≡ Err y
+
+  -- the reference that is taken for the step s at an object with this content, or none is
+  abbrev pub IsPlace : Content → List ℕ → Place → Type 0
+  IsPlace h s (place.Of i) = IsTaken f F h s (slice_index (refs h) i)
+  IsPlace h s (place.Nowhere y) = ((m : ℕ) → IsTaken f F h s m → ⊥) × (y ≡ why_of h)

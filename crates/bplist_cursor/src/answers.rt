@@ -1,0 +1,175 @@
+//! Replies to queries.
+
+ghost use Rattle.std.specs.Prelude.{⊤, ◌≡◌, ◌<◌, ◌≤◌, ℕ, List as list, map, length, IsTrue, IfSome};
+ghost use Rattle.bplist_objects.specs.Value.{Value};
+ghost use Rattle.bplist_objects.specs.Holds.{Holds};
+ghost use Rattle.bplist_cursor.specs.Causes.{GivesCursor, cursor_read};
+ghost use Rattle.bplist_cursor.specs.Kept.{Keeps};
+ghost use Rattle.bplist_cursor.specs.Found.{IsHeld, AreMeasuresOf};
+ghost use Rattle.bplist_cursor.specs.Nodes.{cap, nodes};
+ghost use Rattle.bplist_cursor.specs.Replies.{reply, keys_reply};
+ghost use Rattle.bplist_cursor.specs.Queries.{steps_in, reply_at};
+
+use crate::faults::CursorFault;
+use crate::found::{Found, Node};
+use crate::key_texts::key_texts;
+use crate::locating::locate;
+use crate::measures::Measures;
+use crate::nodes::node_head;
+use crate::object_sizes::measure;
+use crate::path::Path;
+use crate::reply::{Query, Reply};
+use crate::showing::face;
+use bplist_cert::Checked;
+use bplist_objects::Kind;
+use bplist_octets::Source;
+use std::alloc::Global;
+
+/// The reply of a node to a query for its keys.
+fn keys_at<S: Source>(
+    alloc: Global,
+    checked: &mut Checked<S>,
+    node: Node,
+) -> Result<Reply, CursorFault>
+    ensures reads { Keeps (cursor_read result) checked.old checked.new }
+    ensures exact { IsTrue checked.old.source.honest → (v : Value) → IsHeld checked.old node.object.0 v
+        → GivesCursor (λ told. told ≡ keys_reply v) result }
+{
+    let head = node_head(checked, node)?;
+    match head.kind {
+        Kind::Dict => Ok(Reply::Keys(key_texts(alloc, checked, &head)?)),
+        _ => Ok(Reply::NoKeys),
+    }
+}
+
+/// The measures that there are, or else those of the file.
+fn measures_of<S: Source>(
+    alloc: Global,
+    checked: &mut Checked<S>,
+    measures: Option<Measures>,
+) -> Result<Measures, CursorFault>
+    ensures reads { Keeps (cursor_read result) checked.old checked.new }
+    ensures exact { IsTrue checked.old.source.honest → IfSome measures (AreMeasuresOf checked.old)
+        → GivesCursor (AreMeasuresOf checked.old) result }
+{
+    match measures {
+        Some(measures) => Ok(measures),
+        None => measure(alloc, checked),
+    }
+}
+
+/// How many nodes the tree of a node's value has, by the measures if there are any yet, which come back.
+fn nodes_at<S: Source>(
+    alloc: Global,
+    checked: &mut Checked<S>,
+    node: Node,
+    measures: Option<Measures>,
+) -> Result<(u64, Measures), CursorFault>
+    ensures reads { Keeps (cursor_read result) checked.old checked.new }
+    ensures exact { IsTrue checked.old.source.honest → IfSome measures (AreMeasuresOf checked.old)
+        → (v : Value) → IsHeld checked.old node.object.0 v
+        → GivesCursor (λ told. (told.0 ≡ cap (nodes v)) × AreMeasuresOf checked.old told.1) result }
+{
+    let measures = measures_of(alloc, checked, measures)?;
+    match measures.nodes(node.object) {
+        Some(nodes) => Ok((nodes, measures)),
+        None => Err(CursorFault::Changed),
+    }
+}
+
+/// The path that a query asks about.
+fn path_of(query: &Query) -> &Path
+    ensures { result.now ≡ steps_in query.now }
+{
+    match query {
+        Query::Get(path) | Query::Keys(path) | Query::Size(path) => path,
+    }
+}
+
+/// The reply to a query whose path leads to this node. The file is measured where a size is asked for and
+/// there are no measures yet.
+fn answer_at<S: Source>(
+    alloc: Global,
+    checked: &mut Checked<S>,
+    node: Node,
+    query: &Query,
+    measures: &mut Option<Measures>,
+) -> Result<Reply, CursorFault>
+    ensures reads { Keeps (cursor_read result) checked.old checked.new }
+    ensures exact { IsTrue checked.old.source.honest → IfSome measures.old (AreMeasuresOf checked.old)
+        → (v : Value) → IsHeld checked.old node.object.0 v
+        → GivesCursor (λ told. (told ≡ reply_at v query.now) × IfSome measures.new (AreMeasuresOf checked.old)) result }
+{
+    match query {
+        Query::Get(_) => Ok(Reply::Face(face(alloc, checked, node)?)),
+        Query::Keys(_) => keys_at(alloc, checked, node),
+        Query::Size(_) => {
+            let (nodes, table) = nodes_at(alloc, checked, node, measures.take())?;
+            *measures = Some(table);
+            Ok(Reply::Size(nodes))
+        }
+    }
+}
+
+/// The reply of the file's value to a query, by the measures if there are any yet.
+fn answer_by<S: Source>(
+    alloc: Global,
+    checked: &mut Checked<S>,
+    query: &Query,
+    measures: &mut Option<Measures>,
+) -> Result<Reply, CursorFault>
+    ensures reads { Keeps (cursor_read result) checked.old checked.new }
+    ensures exact { IsTrue checked.old.source.honest → IfSome measures.old (AreMeasuresOf checked.old) → (v : Value)
+        → Holds checked.old.source.octets checked.old.frame checked.old.frame.top.0 v
+        → GivesCursor (λ told. (told ≡ reply v query.now) × IfSome measures.new (AreMeasuresOf checked.old)) result }
+{
+    match locate(checked, path_of(query))? {
+        Found::At(node) => answer_at(alloc, checked, node, query, measures),
+        Found::Missing { step, why } => Ok(Reply::Missing { step, why }),
+    }
+}
+
+/// The reply of the file's value to a query.
+///
+/// `Changed` is answered where an object is not what the check has found, and never while the source is
+/// honest. `Read` is answered where a read of the source failed, and `Memory` where a growth was refused.
+pub fn answer<S: Source>(
+    alloc: Global,
+    checked: &mut Checked<S>,
+    query: &Query,
+) -> Result<Reply, CursorFault>
+    ensures reads { Keeps (cursor_read result) checked.old checked.new }
+    ensures exact { IsTrue checked.old.source.honest → (v : Value)
+        → Holds checked.old.source.octets checked.old.frame checked.old.frame.top.0 v
+        → GivesCursor (λ told. told ≡ reply v query.now) result }
+    ensures unchanged { IsTrue checked.old.source.honest → GivesCursor (λ _. ⊤) result }
+{
+    let _frame = checked.frame();
+    answer_by(alloc, checked, query, &mut None)
+}
+
+/// The replies of the file's value to these queries: one for each, in their order.
+///
+/// The file is measured once at most, where a query asks for a size. `Changed` is answered where an object is
+/// not what the check has found, and never while the source is honest. `Read` is answered where a read of the
+/// source failed, and `Memory` where a growth was refused. These come in place of all replies.
+pub fn answer_all<S: Source>(
+    alloc: Global,
+    checked: &mut Checked<S>,
+    queries: &[Query],
+) -> Result<Vec<Reply>, CursorFault>
+    ensures reads { Keeps (cursor_read result) checked.old checked.new }
+    ensures exact { IsTrue checked.old.source.honest → (v : Value)
+        → Holds checked.old.source.octets checked.old.frame checked.old.frame.top.0 v
+        → GivesCursor (λ replies. replies.items ≡ map (reply v) queries.now) result }
+    ensures unchanged { IsTrue checked.old.source.honest → GivesCursor (λ _. ⊤) result }
+{
+    let _frame = checked.frame();
+    let mut measures = None;
+    let mut replies = Vec::new(alloc);
+    for k in 0..queries.len() {
+        let told = answer_by(alloc, checked, &queries[k], &mut measures)?;
+        replies.push(told)?;
+    }
+    Ok(replies)
+}

@@ -1,0 +1,33 @@
+//! Bodies lent from the caller's own slice.
+
+ghost use Rattle.std.specs.Prelude.{◌≡◌, ℕ, List, MatchOption};
+ghost use Rattle.bplist_cert.specs.Valid.{IsVouchedBy};
+ghost use Rattle.bplist_cursor.specs.Lent.{SpellsBytes};
+
+use crate::found::Node;
+use bplist_cert::Checked;
+use bplist_objects::{Kind, shape_of};
+use bplist_octets::SliceSource;
+
+/// The body of a node's object where it is data or a text of one byte a unit, as a part of the slice that was checked.
+/// None for every other object, and for one that the certificate does not vouch for. Nothing is copied.
+pub fn bytes_of<'a>(checked: &Checked<SliceSource<'a>>, node: Node) -> Option<&'a [u8]>
+    ensures { MatchOption result
+        ((bytes : List ℕ) → IsVouchedBy checked.now.certificate.heights node.object.0
+        → SpellsBytes checked.now.source.octets checked.now.frame node.object.0 bytes → ⊥)
+        (λ lent. IsVouchedBy checked.now.certificate.heights node.object.0
+        × SpellsBytes checked.now.source.octets checked.now.frame node.object.0 lent.now) }
+{
+    if checked.height(node.object) == 0 {
+        return None;
+    }
+    let frame = checked.frame();
+    let mut source = SliceSource::new(checked.octets());
+    let Ok(head) = shape_of(&mut source, &frame, node.object) else {
+        return None;
+    };
+    match head.kind {
+        Kind::Bytes | Kind::Ascii => Some(source.borrow(head.body, head.count)),
+        _ => None,
+    }
+}

@@ -1,0 +1,83 @@
+//! Why there is no answer.
+
+ghost use Rattle.std.specs.Prelude.{◌≡◌};
+ghost use Rattle.bplist_cursor.specs.Causes.{unread_of, cursor_fault_of};
+ghost use Rattle.bplist_cursor.specs.declared.faults.Unread.TheVariants.{Read as unread_read};
+ghost use Rattle.bplist_cursor.specs.declared.faults.CursorFault.TheVariants.{Read, Memory};
+
+use bplist_objects::ObjectFault;
+use bplist_octets::ReadFault;
+use std::alloc::{AllocError, AllocFailed};
+
+/// Why a call gave no answer.
+#[derive(Clone, Copy, Debug, PartialEq, Eq, Drop)]
+pub enum CursorFault {
+    /// A read of the source failed.
+    Read(ReadFault),
+    /// The node is none of this file that the certificate vouches for, or the source gives other bytes than
+    /// those that were checked.
+    Changed,
+    /// A growth was refused.
+    Memory,
+}
+
+/// Why an object could not be read, where nothing grows.
+#[derive(Clone, Copy, Debug, PartialEq, Eq, Drop)]
+pub(crate) enum Unread {
+    Read(ReadFault),
+    Changed,
+}
+
+impl From<ReadFault> for Unread {
+    ghost from_gives = { λ error e. e ≡ unread_read error };
+
+    fn from(error: ReadFault) -> Unread {
+        Unread::Read(error)
+    }
+}
+
+impl From<ObjectFault> for Unread {
+    ghost from_gives = { λ fault e. e ≡ unread_of fault };
+
+    fn from(fault: ObjectFault) -> Unread {
+        match fault {
+            ObjectFault::Fault(_) => Unread::Changed,
+            ObjectFault::Read(error) => Unread::Read(error),
+        }
+    }
+}
+
+impl From<Unread> for CursorFault {
+    ghost from_gives = { λ unread e. e ≡ cursor_fault_of unread };
+
+    fn from(unread: Unread) -> CursorFault {
+        match unread {
+            Unread::Read(error) => CursorFault::Read(error),
+            Unread::Changed => CursorFault::Changed,
+        }
+    }
+}
+
+impl From<ReadFault> for CursorFault {
+    ghost from_gives = { λ error e. e ≡ Read error };
+
+    fn from(error: ReadFault) -> CursorFault {
+        CursorFault::Read(error)
+    }
+}
+
+impl From<AllocError> for CursorFault {
+    ghost from_gives = { λ _ e. e ≡ Memory };
+
+    fn from(_error: AllocError) -> CursorFault {
+        CursorFault::Memory
+    }
+}
+
+impl<T: Drop> From<AllocFailed<T>> for CursorFault {
+    ghost from_gives = { λ _ e. e ≡ Memory };
+
+    fn from(_error: AllocFailed<T>) -> CursorFault {
+        CursorFault::Memory
+    }
+}

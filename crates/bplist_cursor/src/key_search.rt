@@ -1,0 +1,197 @@
+//! Looking up a key of a dictionary: by its sorted key list where the certificate has one, else one by one.
+
+ghost use Rattle.std.specs.Prelude.{◌≡◌, ℕ, ◌+◌, ◌^◌, ◌<◌, ◌≤◌, List, length, slice_index, IsTrue, IfOk, IfSome, MatchOption, MatchResult, OnOk, Option, Some, None, ⊤};
+ghost use Rattle.bplist_octets.specs.Octets.{part};
+ghost use Rattle.bplist_objects.specs.Value.{text};
+ghost use Rattle.bplist_objects.specs.Heads.{Spells, leaf, dict, content_at};
+ghost use Rattle.bplist_objects.specs.Units.{compare_units};
+ghost use Rattle.bplist_objects.specs.Safe.{IsSafeHead};
+ghost use Rattle.bplist_objects.specs.declared.kind.Kind.TheVariants.{Dict};
+ghost use Rattle.bplist_cert.specs.Lists.{Keyed};
+ghost use Rattle.bplist_cert.specs.Valid.{IsVouchedBy};
+ghost use Rattle.bplist_cursor.specs.Causes.{GivesRead, read_failed};
+ghost use Rattle.bplist_cursor.specs.Kept.{Keeps};
+ghost use Rattle.bplist_cursor.specs.Steps.{HaveTexts, IsKeyPlace};
+ghost use Rattle.bplist_cursor.specs.KeySearch.{digits_2, IsCompared, IsKeyList, RisesAtMost, ListStarts, IsUnlisted};
+
+use crate::faults::Unread;
+use crate::reading::{head_in, reference_in};
+use bplist_cert::Checked;
+use bplist_objects::{Head, Kind, ObjectNo, key_cmp};
+use bplist_octets::Source;
+use std::cmp::Ordering;
+
+/// Compares the text of object `k` with these units.
+fn compare_key<S: Source>(
+    checked: &mut Checked<S>,
+    k: ObjectNo,
+    units: &[u16],
+    made: &mut u64,
+) -> Result<Ordering, Unread>
+    requires within { k.0 < checked.old.frame.objects }
+    ensures reads { Keeps (read_failed result) checked.old checked.new }
+    ensures exact { IsTrue checked.old.source.honest → (us : List ℕ)
+        → Spells checked.old.source.octets checked.old.frame k.0 (leaf (text us))
+        → GivesRead (λ o. o ≡ compare_units us units.now) result }
+    ensures made { made.new ≤ made.old + 1 }
+{
+    let head = head_in(checked, k)?;
+    match head.kind {
+        Kind::Ascii | Kind::Wide => Ok(key_cmp(checked, &head, units, made)?),
+        _ => Err(Unread::Changed),
+    }
+}
+
+/// The place of the key with these units, by a walk over all keys.
+fn walk_keys<S: Source>(
+    checked: &mut Checked<S>,
+    head: &Head,
+    units: &[u16],
+    made: &mut u64,
+) -> Result<Option<u64>, Unread>
+    requires head { IsSafeHead checked.old.frame head.now }
+    requires is_dict { head.now.kind ≡ Dict }
+    ensures reads { Keeps (read_failed result) checked.old checked.new }
+    ensures exact { IsTrue checked.old.source.honest → (n : ℕ) (ks ms : List ℕ)
+        → Spells checked.old.source.octets checked.old.frame n (dict ks ms)
+        → dict ks ms ≡ content_at checked.old.source.octets checked.old.frame head.now
+        → HaveTexts checked.old.source.octets checked.old.frame ks
+        → GivesRead (IsKeyPlace checked.old.source.octets checked.old.frame ks units.now) result }
+    ensures inside { IfOk result (λ o. IfSome o (λ i. i < head.now.count)) }
+{
+    for i in 0..head.count {
+        let k = reference_in(checked, head, i)?;
+        if compare_key(checked, k, units, made)? == Ordering::Equal {
+            return Ok(Some(i));
+        }
+    }
+    Ok(None)
+}
+
+/// Number `at` of all positions of the certificate.
+fn position_of<S: Source>(checked: &Checked<S>, at: u64) -> Option<u32>
+    ensures { (keyed : Keyed) → checked.now.certificate.keys ≡ Some keyed → at < length keyed.positions
+        → result ≡ Some (slice_index keyed.positions at) }
+{
+    let lists = checked.certificate().keys.as_ref()?;
+    lists.positions.get(at as usize).copied()
+}
+
+/// The place that number `at` of the positions gives, and how the key there compares with these units.
+fn compare_listed<S: Source>(
+    checked: &mut Checked<S>,
+    head: &Head,
+    at: u64,
+    units: &[u16],
+    made: &mut u64,
+) -> Result<(u64, Ordering), Unread>
+    requires head { IsSafeHead checked.old.frame head.now }
+    requires is_dict { head.now.kind ≡ Dict }
+    ensures reads { Keeps (read_failed result) checked.old checked.new }
+    ensures exact { IsTrue checked.old.source.honest → (n : ℕ) (ks ms : List ℕ)
+        → Spells checked.old.source.octets checked.old.frame n (dict ks ms)
+        → dict ks ms ≡ content_at checked.old.source.octets checked.old.frame head.now
+        → HaveTexts checked.old.source.octets checked.old.frame ks
+        → (keyed : Keyed) → checked.old.certificate.keys ≡ Some keyed → at < length keyed.positions
+        → slice_index keyed.positions at < length ks
+        → GivesRead (IsCompared checked.old.source.octets checked.old.frame ks (slice_index keyed.positions at) units.now) result }
+    ensures inside { IfOk result (λ found. found.0 < head.now.count) }
+    ensures made { made.new ≤ made.old + 1 }
+{
+    let Some(position) = position_of(checked, at) else {
+        return Err(Unread::Changed);
+    };
+    let i = position as u64;
+    if i >= head.count {
+        return Err(Unread::Changed);
+    }
+    let k = reference_in(checked, head, i)?;
+    Ok((i, compare_key(checked, k, units, made)?))
+}
+
+/// The place of the key with these units, by halving the key list that begins at this number of the positions.
+fn search_keys<S: Source>(
+    checked: &mut Checked<S>,
+    head: &Head,
+    start: u64,
+    units: &[u16],
+    made: &mut u64,
+) -> Result<Option<u64>, Unread>
+    requires head { IsSafeHead checked.old.frame head.now }
+    requires is_dict { head.now.kind ≡ Dict }
+    requires room { start + head.now.count < 2 ^ 64 }
+    ensures reads { Keeps (read_failed result) checked.old checked.new }
+    ensures exact { IsTrue checked.old.source.honest → (n : ℕ) (ks ms : List ℕ)
+        → Spells checked.old.source.octets checked.old.frame n (dict ks ms)
+        → dict ks ms ≡ content_at checked.old.source.octets checked.old.frame head.now
+        → HaveTexts checked.old.source.octets checked.old.frame ks
+        → (keyed : Keyed) → checked.old.certificate.keys ≡ Some keyed → start + length ks ≤ length keyed.positions
+        → IsKeyList checked.old.source.octets checked.old.frame ks (part keyed.positions start (length ks))
+        → GivesRead (IsKeyPlace checked.old.source.octets checked.old.frame ks units.now) result }
+    ensures inside { IfOk result (λ o. IfSome o (λ i. i < head.now.count)) }
+    ensures bound { made.new ≤ made.old + digits_2 head.now.count }
+{
+    let mut low = 0u64;
+    let mut high = head.count;
+    while low < high {
+        let middle = low + (high - low) / 2;
+        let (i, order) = compare_listed(checked, head, start + middle, units, made)?;
+        match order {
+            Ordering::Less => low = middle + 1,
+            Ordering::Equal => return Ok(Some(i)),
+            Ordering::Greater => high = middle,
+        }
+    }
+    Ok(None)
+}
+
+/// Where the key list of dictionary `n` of so many pairs begins among the positions. None: the certificate
+/// has no key lists.
+fn list_start<S: Source>(
+    checked: &Checked<S>,
+    n: ObjectNo,
+    count: u64,
+) -> Result<Option<u64>, Unread>
+    requires within { n.0 < checked.now.frame.objects }
+    ensures start { MatchResult result (ListStarts checked.now n.0 count)
+        (IsUnlisted checked.now n.0 count) }
+    ensures fits { IfOk result (λ found. IfSome found (λ start. start + count < 2 ^ 64)) }
+{
+    let _frame = checked.frame();
+    let Some(lists) = &checked.certificate().keys else {
+        return Ok(None);
+    };
+    let start = lists.starts[n.0 as usize] as u64;
+    let positions = lists.positions.len() as u64;
+    if start > positions || count > positions - start {
+        return Err(Unread::Changed);
+    }
+    Ok(Some(start))
+}
+
+/// The place of the key with these units in dictionary `n` with this head.
+pub(crate) fn key_place<S: Source>(
+    checked: &mut Checked<S>,
+    n: ObjectNo,
+    head: &Head,
+    units: &[u16],
+    made: &mut u64,
+) -> Result<Option<u64>, Unread>
+    requires within { n.0 < checked.old.frame.objects }
+    requires head { IsSafeHead checked.old.frame head.now }
+    requires is_dict { head.now.kind ≡ Dict }
+    ensures reads { Keeps (read_failed result) checked.old checked.new }
+    ensures exact { IsTrue checked.old.source.honest → IsVouchedBy checked.old.certificate.heights n.0 → (ks ms : List ℕ)
+        → Spells checked.old.source.octets checked.old.frame n.0 (dict ks ms)
+        → dict ks ms ≡ content_at checked.old.source.octets checked.old.frame head.now
+        → HaveTexts checked.old.source.octets checked.old.frame ks
+        → GivesRead (IsKeyPlace checked.old.source.octets checked.old.frame ks units.now) result }
+    ensures inside { IfOk result (λ o. IfSome o (λ i. i < head.now.count)) }
+    ensures bound { RisesAtMost checked.old made.old made.new (digits_2 head.now.count) }
+{
+    let _frame = checked.frame();
+    match list_start(checked, n, head.count)? {
+        Some(start) => search_keys(checked, head, start, units, made),
+        None => walk_keys(checked, head, units, made),
+    }
+}

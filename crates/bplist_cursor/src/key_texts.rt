@@ -1,0 +1,63 @@
+//! The keys of a dictionary.
+
+ghost use Rattle.std.specs.Prelude.{◌≡◌, ◌<◌, ◌≤◌, ℕ, List as list, length, IsTrue};
+ghost use Rattle.std.specs.List.{AllZip};
+ghost use Rattle.bplist_objects.specs.Value.{text};
+ghost use Rattle.bplist_objects.specs.Heads.{Spells, leaf, dict, content_at};
+ghost use Rattle.bplist_objects.specs.Safe.{IsSafeHead};
+ghost use Rattle.bplist_objects.specs.declared.kind.Kind.TheVariants.{Dict};
+ghost use Rattle.bplist_cert.specs.Valid.{SpellsText};
+ghost use Rattle.bplist_cursor.specs.Causes.{GivesCursor, cursor_read};
+ghost use Rattle.bplist_cursor.specs.Kept.{Keeps};
+
+use crate::faults::CursorFault;
+use crate::list::List;
+use crate::reading::{head_in, reference_in};
+use crate::showing::body_units;
+use bplist_cert::Checked;
+use bplist_objects::{Head, Kind, ObjectNo};
+use bplist_octets::Source;
+use std::alloc::Global;
+
+/// The units of the text that object `k` is.
+fn key_text<S: Source>(
+    alloc: Global,
+    checked: &mut Checked<S>,
+    k: ObjectNo,
+) -> Result<List<u16>, CursorFault>
+    requires within { k.0 < checked.old.frame.objects }
+    ensures reads { Keeps (cursor_read result) checked.old checked.new }
+    ensures exact { IsTrue checked.old.source.honest → (us : list ℕ)
+        → Spells checked.old.source.octets checked.old.frame k.0 (leaf (text us))
+        → GivesCursor (λ units. units ≡ us) result }
+{
+    let head = head_in(checked, k)?;
+    match head.kind {
+        Kind::Ascii | Kind::Wide => body_units(alloc, checked, &head),
+        _ => Err(CursorFault::Changed),
+    }
+}
+
+/// The units of the keys of a dictionary with this head, in written order.
+pub(crate) fn key_texts<S: Source>(
+    alloc: Global,
+    checked: &mut Checked<S>,
+    head: &Head,
+) -> Result<List<List<u16>>, CursorFault>
+    requires head { IsSafeHead checked.old.frame head.now }
+    requires is_dict { head.now.kind ≡ Dict }
+    ensures reads { Keeps (cursor_read result) checked.old checked.new }
+    ensures exact { IsTrue checked.old.source.honest → (n : ℕ) (ks ms : list ℕ)
+        → Spells checked.old.source.octets checked.old.frame n (dict ks ms)
+        → dict ks ms ≡ content_at checked.old.source.octets checked.old.frame head.now
+        → (us : list (list ℕ)) → AllZip (SpellsText checked.old.source.octets checked.old.frame) ks us
+        → GivesCursor (λ keys. keys ≡ us) result }
+{
+    let mut keys = Vec::new(alloc);
+    for i in 0..head.count {
+        let k = reference_in(checked, head, i)?;
+        let key = key_text(alloc, checked, k)?;
+        keys.push(key)?;
+    }
+    Ok(List::new(keys))
+}

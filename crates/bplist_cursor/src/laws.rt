@@ -1,0 +1,75 @@
+//! Laws of the definitions: each is the contract of a function that does nothing.
+
+ghost use Rattle.std.specs.Prelude.{◌≡◌, ◌≤◌, ◌↔◌, ℕ, ◌<◌, List, Ok, Err, Some, None, Contains, slice_index};
+ghost use Rattle.bplist_objects.specs.declared.frame.Frame.{Frame as frame};
+ghost use Rattle.bplist_objects.specs.Frame.{IsFrame};
+ghost use Rattle.bplist_objects.specs.Value.{Value};
+ghost use Rattle.bplist_objects.specs.Heads.{Content, Spells, refs};
+ghost use Rattle.bplist_objects.specs.Holds.{Holds};
+ghost use Rattle.bplist_objects.specs.Reach.{Refs};
+ghost use Rattle.bplist_cursor.specs.Path.{IsPathOf, IsWrongAt};
+ghost use Rattle.bplist_cursor.specs.Look.{stepped};
+ghost use Rattle.bplist_cursor.specs.Leads.{IsTaken, Leads, HasTextKeys, why_of};
+ghost use Rattle.bplist_cursor.specs.Nodes.{cap, nodes};
+ghost use Rattle.bplist_cursor.specs.Measured.{Measured};
+ghost use Rattle.bplist_cursor.specs.OldStyle.{value_text, IsFormed, plain};
+ghost use Rattle.bplist_cursor.specs.Formless.{IsFormless};
+ghost use Rattle.bplist_cursor.specs.Forms.{Formed, form_at, form_of};
+ghost use Rattle.bplist_cursor.specs.declared.form.Form.{Form};
+
+/// A path text spells one list of steps.
+pub fn one_path()
+    ensures { (text : List ℕ) (a b : List (List ℕ)) → IsPathOf text a → IsPathOf text b → a ≡ b }
+{}
+
+/// A text that is no path text is wrong at one byte.
+pub fn one_place()
+    ensures { (cs : List ℕ) (p q : ℕ) → IsWrongAt cs p → IsWrongAt cs q → p ≡ q }
+{}
+
+/// A step goes on exactly where a reference is taken for it, and the object of that reference holds what the step leads
+/// to.
+pub fn steps_follow_references()
+    ensures taken { (f : List ℕ) (F : frame) → IsFrame f F → (n : ℕ) (v : Value) (step : List ℕ) (m : ℕ) → Holds f F n v
+        → Leads f F n step m → (w : Value) × (stepped v step ≡ Ok w) × Holds f F m w }
+    ensures goes_on { (f : List ℕ) (F : frame) (n : ℕ) (v : Value) (step : List ℕ) (w : Value) → Holds f F n v
+        → stepped v step ≡ Ok w → (m : ℕ) × Leads f F n step m × Holds f F m w }
+{}
+
+/// An object that holds a value spells something, and where no reference of that is taken for a step, the step can't be
+/// taken. One that is taken is a reference of the object.
+pub fn references_decide_steps()
+    ensures content { (f : List ℕ) (F : frame) (n : ℕ) (v : Value) → Holds f F n v → (c : Content) × Spells f F n c × HasTextKeys f F c }
+    ensures not_taken { (f : List ℕ) (F : frame) (n : ℕ) (v : Value) (step : List ℕ) (c : Content) → Holds f F n v → Spells f F n c
+        → ((m : ℕ) → IsTaken f F c step m → ⊥) → stepped v step ≡ Err (why_of c) }
+    ensures reference { (f : List ℕ) (F : frame) (n : ℕ) (v : Value) (step : List ℕ) (m : ℕ) (c : Content) → Holds f F n v → Spells f F n c
+        → IsTaken f F c step m → Contains (refs c) m × (m < F.objects) }
+{}
+
+/// A table over the objects of a height of 1 or more, where these refer to such objects only and each is one more than its
+/// references together, has the sizes of the trees.
+pub fn measured_is_nodes()
+    ensures { (f : List ℕ) (F : frame) (H M : List ℕ) → ((n : ℕ) → 1 ≤ slice_index H n → Measured f F M n)
+        → ((n m : ℕ) → 1 ≤ slice_index H n → Refs f F n m → 1 ≤ slice_index H m)
+        → (n : ℕ) (v : Value) → 1 ≤ slice_index H n → Holds f F n v → slice_index M n ≡ cap (nodes v) }
+{}
+
+/// A value has a text exactly where it is formed, and then it is its plain text.
+pub fn text_in_parts()
+    ensures { (v : Value) (t : List ℕ) → (value_text v ≡ Some t) ↔ (IsFormed v × (plain v ≡ t)) }
+{}
+
+/// Of an object that holds a value without text one object is the first whose kind has no form, and of no other.
+pub fn one_formless()
+    ensures found { (f : List ℕ) (F : frame) (n : ℕ) (v : Value) → Holds f F n v → value_text v ≡ None → (x : ℕ) × IsFormless f F n v x }
+    ensures only { (f : List ℕ) (F : frame) (n : ℕ) (v : Value) (x : ℕ) → IsFormless f F n v x → value_text v ≡ None }
+    ensures one { (f : List ℕ) (F : frame) (n : ℕ) (v : Value) (x y : ℕ) → IsFormless f F n v x → IsFormless f F n v y → x ≡ y }
+{}
+
+/// A table over the objects of a height of 1 or more, where these refer to such objects only and each has the form that
+/// those of its references make, has the forms of the values.
+pub fn formed_is_form()
+    ensures { (f : List ℕ) (F : frame) (H : List ℕ) (T : List Form) → ((n : ℕ) → 1 ≤ slice_index H n → Formed f F T n)
+        → ((n m : ℕ) → 1 ≤ slice_index H n → Refs f F n m → 1 ≤ slice_index H m)
+        → (n : ℕ) (v : Value) → 1 ≤ slice_index H n → Holds f F n v → form_at T n ≡ form_of v }
+{}

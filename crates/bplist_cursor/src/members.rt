@@ -1,0 +1,102 @@
+//! The members of nodes.
+
+ghost use Rattle.std.specs.Prelude.{◌≡◌, ℕ, ◌+◌, ◌*◌, ◌^◌, ◌<◌, ◌≤◌, List, length, slice_index, false, IsTrue, IfOk, IfErr, IfSome, MatchOption, Some, None, Err};
+ghost use Rattle.bplist_objects.specs.Value.{Value};
+ghost use Rattle.bplist_objects.specs.Heads.{Content, Spells, array, set, dict, refs};
+ghost use Rattle.bplist_objects.specs.Holds.{Holds};
+ghost use Rattle.bplist_objects.specs.Safe.{IsSafeHead, ref_count};
+ghost use Rattle.bplist_cert.specs.Valid.{IsVouchedBy};
+ghost use Rattle.bplist_cursor.specs.Causes.{GivesCursor, IsExcused, TakesNoMemory, cursor_read};
+ghost use Rattle.bplist_cursor.specs.Kept.{Keeps};
+ghost use Rattle.bplist_cursor.specs.Members.{IsNumberOf, HoldsMember, member_of, member_reference, named, node_of};
+ghost use Rattle.bplist_cursor.specs.declared.faults.CursorFault.TheVariants.{Changed};
+
+use crate::faults::CursorFault;
+use crate::found::Node;
+use crate::nodes::node_head;
+use crate::reading::reference_in;
+use bplist_cert::Checked;
+use bplist_objects::{Head, Kind};
+use bplist_octets::Source;
+
+/// Which reference of an object with this head is the one for member `i`.
+fn number_of(head: &Head, i: u64) -> Option<u64>
+    requires { ref_count head.now.kind head.now.count < 2 ^ 64 }
+    ensures number { MatchOption result (ref_count head.now.kind head.now.count ≤ i)
+        (λ k. (i < ref_count head.now.kind head.now.count) × IsNumberOf head.now.kind head.now.count i k) }
+    ensures within { IfSome result (λ k. k < ref_count head.now.kind head.now.count) }
+{
+    match head.kind {
+        Kind::Array | Kind::Set if i < head.count => Some(i),
+        Kind::Dict if i / 2 < head.count && i % 2 == 0 => Some(i / 2),
+        Kind::Dict if i / 2 < head.count => Some(head.count + i / 2),
+        _ => None,
+    }
+}
+
+/// The node of member `i`, by the reference for it.
+fn member_by_reference<S: Source>(
+    checked: &mut Checked<S>,
+    node: Node,
+    i: u64,
+) -> Result<Option<Node>, CursorFault>
+    ensures reads { Keeps (cursor_read result) checked.old checked.new }
+    ensures reference { IsTrue checked.old.source.honest → IsVouchedBy checked.old.certificate.heights node.object.0
+        → (content : Content) → Spells checked.old.source.octets checked.old.frame node.object.0 content
+        → GivesCursor (λ member. member ≡ named (member_reference content i)) result }
+    ensures vouched { IfOk result (λ member. IfSome member (λ m. IsVouchedBy checked.old.certificate.heights m.object.0)) }
+    ensures unvouched { (IsVouchedBy checked.old.certificate.heights node.object.0 → ⊥) → result ≡ Err Changed }
+    ensures memory { TakesNoMemory result }
+{
+    let _frame = checked.frame();
+    let head = node_head(checked, node)?;
+    let Some(k) = number_of(&head, i) else {
+        return Ok(None);
+    };
+    let object = reference_in(checked, &head, k)?;
+    if checked.height(object) == 0 {
+        return Err(CursorFault::Changed);
+    }
+    Ok(Some(Node { object }))
+}
+
+/// The node of member `i` of a node's object: member `i` of an array or a set; of a dictionary number `2 * j` is key
+/// `j`, and `2 * j + 1` is value `j`. None from the end on, and for a leaf.
+///
+/// The member is vouched for too. The call takes no memory. `Changed`: the certificate does not vouch for the object, or
+/// the source gives other bytes than those that were checked. `Read`: a read failed, which over a slice none does. A
+/// refusal leaves the `Checked` as it was, save the count of failures of its source.
+pub fn member<S: Source>(
+    checked: &mut Checked<S>,
+    node: Node,
+    i: u64,
+) -> Result<Option<Node>, CursorFault>
+    ensures reads { Keeps (cursor_read result) checked.old checked.new }
+    ensures array { IsTrue checked.old.source.honest → IsVouchedBy checked.old.certificate.heights node.object.0
+        → (ms : List ℕ) → Spells checked.old.source.octets checked.old.frame node.object.0 (array ms) → i < length ms
+        → GivesCursor (λ member. member ≡ Some (node_of (slice_index ms i))) result }
+    ensures set { IsTrue checked.old.source.honest → IsVouchedBy checked.old.certificate.heights node.object.0
+        → (ms : List ℕ) → Spells checked.old.source.octets checked.old.frame node.object.0 (set ms) → i < length ms
+        → GivesCursor (λ member. member ≡ Some (node_of (slice_index ms i))) result }
+    ensures key { IsTrue checked.old.source.honest → IsVouchedBy checked.old.certificate.heights node.object.0
+        → (ks ms : List ℕ) (j : ℕ) → Spells checked.old.source.octets checked.old.frame node.object.0 (dict ks ms)
+        → i ≡ 2 * j → j < length ks → GivesCursor (λ member. member ≡ Some (node_of (slice_index ks j))) result }
+    ensures value { IsTrue checked.old.source.honest → IsVouchedBy checked.old.certificate.heights node.object.0
+        → (ks ms : List ℕ) (j : ℕ) → Spells checked.old.source.octets checked.old.frame node.object.0 (dict ks ms)
+        → i ≡ 2 * j + 1 → j < length ms → GivesCursor (λ member. member ≡ Some (node_of (slice_index ms j))) result }
+    ensures none { IsTrue checked.old.source.honest → IsVouchedBy checked.old.certificate.heights node.object.0
+        → (content : Content) → Spells checked.old.source.octets checked.old.frame node.object.0 content
+        → length (refs content) ≤ i → GivesCursor (λ member. member ≡ None) result }
+    ensures holds { IsTrue checked.old.source.honest → IsVouchedBy checked.old.certificate.heights node.object.0
+        → (v : Value) → Holds checked.old.source.octets checked.old.frame node.object.0 v
+        → GivesCursor (HoldsMember checked.old.source.octets checked.old.frame (member_of v i)) result }
+    ensures vouched { IfOk result (λ member. IfSome member (λ m. IsVouchedBy checked.old.certificate.heights m.object.0)) }
+    ensures unchanged { IsTrue checked.old.source.honest → IsVouchedBy checked.old.certificate.heights node.object.0
+        → IfErr result IsExcused }
+    ensures unvouched { (IsVouchedBy checked.old.certificate.heights node.object.0 → ⊥) → result ≡ Err Changed }
+    ensures memory { TakesNoMemory result }
+    ensures unread { checked.new.source.failures ≡ 0 → cursor_read result ≡ false }
+{
+    let _frame = checked.frame();
+    member_by_reference(checked, node, i)
+}

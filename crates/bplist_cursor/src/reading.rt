@@ -1,0 +1,49 @@
+//! Objects of a checked file: their heads and references.
+
+ghost use Rattle.std.specs.Prelude.{◌≡◌, ℕ, ◌<◌, ◌≤◌, IsTrue, IfOk, length, slice_index};
+ghost use Rattle.bplist_objects.specs.Heads.{Content, Spells, content_at, refs};
+ghost use Rattle.bplist_objects.specs.Safe.{IsSafeHead, IsSafeBody, ref_count};
+ghost use Rattle.bplist_cursor.specs.Causes.{GivesRead, read_failed};
+ghost use Rattle.bplist_cursor.specs.Kept.{Keeps};
+
+use crate::faults::Unread;
+use bplist_cert::Checked;
+use bplist_objects::{Head, ObjectNo, ref_at, shape_of};
+use bplist_octets::Source;
+
+/// The head of object `n`, by its marker and count: the check has read the rest.
+pub(crate) fn head_in<S: Source>(checked: &mut Checked<S>, n: ObjectNo) -> Result<Head, Unread>
+    requires within { n.0 < checked.old.frame.objects }
+    ensures reads { Keeps (read_failed result) checked.old checked.new }
+    ensures exact { IsTrue checked.old.source.honest → (content : Content)
+        → Spells checked.old.source.octets checked.old.frame n.0 content
+        → GivesRead (λ head. content ≡ content_at checked.old.source.octets checked.old.frame head) result }
+    ensures safe { IfOk result (IsSafeHead checked.old.frame) }
+    ensures body { IfOk result (IsSafeBody (length checked.old.source.octets)) }
+{
+    let frame = checked.frame();
+    Ok(shape_of(checked, &frame, n)?)
+}
+
+/// The object that reference `i` of an object with this head names.
+pub(crate) fn reference_in<S: Source>(
+    checked: &mut Checked<S>,
+    head: &Head,
+    i: u64,
+) -> Result<ObjectNo, Unread>
+    requires head { IsSafeHead checked.old.frame head.now }
+    requires within { i < ref_count head.now.kind head.now.count }
+    ensures reads { Keeps (read_failed result) checked.old checked.new }
+    ensures exact { IsTrue checked.old.source.honest → (n : ℕ) (content : Content)
+        → Spells checked.old.source.octets checked.old.frame n content
+        → content ≡ content_at checked.old.source.octets checked.old.frame head.now
+        → GivesRead (λ m. m.0 ≡ slice_index (refs content) i) result }
+    ensures inside { IfOk result (λ m. m.0 < checked.old.frame.objects) }
+{
+    let frame = checked.frame();
+    let m = ref_at(checked, &frame, head, i)?;
+    if m >= frame.objects as u64 {
+        return Err(Unread::Changed);
+    }
+    Ok(ObjectNo(m as u32))
+}

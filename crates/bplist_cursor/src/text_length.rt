@@ -1,0 +1,80 @@
+//! How long the old-style text of a text is.
+
+ghost use Rattle.std.specs.Prelude.{◌≡◌, ◌≤◌, length, flat_map, IsTrue, IfOk, is_err};
+ghost use Rattle.std.specs.List.{list_all};
+ghost use Rattle.bplist_octets.specs.Meaning.{OnlyReads};
+ghost use Rattle.bplist_objects.specs.Safe.{IsSafeBody};
+ghost use Rattle.bplist_objects.specs.Units.{IsTextKind, units_of};
+ghost use Rattle.bplist_cursor.specs.Nodes.{cap};
+ghost use Rattle.bplist_cursor.specs.Texts as texts;
+
+use bplist_objects::{Head, read_units};
+use bplist_octets::{ReadFault, Source};
+
+/// How many units are read at once at most.
+const BLOCK: usize = 128;
+
+/// Whether all of these 16-bit units are letters and digits of ASCII, so that a text of them that is not empty needs
+/// no quotes.
+pub fn are_plain(units: &[u16]) -> bool
+    ensures { result ≡ list_all texts.is_plain units.now }
+{
+    units.iter().all(|unit| is_plain(*unit))
+}
+
+/// Whether a unit is one of A-Z, a-z and 0-9.
+fn is_plain(unit: u16) -> bool
+    ensures { result ≡ texts.is_plain unit }
+{
+    matches!(unit, 0x30..=0x39 | 0x41..=0x5A | 0x61..=0x7A)
+}
+
+/// How many bytes a unit takes between quotes.
+fn quoted_unit_length(unit: u16) -> u64
+    ensures { result ≡ length (texts.quoted_unit unit) }
+{
+    match unit {
+        0x22 | 0x5C | 0x0A => 2,
+        0x20..=0x7E => 1,
+        _ => 6,
+    }
+}
+
+/// How many bytes a block of units takes between quotes.
+fn quoted_length(units: &[u16]) -> u64
+    requires { length units.now ≤ 128 }
+    ensures { result ≡ length (flat_map texts.quoted_unit units.now) }
+{
+    let mut sum = 0;
+    for unit in units {
+        sum += quoted_unit_length(*unit);
+    }
+    sum
+}
+
+/// How long the text of the text with this head is, or 18446744073709551615 where it is longer.
+pub(crate) fn text_length<S: Source>(src: &mut S, head: &Head) -> Result<u64, ReadFault>
+    requires kind { IsTextKind head.now.kind }
+    requires head { IsSafeBody (length (S.means src.old).octets) head.now }
+    ensures reads { OnlyReads (is_err result) (S.means src.old) (S.means src.new) }
+    ensures exact { IfOk result (λ n. IsTrue (S.means src.old).honest
+        → n ≡ cap (length (texts.text_of_units (units_of (S.means src.old).octets head.now)))) }
+{
+    let mut buffer = [0u16; BLOCK];
+    let mut plain = true;
+    let mut quoted = 2u64;
+    let mut done = 0u64;
+    while done < head.count {
+        let now = (head.count - done).min(BLOCK as u64) as usize;
+        let units = &mut buffer[..now];
+        read_units(src, head, done, units)?;
+        plain &= are_plain(units);
+        quoted = quoted.saturating_add(quoted_length(units));
+        done += now as u64;
+    }
+    Ok(if plain && head.count > 0 {
+        head.count
+    } else {
+        quoted
+    })
+}

@@ -1,0 +1,84 @@
+-- What the keys of a dictionary keep and break, and what a refusal says.
+use Rattle.std.proofs.Common.{◌≡◌, ℕ, ◌+◌, ◌<◌, inl, inr, List, sym, subst, arith}
+use Rattle.std.proofs.lemmas.Bool.{cases_eq}
+use Rattle.bplist_objects.specs.declared.rule.Rule.TheVariants as rules
+use Rattle.bplist_objects.specs.declared.fault.Fault.{Fault}
+use Rattle.bplist_objects.specs.declared.fault.ObjectFault.{ObjectFault}
+use Rattle.bplist_objects.specs.declared.fault.ObjectFault.TheVariants as object_faults
+use Rattle.bplist_objects.specs.declared.frame.Frame.{Frame}
+use Rattle.bplist_objects.specs.declared.head.Head.{Head}
+use Rattle.bplist_objects.specs.declared.kind.Kind.TheVariants.{Dict}
+use Rattle.bplist_objects.specs.Announced.{HasHead}
+use Rattle.bplist_objects.specs.Answers.{GivesFault}
+use Rattle.bplist_objects.specs.Rules.{KeepsAll, IsFirstFault}
+use Rattle.bplist_objects.specs.ObjectRules.{KeepsByObject, IsObjectFault, shape_rules, object_rules}
+use Rattle.bplist_objects.specs.Reach.{Reach}
+use Rattle.bplist_objects.proofs.BodyLaws.{HasHead-unique}
+use Rattle.bplist_objects.proofs.Broken.{no_object_fault}
+use Rattle.bplist_cert.specs.declared.refusal.Refusal.{Refusal}
+use Rattle.bplist_cert.specs.declared.refusal.Refusal.TheVariants as cert_refusals
+use Rattle.bplist_cert.specs.Refusals.{GivesRefusal, refusal_of}
+use Rattle.bplist_cert.specs.Keys.{HaveTexts, KeysDiffer, IsKeylessFault, IsTwiceFault}
+use Rattle.bplist_lint.specs.ReachRules.{KeepReachBelow}
+use Rattle.bplist_lint.specs.KeyRules.{KeepsByKeys, BreaksAtKeys, key_rules, KeepKeysBelow, IsKeysFault}
+
+-- what is said of a fault is said of the refusal
+pub object_refused : (P Q : Fault → Type 0) (e : ObjectFault) → ((x : Fault) → P x → Q x) → GivesFault P e → GivesRefusal Q (refusal_of e)
+object_refused P Q (object_faults.Fault fault) same h = same fault h
+object_refused P Q (object_faults.Read _) same h = tt
+
+pub refusals_mean : (P Q : Fault → Type 0) (e : Refusal) → ((x : Fault) → P x → Q x) → GivesRefusal P e → GivesRefusal Q e
+refusals_mean P Q (cert_refusals.Fault fault) same h = same fault h
+refusals_mean P Q (cert_refusals.Read _) same h = tt
+refusals_mean P Q cert_refusals.Memory same h = tt
+
+module _ (f : List ℕ) (F : Frame) where
+  module _ (n : ℕ) where
+    -- an object that keeps rules 14 to 20 has no fault by rules 14 to 17
+    pub shape_kept : (fault : Fault) → KeepsAll (KeepsByObject f F n) object_rules → IsObjectFault f F n shape_rules fault → ⊥
+    shape_kept fault kept h = no_object_fault f F n shape_rules fault (kept.0, (kept.1.0, (kept.1.1.0, (kept.1.1.1.0, tt)))) h
+
+    module _ (head : Head) (has : HasHead f F n head) where
+      -- all heads there are this one
+      same_head : (P : Head → Type 0) → P head → (other : Head) → HasHead f F n other → P other
+      same_head P here other k = subst P (HasHead-unique f F n head other has k) here
+
+      pub kept_texts : HaveTexts f F head head.count → KeepsByKeys f F n rules.KeyKind
+      kept_texts texts = same_head (λ h. h.kind ≡ Dict → HaveTexts f F h h.count) (λ _. texts)
+
+      pub kept_keys : HaveTexts f F head head.count → KeysDiffer f F head head.count → KeepsAll (KeepsByKeys f F n) key_rules
+      kept_keys texts differ = (kept_texts texts, (same_head (λ h. h.kind ≡ Dict → KeysDiffer f F h h.count) (λ _. differ), tt))
+
+      -- no dictionary
+      pub kept_other : (head.kind ≡ Dict → ⊥) → KeepsAll (KeepsByKeys f F n) key_rules
+      kept_other no_dict = (same_head (λ h. h.kind ≡ Dict → HaveTexts f F h h.count) (λ e. absurd (no_dict e)), (same_head (λ h. h.kind ≡ Dict → KeysDiffer f F h h.count) (λ e. absurd (no_dict e)), tt))
+
+      pub keyless : (fault : Fault) → head.kind ≡ Dict → IsKeylessFault f F n head fault → IsFirstFault (KeepsByKeys f F n) (BreaksAtKeys f F n) key_rules fault
+      keyless fault dict h = inl (h.0, (h.1, (head, h.2.0, has, dict, h.2.1, h.2.2)))
+
+      pub twice : (fault : Fault) → head.kind ≡ Dict → HaveTexts f F head head.count → IsTwiceFault f F n head fault → IsFirstFault (KeepsByKeys f F n) (BreaksAtKeys f F n) key_rules fault
+      twice fault dict texts h = inr (kept_texts texts, inl (h.0, (h.1, (head, h.2.0, has, dict, h.2.1, h.2.2))))
+
+  -- a reached object keeps rules 14 to 20
+  pub reached_kept : (n : ℕ) → n < F.objects → Reach f F n → KeepReachBelow f F F.objects → KeepsAll (KeepsByObject f F n) object_rules
+  reached_kept n within r kept = let k = kept n within r in (k.0, (k.1.0, (k.1.1.0, (k.1.1.1.0, (k.1.1.1.1.0, (k.1.1.1.1.1.0, (k.1.1.1.1.1.1.0, tt)))))))
+
+  -- the first fault of the keys
+  pub keys_fault : (n : ℕ) (fault : Fault) → Reach f F n → KeepKeysBelow f F n → IsFirstFault (KeepsByKeys f F n) (BreaksAtKeys f F n) key_rules fault → IsKeysFault f F fault
+  keys_fault n fault reached kept first = record { object = n; reached = reached; first = first; least = kept }
+
+  -- one object more
+  pub keys_more : (n : ℕ) → KeepsAll (KeepsByKeys f F n) key_rules → KeepKeysBelow f F n → KeepKeysBelow f F (n + 1)
+  keys_more n here kept m low r = elim (cases_eq m n) [
+    | inl e ↦ subst (λ k. KeepsAll (KeepsByKeys f F k) key_rules) (sym e) here
+    | inr ne ↦ kept m (omega arith) r
+  ]
+
+  pub keys_over : (n : ℕ) → (Reach f F n → ⊥) → KeepKeysBelow f F n → KeepKeysBelow f F (n + 1)
+  keys_over n unreached kept m low r = elim (cases_eq m n) [
+    | inl e ↦ absurd (unreached (rw e at r))
+    | inr ne ↦ kept m (omega arith) r
+  ]
+
+  pub keys_none : KeepKeysBelow f F 0
+  keys_none m low r = absurd (omega arith)

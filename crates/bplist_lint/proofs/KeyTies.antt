@@ -1,0 +1,59 @@
+-- The keys of what an object spells are different texts exactly where its head's keys keep rules 21 and 22.
+use Rattle.std.proofs.Common.{◌≡◌, ℕ, ◌<◌, List, refl, sym, subst, arith}
+use Rattle.std.specs.List.{AllByRecursion}
+use Rattle.bplist_objects.specs.declared.frame.Frame.{Frame}
+use Rattle.bplist_objects.specs.declared.head.Head.{Head}
+use Rattle.bplist_objects.specs.declared.kind.Kind.{Kind}
+use Rattle.bplist_objects.specs.declared.kind.Kind.TheVariants as kinds
+use Rattle.bplist_objects.specs.Heads.{Content, HasShape, Spells, content_of, content_at, refs}
+use Rattle.bplist_objects.specs.Safe.{ref_count}
+use Rattle.bplist_objects.proofs.References.{each_ref}
+use Rattle.bplist_objects.proofs.Ties.{spells_body}
+use Rattle.bplist_cert.specs.Valid.{AreKeys, HasKeys}
+use Rattle.bplist_cert.specs.Heights.{ref}
+use Rattle.bplist_cert.specs.Keys.{HaveTexts, KeysDiffer}
+use Rattle.bplist_cert.proofs.TextKeys.{key_refs, texts_are, have_texts, distinct, differ}
+
+module _ (f : List ℕ) (F : Frame) where
+  -- what holds of the keys of a dictionary with this head
+  abbrev pub HaveKeys : Head → Type 0
+  HaveKeys head = HaveTexts f F head head.count × KeysDiffer f F head head.count
+
+  keys_of_kind : (head : Head) → (head.kind ≡ kinds.Dict → HaveKeys head) → (kind : Kind) → head.kind ≡ kind → HasKeys f F (content_of f F kind head.count head.body)
+  keys_of_kind head h kinds.Dict e =
+      let k = h e in
+      let us = texts_are f F head k.0 in
+      (us.0, (us.1, distinct f F head us.0 us.1 k.0 k.1))
+  keys_of_kind head h kinds.Null e = tt
+  keys_of_kind head h kinds.False e = tt
+  keys_of_kind head h kinds.True e = tt
+  keys_of_kind head h kinds.Int e = tt
+  keys_of_kind head h kinds.Real e = tt
+  keys_of_kind head h kinds.Date e = tt
+  keys_of_kind head h kinds.Bytes e = tt
+  keys_of_kind head h kinds.Ascii e = tt
+  keys_of_kind head h kinds.Wide e = tt
+  keys_of_kind head h kinds.Uid e = tt
+  keys_of_kind head h kinds.Array e = tt
+  keys_of_kind head h kinds.Set e = tt
+
+  module _ (n : ℕ) (head : Head) (has : HasShape f F n head) (c : Content) (s : Spells f F n c) where
+    body : c ≡ content_at f F head
+    body = spells_body f F n head c has s
+
+    -- from the rules to the list of the keys
+    pub keys_from_rules : (head.kind ≡ kinds.Dict → HaveKeys head) → HasKeys f F c
+    keys_from_rules h = subst (HasKeys f F) (sym body) (keys_of_kind head h head.kind refl)
+
+    -- and back
+    pub rules_from_keys : HasKeys f F c → head.kind ≡ kinds.Dict → HaveKeys head
+    rules_from_keys k e = (have_texts f F head us.0 us.1.0 low, differ f F head us.0 us.1.0 us.1.1)
+      where
+        us : (us : List (List ℕ)) × AreKeys f F (key_refs f F head) us
+        us = subst (λ kind. HasKeys f F (content_of f F kind head.count head.body)) e (subst (HasKeys f F) body k)
+
+        low : (k : ℕ) → k < head.count → ref f F head k < F.objects
+        low k lt =
+            let all = subst (λ kind. (i : ℕ) → i < ref_count kind head.count → ref f F head i < F.objects) e
+            (each_ref f F (λ m. m < F.objects) head.kind head.count head.body (subst (λ x. AllByRecursion (λ m. m < F.objects) (refs x)) body s.refs)) in
+            all k (omega (arith, lt))

@@ -1,0 +1,209 @@
+-- Steps of the making of key lists one behind the other.
+use Rattle.std.proofs.Common.{◌≡◌, ◌≢◌, inl, inr, ℕ, zero, suc, ◌+◌, ◌-◌, ◌*◌, ◌<◌, ◌≤◌, rules, true, false, List, [], ◌++◌, length, take, drop, set, slice_index, Some, None, refl, sym, ◌∙◌, ap, subst, arith, lt-ltb}
+use Rattle.std.proofs.Math.Seq.{drop-append_seam, take-length}
+use Rattle.std.proofs.lemmas.Bool.{cases_eq}
+use Rattle.std.proofs.lemmas.List.{get_or-set_same, get_or-set_other, length-append, length-drop, drop-append-le, take-append-le}
+use Rattle.bplist_octets.specs.Octets.{part}
+use Rattle.bplist_objects.specs.declared.frame.Frame.{Frame}
+use Rattle.bplist_objects.specs.declared.kind.Kind.{Kind}
+use Rattle.bplist_objects.specs.declared.kind.Kind.TheVariants as kinds
+use Rattle.bplist_objects.specs.declared.head.Head.{Head}
+use Rattle.bplist_objects.specs.Frame.{off}
+use Rattle.bplist_objects.specs.Heads.{Content, HasShape, Spells, unit, content_of, content_at}
+use Rattle.bplist_objects.specs.Announced.{HasHead}
+use Rattle.bplist_objects.specs.Extents.{HaveRoom}
+use Rattle.bplist_objects.specs.Spelled.{spelled_at}
+use Rattle.bplist_objects.proofs.Lists.{all_weaker}
+use Rattle.bplist_objects.proofs.Filling.{shape_extent}
+use Rattle.bplist_objects.proofs.BodyLaws.{HasHead-unique}
+use Rattle.bplist_objects.proofs.Ties.{shape_announced, spells_body}
+use Rattle.bplist_objects.proofs.Spelling.{spells_iff}
+use Rattle.bplist_objects.proofs.References.{length-nums_at}
+use Rattle.bplist_cert.specs.Lists.{Keyed}
+use Rattle.bplist_cert.specs.Valid.{IsVouchedBy, IsValid}
+use Rattle.bplist_cert.specs.Keys.{HaveTexts, KeysDiffer, AreInOrder}
+use Rattle.bplist_cert.specs.Listing.{IsListed}
+use Rattle.bplist_cert.proofs.Accepting.{accepted, keeps_all}
+use Rattle.bplist_lint.specs.Linted.{is_vouched}
+use Rattle.bplist_lint.specs.Upgraded.{is_dict, pairs_of, pairs, start, Listed, IsUpgraded}
+use Rattle.bplist_lint.proofs.Tallying.{sums_none, sums_more, sums_same, next_is}
+use Rattle.bplist_lint.proofs.KeyTies.{rules_from_keys}
+
+-- ---- parts of lists
+-- a part of the front
+part_front : (xs ys : List ℕ) (s c : ℕ) → s + c ≤ length xs → part (xs ++ ys) s c ≡ part xs s c
+part_front xs ys s c within =
+    let long = length-drop s xs in
+    ap (take c) (drop-append-le s xs ys (omega arith)) ∙ take-append-le c (drop s xs) ys (omega arith)
+
+-- the whole back
+part_back : (xs ys : List ℕ) (c : ℕ) → length ys ≡ c → part (xs ++ ys) (length xs) c ≡ ys
+part_back xs ys c is = ap (take c) (drop-append_seam xs ys) ∙ ap (λ k. take k ys) (sym is) ∙ take-length ys
+
+-- ---- contents by their kind
+module _ (f : List ℕ) (F : Frame) where
+  dict_pairs : (kind : Kind) (count body : ℕ) → kind ≡ kinds.Dict → (pairs_of (Some (content_of f F kind count body)) ≡ count) × (is_dict (Some (content_of f F kind count body)) ≡ true)
+  dict_pairs kinds.Dict count body e = (length-nums_at f body F.ref_size count, refl)
+  dict_pairs _ count body e = absurd (cc e)
+
+  other_pairs : (kind : Kind) (count body : ℕ) → (kind ≡ kinds.Dict → ⊥) → (pairs_of (Some (content_of f F kind count body)) ≡ 0) × (is_dict (Some (content_of f F kind count body)) ≡ false)
+  other_pairs kinds.Null count body no_dict = (refl, refl)
+  other_pairs kinds.False count body no_dict = (refl, refl)
+  other_pairs kinds.True count body no_dict = (refl, refl)
+  other_pairs kinds.Int count body no_dict = (refl, refl)
+  other_pairs kinds.Real count body no_dict = (refl, refl)
+  other_pairs kinds.Date count body no_dict = (refl, refl)
+  other_pairs kinds.Bytes count body no_dict = (refl, refl)
+  other_pairs kinds.Ascii count body no_dict = (refl, refl)
+  other_pairs kinds.Wide count body no_dict = (refl, refl)
+  other_pairs kinds.Uid count body no_dict = (refl, refl)
+  other_pairs kinds.Array count body no_dict = (refl, refl)
+  other_pairs kinds.Set count body no_dict = (refl, refl)
+  other_pairs kinds.Dict count body no_dict = absurd (no_dict refl)
+
+module _ (f : List ℕ) (F : Frame) (heights : List ℕ) where
+  -- nothing is listed
+  pub listed_none : (starts : List ℕ) → ((m : ℕ) → slice_index starts m ≡ 0) → Listed f F heights 0 starts []
+  listed_none starts zeros = record {
+    total = refl;
+    begins = λ m low. absurd (omega arith);
+    later = λ m low. zeros m;
+    order = λ m low. absurd (omega arith);
+    used = 0;
+    sums = sums_none f F (IsVouchedBy heights);
+    few = omega arith;
+  }
+
+  module _ (n : ℕ) (starts positions : List ℕ) (l : Listed f F heights n starts positions) where
+    -- an object that is not vouched for
+    pub listed_over : slice_index heights n ≡ 0 → Listed f F heights (n + 1) starts positions
+    listed_over none =
+        let off_n : is_vouched heights n ≡ false = rw none refl in
+        subst (λ k. Listed f F heights k starts positions) (next_is n) (record {
+          total = rw off_n (omega (arith, l.total));
+          begins = λ m low. elim (cases_eq m n) [
+            | inl e ↦ rw (e, off_n) (l.later n (omega arith))
+            | inr ne ↦ l.begins m (omega arith)
+          ];
+          later = λ m low. l.later m (omega arith);
+          order = λ m low v. elim (cases_eq m n) [
+            | inl e ↦ absurd (let z = rw e at v in omega arith)
+            | inr ne ↦ l.order m (omega arith) v
+          ];
+          used = l.used;
+          sums = sums_same f F (IsVouchedBy heights) n l.used (λ v. omega (arith, v, none)) l.sums;
+          few = l.few;
+        })
+
+    module _ (vouched : IsVouchedBy heights n) (room : n < length starts) (head : Head) (shape : HasShape f F n head) where
+      on_n : is_vouched heights n ≡ true
+      on_n = lt-ltb 0 (slice_index heights n) (omega (arith, vouched))
+
+      -- an object that is vouched for, with its part of the positions
+      step : (st : ℕ) (list : List ℕ) → length list ≡ pairs f F heights n → st ≡ start f F heights n → length list ≤ head.«end» - off f F n
+          → ((other : Head) → HasHead f F n other → other.kind ≡ kinds.Dict → (st + other.count ≤ length (positions ++ list)) × AreInOrder f F other (part (positions ++ list) st other.count) other.count)
+          → Listed f F heights (suc n) (set starts n st) (positions ++ list)
+      step st list many begin short here =
+          let long = length-append positions list in
+          let at_n : slice_index (set starts n st) n ≡ st = get_or-set_same starts n st 0 room in
+          let other_at : (m : ℕ) → m ≢ n → slice_index (set starts n st) m ≡ slice_index starts m = λ m ne. get_or-set_other starts n m st 0 ne in
+          record {
+            total = omega (arith, long, l.total, many);
+            begins = λ m low. elim (cases_eq m n) [
+              | inl e ↦ rw e (at_n ∙ begin)
+              | inr ne ↦ other_at m ne ∙ l.begins m (omega arith)
+            ];
+            later = λ m low. other_at m (λ e. omega arith) ∙ l.later m (omega arith);
+            order = λ m low v other has dict. elim (cases_eq m n) [
+              | inl e ↦ rw (e, at_n) (here other (rw e at has) dict)
+              | inr ne ↦
+                  let old = l.order m (omega arith) v other has dict in
+                  let whole = old.0 in
+                  rw (other_at m ne, part_front positions list (slice_index starts m) other.count whole) (omega (arith, whole, long), old.1)
+            ];
+            used = l.used + (head.«end» - off f F n);
+            sums = sums_more f F (IsVouchedBy heights) n (head.«end» - off f F n) l.used vouched (shape_extent f F n head shape) l.sums;
+            few = omega (arith, long, l.few, short);
+          }
+
+      module _ (content : Content) (spells : Spells f F n content) where
+        spelled : spelled_at f F n ≡ Some (content_at f F head)
+        spelled = (spells_iff f F n content).0 spells ∙ ap Some (spells_body f F n head content shape spells)
+
+        same_head : (other : Head) → HasHead f F n other → head ≡ other
+        same_head other has = HasHead-unique f F n head other (shape_announced f F n head shape) has
+
+        -- an object that is no dictionary
+        pub listed_other : (head.kind ≡ kinds.Dict → ⊥) → Listed f F heights (n + 1) (set starts n 0) positions
+        listed_other no_dict =
+            let o = other_pairs f F head.kind head.count head.body no_dict in
+            let empty : positions ++ [] ≡ positions = search rules in
+            subst (λ k. Listed f F heights k (set starts n 0) positions) (next_is n) (subst (Listed f F heights (suc n) (set starts n 0)) empty
+            (step 0 [] (rw (on_n, spelled) (sym o.0)) (rw (on_n, spelled, o.1) refl) (omega arith) (λ other has dict. absurd (no_dict (rw (← same_head other has) at dict)))))
+
+        -- how far the bytes of a dictionary go
+        pairs_within : head.kind ≡ kinds.Dict → 1 ≤ F.ref_size → head.count ≤ head.«end» - off f F n
+        pairs_within dict low =
+            let u : unit F.ref_size head.kind ≡ 2 * F.ref_size = ap (unit F.ref_size) dict in
+            let end : head.«end» ≡ head.body + head.count * (2 * F.ref_size) = shape.«end» ∙ ap (λ x. head.body + head.count * x) u in
+            count_within head.count F.ref_size head.body head.«end» (off f F n) low end (omega (arith, shape.body))
+          where
+            count_within : (count r body last place : ℕ) → 1 ≤ r → last ≡ body + count * (2 * r) → place ≤ body → count ≤ last - place
+            count_within count zero body last place low is from = absurd (omega arith)
+            count_within count (suc r) body last place low is from =
+                let more : count * (2 * suc r) ≡ count * 2 + count * (2 * r) = omega arith in
+                omega arith
+
+        -- a dictionary, with its key list behind the positions
+        pub listed_dict : head.kind ≡ kinds.Dict → 1 ≤ F.ref_size → (after : List ℕ) → IsListed f F head positions after → Listed f F heights (n + 1) (set starts n (length positions)) after
+        listed_dict dict low after is =
+            let d = dict_pairs f F head.kind head.count head.body dict in
+            let long = length-append positions is.list in
+            let short = pairs_within dict low in
+            subst (λ k. Listed f F heights k (set starts n (length positions)) after) (next_is n) (subst (Listed f F heights (suc n) (set starts n (length positions))) (sym is.behind)
+            (step (length positions) is.list (rw (on_n, spelled) (is.count ∙ sym d.0)) (rw (on_n, spelled, d.1) l.total) (omega (arith, is.count, short))
+            (λ other has k.
+            subst (λ (h : Head). (length positions + h.count ≤ length (positions ++ is.list)) × AreInOrder f F h (part (positions ++ is.list) (length positions) h.count) h.count) (same_head other has)
+            (omega (arith, long, is.count), subst (λ xs. AreInOrder f F head xs head.count) (sym (part_back positions is.list head.count is.count)) is.order))))
+
+        -- there is room for the positions
+        pub listed_room : head.kind ≡ kinds.Dict → 1 ≤ F.ref_size → HaveRoom f F (IsVouchedBy heights) → length positions + head.count + 8 ≤ F.table
+        listed_room dict low have =
+            let short = pairs_within dict low in
+            let s = sums_more f F (IsVouchedBy heights) n (head.«end» - off f F n) l.used vouched (shape_extent f F n head shape) l.sums in
+            let all = have s.objects _ s.differ (all_weaker _ _ (λ m k. k.0) s.objects s.inside) s.take_all in
+            omega (arith, all, l.few, short)
+
+  -- the keys of a vouched dictionary
+  module _ (valid : IsValid f F heights) (n : ℕ) (vouched : IsVouchedBy heights n) (head : Head) (has : HasHead f F n head) where
+    pub vouched_shape : HasShape f F n head
+    vouched_shape =
+        let s = (valid.vouched n vouched).spells in
+        subst (HasShape f F n) (HasHead-unique f F n s.shape head (shape_announced f F n s.shape s.has) has) s.has
+
+    pub vouched_keys : head.kind ≡ kinds.Dict → HaveTexts f F head head.count × KeysDiffer f F head head.count
+    vouched_keys dict = let o = valid.vouched n vouched in rules_from_keys f F n head vouched_shape o.content o.spells o.keys dict
+
+  -- all are listed
+  module _ (valid : IsValid f F heights) (keyed : Keyed) (l : Listed f F heights F.objects keyed.starts keyed.positions) where
+    pub upgraded : IsUpgraded f F heights (record { heights = heights; keys = Some keyed })
+    upgraded = record {
+      same = refl;
+      keyed = keyed;
+      keys = refl;
+      starts = l.begins;
+      total = l.total;
+      accepted = accepted f F (record { heights = heights; keys = Some keyed }) (record {
+        framed = valid.frame;
+        count = valid.count;
+        top = valid.top;
+        total = l.used;
+        running = record {
+          sums = record { objects = l.sums.objects; differ = l.sums.differ; inside = l.sums.inside; take_all = l.sums.take_all; most = l.sums.most };
+          room = valid.room l.sums.objects l.used l.sums.differ (all_weaker _ _ (λ m k. k.0) l.sums.objects l.sums.inside) l.sums.take_all;
+          kept = λ m low v.
+              let k = keeps_all f F (record { heights = heights; keys = None }) (record { valid = valid; listed = tt }) m v in
+              (k.0, (k.1.0, (k.1.1.0, (k.1.1.1.0, (k.1.1.1.1.0, (k.1.1.1.1.1.0, (k.1.1.1.1.1.1.0, (k.1.1.1.1.1.1.1.0, (k.1.1.1.1.1.1.1.1.0, (k.1.1.1.1.1.1.1.1.1.0, (k.1.1.1.1.1.1.1.1.1.1.0, (l.order m low v, tt))))))))))));
+        };
+      });
+    }

@@ -1,0 +1,121 @@
+-- Steps of the walk to the circle.
+use Rattle.std.proofs.Common.{◌≡◌, ◌≢◌, ℕ, suc, ◌+◌, ◌<◌, inl, inr, Bool, true, false, List, [], ◌∷◌, ◌++◌, length, get_or, set, drop, map, replicate, refl, sym, ◌∙◌, ap, arith}
+use Rattle.std.proofs.lemmas.Bool.{false≢true}
+use Rattle.std.proofs.lemmas.List.{get_or-set_same, length-set, get_or_append_left, get_or_push, length_push, length-replicate, get_or_default, get_or-drop, length-drop}
+use Rattle.std.proofs.lemmas.List.Elements.{Contains-get_or, Contains-append_left, Contains-push}
+use Rattle.bplist_objects.specs.declared.frame.ObjectNo.{ObjectNo}
+use Rattle.bplist_lint.specs.Graph.{Reaches, Ends, Least, IsNext, IsCircleOf, AreLeast}
+use Rattle.bplist_lint.specs.Graph.Reaches.{start, onward}
+use Rattle.bplist_lint.specs.Graph.Ends.{ends}
+use Rattle.bplist_lint.specs.Graph.Least.{above}
+use Rattle.bplist_lint.specs.Trail.{number, object, AllHave, IsFirstWithout, IsPlaceOf, Placed, Leading}
+use Rattle.bplist_lint.proofs.VisitSteps.{push_cases, at_set, seen-set, none_seen}
+
+pub numbers_named : (xs : List ℕ) → map number (map object xs) ≡ xs
+numbers_named [] = refl
+numbers_named (x ∷ xs) = ap (λ ys. x ∷ ys) (numbers_named xs)
+
+-- what has a least height is founded
+pub Ends-from_least : (refs : ℕ → List ℕ) (n h : ℕ) → Least refs n h → Ends refs n
+Ends-from_least refs _ _ (above n hs long each) =
+    ends n (λ m c. rw (← c.2, get_or_default (refs n) c.0 m 0 c.1) (Ends-from_least refs (get_or (refs n) c.0 0) (get_or hs c.0 0) (each c.0 c.1)))
+
+-- an object is founded where each of its references has a height
+pub founded_all : (refs : ℕ → List ℕ) (top : ℕ) (heights : List ℕ) (n : ℕ) → AreLeast refs top heights → AllHave heights (refs n) (length (refs n)) → Ends refs n
+founded_all refs top heights n a have =
+    ends n (λ m c. rw (← c.2, get_or_default (refs n) c.0 m 0 c.1) (Ends-from_least refs _ _ (a.vouched _ (have c.0 c.1)).1))
+
+-- the first reference without a height is the first that is not founded
+pub is_next : (refs : ℕ → List ℕ) (top : ℕ) (heights : List ℕ) (n m : ℕ) → AreLeast refs top heights → Reaches refs top n → IsFirstWithout heights (refs n) m → Reaches refs top m × IsNext refs n m
+is_next refs top heights n m a reached f =
+    let on : Reaches refs top m = onward n m reached (rw f.at_place (Contains-get_or (refs n) f.place 0 f.in_refs)) in (
+      on,
+      record {
+        place = f.place;
+        in_refs = f.in_refs;
+        at_place = sym f.at_place;
+        not_founded = λ is. let h = a.all m on is in let z = f.without in omega arith;
+        first = λ k low. Ends-from_least refs _ _ (a.vouched _ (f.before k low)).1;
+      },
+    )
+
+-- nothing is met
+pub placed_none : (size : ℕ) → Placed size (replicate size false) []
+placed_none size = record {
+  all_met = length-replicate size false;
+  on_trail = λ n h. absurd (false≢true (sym (none_seen size n) ∙ h));
+  marked = λ k h. absurd (omega arith);
+  differ = λ j k less h. absurd (omega arith);
+}
+
+-- one object more is met
+pub placed_more : (size : ℕ) (met : List Bool) (trail : List ℕ) (x : ℕ) → Placed size met trail → x < size → get_or met x false ≡ false → Placed size (set met x true) (trail ++ x ∷ [])
+placed_more size met trail x p in' new =
+    let within : x < length met = omega (arith, p.all_met) in
+    let long = length_push trail x in
+    let not_x : (j : ℕ) → j < length trail → get_or trail j 0 ≢ x = λ j h e. absurd (false≢true (sym new ∙ rw e at (p.marked j h))) in
+    record {
+      all_met = length-set met x true ∙ p.all_met;
+      on_trail = λ n h. elim (at_set met x true false n within) [
+        | inl c ↦ rw c.0 (Contains-push trail x)
+        | inr c ↦ Contains-append_left trail (x ∷ []) n (p.on_trail n (sym c.1 ∙ h))
+      ];
+      marked = λ k h. elim (push_cases trail x 0 k h) [
+        | inl c ↦ rw c.1 (seen-set met x _ within (p.marked k c.0))
+        | inr c ↦ rw c.1 (get_or-set_same met x true false within)
+      ];
+      differ = λ j k less h. elim (push_cases trail x 0 k h) [
+        | inl c ↦ let low : j < length trail = let l = c.0 in omega arith in rw (c.1, get_or_append_left trail (x ∷ []) 0 j low) (p.differ j k less c.0)
+        | inr c ↦ let low : j < length trail = let l = c.0 in omega arith in rw (c.1, get_or_append_left trail (x ∷ []) 0 j low) (not_x j low)
+      ];
+    }
+
+pub leading_more : (refs : ℕ → List ℕ) (top : ℕ) (trail : List ℕ) (x m : ℕ) → Leading refs top trail x → Reaches refs top m → IsNext refs x m → Leading refs top (trail ++ x ∷ []) m
+leading_more refs top trail x m l reached n =
+    let walk : List ℕ = trail ++ x ∷ [] in
+    let long = length_push trail x in
+    let long' = length_push walk m in
+    record {
+      begins = get_or_append_left walk (m ∷ []) 0 0 (omega arith) ∙ l.begins;
+      next = λ k h. elim (push_cases trail x 0 k h) [
+        | inl c ↦ rw (get_or_append_left walk (m ∷ []) 0 k h, get_or_append_left walk (m ∷ []) 0 (suc k) (let low = c.0 in omega arith)) (l.next k c.0)
+        | inr c ↦ let is : length walk ≡ suc k = let e = c.0 in omega arith in
+            rw (get_or_append_left walk (m ∷ []) 0 k h, c.1, get_or_push walk m 0 (suc k) is) n
+      ];
+      reached = reached;
+      not_founded = n.not_founded;
+    }
+
+pub leading_start : (refs : ℕ → List ℕ) (top : ℕ) (heights : List ℕ) → AreLeast refs top heights → get_or heights top 0 ≡ 0 → Leading refs top [] top
+leading_start refs top heights a zero_at = record {
+  begins = refl;
+  next = λ k h. absurd (omega arith);
+  reached = start;
+  not_founded = λ is. let h = a.all top start is in omega arith;
+}
+
+-- the trail from the place of x on is the circle
+pub is_circle : (refs : ℕ → List ℕ) (top size : ℕ) (met : List Bool) (trail : List ℕ) (x place : ℕ) → Placed size met trail → Leading refs top trail x → IsPlaceOf trail x place → IsCircleOf refs top (drop place trail)
+is_circle refs top size met trail x place p l at_place =
+    let walk : List ℕ = trail ++ x ∷ [] in
+    let low = at_place.within in
+    let long = length-drop place trail in
+    let on_trail : (k : ℕ) → k < length trail → get_or walk k 0 ≡ get_or trail k 0 = λ k h. get_or_append_left trail (x ∷ []) 0 k h in
+    record {
+      x = λ k. get_or walk k 0;
+      i = place;
+      j = length trail;
+      begins = l.begins;
+      leads = l.next;
+      earlier = low;
+      meets = on_trail place low ∙ at_place.here ∙ sym (get_or_push trail x 0 (length trail) refl);
+      least = λ k m less h same.
+          let h' : k < length trail = omega arith in
+          p.differ k m less h (sym (on_trail k h') ∙ same ∙ on_trail m h);
+      long = omega (arith, long, low);
+      listed = λ k h. get_or-drop place trail k 0 ∙ sym (on_trail (place + k) (omega (arith, long)));
+    }
+
+-- the objects from the place of x on
+pub from_place : (trail : List ℕ) (x place : ℕ) (objects : List ObjectNo) → IsPlaceOf trail x place → objects ≡ map object (drop place trail) → (p : ℕ) × IsPlaceOf trail x p × (map number objects ≡ drop p trail)
+from_place trail x place objects at_place is = (place, at_place, ap (map number) is ∙ numbers_named (drop place trail))

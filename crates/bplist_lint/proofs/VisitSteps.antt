@@ -1,0 +1,186 @@
+-- Steps of the walk that finds the least heights, of its marks, its heights and its stack alone.
+use Rattle.std.proofs.Common.{◌≡◌, ◌≢◌, ℕ, zero, suc, ◌+◌, ◌-◌, ◌<◌, ◌≤◌, ◌⊎◌, inl, inr, Bool, true, false, cond, List, [], ◌∷◌, ◌++◌, length, get_or, set, replicate, count_by, refl, sym, ◌∙◌, arith, lt-ltb}
+use Rattle.std.proofs.lemmas.Bool.{cases_eq, cases_lt, false≢true}
+use Rattle.std.proofs.lemmas.List.{get_or-set_same, get_or-set_other, length-set, get_or_append_left, get_or_push, length_push, length-replicate}
+use Rattle.std.proofs.lemmas.List.Sums.{sum_by-set, sum_by-append, count_by-le-length}
+use Rattle.bplist_lint.specs.Reaching.{IsMarked}
+use Rattle.bplist_lint.specs.Visits.{is_height, no_visit, visit_at, EachVisit, IsVisit, IsOpen, Standing, work}
+use Rattle.bplist_lint.specs.declared.heights.Visit.{Visit}
+
+-- how a count changes at a write
+pub count-set : {X : Type 0} (p : X → Bool) (xs : List X) (i : ℕ) (y d : X) → i < length xs → count_by p (set xs i y) + cond (p (get_or xs i d)) 1 0 ≡ count_by p xs + cond (p y) 1 0
+count-set p xs i y d in' = sum_by-set (λ x. cond (p x) 1 0) xs i y d in'
+
+-- where item k lies after a push
+pub push_cases : {X : Type 0} (xs : List X) (x d : X) (k : ℕ) → k < length (xs ++ x ∷ []) → ((k < length xs) × (get_or (xs ++ x ∷ []) k d ≡ get_or xs k d)) ⊎ ((k ≡ length xs) × (get_or (xs ++ x ∷ []) k d ≡ x))
+push_cases xs x d k h =
+    let long = length_push xs x in
+    elim (cases_eq k (length xs)) [
+      | inl e ↦ inr (e, get_or_push xs x d k (sym e))
+      | inr ne ↦ let below : k < length xs = omega arith in inl (below, get_or_append_left xs (x ∷ []) d k below)
+    ]
+
+pub each_push : (P : ℕ → Visit → Type 0) (xs : List Visit) (x : Visit) → EachVisit P xs → P (length xs) x → EachVisit P (xs ++ x ∷ [])
+each_push P xs x all here k h = elim (push_cases xs x no_visit k h) [
+  | inl c ↦ rw c.1 (all k c.0)
+  | inr c ↦ rw (c.1, c.0) here
+]
+
+pub each_front : (P : ℕ → Visit → Type 0) (xs : List Visit) (x : Visit) → EachVisit P (xs ++ x ∷ []) → EachVisit P xs
+each_front P xs x all k h =
+    let e = get_or_append_left xs (x ∷ []) no_visit k h in
+    let long = length_push xs x in
+    rw e at (all k (omega arith))
+
+pub each_last : (P : ℕ → Visit → Type 0) (xs : List Visit) (x : Visit) → EachVisit P (xs ++ x ∷ []) → P (length xs) x
+each_last P xs x all =
+    let e = get_or_push xs x no_visit (length xs) refl in
+    let long = length_push xs x in
+    rw e at (all (length xs) (omega arith))
+
+-- what stands at a place after a write
+pub at_set : {X : Type 0} (xs : List X) (x : ℕ) (v d : X) (n : ℕ) → x < length xs → ((n ≡ x) × (get_or (set xs x v) n d ≡ v)) ⊎ ((n ≢ x) × (get_or (set xs x v) n d ≡ get_or xs n d))
+at_set xs x v d n in' = elim (cases_eq n x) [
+  | inl e ↦ inl (e, rw e (get_or-set_same xs x v d in'))
+  | inr ne ↦ inr (ne, get_or-set_other xs x n v d ne)
+]
+
+-- what is seen stays so
+pub seen-set : (seen : List Bool) (x n : ℕ) → x < length seen → IsMarked seen n → IsMarked (set seen x true) n
+seen-set seen x n within h = elim (at_set seen x true false n within) [
+  | inl c ↦ c.1
+  | inr c ↦ c.1 ∙ h
+]
+
+pub none_seen : (size n : ℕ) → get_or (replicate size false) n false ≡ false
+none_seen zero n = refl
+none_seen (suc size) zero = refl
+none_seen (suc size) (suc n) = none_seen size n
+
+abbrev pub nothing : ℕ
+nothing = 0
+
+pub none_high : (size n : ℕ) → get_or (replicate size nothing) n 0 ≡ 0
+none_high zero n = refl
+none_high (suc size) zero = refl
+none_high (suc size) (suc n) = none_high size n
+
+-- an object without a height leaves room among the heights
+pub height_below : (heights : List ℕ) (n : ℕ) → n < length heights → get_or heights n 0 ≡ 0 → count_by is_height heights < length heights
+height_below heights n in' e =
+    let more = rw e at (count-set is_height heights n 1 0 in') in
+    let most = count_by-le-length is_height (set heights n 1) in
+    omega (arith, length-set heights n 1, more, most)
+
+-- two visits before the last, or one and the last
+pub differ_push : (stack : List Visit) (v : Visit) → ((j k : ℕ) → j < k → k < length stack → (visit_at stack j).object ≢ (visit_at stack k).object) → ((j : ℕ) → j < length stack → (visit_at stack j).object ≢ v.object)
+    → (j k : ℕ) → j < k → k < length (stack ++ v ∷ []) → (visit_at (stack ++ v ∷ []) j).object ≢ (visit_at (stack ++ v ∷ []) k).object
+differ_push stack v differ last j k less h = elim (push_cases stack v no_visit k h) [
+  | inl c ↦ let low : j < length stack = let l = c.0 in omega arith in rw (c.1, get_or_append_left stack (v ∷ []) no_visit j low) (differ j k less c.0)
+  | inr c ↦ let low : j < length stack = let l = c.0 in omega arith in rw (c.1, get_or_append_left stack (v ∷ []) no_visit j low) (last j low)
+]
+
+differ_front : (rest : List Visit) (v : Visit) → ((j k : ℕ) → j < k → k < length (rest ++ v ∷ []) → (visit_at (rest ++ v ∷ []) j).object ≢ (visit_at (rest ++ v ∷ []) k).object) → (j k : ℕ) → j < k → k < length rest → (visit_at rest j).object ≢ (visit_at rest k).object
+differ_front rest v d j k less h =
+    let long = length_push rest v in
+    let low : j < length rest = omega arith in
+    rw (get_or_append_left rest (v ∷ []) no_visit j low, get_or_append_left rest (v ∷ []) no_visit k h) at (d j k less (omega arith))
+
+differ_last : (rest : List Visit) (v : Visit) → ((j k : ℕ) → j < k → k < length (rest ++ v ∷ []) → (visit_at (rest ++ v ∷ []) j).object ≢ (visit_at (rest ++ v ∷ []) k).object) → (j : ℕ) → j < length rest → (visit_at rest j).object ≢ v.object
+differ_last rest v d j h =
+    let long = length_push rest v in
+    rw (get_or_append_left rest (v ∷ []) no_visit j h, get_or_push rest v no_visit (length rest) refl) at (d j (length rest) h (omega arith))
+
+-- an object that was not seen is opened, on top of the stack
+pub standing_open : (size : ℕ) (seen : List Bool) (heights : List ℕ) (stack : List Visit) (m count : ℕ) → Standing size seen heights stack → m < size → get_or seen m false ≡ false → Standing size (set seen m true) heights (stack ++ record { object = m; next = 0; count = count; best = 0; sound = true } ∷ [])
+standing_open size seen heights stack m count s in' new =
+    let within : m < length seen = omega (arith, s.all_seen) in
+    let v : Visit = record { object = m; next = 0; count = count; best = 0; sound = true } in
+    let low_m : get_or heights m 0 ≡ 0 = elim (cases_lt 0 (get_or heights m 0)) [
+      | inl has ↦ absurd (false≢true (sym new ∙ s.known m has))
+      | inr none ↦ omega arith
+    ] in
+    record {
+      all_seen = length-set seen m true ∙ s.all_seen;
+      all_heights = s.all_heights;
+      visits = each_push (λ _ w. IsVisit size (count_by is_height heights) w) stack v s.visits (record { inside = in'; within = omega arith; low = omega arith });
+      unfinished = each_push (λ _ w. IsOpen (set seen m true) heights w.object) stack v
+          (λ k h. let o = s.unfinished k h in record { seen = seen-set seen m _ within o.seen; low = o.low })
+          (record { seen = get_or-set_same seen m true false within; low = low_m });
+      differ = differ_push stack v s.differ (λ j h e. let o = (s.unfinished j h).seen in absurd (false≢true (sym new ∙ rw e at o)));
+      low = s.low;
+      known = λ n h. seen-set seen m n within (s.known n h);
+    }
+
+-- the visit on top of the stack changes
+pub standing_advance : (size : ℕ) (seen : List Bool) (heights : List ℕ) (rest : List Visit) (v v' : Visit) → Standing size seen heights (rest ++ v ∷ []) → v'.object ≡ v.object → v'.next ≤ v'.count → v'.best ≤ count_by is_height heights → Standing size seen heights (rest ++ v' ∷ [])
+standing_advance size seen heights rest v v' s same within low =
+    let old = each_last (λ _ w. IsVisit size (count_by is_height heights) w) rest v s.visits in
+    let long = length_push rest v in
+    record {
+      all_seen = s.all_seen;
+      all_heights = s.all_heights;
+      visits = each_push (λ _ w. IsVisit size (count_by is_height heights) w) rest v' (each_front (λ _ w. IsVisit size (count_by is_height heights) w) rest v s.visits) (record { inside = rw same old.inside; within = within; low = low });
+      unfinished = each_push (λ _ w. IsOpen seen heights w.object) rest v' (each_front (λ _ w. IsOpen seen heights w.object) rest v s.unfinished) (rw same (each_last (λ _ w. IsOpen seen heights w.object) rest v s.unfinished));
+      differ = differ_push rest v' (differ_front rest v s.differ) (λ j h e. differ_last rest v s.differ j h (e ∙ same));
+      low = s.low;
+      known = s.known;
+    }
+
+-- the visit on top of the stack is done, and its object gets no height
+pub standing_leave : (size : ℕ) (seen : List Bool) (heights : List ℕ) (rest : List Visit) (v : Visit) → Standing size seen heights (rest ++ v ∷ []) → Standing size seen heights rest
+standing_leave size seen heights rest v s = record {
+  all_seen = s.all_seen;
+  all_heights = s.all_heights;
+  visits = each_front (λ _ w. IsVisit size (count_by is_height heights) w) rest v s.visits;
+  unfinished = each_front (λ _ w. IsOpen seen heights w.object) rest v s.unfinished;
+  differ = differ_front rest v s.differ;
+  low = s.low;
+  known = s.known;
+}
+
+-- the visit on top of the stack is done, and its object gets a height
+pub standing_finish : (size : ℕ) (seen : List Bool) (heights : List ℕ) (rest : List Visit) (v : Visit) (h : ℕ) → Standing size seen heights (rest ++ v ∷ []) → 0 < h → h ≤ count_by is_height heights + 1 → Standing size seen (set heights v.object h) rest
+standing_finish size seen heights rest v h s high low =
+    let here = each_last (λ _ w. IsVisit size (count_by is_height heights) w) rest v s.visits in
+    let is_open = each_last (λ _ w. IsOpen seen heights w.object) rest v s.unfinished in
+    let within : v.object < length heights = omega (arith, s.all_heights, here.inside) in
+    let is : is_height h ≡ true = lt-ltb 0 h high in
+    let more : count_by is_height (set heights v.object h) ≡ count_by is_height heights + 1 =
+    omega (arith, rw (is_open.low, is) at (count-set is_height heights v.object h 0 within)) in
+    record {
+      all_seen = s.all_seen;
+      all_heights = length-set heights v.object h ∙ s.all_heights;
+      visits = λ k l. let old = each_front (λ _ w. IsVisit size (count_by is_height heights) w) rest v s.visits k l in
+          record { inside = old.inside; within = old.within; low = omega (arith, old.low, more) };
+      unfinished = λ k l. let old = each_front (λ _ w. IsOpen seen heights w.object) rest v s.unfinished k l in
+          record { seen = old.seen; low = get_or-set_other heights v.object _ h 0 (differ_last rest v s.differ k l) ∙ old.low };
+      differ = differ_front rest v s.differ;
+      low = λ n. elim (at_set heights v.object h 0 n within) [
+        | inl c ↦ rw c.1 (omega (arith, more))
+        | inr c ↦ rw c.1 (omega (arith, more, s.low n))
+      ];
+      known = λ n l. elim (at_set heights v.object h 0 n within) [
+        | inl c ↦ rw c.0 is_open.seen
+        | inr c ↦ s.known n (rw c.1 at l)
+      ];
+    }
+
+-- the walk begins
+pub standing_start : (size top count : ℕ) → top < size → Standing size (set (replicate size false) top true) (replicate size 0) ([] ++ record { object = top; next = 0; count = count; best = 0; sound = true } ∷ [])
+standing_start size top count in' = standing_open size (replicate size false) (replicate size 0) [] top count
+    (record {
+      all_seen = length-replicate size false;
+      all_heights = length-replicate size 0;
+      visits = λ k h. absurd (omega arith);
+      unfinished = λ k h. absurd (omega arith);
+      differ = λ j k less h. absurd (omega arith);
+      low = λ n. rw (none_high size n) (omega arith);
+      known = λ n h. absurd (let z = none_high size n in omega arith);
+    })
+    in' (none_seen size top)
+
+-- one more reference was looked at
+pub work_advance : (seen : List Bool) (rest : List Visit) (v v' : Visit) → v.next < v.count → v'.next ≡ v.next + 1 → v'.count ≡ v.count → work seen (rest ++ v' ∷ []) < work seen (rest ++ v ∷ [])
+work_advance seen rest v v' more next same =
+    omega (arith, sum_by-append (λ (w : Visit). (w.count - w.next) + 1) rest (v ∷ []), sum_by-append (λ (w : Visit). (w.count - w.next) + 1) rest (v' ∷ []))

@@ -1,0 +1,268 @@
+-- Steps of the walk that finds the least heights, of what it knows of the references.
+use Rattle.std.proofs.Common.{◌≡◌, ℕ, suc, ◌+◌, ◌<◌, ◌≤◌, max, ◌⊎◌, inl, inr, Bool, true, false, List, [], ◌∷◌, ◌++◌, length, get_or, set, replicate, Contains, refl, sym, ◌∙◌, ap, arith, below_more, add-one}
+use Rattle.std.proofs.lemmas.Bool.{cases_eq, cases_lt, false≢true}
+use Rattle.std.proofs.lemmas.List.{get_or-set_same, get_or_append_left, get_or_push, get_or_default, length_push, length-replicate}
+use Rattle.std.proofs.lemmas.List.Elements.{Contains-get_or}
+use Rattle.bplist_lint.specs.Graph.{Reaches, Ends, Least, greatest, AreLeast}
+use Rattle.bplist_lint.specs.Graph.Reaches.{start, onward}
+use Rattle.bplist_lint.specs.Graph.Ends.{ends}
+use Rattle.bplist_lint.specs.Graph.Least.{above}
+use Rattle.bplist_lint.specs.Reaching.{IsMarked}
+use Rattle.bplist_lint.specs.Visits.{no_visit, visit_at, Measured, IsRead, IsOnStack, Walking}
+use Rattle.bplist_lint.specs.declared.heights.Visit.{Visit}
+use Rattle.bplist_lint.proofs.VisitSteps.{push_cases, each_push, each_front, each_last, at_set, seen-set, none_seen, none_high}
+
+-- nothing on a circle is founded: objects j from k to last, each with the next one among its references, and the last with that at k
+pub no_circle : (refs : ℕ → List ℕ) (at : ℕ → ℕ) (k last : ℕ) → ((j : ℕ) → k ≤ j → j < last → Contains (refs (at j)) (at (suc j))) → Contains (refs (at last)) (at k) → (x : ℕ) → Ends refs x → (j : ℕ) → k ≤ j → j ≤ last → x ≡ at j → ⊥
+no_circle refs at k last next back _ (ends x f) j low high is =
+    elim (cases_eq j last) [
+      | inl e ↦ no_circle refs at k last next back (at k) (f (at k) (rw (is, e) back)) k (omega arith) (omega arith) refl
+      | inr ne ↦ let below : j < last = omega arith in
+          no_circle refs at k last next back (at (suc j)) (f (at (suc j)) (rw is (next j low below))) (suc j) (omega arith) (omega arith) refl
+    ]
+
+-- one more height
+pub greatest-push : (hs : List ℕ) (h : ℕ) → greatest (hs ++ h ∷ []) ≡ max (greatest hs) h
+greatest-push [] h = omega arith
+greatest-push (x ∷ xs) h = omega (arith, greatest-push xs h)
+
+pub measured_more : (refs : ℕ → List ℕ) (n i best h : ℕ) → Measured refs n i best → Least refs (get_or (refs n) i 0) h → Measured refs n (i + 1) (max best h)
+measured_more refs n i best h m least = record {
+  heights = m.heights ++ h ∷ [];
+  long = length_push m.heights h ∙ ap (λ k. k + 1) m.long;
+  each = below_more _ _
+      (λ k low. rw (get_or_append_left m.heights (h ∷ []) 0 k (omega (arith, m.long))) (m.each k low))
+      (rw (get_or_push m.heights h 0 i m.long) least);
+  best_is = rw m.best_is (sym (greatest-push m.heights h));
+}
+
+read-seen : (refs : ℕ → List ℕ) (seen : List Bool) (x : ℕ) (v : Visit) → x < length seen → IsRead refs seen v → IsRead refs (set seen x true) v
+read-seen refs seen x v within r = record {
+  counted = r.counted;
+  seen = λ k h. seen-set seen x _ within (r.seen k h);
+  measured = r.measured;
+  circular = r.circular;
+}
+
+-- a place on the stack, after a push and without the last
+on_more : (stack : List Visit) (v : Visit) (n : ℕ) → IsOnStack stack n → IsOnStack (stack ++ v ∷ []) n
+on_more stack v n p = let long = length_push stack v in (p.0, (let low = p.1 in omega arith), ap (λ (x : Visit). x.object) (get_or_append_left stack (v ∷ []) no_visit p.0 p.1) ∙ p.2)
+
+on_last : (stack : List Visit) (v : Visit) → IsOnStack (stack ++ v ∷ []) v.object
+on_last stack v = let long = length_push stack v in (length stack, omega arith, ap (λ (x : Visit). x.object) (get_or_push stack v no_visit (length stack) refl))
+
+on_cases : (stack : List Visit) (v : Visit) (n : ℕ) → IsOnStack (stack ++ v ∷ []) n → IsOnStack stack n ⊎ (n ≡ v.object)
+on_cases stack v n p = elim (push_cases stack v no_visit p.0 p.1) [
+  | inl c ↦ inl (p.0, c.0, ap (λ (x : Visit). x.object) (sym c.1) ∙ p.2)
+  | inr c ↦ inr (sym p.2 ∙ ap (λ (x : Visit). x.object) c.1)
+]
+
+-- the visit on top looked at one more reference
+pub walking_advance : (refs : ℕ → List ℕ) (top : ℕ) (seen : List Bool) (heights : List ℕ) (rest : List Visit) (v v' : Visit) → Walking refs top seen heights (rest ++ v ∷ []) → v'.object ≡ v.object → IsRead refs seen v' → Walking refs top seen heights (rest ++ v' ∷ [])
+walking_advance refs top seen heights rest v v' w same read =
+    let long = length_push rest v in
+    let long' = length_push rest v' in
+    let same_at : (k : ℕ) → k < length (rest ++ v' ∷ []) → (visit_at (rest ++ v' ∷ []) k).object ≡ (visit_at (rest ++ v ∷ []) k).object =
+    λ k h. elim (push_cases rest v' no_visit k h) [
+      | inl c ↦ ap (λ (x : Visit). x.object) (c.1 ∙ sym (get_or_append_left rest (v ∷ []) no_visit k c.0))
+      | inr c ↦ ap (λ (x : Visit). x.object) c.1 ∙ same ∙ sym (ap (λ (x : Visit). x.object) (get_or_push rest v no_visit k (sym c.0)))
+    ] in
+    record {
+      begun = w.begun;
+      reached = w.reached;
+      linked = λ k h. let low : suc k < length (rest ++ v ∷ []) = omega arith in rw (same_at k (omega arith), same_at (suc k) h) (w.linked k low);
+      visits = each_push (λ _ g. IsRead refs seen g) rest v' (each_front (λ _ g. IsRead refs seen g) rest v w.visits) read;
+      measured = w.measured;
+      settled = λ n h. elim (w.settled n h) [
+        | inl on ↦ inl (elim (on_cases rest v n on) [ inl p ↦ on_more rest v' n p | inr e ↦ rw (e, ← same) (on_last rest v') ])
+        | inr is ↦ inr is
+      ];
+    }
+
+-- an object that was not seen is opened, a reference of the visit on top
+pub walking_open : (refs : ℕ → List ℕ) (top : ℕ) (seen : List Bool) (heights : List ℕ) (rest : List Visit) (v : Visit) (m count : ℕ) → Walking refs top seen heights (rest ++ v ∷ []) → IsMarked seen v.object → m < length seen → Contains (refs v.object) m → count ≡ length (refs m) → Walking refs top (set seen m true) heights ((rest ++ v ∷ []) ++ record { object = m; next = 0; count = count; best = 0; sound = true } ∷ [])
+walking_open refs top seen heights rest v m count w known within among counted =
+    let stack : List Visit = rest ++ v ∷ [] in
+    let g : Visit = record { object = m; next = 0; count = count; best = 0; sound = true } in
+    let long = length_push rest v in
+    let long' = length_push stack g in
+    record {
+      begun = seen-set seen m top within w.begun;
+      reached = λ n h. elim (at_set seen m true false n within) [
+        | inl c ↦ rw c.0 (onward v.object m (w.reached v.object known) among)
+        | inr c ↦ w.reached n (sym c.1 ∙ h)
+      ];
+      linked = λ k h. elim (push_cases stack g no_visit (suc k) h) [
+        | inl c ↦ let low : k < length stack = omega arith in
+            rw (c.1, get_or_append_left stack (g ∷ []) no_visit k low) (w.linked k c.0)
+        | inr c ↦ let low : k < length stack = omega arith in let is : length rest ≡ k = omega arith in
+            rw (c.1, get_or_append_left stack (g ∷ []) no_visit k low, get_or_push rest v no_visit k is) among
+      ];
+      visits = each_push (λ _ x. IsRead refs (set seen m true) x) stack g
+          (λ k h. read-seen refs seen m _ within (w.visits k h))
+          (record {
+            counted = counted;
+            seen = λ k h. absurd (omega arith);
+            measured = λ _. record { heights = []; long = refl; each = λ k h. absurd (omega arith); best_is = refl };
+            circular = λ e. absurd (false≢true (sym e));
+          });
+      measured = w.measured;
+      settled = λ n h. elim (at_set seen m true false n within) [
+        | inl c ↦ inl (rw c.0 (on_last stack g))
+        | inr c ↦ elim (w.settled n (sym c.1 ∙ h)) [
+          | inl on ↦ inl (on_more stack g n on)
+          | inr is ↦ inr (record { all = λ i l. seen-set seen m _ within (is.all i l); circular = is.circular })
+        ]
+      ];
+    }
+
+-- the visit on top is done, and its object is not founded
+pub walking_leave : (refs : ℕ → List ℕ) (top : ℕ) (seen : List Bool) (heights : List ℕ) (rest : List Visit) (v : Visit) → Walking refs top seen heights (rest ++ v ∷ []) → v.next ≡ v.count → v.sound ≡ false → Walking refs top seen heights rest
+walking_leave refs top seen heights rest v w whole unsound =
+    let here = each_last (λ _ g. IsRead refs seen g) rest v w.visits in
+    let long = length_push rest v in
+    record {
+      begun = w.begun;
+      reached = w.reached;
+      linked = λ k h. let low : k < length rest = omega arith in
+          rw (get_or_append_left rest (v ∷ []) no_visit k low, get_or_append_left rest (v ∷ []) no_visit (suc k) h) at (w.linked k (omega arith));
+      visits = each_front (λ _ g. IsRead refs seen g) rest v w.visits;
+      measured = w.measured;
+      settled = λ n h. elim (w.settled n h) [
+        | inl on ↦ elim (on_cases rest v n on) [
+          | inl p ↦ inl p
+          | inr e ↦ inr (rw e (record { all = λ i l. here.seen i (omega (arith, here.counted)); circular = λ _. here.circular unsound }))
+        ]
+        | inr is ↦ inr is
+      ];
+    }
+
+-- the visit on top is done, and its object gets its height
+pub walking_finish : (refs : ℕ → List ℕ) (top : ℕ) (seen : List Bool) (heights : List ℕ) (rest : List Visit) (v : Visit) (h : ℕ) → Walking refs top seen heights (rest ++ v ∷ []) → v.object < length heights → v.next ≡ v.count → 0 < h → Least refs v.object h → Walking refs top seen (set heights v.object h) rest
+walking_finish refs top seen heights rest v h w within whole high least =
+    let here = each_last (λ _ g. IsRead refs seen g) rest v w.visits in
+    let long = length_push rest v in
+    record {
+      begun = w.begun;
+      reached = w.reached;
+      linked = λ k h. let low : k < length rest = omega arith in
+          rw (get_or_append_left rest (v ∷ []) no_visit k low, get_or_append_left rest (v ∷ []) no_visit (suc k) h) at (w.linked k (omega arith));
+      visits = each_front (λ _ g. IsRead refs seen g) rest v w.visits;
+      measured = λ n l. elim (at_set heights v.object h 0 n within) [
+        | inl c ↦ rw (c.1, c.0) least
+        | inr c ↦ rw c.1 (w.measured n (rw c.1 at l))
+      ];
+      settled = λ n l. elim (w.settled n l) [
+        | inl on ↦ elim (on_cases rest v n on) [
+          | inl p ↦ inl p
+          | inr e ↦ inr (rw e (record {
+            all = λ i l. here.seen i (omega (arith, here.counted));
+            circular = λ z. absurd (let a = get_or-set_same heights v.object h 0 within in omega arith);
+          }))
+        ]
+        | inr is ↦ elim (at_set heights v.object h 0 n within) [
+          | inl c ↦ inr (record { all = is.all; circular = λ z. absurd (let a = c.1 in omega arith) })
+          | inr c ↦ inr (record { all = is.all; circular = λ z. is.circular (sym c.1 ∙ z) })
+        ]
+      ];
+    }
+
+-- the walk begins
+pub walking_start : (refs : ℕ → List ℕ) (size top count : ℕ) → top < size → count ≡ length (refs top) → Walking refs top (set (replicate size false) top true) (replicate size 0) ([] ++ record { object = top; next = 0; count = count; best = 0; sound = true } ∷ [])
+walking_start refs size top count in' counted =
+    let seen : List Bool = replicate size false in
+    let within : top < length seen = omega (arith, length-replicate size false) in
+    let g : Visit = record { object = top; next = 0; count = count; best = 0; sound = true } in
+    let old : (n : ℕ) → get_or seen n false ≡ false = none_seen size in
+    record {
+      begun = get_or-set_same seen top true false within;
+      reached = λ n h. elim (at_set seen top true false n within) [
+        | inl c ↦ rw c.0 start
+        | inr c ↦ absurd (false≢true (sym (old n) ∙ sym c.1 ∙ h))
+      ];
+      linked = λ k h. absurd (omega arith);
+      visits = each_push (λ _ x. IsRead refs (set seen top true) x) [] g (λ k h. absurd (omega arith))
+          (record {
+            counted = counted;
+            seen = λ k h. absurd (omega arith);
+            measured = λ _. record { heights = []; long = refl; each = λ k h. absurd (omega arith); best_is = refl };
+            circular = λ e. absurd (false≢true (sym e));
+          });
+      measured = λ n h. absurd (let z = none_high size n in omega arith);
+      settled = λ n h. elim (at_set seen top true false n within) [
+        | inl c ↦ inl (rw c.0 (on_last [] g))
+        | inr c ↦ absurd (false≢true (sym (old n) ∙ sym c.1 ∙ h))
+      ];
+    }
+
+-- the visit on top looked at a reference that has a height
+pub read_height : (refs : ℕ → List ℕ) (seen : List Bool) (v : Visit) (m h : ℕ) (sound : Bool) → IsRead refs seen v → m ≡ get_or (refs v.object) v.next 0 → IsMarked seen m → Least refs m h → sound ≡ v.sound → IsRead refs seen (record { object = v.object; next = v.next + 1; count = v.count; best = max v.best h; sound = sound })
+read_height refs seen v m h sound r is known least same = record {
+  counted = r.counted;
+  seen = below_more _ _ r.seen (rw (← is) known);
+  measured = λ e. measured_more refs v.object v.next v.best h (r.measured (sym same ∙ e)) (rw is at least);
+  circular = λ e. r.circular (sym same ∙ e);
+}
+
+-- the visit on top looked at a reference that shows that its object isn't founded
+pub read_circle : (refs : ℕ → List ℕ) (seen : List Bool) (v : Visit) (m best : ℕ) → IsRead refs seen v → m ≡ get_or (refs v.object) v.next 0 → IsMarked seen m → (Ends refs v.object → ⊥) → IsRead refs seen (record { object = v.object; next = v.next + 1; count = v.count; best = best; sound = false })
+read_circle refs seen v m best r is known circle = record {
+  counted = r.counted;
+  seen = below_more _ _ r.seen (rw (← is) known);
+  measured = λ e. absurd (false≢true e);
+  circular = λ _. circle;
+}
+
+-- an object with a reference that isn't founded isn't founded
+pub ends_reference : (refs : ℕ → List ℕ) (n m : ℕ) → Ends refs n → Contains (refs n) m → Ends refs m
+ends_reference refs _ m (ends n f) among = f m among
+
+-- a reference to an object that is seen and has no height closes a circle, or leads to one
+pub not_founded : (refs : ℕ → List ℕ) (top : ℕ) (seen : List Bool) (heights : List ℕ) (rest : List Visit) (v : Visit) (m : ℕ) → Walking refs top seen heights (rest ++ v ∷ []) → IsMarked seen m → get_or heights m 0 ≡ 0 → Contains (refs v.object) m → Ends refs v.object → ⊥
+not_founded refs top seen heights rest v m w known none among is =
+    let stack : List Visit = rest ++ v ∷ [] in
+    let long = length_push rest v in
+    let last : (visit_at stack (length rest)).object ≡ v.object = ap (λ (x : Visit). x.object) (get_or_push rest v no_visit (length rest) refl) in
+    elim (w.settled m known) [
+      | inl on ↦ let low = on.1 in
+          no_circle refs (λ j. (visit_at stack j).object) on.0 (length rest)
+          (λ j from to. w.linked j (omega arith))
+          (rw (last, on.2) among)
+          v.object is (length rest) (omega arith) (omega arith) (sym last)
+      | inr done ↦ done.circular none (ends_reference refs v.object m is among)
+    ]
+
+pub among_at : (xs : List ℕ) (i m : ℕ) → i < length xs → m ≡ get_or xs i 0 → Contains xs m
+among_at xs i m in' is = rw is (Contains-get_or xs i 0 in')
+
+-- a visit that is done and sound gives the least height
+pub least_finish : (refs : ℕ → List ℕ) (seen : List Bool) (v : Visit) → IsRead refs seen v → v.sound ≡ true → v.next ≡ v.count → Least refs v.object (v.best + 1)
+least_finish refs seen v r sound all =
+    let m = r.measured sound in
+    let whole : v.next ≡ length (refs v.object) = all ∙ r.counted in
+    let least = above v.object m.heights (m.long ∙ whole) (λ i in'. m.each i (rw whole in')) in
+    rw (add-one, m.best_is) least
+
+-- the stack is empty
+module _ (refs : ℕ → List ℕ) (top : ℕ) (seen : List Bool) (heights : List ℕ) (w : Walking refs top seen heights []) where
+  none_on : (n : ℕ) → IsOnStack [] n → ⊥
+  none_on n p = let low = p.1 in omega arith
+
+  pub walked_all : (n : ℕ) → Reaches refs top n → IsMarked seen n
+  walked_all _ start = w.begun
+  walked_all _ (onward p n reached c) = elim (w.settled p (walked_all p reached)) [
+    | inl on ↦ absurd (none_on p on)
+    | inr is ↦ rw (get_or_default (refs p) c.0 0 n c.1, c.2) at (is.all c.0 c.1)
+  ]
+
+  pub are_least : ((n : ℕ) → 0 < get_or heights n 0 → IsMarked seen n) → AreLeast refs top heights
+  are_least known = record {
+    vouched = λ n h. (w.reached n (known n h), w.measured n h);
+    all = λ n reached is. elim (w.settled n (walked_all n reached)) [
+      | inl on ↦ absurd (none_on n on)
+      | inr done ↦ elim (cases_lt 0 (get_or heights n 0)) [
+        | inl has ↦ has
+        | inr none ↦ absurd (done.circular (omega arith) is)
+      ]
+    ];
+  }

@@ -1,0 +1,5 @@
+use Rattle.bplist_lint.proofs.Answering.{least_lowest}
+use Rattle.bplist_lint.proofs.laws.least_is_least.Goals as goal
+
+pub returns : goal.returns
+returns c = least_lowest

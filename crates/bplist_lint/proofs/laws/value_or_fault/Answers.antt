@@ -1,0 +1,5 @@
+use Rattle.bplist_lint.proofs.Completing.{value_or_fault}
+use Rattle.bplist_lint.proofs.laws.value_or_fault.Goals as goal
+
+pub returns : goal.returns
+returns c = value_or_fault

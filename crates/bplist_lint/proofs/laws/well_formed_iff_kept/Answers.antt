@@ -1,0 +1,5 @@
+use Rattle.bplist_lint.proofs.Answering.{formed_iff}
+use Rattle.bplist_lint.proofs.laws.well_formed_iff_kept.Goals as goal
+
+pub returns : goal.returns
+returns c = formed_iff

@@ -1,0 +1,22 @@
+use Rattle.std.proofs.Common.{◌≡◌, length, refl, arith}
+use Rattle.std.proofs.lemmas.Grind.{common_steps}
+use Rattle.std.proofs.lemmas.List.{get_or_read}
+use Rattle.bplist_lint.proofs.Composing.{linted, circled}
+use Rattle.bplist_lint.proofs.linting.lint_objects.Goals as goal
+
+pub returns-then-height-eq0-clause-exact : goal.returns-then-height-eq0-clause-exact
+returns-then-height-eq0-clause-exact g c = λ honest.
+    let f = (g.S.Source.means c.args.src.now).octets in
+    let framed = c.requires.framed honest in
+    let s = c.in_ok-tally.ensures.exact honest in
+    rw c.new.ensures (circled f c.args.frame.now framed c.in_ok-tally.tally s _ ((rw (c.in_ok-heights.ensures.reads, c.in_ok-tally.ensures.reads) at c.in_ok-circle.ensures.circle) honest))
+
+pub returns-clause-exact : goal.returns-clause-exact
+returns-clause-exact g c = λ honest.
+    let f = (g.S.Source.means c.args.src.now).octets in
+    let framed = c.requires.framed honest in
+    let s = c.in_ok-tally.ensures.exact honest in
+    let walked = (rw c.in_ok-tally.ensures.reads at c.in_ok-heights.ensures.exact) honest in
+    let count : length c.in_ok-heights.heights.items ≡ c.args.frame.now.objects = grind (arith, common_steps) in
+    let height = get_or_read c.in_ok-heights.heights.items c.args.frame.now.top.0 c.index-height.result.now (omega (arith, count, c.requires.frame.top)) c.index-height.ensures 0 in
+    linted f c.args.frame.now framed c.in_ok-tally.tally s c.in_ok-tally.ensures.room _ refl count walked height (omega (arith, c.if-height-eq0.false)) refl refl

@@ -1,0 +1,58 @@
+-- Objects with references, whatever they are read from: what is reached, what is founded, and with which least height.
+-- Source: the reader of CFBinaryPList.c, which refuses circles; heights and circles as lists are profile.
+use Rattle.std.specs.Prelude.{◌≡◌, ℕ, suc, ◌+◌, ◌<◌, max, List, [], ◌∷◌, length, slice_index, Contains}
+
+-- how many objects there are, and the references of each in written order. Where they are read through a borrow, through is its ghost name
+pub record Graph : Type 0 where
+  pub through : ℕ
+  pub size : ℕ
+  pub refs : ℕ → List ℕ
+
+-- the least set with top that is closed under references
+pub data Reaches (refs : ℕ → List ℕ) (top : ℕ) : ℕ → Type 0 where
+  start : Reaches refs top top
+  onward : (n m : ℕ) → Reaches refs top n → Contains (refs n) m → Reaches refs top m
+
+-- the least set that contains an object when all its references are in it
+pub data Ends (refs : ℕ → List ℕ) : ℕ → Type 0 where
+  ends : (n : ℕ) → ((m : ℕ) → Contains (refs n) m → Ends refs m) → Ends refs n
+
+-- the greatest of these heights, 0 of none
+abbrev pub greatest : List ℕ → ℕ
+greatest [] = 0
+greatest (h ∷ hs) = max h (greatest hs)
+
+-- where these are the least heights of the references of n, one by one, that of n is 1 plus the greatest of them
+pub data Least (refs : ℕ → List ℕ) : ℕ → ℕ → Type 0 where
+  above : (n : ℕ) (heights : List ℕ) → length heights ≡ length (refs n) → ((i : ℕ) → i < length (refs n) → Least refs (slice_index (refs n) i) (slice_index heights i)) → Least refs n (suc (greatest heights))
+
+-- m is the first reference of n, in written order, that is not founded
+pub record IsNext (refs : ℕ → List ℕ) (n m : ℕ) : Type 0 where
+  pub place : ℕ
+  pub in_refs : place < length (refs n)
+  pub at_place : slice_index (refs n) place ≡ m
+  pub not_founded : Ends refs m → ⊥
+  pub first : (k : ℕ) → k < place → Ends refs (slice_index (refs n) k)
+
+-- x 0 is top, and each further x is the one that next leads to. j is least such that x j equals an earlier x i,
+-- and the circle lists x i up to, without, x j
+pub record IsCircleBy (next : ℕ → ℕ → Type 0) (top : ℕ) (circle : List ℕ) : Type 0 where
+  pub x : ℕ → ℕ
+  pub i : ℕ
+  pub j : ℕ
+  pub begins : x 0 ≡ top
+  pub leads : (k : ℕ) → k < j → next (x k) (x (suc k))
+  pub earlier : i < j
+  pub meets : x i ≡ x j
+  pub least : (k l : ℕ) → k < l → l < j → x k ≡ x l → ⊥
+  pub long : i + length circle ≡ j
+  pub listed : (k : ℕ) → k < length circle → slice_index circle k ≡ x (i + k)
+
+-- the circle that first references that are not founded lead to from top
+abbrev pub IsCircleOf : (ℕ → List ℕ) → ℕ → List ℕ → Type 0
+IsCircleOf refs top circle = IsCircleBy (IsNext refs) top circle
+
+-- the heights of exactly the objects that are reached and founded, and 0 of the others
+pub record AreLeast (refs : ℕ → List ℕ) (top : ℕ) (heights : List ℕ) : Type 0 where
+  pub vouched : (n : ℕ) → 0 < slice_index heights n → Reaches refs top n × Least refs n (slice_index heights n)
+  pub all : (n : ℕ) → Reaches refs top n → Ends refs n → 0 < slice_index heights n

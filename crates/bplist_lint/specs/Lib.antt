@@ -1,0 +1,16 @@
+pub mod Graph
+pub mod Answers
+pub mod Reaching
+pub mod Visits
+pub mod Windows
+pub mod Trail
+pub mod Referring
+pub mod ReachRules
+pub mod KeyRules
+pub mod FileFault
+pub mod Refusals
+pub mod Least
+pub mod WellFormed
+pub mod Linted
+pub mod Upgrades
+pub mod Upgraded

@@ -1,0 +1,27 @@
+-- The references of a file's objects as a graph, and the parts of it that are in memory.
+use Rattle.std.specs.Prelude.{◌≡◌, ℕ, ◌+◌, ◌<◌, List, length, slice_index}
+use Rattle.bplist_objects.specs.declared.frame.Frame.{Frame}
+use Rattle.bplist_objects.specs.Frame.{off}
+use Rattle.bplist_objects.specs.Spelled.{refs_at}
+use Rattle.bplist_lint.specs.Graph.{Graph}
+
+-- the objects of a file with this frame, which is read through a borrow with this ghost name
+abbrev pub graph_of : ℕ → List ℕ → Frame → Graph
+graph_of through f F = record { through = through; size = F.objects; refs = refs_at f F }
+
+-- these are the places of the objects
+abbrev pub AreOffsets : List ℕ → Frame → List ℕ → Type 0
+AreOffsets f F offsets = (n : ℕ) → n < F.objects → slice_index offsets n ≡ off f F n
+
+-- the first so many of these are numbers of objects
+abbrev pub AreObjects : ℕ → ℕ → List ℕ → Type 0
+AreObjects size count block = (k : ℕ) → k < count → slice_index block k < size
+
+-- the first so many of these are the references from number first on, as far as there are any
+abbrev pub IsBlock : List ℕ → ℕ → ℕ → List ℕ → Type 0
+IsBlock references first count block =
+    (k : ℕ) → k < count → first + k < length references → slice_index block k ≡ slice_index references (first + k)
+
+-- the first so many of these are the places of the objects
+abbrev pub ArePlacesBelow : List ℕ → Frame → ℕ → List ℕ → Type 0
+ArePlacesBelow f F count offsets = (n : ℕ) → n < count → slice_index offsets n ≡ off f F n

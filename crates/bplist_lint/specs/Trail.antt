@@ -1,0 +1,45 @@
+-- The trail of the walk to the circle.
+use Rattle.std.specs.Prelude.{◌≡◌, ◌≢◌, ℕ, suc, ◌<◌, Bool, List, [], ◌∷◌, ◌++◌, length, slice_index, Contains}
+use Rattle.bplist_objects.specs.declared.frame.ObjectNo.{ObjectNo}
+use Rattle.bplist_lint.specs.Graph.{Reaches, Ends, IsNext}
+use Rattle.bplist_lint.specs.Reaching.{IsMarked}
+
+-- the number of an object
+abbrev pub number : ObjectNo → ℕ
+number n = n.0
+
+-- the object with a number
+abbrev pub object : ℕ → ObjectNo
+object n = record { 0 = n }
+
+-- the first i of these objects have heights
+abbrev pub AllHave : List ℕ → List ℕ → ℕ → Type 0
+AllHave heights references i = (k : ℕ) → k < i → 0 < slice_index heights (slice_index references k)
+
+-- m is the first of these objects that has no height
+pub record IsFirstWithout (heights references : List ℕ) (m : ℕ) : Type 0 where
+  pub place : ℕ
+  pub in_refs : place < length references
+  pub at_place : m ≡ slice_index references place
+  pub without : slice_index heights m ≡ 0
+  pub before : AllHave heights references place
+
+-- the first place of x in the list
+pub record IsPlaceOf (trail : List ℕ) (x place : ℕ) : Type 0 where
+  pub within : place < length trail
+  pub here : slice_index trail place ≡ x
+  pub before : (k : ℕ) → k < place → slice_index trail k ≢ x
+
+-- exactly the objects of the trail are marked, and each stands there once
+pub record Placed (size : ℕ) (met : List Bool) (trail : List ℕ) : Type 0 where
+  pub all_met : length met ≡ size
+  pub on_trail : (n : ℕ) → IsMarked met n → Contains trail n
+  pub marked : (k : ℕ) → k < length trail → IsMarked met (slice_index trail k)
+  pub differ : (j k : ℕ) → j < k → k < length trail → slice_index trail j ≢ slice_index trail k
+
+-- the trail leads from top to x, by first references that are not founded
+pub record Leading (refs : ℕ → List ℕ) (top : ℕ) (trail : List ℕ) (x : ℕ) : Type 0 where
+  pub begins : slice_index (trail ++ x ∷ []) 0 ≡ top
+  pub next : (k : ℕ) → k < length trail → IsNext refs (slice_index (trail ++ x ∷ []) k) (slice_index (trail ++ x ∷ []) (suc k))
+  pub reached : Reaches refs top x
+  pub not_founded : Ends refs x → ⊥

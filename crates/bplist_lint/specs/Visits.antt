@@ -1,0 +1,75 @@
+-- The marks, the heights and the stack of the walk that finds the least heights, and what it keeps true of them.
+use Rattle.std.specs.Prelude.{◌≡◌, ◌≢◌, ◌⊎◌, ℕ, suc, ◌+◌, ◌*◌, ◌-◌, ◌^◌, ◌<◌, ◌≤◌, Bool, true, false, not, nat_lt, List, length, slice_index_or, slice_index, count_by, sum_by, Contains}
+use Rattle.bplist_lint.specs.Graph.{Reaches, Ends, Least, greatest}
+use Rattle.bplist_lint.specs.Reaching.{IsMarked, HasMarks}
+use Rattle.bplist_lint.specs.declared.heights.Visit.{Visit}
+
+-- the height is one
+abbrev pub is_height : ℕ → Bool
+is_height h = nat_lt 0 h
+
+abbrev pub no_visit : Visit
+no_visit = record { object = 0; next = 0; count = 0; best = 0; sound = true }
+
+abbrev pub visit_at : List Visit → ℕ → Visit
+visit_at stack k = slice_index_or stack k no_visit
+
+abbrev pub EachVisit : (ℕ → Visit → Type 0) → List Visit → Type 0
+EachVisit P stack = (k : ℕ) → k < length stack → P k (visit_at stack k)
+
+-- what is left to do: each object that is not seen, and each reference on the stack that was not looked at
+abbrev pub work : List Bool → List Visit → ℕ
+work seen stack = 2 ^ 65 * count_by not seen + sum_by (λ v. (v.count - v.next) + 1) stack
+
+-- a visit whose heights are at most done
+pub record IsVisit (size done : ℕ) (v : Visit) : Type 0 where
+  pub inside : v.object < size
+  pub within : v.next ≤ v.count
+  pub low : v.best ≤ done
+
+-- the object is seen and has no height yet
+pub record IsOpen (marks : List Bool) (heights : List ℕ) (n : ℕ) : Type 0 where
+  pub seen : IsMarked marks n
+  pub low : slice_index heights n ≡ 0
+
+-- the marks, the heights and the stack agree, whatever the references are
+pub record Standing (size : ℕ) (seen : List Bool) (heights : List ℕ) (stack : List Visit) : Type 0 where
+  pub all_seen : length seen ≡ size
+  pub all_heights : length heights ≡ size
+  pub visits : EachVisit (λ _ v. IsVisit size (count_by is_height heights) v) stack
+  pub unfinished : EachVisit (λ _ v. IsOpen seen heights v.object) stack
+  pub differ : (j k : ℕ) → j < k → k < length stack → (visit_at stack j).object ≢ (visit_at stack k).object
+  pub low : (n : ℕ) → slice_index heights n ≤ count_by is_height heights
+  pub known : (n : ℕ) → 0 < slice_index heights n → IsMarked seen n
+
+-- the first i references of n have least heights, and best is the greatest of them
+pub record Measured (refs : ℕ → List ℕ) (n i best : ℕ) : Type 0 where
+  pub heights : List ℕ
+  pub long : length heights ≡ i
+  pub each : (k : ℕ) → k < i → Least refs (slice_index (refs n) k) (slice_index heights k)
+  pub best_is : best ≡ greatest heights
+
+-- what a visit knows of the references that were looked at
+pub record IsRead (refs : ℕ → List ℕ) (marks : List Bool) (v : Visit) : Type 0 where
+  pub counted : v.count ≡ length (refs v.object)
+  pub seen : (k : ℕ) → k < v.next → IsMarked marks (slice_index (refs v.object) k)
+  pub measured : v.sound ≡ true → Measured refs v.object v.next v.best
+  pub circular : v.sound ≡ false → Ends refs v.object → ⊥
+
+-- the object lies on the stack
+abbrev pub IsOnStack : List Visit → ℕ → Type 0
+IsOnStack stack n = (k : ℕ) × (k < length stack) × ((visit_at stack k).object ≡ n)
+
+-- all references of the object are seen, and where it has no height it is not founded
+pub record IsSettled (refs : ℕ → List ℕ) (seen : List Bool) (heights : List ℕ) (n : ℕ) : Type 0 where
+  pub all : HasMarks seen (refs n)
+  pub circular : slice_index heights n ≡ 0 → Ends refs n → ⊥
+
+-- what the marks, the heights and the stack say of the references
+pub record Walking (refs : ℕ → List ℕ) (top : ℕ) (seen : List Bool) (heights : List ℕ) (stack : List Visit) : Type 0 where
+  pub begun : IsMarked seen top
+  pub reached : (n : ℕ) → IsMarked seen n → Reaches refs top n
+  pub linked : (k : ℕ) → suc k < length stack → Contains (refs (visit_at stack k).object) (visit_at stack (suc k)).object
+  pub visits : EachVisit (λ _ v. IsRead refs seen v) stack
+  pub measured : (n : ℕ) → 0 < slice_index heights n → Least refs n (slice_index heights n)
+  pub settled : (n : ℕ) → IsMarked seen n → IsOnStack stack n ⊎ IsSettled refs seen heights n

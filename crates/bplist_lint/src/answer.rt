@@ -1,0 +1,16 @@
+//! What the linter says of a file that holds a value.
+
+use bplist_cert::Certificate;
+
+/// What the linter says of a file that holds a value.
+#[derive(Drop)]
+pub struct Lint {
+    /// The certificate, of version 1: the least height of each reached object, and 0 for each other.
+    pub certificate: Certificate,
+    /// How many objects the top reaches, the top among them.
+    pub reached: u64,
+    /// The height of the top.
+    pub height: u32,
+    /// How many references the reached objects have together.
+    pub references: u64,
+}

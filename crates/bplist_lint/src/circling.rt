@@ -1,0 +1,108 @@
+//! The circle that keeps the top from being founded.
+
+ghost use Rattle.std.specs.Prelude.{◌≡◌, ℕ, ◌^◌, ◌<◌, ◌≤◌, IsTrue, drop, map, length, slice_index, Contains, IfOk, IfSome, MatchOption, is_err};
+ghost use Rattle.bplist_octets.specs.Meaning.{OnlyReads};
+ghost use Rattle.bplist_lint.specs.Answers.{walk_failed};
+ghost use Rattle.bplist_lint.specs.Graph.{AreLeast, IsCircleOf};
+ghost use Rattle.bplist_lint.specs.Trail.{number, object, AllHave, IsFirstWithout, IsPlaceOf};
+
+use crate::references::{References, WalkFault};
+use bplist_objects::ObjectNo;
+use bplist_octets::ReadFault;
+use std::alloc::{AllocError, Global};
+
+/// The first reference of `n` that has no height.
+fn first_without<R: References>(
+    graph: &mut R,
+    heights: &[u32],
+    n: u32,
+) -> Result<Option<u32>, ReadFault>
+    requires n_in { n < (R.graph graph.old).size }
+    requires all_heights { length heights.now ≡ (R.graph graph.old).size }
+    ensures same { R.graph graph.new ≡ R.graph graph.old }
+    ensures reads { OnlyReads (is_err result) (R.means graph.old) (R.means graph.new) }
+    ensures inside { IfOk result (λ m. IfSome m (λ m. m < (R.graph graph.old).size)) }
+    ensures first { IsTrue (R.means graph.old).honest → IfOk result (λ m. let references = (R.graph graph.old).refs n in
+        MatchOption m
+        (AllHave heights.now references (length references))
+        (λ m. IsFirstWithout heights.now references m)) }
+{
+    let count = graph.count(n)?;
+    for i in 0..count {
+        let m = graph.reference(n, i)?;
+        if heights[m as usize] == 0 {
+            return Ok(Some(m));
+        }
+    }
+    Ok(None)
+}
+
+/// The first place of `x` on the trail.
+fn place_of(trail: &[u32], x: u32) -> usize
+    requires { Contains trail.now x }
+    ensures { IsPlaceOf trail.now x result }
+{
+    let mut place = 0;
+    while trail[place] != x {
+        place += 1;
+    }
+    place
+}
+
+/// The objects with these numbers.
+fn named(alloc: Global, numbers: &[u32]) -> Result<Vec<ObjectNo>, AllocError>
+    ensures { IfOk result (λ objects. objects.items ≡ map object numbers.now) }
+{
+    numbers.iter().map(|n| ObjectNo(*n)).collect(alloc)
+}
+
+/// What stands on the trail from a place on.
+fn tail(trail: &[u32], place: usize) -> &[u32]
+    requires { place ≤ length trail.now }
+    ensures { result.now ≡ drop place trail.now }
+{
+    &trail[place..]
+}
+
+/// The objects on the trail from the first place of `x` on.
+fn trail_from(alloc: Global, trail: &[u32], x: u32) -> Result<Vec<ObjectNo>, AllocError>
+    requires { Contains trail.now x }
+    ensures { IfOk result (λ circle. (place : ℕ) × IsPlaceOf trail.now x place
+        × (map number circle.items ≡ drop place trail.now)) }
+{
+    let place = place_of(trail, x);
+    named(alloc, tail(trail, place))
+}
+
+/// The circle that first references without a height lead to from `top`. The trail is walked once; an object is met
+/// a second time where its mark is set.
+pub fn circle<R: References>(
+    alloc: Global,
+    graph: &mut R,
+    heights: &[u32],
+    top: u32,
+) -> Result<Vec<ObjectNo>, WalkFault>
+    requires fits { (R.graph graph.old).size < 2 ^ 32 }
+    requires top { top < (R.graph graph.old).size }
+    requires all_heights { length heights.now ≡ (R.graph graph.old).size }
+    requires heights { IsTrue (R.means graph.old).honest → AreLeast (R.graph graph.old).refs top heights.now }
+    requires circular { slice_index heights.now top ≡ 0 }
+    ensures same { R.graph graph.new ≡ R.graph graph.old }
+    ensures reads { OnlyReads (walk_failed result) (R.means graph.old) (R.means graph.new) }
+    ensures circle { IsTrue (R.means graph.old).honest → IfOk result (λ circle.
+        IsCircleOf (R.graph graph.old).refs top (map number circle.items)) }
+{
+    let mut met = vec![in alloc; false; heights.len()]?;
+    let mut trail = Vec::new(alloc);
+    let mut x = top;
+    'walk: while !met[x as usize] {
+        met[x as usize] = true;
+        trail.push(x)?;
+        match first_without(graph, heights, x)? {
+            Some(m) => x = m,
+            // Over an honest source there is always one, and what a dishonest one hides ends the walk.
+            None => break,
+        }
+    }
+    Ok(trail_from(alloc, &trail, x)?)
+}

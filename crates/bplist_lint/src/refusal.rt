@@ -1,0 +1,60 @@
+//! Why the linter says no.
+
+ghost use Rattle.std.specs.Prelude.{◌≡◌};
+ghost use Rattle.bplist_objects.specs.declared.fault.ObjectFault.{ObjectFault as object_fault};
+ghost use Rattle.bplist_cert.specs.declared.refusal.Refusal.{Refusal as cert_refusal};
+ghost use Rattle.bplist_lint.specs.declared.references.WalkFault.{WalkFault as walk_fault};
+ghost use Rattle.bplist_lint.specs.Refusals.{of_object, of_walk, of_check};
+
+use crate::object_nos::ObjectNos;
+use crate::references::WalkFault;
+use bplist_cert::Refusal;
+use bplist_objects::{Fault, ObjectFault};
+use bplist_octets::ReadFault;
+
+/// Why the linter gives no certificate.
+#[derive(Debug, Drop)]
+pub enum LintRefusal {
+    /// The first fault of the file, where it is a broken rule other than 23 Circle.
+    Fault(Fault),
+    /// The first fault of the file, where it is a circle of references: its objects, from the one that is met twice on.
+    Circle(ObjectNos),
+    /// A read failed.
+    Read(ReadFault),
+    /// A growth was refused.
+    Memory,
+}
+
+impl From<ObjectFault> for LintRefusal {
+    ghost from_gives = { λ fault e. e ≡ of_object fault };
+
+    fn from(fault: ObjectFault) -> LintRefusal {
+        match fault {
+            ObjectFault::Fault(fault) => LintRefusal::Fault(fault),
+            ObjectFault::Read(error) => LintRefusal::Read(error),
+        }
+    }
+}
+
+impl From<WalkFault> for LintRefusal {
+    ghost from_gives = { λ fault e. e ≡ of_walk fault };
+
+    fn from(fault: WalkFault) -> LintRefusal {
+        match fault {
+            WalkFault::Read(error) => LintRefusal::Read(error),
+            WalkFault::Memory => LintRefusal::Memory,
+        }
+    }
+}
+
+impl From<Refusal> for LintRefusal {
+    ghost from_gives = { λ refusal e. e ≡ of_check refusal };
+
+    fn from(refusal: Refusal) -> LintRefusal {
+        match refusal {
+            Refusal::Fault(fault) => LintRefusal::Fault(fault),
+            Refusal::Read(error) => LintRefusal::Read(error),
+            Refusal::Memory => LintRefusal::Memory,
+        }
+    }
+}

@@ -1,0 +1,83 @@
+//! Why a certificate is not upgraded.
+
+ghost use Rattle.std.specs.Prelude.{◌≡◌};
+ghost use Rattle.bplist_objects.specs.declared.fault.ObjectFault.{ObjectFault as object_fault};
+ghost use Rattle.bplist_cert.specs.declared.refusal.Refusal.{Refusal as cert_refusal};
+ghost use Rattle.bplist_lint.specs.declared.references.WalkFault.{WalkFault as walk_fault};
+
+use crate::references::WalkFault;
+use bplist_cert::Refusal;
+use bplist_objects::ObjectFault;
+use bplist_octets::ReadFault;
+use std::alloc::{AllocError, AllocFailed};
+
+/// Why a certificate of a checked file is not upgraded.
+#[derive(Clone, Copy, Debug, PartialEq, Eq, Drop)]
+pub enum UpgradeFault {
+    /// A read failed.
+    Read(ReadFault),
+    /// The source gives other bytes than when it was checked.
+    Changed,
+    /// A growth was refused.
+    Memory,
+}
+
+impl From<ObjectFault> for UpgradeFault {
+    ghost use Rattle.bplist_lint.specs.Upgrades.{of_object};
+
+    ghost from_gives = { λ fault e. e ≡ of_object fault };
+
+    fn from(fault: ObjectFault) -> UpgradeFault {
+        match fault {
+            ObjectFault::Fault(_) => UpgradeFault::Changed,
+            ObjectFault::Read(error) => UpgradeFault::Read(error),
+        }
+    }
+}
+
+impl From<Refusal> for UpgradeFault {
+    ghost use Rattle.bplist_lint.specs.Upgrades.{of_check};
+
+    ghost from_gives = { λ refusal e. e ≡ of_check refusal };
+
+    fn from(refusal: Refusal) -> UpgradeFault {
+        match refusal {
+            Refusal::Fault(_) => UpgradeFault::Changed,
+            Refusal::Read(error) => UpgradeFault::Read(error),
+            Refusal::Memory => UpgradeFault::Memory,
+        }
+    }
+}
+
+impl From<WalkFault> for UpgradeFault {
+    ghost use Rattle.bplist_lint.specs.Upgrades.{of_walk};
+
+    ghost from_gives = { λ fault e. e ≡ of_walk fault };
+
+    fn from(fault: WalkFault) -> UpgradeFault {
+        match fault {
+            WalkFault::Read(error) => UpgradeFault::Read(error),
+            WalkFault::Memory => UpgradeFault::Memory,
+        }
+    }
+}
+
+impl<T: Drop> From<AllocFailed<T>> for UpgradeFault {
+    ghost use Rattle.bplist_lint.specs.declared.upgrade_fault.UpgradeFault.TheVariants.{Memory};
+
+    ghost from_gives = { λ _ e. e ≡ Memory };
+
+    fn from(_refused: AllocFailed<T>) -> UpgradeFault {
+        UpgradeFault::Memory
+    }
+}
+
+impl From<AllocError> for UpgradeFault {
+    ghost use Rattle.bplist_lint.specs.declared.upgrade_fault.UpgradeFault.TheVariants.{Memory};
+
+    ghost from_gives = { λ _ e. e ≡ Memory };
+
+    fn from(_refused: AllocError) -> UpgradeFault {
+        UpgradeFault::Memory
+    }
+}

@@ -1,0 +1,126 @@
+//! Certificates of version 2, from those of a checked file.
+
+ghost use Rattle.std.specs.Prelude.{◌≡◌, ◌+◌, ◌≤◌, ◌<◌, ℕ, List, set, length, IsTrue, IfOk, vec_len};
+ghost use Rattle.bplist_octets.specs.Meaning.{OnlyReads};
+ghost use Rattle.bplist_objects.specs.Frame.{off, IsFrame};
+ghost use Rattle.bplist_objects.specs.Safe.{IsSafe};
+ghost use Rattle.bplist_cert.specs.Valid.{IsVouchedBy, IsValid};
+ghost use Rattle.bplist_lint.specs.Referring.{AreOffsets};
+ghost use Rattle.bplist_lint.specs.Upgraded.{Listed, IsUpgraded};
+ghost use Rattle.bplist_lint.specs.Upgrades.{Upgrades, upgrade_failed};
+
+use crate::places::places_of;
+use crate::upgrade_fault::UpgradeFault;
+use bplist_cert::{Certificate, Checked, KeyLists, list_keys};
+use bplist_objects::{Frame, Kind, ObjectNo, shape_at};
+use bplist_octets::Source;
+use std::alloc::Global;
+
+/// Puts the key list of vouched object `n`, which stands at `place`, behind the positions, where it is a dictionary. The
+/// start of the list, 0 for any other object.
+fn list_object<S: Source>(
+    alloc: Global,
+    src: &mut S,
+    frame: &Frame,
+    n: u32,
+    place: u64,
+    positions: &mut Vec<u32>,
+) -> Result<u32, UpgradeFault>
+    requires safe { IsSafe (length (S.means src.old).octets) frame.now }
+    requires within { n < frame.now.objects }
+    requires few { vec_len positions.old ≤ 4294967295 }
+    ensures reads { OnlyReads (upgrade_failed result) (S.means src.old) (S.means src.new) }
+    ensures few { IfOk result (λ _. vec_len positions.new ≤ 4294967295) }
+    ensures exact { IsTrue (S.means src.old).honest → IsFrame (S.means src.old).octets frame.now
+        → place ≡ off (S.means src.old).octets frame.now n → (heights starts : List ℕ)
+        → IsValid (S.means src.old).octets frame.now heights → IsVouchedBy heights n → n < length starts
+        → Listed (S.means src.old).octets frame.now heights n starts positions.old.items
+        → Upgrades (λ start. Listed (S.means src.old).octets frame.now heights (n + 1) (set starts n start) positions.new.items) result }
+{
+    let n = ObjectNo(n);
+    let head = shape_at(src, frame, n, place)?;
+    match head.kind {
+        Kind::Dict => {
+            let start = positions.len() as u32;
+            if head.count > (u32::MAX - start) as u64 {
+                return Err(UpgradeFault::Changed);
+            }
+            list_keys(alloc, src, frame, n, &head, positions)?;
+            Ok(start)
+        }
+        _ => Ok(0),
+    }
+}
+
+/// The key lists of the vouched dictionaries, one behind the other in the order of the objects.
+fn list_all<S: Source>(
+    alloc: Global,
+    src: &mut S,
+    frame: &Frame,
+    places: &[u32],
+    heights: &[u32],
+) -> Result<KeyLists, UpgradeFault>
+    requires safe { IsSafe (length (S.means src.old).octets) frame.now }
+    requires places { length places.now ≡ frame.now.objects }
+    requires heights { length heights.now ≡ frame.now.objects }
+    ensures reads { OnlyReads (upgrade_failed result) (S.means src.old) (S.means src.new) }
+    ensures starts { IfOk result (λ keys. length keys.starts ≡ frame.now.objects) }
+    ensures exact { IsTrue (S.means src.old).honest → AreOffsets (S.means src.old).octets frame.now places.now
+        → IsValid (S.means src.old).octets frame.now heights.now
+        → Upgrades (λ keys. Listed (S.means src.old).octets frame.now heights.now frame.now.objects keys.starts keys.positions) result }
+{
+    let mut starts = vec![in alloc; 0; frame.objects as usize]?;
+    let mut positions = Vec::new(alloc);
+    for n in 0..frame.objects {
+        if heights[n as usize] > 0 {
+            let place = places[n as usize] as u64;
+            starts[n as usize] = list_object(alloc, src, frame, n, place, &mut positions)?;
+        }
+    }
+    Ok(KeyLists { starts, positions })
+}
+
+/// The key lists of the vouched dictionaries of a file, where the heights are given.
+fn list_keys_of<S: Source>(
+    alloc: Global,
+    src: &mut S,
+    frame: &Frame,
+    heights: &[u32],
+) -> Result<KeyLists, UpgradeFault>
+    requires safe { IsSafe (length (S.means src.old).octets) frame.now }
+    requires heights { length heights.now ≡ frame.now.objects }
+    ensures reads { OnlyReads (upgrade_failed result) (S.means src.old) (S.means src.new) }
+    ensures starts { IfOk result (λ keys. length keys.starts ≡ frame.now.objects) }
+    ensures exact { IsTrue (S.means src.old).honest → IsValid (S.means src.old).octets frame.now heights.now
+        → Upgrades (λ keys. Listed (S.means src.old).octets frame.now heights.now frame.now.objects keys.starts keys.positions) result }
+{
+    let places = places_of(alloc, src, frame)?;
+    list_all(alloc, src, frame, &places, heights)
+}
+
+/// The certificate of version 2 of a checked file: its heights, and the key lists of the vouched dictionaries one behind
+/// the other in the order of the objects. The start of each list, an empty one too, is the number of positions before
+/// it; all other starts are 0. Where the source is honest, `check` accepts it.
+///
+/// `Read` is answered where a read of the source failed, and `Memory` where a growth was refused. `Changed` says that the
+/// source gives other bytes than when it was checked, which an honest one never does. The checked file stays as it was,
+/// but for the count of failures.
+pub fn upgrade<S: Source>(
+    alloc: Global,
+    checked: &mut Checked<S>,
+) -> Result<Certificate, UpgradeFault>
+    ensures source { OnlyReads (upgrade_failed result) checked.old.source checked.new.source }
+    ensures frame { checked.new.frame ≡ checked.old.frame }
+    ensures certificate { checked.new.certificate ≡ checked.old.certificate }
+    ensures heights { IfOk result (λ certificate. certificate.heights ≡ checked.old.certificate.heights) }
+    ensures exact { IsTrue checked.old.source.honest → Upgrades (λ certificate.
+        ∥ IsUpgraded checked.old.source.octets checked.old.frame checked.old.certificate.heights certificate ∥₁) result }
+{
+    let frame = checked.frame();
+    let heights = checked.certificate().heights.to_vec(alloc)?;
+    let keys = list_keys_of(alloc, checked, &frame, &heights)?;
+    Ok(Certificate {
+        heights,
+        keys: Some(keys),
+    })
+}

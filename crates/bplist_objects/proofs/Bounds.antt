@@ -1,0 +1,80 @@
+-- What safe frames and heads bound: places of references, counts, and how many references there are.
+use Rattle.std.proofs.Common.{◌≡◌, ℕ, ◌<◌, ◌≤◌, ◌+◌, ◌*◌, ◌^◌, List, length, ap, ◌∙◌, arith}
+use Rattle.std.proofs.Math.Nat.{mul-le-mul_left, mul-le-mul_right, mul_assoc, mul_comm}
+use Rattle.bplist_objects.specs.declared.frame.Frame.{Frame}
+use Rattle.bplist_objects.specs.declared.kind.Kind.{Kind}
+use Rattle.bplist_objects.specs.declared.kind.Kind.TheVariants as kinds
+use Rattle.bplist_objects.specs.declared.head.Head.{Head}
+use Rattle.bplist_objects.specs.Frame.{IsFrame}
+use Rattle.bplist_objects.specs.Heads.{unit, IsFront, HasShape}
+use Rattle.bplist_objects.specs.Safe.{MayCount, ref_count, IsSafe, IsSafeFrame, IsSafeHead}
+use Rattle.bplist_objects.proofs.BodyLaws.{refs_fit}
+use Rattle.bplist_objects.proofs.ShapeLaws.{unit-pos}
+
+-- a frame is safe
+pub frame_safe : (f : List ℕ) (F : Frame) → IsFrame f F → IsSafeFrame (length f) F
+frame_safe f F frame = record {
+  safe = record {
+    offset_low = frame.offset_size.0;
+    offset_high = frame.offset_size.1;
+    ref_low = frame.ref_size.0;
+    ref_high = frame.ref_size.1;
+    room = omega (arith, frame.whole);
+  };
+  top = frame.top;
+  table = frame.table_early;
+}
+
+-- the count before a body is one that its kind may have
+front_may : (kind : Kind) (count : ℕ) (front : List ℕ) → IsFront kind count front → MayCount kind count
+front_may kinds.Null count front i = i.0
+front_may kinds.False count front i = i.0
+front_may kinds.True count front i = i.0
+front_may kinds.Int count front i = (i.0, i.1, i.2)
+front_may kinds.Real count front i = (i.0, i.1, i.2, i.3)
+front_may kinds.Date count front i = i.0
+front_may kinds.Uid count front i = (i.0, i.1)
+front_may _ count front i = tt
+
+-- the head of an object is safe
+pub shape_safe : (f : List ℕ) (F : Frame) (n : ℕ) (head : Head) → HasShape f F n head → IsSafeHead F head
+shape_safe f F n head h = record { may = front_may head.kind head.count h.front h.is_front; body = omega (arith, h.«end»); table = h.inside }
+
+module _ (F : Frame) (head : Head) (safe : IsSafeHead F head) (low : 1 ≤ F.ref_size) where
+  -- a body has no more items than bytes before the table
+  pub count_fits : head.body + head.count ≤ F.table
+  count_fits =
+      let one : head.count * 1 ≤ head.count * unit F.ref_size head.kind = mul-le-mul_left head.count (unit-pos F.ref_size head.kind low) in
+      omega (arith, one, safe.body, safe.table)
+
+  -- nor more references
+  pub refs_below : head.body + ref_count head.kind head.count ≤ F.table
+  refs_below = omega (arith, (refs_fit F.ref_size head.count head.kind low).1, safe.body, safe.table)
+
+-- references lie in the body
+refs_inside : (r count : ℕ) (kind : Kind) → ref_count kind count * r ≤ count * unit r kind
+refs_inside r c kinds.Array = omega arith
+refs_inside r c kinds.Set = omega arith
+refs_inside r c kinds.Dict = let turned : (2 * c) * r ≡ c * (2 * r) = ap (λ x. x * r) (mul_comm 2 c) ∙ mul_assoc c 2 r in omega (arith, turned)
+refs_inside r c _ = omega arith
+
+-- a reference lies before the table
+pub place_fits : (F : Frame) (head : Head) → IsSafeHead F head → (i : ℕ) → i < ref_count head.kind head.count → head.body + (i + 1) * F.ref_size ≤ F.table
+place_fits F head safe i l =
+    let below : (i + 1) * F.ref_size ≤ ref_count head.kind head.count * F.ref_size = mul-le-mul_right F.ref_size (omega (arith, l)) in
+    omega (arith, below, refs_inside F.ref_size head.count head.kind, safe.body, safe.table)
+
+-- over a source of fewer than 2^64 bytes there are fewer references than that, and as few items
+pub refs_within : (len : ℕ) (F : Frame) (head : Head) → IsSafe len F → len < 2 ^ 64 → IsSafeHead F head → (ref_count head.kind head.count < 2 ^ 64) × (head.count < 2 ^ 64)
+refs_within len F head frame short safe =
+    let r = refs_below F head safe frame.ref_low in
+    let c = count_fits F head safe frame.ref_low in
+    let t = frame.room in
+    (omega (arith, r, t, short), omega (arith, c, t, short))
+
+-- where the table begins within the first 2^32 bytes there are fewer than 2^62 of each
+pub refs_small : (F : Frame) (head : Head) → 1 ≤ F.ref_size → F.table ≤ 2 ^ 32 → IsSafeHead F head → (ref_count head.kind head.count < 2 ^ 62) × (head.count < 2 ^ 62)
+refs_small F head low table safe =
+    let r = refs_below F head safe low in
+    let c = count_fits F head safe low in
+    (omega (arith, r, table), omega (arith, c, table))

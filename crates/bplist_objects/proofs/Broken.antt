@@ -1,0 +1,34 @@
+-- A rule that is kept is not broken.
+use Rattle.std.proofs.Common.{ℕ, List, [], ◌∷◌, Option, arith, inl, inr}
+use Rattle.bplist_objects.specs.declared.rule.Rule.{Rule}
+use Rattle.bplist_objects.specs.declared.rule.Rule.TheVariants as rules
+use Rattle.bplist_objects.specs.declared.fault.Fault.{Fault}
+use Rattle.bplist_objects.specs.declared.frame.Frame.{Frame}
+use Rattle.bplist_objects.specs.declared.frame.ObjectNo.{ObjectNo}
+use Rattle.bplist_objects.specs.Rules.{KeepsAll, IsFirstFault}
+use Rattle.bplist_objects.specs.ObjectRules.{KeepsByObject, BreaksByObject, BreaksAt, IsObjectFault}
+
+-- a rule that is kept is not broken
+pub kept_or_broken : (f : List ℕ) (F : Frame) (n : ℕ) (rule : Rule) (place : ℕ) → KeepsByObject f F n rule → BreaksByObject f F n rule place → ⊥
+kept_or_broken f F n rules.OffsetLow place k b = omega (arith, b.0)
+kept_or_broken f F n rules.Marker place k b = b.0 k
+kept_or_broken f F n rules.Count place k b = b.2 (k b.0 b.1)
+kept_or_broken f F n rules.Extent place k (inl b, p) = let l = k.0 b.0 in omega arith
+kept_or_broken f F n rules.Extent place k (inr (head, has, late), p) = let l = k.1 head has in omega arith
+kept_or_broken f F n rules.NotAscii place k (head, i, has, kind, first, p) =
+    let l = k head has kind i first.within in omega (arith, first.high)
+kept_or_broken f F n rules.UidLarge place k (head, has, kind, large, p) = let l = k head has kind in omega arith
+kept_or_broken f F n rules.RefHigh place k (head, i, has, first, p) =
+    let l = k head has i first.within in omega (arith, first.high)
+kept_or_broken f F n _ place k b = absurd b
+
+-- where all rules are kept no fault is the first
+pub no_first_fault : (keeps : Rule → Type 0) (breaks : Rule → Option ObjectNo → ℕ → Type 0) → ((rule : Rule) (object : Option ObjectNo) (place : ℕ) → keeps rule → breaks rule object place → ⊥) → (rules : List Rule) (fault : Fault) → KeepsAll keeps rules → IsFirstFault keeps breaks rules fault → ⊥
+no_first_fault keeps breaks never [] fault kept h = h
+no_first_fault keeps breaks never (rule ∷ rules) fault kept (inl h) = never rule fault.object fault.place kept.0 h.1
+no_first_fault keeps breaks never (rule ∷ rules) fault kept (inr h) = no_first_fault keeps breaks never rules fault kept.1 h.1
+
+-- an object that keeps rules breaks none of them
+pub no_object_fault : (f : List ℕ) (F : Frame) (n : ℕ) (rules : List Rule) (fault : Fault) → KeepsAll (KeepsByObject f F n) rules → IsObjectFault f F n rules fault → ⊥
+no_object_fault f F n rules fault kept h =
+    no_first_fault (KeepsByObject f F n) (BreaksAt f F n) (λ rule object place k b. kept_or_broken f F n rule place k b.1) rules fault kept h

@@ -1,0 +1,96 @@
+-- Running sums of extents.
+use Rattle.std.proofs.Common.{◌≡◌, ℕ, zero, suc, ◌<◌, ◌≤◌, ◌+◌, ◌-◌, ◌⊎◌, inl, inr, List, [], ◌∷◌, refl, sym, ap, ◌∙◌, subst, arith, Contains}
+use Rattle.std.specs.List.{AllByRecursion}
+use Rattle.std.proofs.lemmas.Bool.{cases_lt}
+use Rattle.bplist_objects.specs.declared.frame.Frame.{Frame}
+use Rattle.bplist_objects.specs.declared.head.Head.{Head}
+use Rattle.bplist_objects.specs.Frame.{off}
+use Rattle.bplist_objects.specs.Heads.{HasShape}
+use Rattle.bplist_objects.specs.Reach.{Differ}
+use Rattle.bplist_objects.specs.Extents.{HasExtent, TakeOctets, AtMost, HaveRoom}
+use Rattle.bplist_objects.proofs.Fronts.{one_shape}
+use Rattle.bplist_objects.proofs.Lists.{all_weaker, all_at, all_from}
+
+module _ (f : List ℕ) (F : Frame) where
+  -- an object has one extent
+  pub extent_one : (n e e' : ℕ) → HasExtent f F n e → HasExtent f F n e' → e ≡ e'
+  extent_one n e e' h h' =
+      let s = ap (λ (x : Head). x.end) (one_shape f F n h.0 h'.0 h.1 h'.1) in
+      omega (arith, h.2, h'.2, s)
+
+  -- an object with a head takes what lies between its place and the head's end
+  pub shape_extent : (n : ℕ) (head : Head) → HasShape f F n head → HasExtent f F n (head.«end» - off f F n)
+  shape_extent n head h = (head, h, omega (arith, h.body, h.«end»))
+
+  -- fewer objects have room too
+  pub room_weaker : (S T : ℕ → Type 0) → ((n : ℕ) → T n → S n) → HaveRoom f F S → HaveRoom f F T
+  room_weaker S T h room ns r d a t = room ns r d (all_weaker T S h ns a) t
+
+  -- what is left of a list of objects of S up to n without n
+  record Left (S : ℕ → Type 0) (n e : ℕ) (ns : List ℕ) (t : ℕ) : Type 0 where
+    rest : List ℕ
+    sum : ℕ
+    differ : Differ rest
+    below : AllByRecursion (λ m. S m × (m < n)) rest
+    take : TakeOctets f F rest sum
+    most : t ≤ e + sum
+    part : (m : ℕ) → Contains rest m → Contains ns m
+
+  later : (x m : ℕ) (xs : List ℕ) → Contains xs m → Contains (x ∷ xs) m
+  later x m xs c = (suc c.0, omega (arith, c.1), c.2)
+
+  first_or_later : (x m : ℕ) (xs : List ℕ) → Contains (x ∷ xs) m → (x ≡ m) ⊎ Contains xs m
+  first_or_later x m xs (zero, l, e) = inl e
+  first_or_later x m xs (suc i, l, e) = inr (i, omega (arith, l), e)
+
+  left : (S : ℕ → Type 0) (n e : ℕ) → HasExtent f F n e → (ns : List ℕ) (t : ℕ) → Differ ns → AllByRecursion (λ m. S m × (m < suc n)) ns → TakeOctets f F ns t → Left S n e ns t
+  left S n e h [] t d a w = record { rest = []; sum = 0; differ = tt; below = tt; take = refl; most = omega (arith, w); part = λ m c. c }
+  left S n e h (x ∷ xs) t d a w = go (left S n e h xs w.1 d.1 a.1 w.3) (cases_lt x n)
+    where
+      go : Left S n e xs w.1 → (x < n) ⊎ (n ≤ x) → Left S n e (x ∷ xs) t
+      go l (inl lt) = record {
+        rest = x ∷ l.rest;
+        sum = w.0 + l.sum;
+        differ = (λ c. d.0 (l.part x c), l.differ);
+        below = ((a.0.0, lt), l.below);
+        take = (w.0, l.sum, w.2, l.take, refl);
+        most = omega (arith, w.4, l.most);
+        part = λ m c. by m c (first_or_later x m l.rest c);
+      }
+        where
+          by : (m : ℕ) → Contains (x ∷ l.rest) m → (x ≡ m) ⊎ Contains l.rest m → Contains (x ∷ xs) m
+          by m c (inl q) = (0, omega arith, q)
+          by m c (inr q) = later x m xs (l.part m q)
+      go l (inr le) =
+          let xn : x ≡ n = omega (arith, a.0.1) in
+          let same : w.0 ≡ e = extent_one n w.0 e (subst (λ y. HasExtent f F y w.0) xn w.2) h in
+          record {
+            rest = xs;
+            sum = w.1;
+            differ = d.1;
+            below = all_from _ xs (λ m c.
+                let p = all_at _ xs m a.1 c in
+                let ne : m ≡ n → ⊥ = λ q. d.0 (subst (Contains xs) (q ∙ sym xn) c) in
+                (p.0, omega (arith, p.1, ne)));
+            take = w.3;
+            most = omega (arith, w.4, same);
+            part = λ m c. later x m xs c;
+          }
+
+  -- the steps of a running sum over the objects in order
+  pub most_none : (S : ℕ → Type 0) → AtMost f F (λ m. S m × (m < 0)) 0
+  most_none S [] r d a t = omega (arith, t)
+  most_none S (x ∷ xs) r d a t = absurd (omega (arith, a.0.1))
+
+  pub most_more : (S : ℕ → Type 0) (n e t : ℕ) → HasExtent f F n e → AtMost f F (λ m. S m × (m < n)) t → AtMost f F (λ m. S m × (m < suc n)) (t + e)
+  most_more S n e t h most ns r d a w =
+      let l = left S n e h ns r d a w in
+      let b = most l.rest l.sum l.differ l.below l.take in
+      omega (arith, l.most, b)
+
+  pub most_same : (S : ℕ → Type 0) (n t : ℕ) → (S n → ⊥) → AtMost f F (λ m. S m × (m < n)) t → AtMost f F (λ m. S m × (m < suc n)) t
+  most_same S n t no1 most ns r d a w =
+      most ns r d (all_from _ ns (λ m c.
+      let p = all_at _ ns m a c in
+      let ne : m ≡ n → ⊥ = λ q. no1 (subst S q p.0) in
+      (p.0, omega (arith, p.1, ne)))) w

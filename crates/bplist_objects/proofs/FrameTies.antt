@@ -1,0 +1,44 @@
+-- The frame of a file, and the rules of a file as a whole.
+use Rattle.std.proofs.Common.{◌≡◌, ◌⊎◌, ℕ, ◌<◌, ◌≤◌, List, length, take, get_or, get_or-take, sym, ◌∙◌, arith, inl, inr, subst, refl}
+use Rattle.std.proofs.lemmas.Bool.{cases_lt}
+use Rattle.std.proofs.lemmas.List.{ext_get_or, length-take-le}
+use Rattle.bplist_objects.specs.declared.frame.Frame.{Frame}
+use Rattle.bplist_objects.specs.Frame.{header, trailer, IsFrame}
+use Rattle.bplist_objects.specs.Rules.{KeepsAll}
+use Rattle.bplist_objects.specs.FrameRules.{Keeps, frame_rules}
+
+-- the first eight bytes are the header's
+header_taken : (f : List ℕ) → 41 ≤ length f → ((i : ℕ) → i < 8 → get_or f i 0 ≡ get_or header i 0) → take 8 f ≡ header
+header_taken f long same =
+    let len : length (take 8 f) ≡ 8 = length-take-le 8 f (omega arith) in
+    ext_get_or 0 (take 8 f) header len (λ i l. get_or-take 8 f i 0 (omega arith) ∙ same i (omega arith))
+
+-- a size below eight bytes, or of eight
+narrow : (size bound n : ℕ) → size ≤ 8 → (size < 8 → n < bound) → (size ≡ 8) ⊎ (n < bound)
+narrow size bound n high h =
+    elim (cases_lt size 8) [
+      | inl a ↦ inr (h a)
+      | inr b ↦ inl (omega arith)
+    ]
+
+-- where all rules are kept the trailer is the frame
+pub trailer_is_frame : (f : List ℕ) → KeepsAll (Keeps f) frame_rules → IsFrame f (trailer f)
+trailer_is_frame f (large, (short, (magic, (objects, (top, (early, (late, (offset, (ref, (whole, (ref_narrow, (offset_narrow, (offsets, _))))))))))))) = record {
+  large = large;
+  short = short;
+  magic = header_taken f short magic;
+  spelled = refl;
+  objects = objects;
+  top = top;
+  table_early = early;
+  table_late = late;
+  offset_size = offset;
+  ref_size = ref;
+  whole = whole;
+  ref_narrow = narrow _ _ _ ref.1 ref_narrow;
+  offset_narrow = narrow _ _ _ offset.1 offset_narrow;
+  offsets = offsets;
+}
+
+pub kept_is_frame : (f : List ℕ) (F : Frame) → F ≡ trailer f → KeepsAll (Keeps f) frame_rules → IsFrame f F
+kept_is_frame f F e kept = subst (IsFrame f) (sym e) (trailer_is_frame f kept)

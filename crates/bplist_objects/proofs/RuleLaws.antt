@@ -1,0 +1,12 @@
+-- Laws of the first broken rule.
+use Rattle.std.proofs.Common.{ℕ, List, [], ◌∷◌, ◌++◌, Option, inr}
+use Rattle.bplist_objects.specs.declared.rule.Rule.{Rule}
+use Rattle.bplist_objects.specs.declared.fault.Fault.{Fault}
+use Rattle.bplist_objects.specs.declared.frame.ObjectNo.{ObjectNo}
+use Rattle.bplist_objects.specs.Rules.{KeepsAll, IsFirstFault}
+
+-- rules that are kept stand before the first fault of those after them
+pub first_fault_after : (keeps : Rule → Type 0) (breaks : Rule → Option ObjectNo → ℕ → Type 0) (xs ys : List Rule) (fault : Fault) → KeepsAll keeps xs → IsFirstFault keeps breaks ys fault → IsFirstFault keeps breaks (xs ++ ys) fault
+first_fault_after keeps breaks [] ys fault kept h = h
+first_fault_after keeps breaks (x ∷ xs) ys fault kept h =
+    inr (kept.0, first_fault_after keeps breaks xs ys fault kept.1 h)

@@ -1,0 +1,21 @@
+-- A head that can be read under a frame can be read without it.
+use Rattle.std.proofs.Common.{ℕ, ◌≤◌, arith}
+use Rattle.std.proofs.Math.Nat.{mul-le-mul_left}
+use Rattle.bplist_objects.specs.declared.frame.Frame.{Frame}
+use Rattle.bplist_objects.specs.declared.head.Head.{Head}
+use Rattle.bplist_objects.specs.declared.kind.Kind.{Kind}
+use Rattle.bplist_objects.specs.declared.kind.Kind.TheVariants as kinds
+use Rattle.bplist_objects.specs.Heads.{unit}
+use Rattle.bplist_objects.specs.Safe.{IsSafe, IsSafeHead, IsSafeBody}
+
+-- a wider reference takes no less
+unit-grows : (r : ℕ) (kind : Kind) → 1 ≤ r → unit 1 kind ≤ unit r kind
+unit-grows r kinds.Array h = h
+unit-grows r kinds.Set h = h
+unit-grows r kinds.Dict h = omega arith
+unit-grows r _ h = omega arith
+
+pub safe_body : (len : ℕ) (frame : Frame) (head : Head) → IsSafe len frame → IsSafeHead frame head → IsSafeBody len head
+safe_body len frame head safe h =
+    let narrow = mul-le-mul_left head.count (unit-grows frame.ref_size head.kind safe.ref_low) in
+    record { may = h.may; body = omega (arith, narrow); within = omega arith }

@@ -1,0 +1,100 @@
+-- Laws of blocks of numbers.
+use Rattle.std.proofs.Common.{◌≡◌, ℕ, ◌+◌, ◌-◌, ◌*◌, ◌<◌, ◌≤◌, List, ◌++◌, length, get_or, take, sym, ap, ◌∙◌, arith, subst, inl, inr, get_or-take}
+use Rattle.std.proofs.Math.Nat.{add-mul, mul-le-mul_right}
+use Rattle.std.proofs.lemmas.Nat.{row_fits}
+use Rattle.std.proofs.lemmas.Bool.{cases_lt}
+use Rattle.std.proofs.lemmas.List.{length-take-le, get_or_append_left, get_or-append_right}
+use Rattle.bplist_octets.specs.Octets.{part, num, AreLow, IsFirstHigh}
+use Rattle.bplist_objects.specs.Numbers.{num_at}
+use Rattle.bplist_objects.specs.Scan.{nth_number, AreNumbers, AreBelow, IsFirstNotBelow}
+use Rattle.bplist_objects.proofs.Parts.{part-part, num-part_one}
+
+-- a block of the numbers lies where they do
+pub block_within : (place count size len done now : ℕ) → place + count * size ≤ len → done + now ≤ count → (place + done * size) + now * size ≤ len
+block_within place count size len done now room h =
+    let all : (done + now) * size ≤ count * size = mul-le-mul_right size h in
+    omega (arith, add-mul done now size)
+
+-- the numbers behind some of them
+pub nth_number-behind : (f : List ℕ) (place size done k : ℕ) → nth_number f (place + done * size) size k ≡ nth_number f place size (done + k)
+nth_number-behind f place size done k =
+    ap (λ x. num_at f x size) (omega (arith, add-mul done k size))
+
+-- the numbers of a part
+pub nth_number-part : (f block : List ℕ) (place size now : ℕ) → block ≡ part f place (now * size) → (k : ℕ) → k < now → nth_number block 0 size k ≡ nth_number f place size k
+nth_number-part f block place size now e k h =
+    ap (λ b. num (part b (0 + k * size) size)) e
+    ∙ ap num (part-part f place (now * size) (0 + k * size) size (place + k * size) (let r = row_fits k size now size h (omega arith) in omega arith) (omega arith))
+
+-- numbers that are put behind those before them
+pub numbers_grown : (f into ys rest : List ℕ) (place size done k : ℕ) → done ≤ length into → ((j : ℕ) → j < done → get_or into j 0 ≡ nth_number f place size j) → AreNumbers f (place + done * size) size ys → k < done + length ys → get_or (take done into ++ (ys ++ rest)) k 0 ≡ nth_number f place size k
+numbers_grown f into ys rest place size done k within before here h =
+    let len : length (take done into) ≡ done = length-take-le done into within in
+    elim (cases_lt k done) [
+      | inl a ↦
+          get_or_append_left (take done into) (ys ++ rest) 0 k (omega arith) ∙ get_or-take done into k 0 a ∙ before k a
+      | inr b ↦
+          let same : done + (k - done) ≡ k = omega arith in
+          get_or-append_right (take done into) (ys ++ rest) done k 0 len b
+          ∙ get_or_append_left ys rest 0 (k - done) (omega arith)
+          ∙ here (k - done) (omega arith)
+          ∙ nth_number-behind f place size done (k - done)
+          ∙ ap (nth_number f place size) same
+    ]
+
+module _ (f block : List ℕ) (place size done now : ℕ) (e : block ≡ part f (place + done * size) (now * size)) where
+  -- a number of a block
+  nth_number-block : (k : ℕ) → k < now → nth_number block 0 size k ≡ nth_number f place size (done + k)
+  nth_number-block k h =
+      nth_number-part f block (place + done * size) size now e k h ∙ nth_number-behind f place size done k
+
+  -- the numbers up to one of a block
+  pub below-block : (bound i : ℕ) → i ≤ now → AreBelow f place size done bound → AreBelow block 0 size i bound → AreBelow f place size (done + i) bound
+  below-block bound i h before here k l =
+      elim (cases_lt k done) [
+        | inl a ↦ before k a
+        | inr b ↦
+            let at = nth_number-block (k - done) (omega arith) in
+            let same : done + (k - done) ≡ k = omega arith in
+            let low = here (k - done) (omega arith) in
+            subst (λ n. nth_number f place size n < bound) same (subst (λ x. x < bound) at low)
+      ]
+
+  -- the first of a block is the first of all
+  pub first-block : (bound count i : ℕ) → done + now ≤ count → AreBelow f place size done bound → IsFirstNotBelow block 0 size now bound i → IsFirstNotBelow f place size count bound (done + i)
+  first-block bound count i within before h = record {
+    within = let l = h.within in omega arith;
+    high = subst (λ x. bound ≤ x) (nth_number-block i h.within) h.high;
+    before = below-block bound i (let l = h.within in omega arith) before h.before;
+  }
+
+-- bytes by index are numbers of one byte
+byte_nth : (f : List ℕ) (k : ℕ) → k < length f → nth_number f 0 1 k ≡ get_or f k 0
+byte_nth f k h =
+    let same : 0 + k * 1 ≡ k = omega arith in
+    ap (λ j. num (part f j 1)) same ∙ num-part_one f k h
+
+module _ (f block : List ℕ) (place done now : ℕ) (e : block ≡ part f (place + done) now) (len : length block ≡ now) where
+  -- the block as one of numbers
+  numbered : block ≡ part f (place + done * 1) (now * 1)
+  numbered =
+      let from : place + done ≡ place + done * 1 = omega arith in
+      let many : now ≡ now * 1 = omega arith in
+      e ∙ ap (λ j. part f j now) from ∙ ap (part f (place + done * 1)) many
+
+  below-bytes : (i : ℕ) → i ≤ now → ((k : ℕ) → k < i → get_or block k 0 < 128) → AreBelow block 0 1 i 128
+  below-bytes i h low k l = subst (λ x. x < 128) (sym (byte_nth block k (omega arith))) (low k l)
+
+  -- the bytes up to the end of a part are low
+  pub low-part : AreBelow f place 1 done 128 → AreLow block → AreBelow f place 1 (done + now) 128
+  low-part before low =
+      below-block f block place 1 done now numbered 128 now (omega arith) before (below-bytes now (omega arith) (λ k l. low k (omega arith)))
+
+  -- the first high byte of a part is the first of all
+  pub high-part : (count i : ℕ) → done + now ≤ count → AreBelow f place 1 done 128 → IsFirstHigh block i → IsFirstNotBelow f place 1 count 128 (done + i)
+  high-part count i within before h =
+      first-block f block place 1 done now numbered 128 count i within before (record {
+        within = let l = h.within in omega arith;
+        high = subst (λ x. 128 ≤ x) (sym (byte_nth block i h.within)) h.high;
+        before = below-bytes i (let l = h.within in omega arith) h.before;
+      })

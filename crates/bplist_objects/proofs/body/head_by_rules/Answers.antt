@@ -1,0 +1,11 @@
+use Rattle.std.proofs.lemmas.Result.{err_from_is_err_and}
+use Rattle.bplist_objects.proofs.BodyLaws.{object_fault_after}
+use Rattle.bplist_objects.proofs.body.head_by_rules.Goals as goal
+
+pub returns-in_err-check_body-clause-rules : goal.returns-in_err-check_body-clause-rules
+returns-in_err-check_body-clause-rules g c = λ honest framed at.
+    let f = (g.S.Source.means c.args.src.now).octets in
+    let p = err_from_is_err_and c.from_residual-in_err-check_body.result c.from_residual-in_err-check_body.ensures.1 in
+    let shape = c.in_ok-head.ensures.rules honest framed at in
+    let body = rw c.in_ok-head.ensures.reads at c.in_err-check_body.ensures.exact in
+    rw (p.1, p.2) (object_fault_after f c.args.frame.now c.args.n.0 c.in_err-check_body.field-0.0 shape.1 (body honest at shape.0))

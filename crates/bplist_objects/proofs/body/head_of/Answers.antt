@@ -1,0 +1,16 @@
+use Rattle.bplist_objects.proofs.body.head_of.Goals as goal
+
+pub returns-clause-rules : goal.returns-clause-rules
+returns-clause-rules g c = λ honest frame.
+    let rules = rw c.in_ok-place.ensures.reads at c.head_at.ensures.rules in
+    rules honest frame (c.in_ok-place.ensures.value honest)
+
+pub returns-clause-exact : goal.returns-clause-exact
+returns-clause-exact g c = λ honest frame.
+    let exact = rw c.in_ok-place.ensures.reads at c.head_at.ensures.exact in
+    exact honest frame (c.in_ok-place.ensures.value honest)
+
+pub returns-clause-spelled : goal.returns-clause-spelled
+returns-clause-spelled g c = λ honest frame.
+    let spelled = rw c.in_ok-place.ensures.reads at c.head_at.ensures.spelled in
+    spelled honest frame (c.in_ok-place.ensures.value honest)

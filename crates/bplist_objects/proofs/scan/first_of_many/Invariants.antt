@@ -1,0 +1,16 @@
+use Rattle.std.proofs.Common.{◌≡◌, ◌≤◌, ◌-◌, IsTrue}
+use Rattle.bplist_objects.specs.Scan.{AreBelow}
+use Rattle.bplist_objects.proofs.scan.first_of_many.Given as goal
+
+-- the source is as it was, and the numbers so far are below the bound
+abbrev pub invariant-loop-done : goal.invariant-loop-done
+invariant-loop-done g l =
+    let means = g.S.Source.means in
+    record {
+      same : means l.src ≡ means l.fn.src;
+      reached : l.done ≤ l.count;
+      low : IsTrue (means l.fn.src).honest → AreBelow (means l.fn.src).octets l.place l.size l.done l.bound;
+    }
+
+abbrev pub decreases-loop-done : goal.decreases-loop-done
+decreases-loop-done g l = l.count - l.done

@@ -1,0 +1,17 @@
+use Rattle.std.proofs.Common.{◌≡◌, ℕ, ◌≤◌, ◌<◌, ◌-◌, slice_index, IsTrue}
+use Rattle.bplist_objects.specs.Scan.{nth_number}
+use Rattle.bplist_objects.proofs.text.units_in.Given as goal
+
+-- the source is as it was, and the numbers so far are there
+abbrev pub invariant-loop-done : goal.invariant-loop-done
+invariant-loop-done g l =
+    let means = g.S.Source.means in
+    record {
+      same : means l.src ≡ means l.fn.src;
+      reached : l.done ≤ l.count;
+      so_far : IsTrue (means l.fn.src).honest → (k : ℕ) → k < l.done
+          → slice_index l.into k ≡ nth_number (means l.fn.src).octets l.place l.size k;
+    }
+
+abbrev pub decreases-loop-done : goal.decreases-loop-done
+decreases-loop-done g l = l.count - l.done

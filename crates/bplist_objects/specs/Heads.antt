@@ -1,0 +1,105 @@
+-- What stands at the place of an object: its marker, its count and its body, and what they spell. Source: the format comment of CFBinaryPList.c.
+use Rattle.std.specs.Prelude.{◌≡◌, ℕ, ◌+◌, ◌*◌, ◌^◌, ◌<◌, ◌≤◌, ◌⊎◌, List, [], ◌∷◌, ◌++◌, length, drop, true, false, ⊤}
+use Rattle.std.specs.List.{AllByRecursion}
+use Rattle.bplist_octets.specs.Octets.{part, num}
+use Rattle.bplist_objects.specs.declared.frame.Frame.{Frame}
+use Rattle.bplist_objects.specs.declared.kind.Kind.{Kind}
+use Rattle.bplist_objects.specs.declared.kind.Kind.TheVariants as kinds
+use Rattle.bplist_objects.specs.declared.head.Head.{Head}
+use Rattle.bplist_objects.specs.Numbers.{integer, num_at, nums_at}
+use Rattle.bplist_objects.specs.Frame.{off}
+use Rattle.bplist_objects.specs.Value.{Leaf, null, boolean, int, real, date, bytes, text, uid}
+
+-- a marker with this high half and its count: in the low half, or as an integer object behind it
+abbrev pub IsCount : ℕ → ℕ → List ℕ → Type 0
+IsCount high count front =
+    ((count < 15) × (front ≡ (16 * high + count) ∷ []))
+    ⊎ ((w : ℕ) × (l : List ℕ) × (w ≤ 4) × (length l ≡ 2 ^ w) × (num l ≡ count) × (front ≡ (16 * high + 15) ∷ (16 + w) ∷ l))
+
+-- what stands before the body: the marker, and the count where the marker does not hold it
+abbrev pub IsFront : Kind → ℕ → List ℕ → Type 0
+IsFront kinds.Null count front = (count ≡ 0) × (front ≡ 0 ∷ [])
+IsFront kinds.False count front = (count ≡ 0) × (front ≡ 8 ∷ [])
+IsFront kinds.True count front = (count ≡ 0) × (front ≡ 9 ∷ [])
+IsFront kinds.Int count front = (w : ℕ) × (w ≤ 4) × (count ≡ 2 ^ w) × (front ≡ (16 + w) ∷ [])
+IsFront kinds.Real count front = (w : ℕ) × (2 ≤ w) × (w ≤ 3) × (count ≡ 2 ^ w) × (front ≡ (32 + w) ∷ [])
+IsFront kinds.Date count front = (count ≡ 8) × (front ≡ 51 ∷ [])
+IsFront kinds.Bytes count front = IsCount 4 count front
+IsFront kinds.Ascii count front = IsCount 5 count front
+IsFront kinds.Wide count front = IsCount 6 count front
+IsFront kinds.Uid count front = (1 ≤ count) × (count ≤ 16) × (front ≡ (127 + count) ∷ [])
+IsFront kinds.Array count front = IsCount 10 count front
+IsFront kinds.Set count front = IsCount 12 count front
+IsFront kinds.Dict count front = IsCount 13 count front
+
+-- how many bytes of the body one of the count takes, where a reference takes so many
+abbrev pub unit : ℕ → Kind → ℕ
+unit ref_size kinds.Wide = 2
+unit ref_size kinds.Array = ref_size
+unit ref_size kinds.Set = ref_size
+unit ref_size kinds.Dict = 2 * ref_size
+unit ref_size _ = 1
+
+-- what an object spells: a leaf, or a container with its references
+pub data Content : Type 0 where
+  leaf : Leaf → Content
+  array : List ℕ → Content
+  set : List ℕ → Content
+  dict : (keys values : List ℕ) → Content
+
+-- the references of an object, in the order in which they are written
+abbrev pub refs : Content → List ℕ
+refs (leaf l) = []
+refs (array ms) = ms
+refs (set ms) = ms
+refs (dict ks ms) = ks ++ ms
+
+module _ (f : List ℕ) (F : Frame) where
+  -- marker and count of object n say this head, and all of it lies before the table: none of rules 14 to 17 is broken
+  pub record HasShape (n : ℕ) (head : Head) : Type 0 where
+    pub front : List ℕ
+    pub rest : List ℕ
+    pub low : 8 ≤ off f F n
+    pub spelled : drop (off f F n) f ≡ front ++ rest
+    pub is_front : IsFront head.kind head.count front
+    pub body : head.body ≡ off f F n + length front
+    pub end : head.end ≡ head.body + head.count * unit F.ref_size head.kind
+    pub inside : head.end ≤ F.table
+
+  -- what a body of this kind and count means that starts here
+  abbrev pub content_of : Kind → ℕ → ℕ → Content
+  content_of kinds.Null count body = leaf null
+  content_of kinds.False count body = leaf (boolean false)
+  content_of kinds.True count body = leaf (boolean true)
+  content_of kinds.Int count body = leaf (int (integer (part f body count)))
+  content_of kinds.Real count body = leaf (real (part f body count))
+  content_of kinds.Date count body = leaf (date (part f body count))
+  content_of kinds.Bytes count body = leaf (bytes (part f body count))
+  content_of kinds.Ascii count body = leaf (text (part f body count))
+  content_of kinds.Wide count body = leaf (text (nums_at f body 2 count))
+  content_of kinds.Uid count body = leaf (uid (num_at f body count))
+  content_of kinds.Array count body = array (nums_at f body F.ref_size count)
+  content_of kinds.Set count body = set (nums_at f body F.ref_size count)
+  content_of kinds.Dict count body = dict (nums_at f body F.ref_size count) (nums_at f (body + count * F.ref_size) F.ref_size count)
+
+  -- what the body of an object with this head means
+  abbrev pub content_at : Head → Content
+  content_at head = content_of head.kind head.count head.body
+
+  -- an ASCII text has bytes below 128 and a UID is not too large: rules 18 and 19
+  abbrev pub IsProperLeaf : Kind → ℕ → ℕ → Type 0
+  IsProperLeaf kinds.Ascii count body = AllByRecursion (λ b. b < 128) (part f body count)
+  IsProperLeaf kinds.Uid count body = num_at f body count ≤ 4294967295
+  IsProperLeaf _ count body = ⊤
+
+  -- object n spells this content: none of rules 14 to 20 is broken
+  pub record Spells (n : ℕ) (content : Content) : Type 0 where
+    pub shape : Head
+    pub has : HasShape n shape
+    pub proper : IsProperLeaf shape.kind shape.count shape.body
+    pub means : content ≡ content_at shape
+    pub refs : AllByRecursion (λ m. m < F.objects) (refs content)
+
+  -- this is the head of object n, and the object spells what its body means
+  abbrev pub IsHeadOf : ℕ → Head → Type 0
+  IsHeadOf n head = HasShape n head × Spells n (content_at head)

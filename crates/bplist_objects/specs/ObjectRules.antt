@@ -1,0 +1,81 @@
+-- The rules 14 to 20 of an object by itself: how each is kept, and how it is broken and where. Source: the format comment of
+-- CFBinaryPList.c; all words, places and the order are profile.
+use Rattle.std.specs.Prelude.{◌≡◌, ◌⊎◌, ℕ, ◌+◌, ◌*◌, ◌<◌, ◌≤◌, List, [], ◌∷◌, slice_index, Option, Some}
+use Rattle.bplist_objects.specs.declared.rule.Rule.{Rule}
+use Rattle.bplist_objects.specs.declared.rule.Rule.TheVariants.{OffsetLow, Marker, Count, Extent, NotAscii, UidLarge, RefHigh}
+use Rattle.bplist_objects.specs.declared.fault.Fault.{Fault}
+use Rattle.bplist_objects.specs.declared.frame.ObjectNo.{ObjectNo}
+use Rattle.bplist_objects.specs.declared.frame.Frame.{Frame}
+use Rattle.bplist_objects.specs.declared.kind.Kind.TheVariants as kinds
+use Rattle.bplist_objects.specs.declared.head.Head.{Head}
+use Rattle.bplist_objects.specs.Numbers.{num_at}
+use Rattle.bplist_objects.specs.Frame.{off}
+use Rattle.bplist_objects.specs.Rules.{IsFirstFault}
+use Rattle.bplist_objects.specs.Scan.{AreBelow, IsFirstNotBelow}
+use Rattle.bplist_objects.specs.Safe.{ref_count}
+use Rattle.bplist_objects.specs.Announced.{IsMarker, IsLong, IsCountForm, HasHead}
+
+-- the rules of marker and count, in their order
+abbrev pub shape_rules : List Rule
+shape_rules = OffsetLow ∷ Marker ∷ Count ∷ Extent ∷ []
+
+-- the rules of a body, in their order
+abbrev pub body_rules : List Rule
+body_rules = NotAscii ∷ UidLarge ∷ RefHigh ∷ []
+
+-- the rules of an object by itself, in their order
+abbrev pub object_rules : List Rule
+object_rules = OffsetLow ∷ Marker ∷ Count ∷ Extent ∷ NotAscii ∷ UidLarge ∷ RefHigh ∷ []
+
+-- object n keeps a rule
+abbrev pub KeepsByObject : List ℕ → Frame → ℕ → Rule → Type 0
+KeepsByObject f F n OffsetLow = 8 ≤ off f F n
+KeepsByObject f F n Marker = IsMarker (slice_index f (off f F n))
+KeepsByObject f F n Count =
+    IsLong (slice_index f (off f F n)) → off f F n + 1 < F.table
+    → IsCountForm (slice_index f (off f F n + 1))
+KeepsByObject f F n Extent =
+    (IsLong (slice_index f (off f F n)) → off f F n + 1 < F.table)
+    × ((head : Head) → HasHead f F n head → head.«end» ≤ F.table)
+KeepsByObject f F n NotAscii =
+    (head : Head) → HasHead f F n head → head.kind ≡ kinds.Ascii → AreBelow f head.body 1 head.count 128
+KeepsByObject f F n UidLarge =
+    (head : Head) → HasHead f F n head → head.kind ≡ kinds.Uid
+    → num_at f head.body head.count ≤ 4294967295
+KeepsByObject f F n RefHigh =
+    (head : Head) → HasHead f F n head
+    → AreBelow f head.body F.ref_size (ref_count head.kind head.count) F.objects
+KeepsByObject f F n _ = Unit {0}
+
+-- object n breaks a rule, and this is the place
+abbrev pub BreaksByObject : List ℕ → Frame → ℕ → Rule → ℕ → Type 0
+BreaksByObject f F n OffsetLow place =
+    (off f F n < 8) × (place ≡ F.table + n * F.offset_size)
+BreaksByObject f F n Marker place =
+    (IsMarker (slice_index f (off f F n)) → ⊥) × (place ≡ off f F n)
+BreaksByObject f F n Count place =
+    IsLong (slice_index f (off f F n)) × (off f F n + 1 < F.table)
+    × (IsCountForm (slice_index f (off f F n + 1)) → ⊥) × (place ≡ off f F n + 1)
+BreaksByObject f F n Extent place =
+    ((IsLong (slice_index f (off f F n)) × (F.table ≤ off f F n + 1))
+    ⊎ ((head : Head) × HasHead f F n head × (F.table < head.«end»)))
+    × (place ≡ off f F n)
+BreaksByObject f F n NotAscii place =
+    (head : Head) × (i : ℕ) × HasHead f F n head × (head.kind ≡ kinds.Ascii)
+    × IsFirstNotBelow f head.body 1 head.count 128 i × (place ≡ head.body + i)
+BreaksByObject f F n UidLarge place =
+    (head : Head) × HasHead f F n head × (head.kind ≡ kinds.Uid)
+    × (4294967295 < num_at f head.body head.count) × (place ≡ off f F n)
+BreaksByObject f F n RefHigh place =
+    (head : Head) × (i : ℕ) × HasHead f F n head
+    × IsFirstNotBelow f head.body F.ref_size (ref_count head.kind head.count) F.objects i
+    × (place ≡ head.body + i * F.ref_size)
+BreaksByObject f F n _ place = ⊥
+
+-- the same, where this is the object that is named
+abbrev pub BreaksAt : List ℕ → Frame → ℕ → Rule → Option ObjectNo → ℕ → Type 0
+BreaksAt f F n rule object place = (object ≡ Some (record { 0 = n })) × BreaksByObject f F n rule place
+
+-- the fault is that of the first of these rules that object n breaks
+abbrev pub IsObjectFault : List ℕ → Frame → ℕ → List Rule → Fault → Type 0
+IsObjectFault f F n rules fault = IsFirstFault (KeepsByObject f F n) (BreaksAt f F n) rules fault

@@ -1,0 +1,55 @@
+-- With which frames and heads the parts of a file can be read, whatever its source gives. Source: profile.
+use Rattle.std.specs.Prelude.{◌≡◌, ℕ, ◌+◌, ◌*◌, ◌^◌, ◌<◌, ◌≤◌, List, [], ◌∷◌}
+use Rattle.bplist_objects.specs.declared.frame.Frame.{Frame}
+use Rattle.bplist_objects.specs.declared.head.Head.{Head}
+use Rattle.bplist_objects.specs.declared.kind.Kind.{Kind}
+use Rattle.bplist_objects.specs.declared.kind.Kind.TheVariants as kinds
+use Rattle.bplist_objects.specs.Heads.{unit}
+
+-- with this frame a source of so many bytes can be read: the sizes are 1 to 8, and the table lies within
+pub record IsSafe (len : ℕ) (frame : Frame) : Type 0 where
+  pub offset_low : 1 ≤ frame.offset_size
+  pub offset_high : frame.offset_size ≤ 8
+  pub ref_low : 1 ≤ frame.ref_size
+  pub ref_high : frame.ref_size ≤ 8
+  pub room : frame.table + frame.objects * frame.offset_size ≤ len
+
+-- besides, the top is an object, and there is an object's room before the table
+pub record IsSafeFrame (len : ℕ) (frame : Frame) : Type 0 where
+  pub safe : IsSafe len frame
+  pub top : frame.top.0 < frame.objects
+  pub table : 9 ≤ frame.table
+
+-- the counts that a kind may have
+abbrev pub MayCount : Kind → ℕ → Type 0
+MayCount kinds.Null count = count ≡ 0
+MayCount kinds.False count = count ≡ 0
+MayCount kinds.True count = count ≡ 0
+MayCount kinds.Int count = (w : ℕ) × (w ≤ 4) × (count ≡ 2 ^ w)
+MayCount kinds.Real count = (w : ℕ) × (2 ≤ w) × (w ≤ 3) × (count ≡ 2 ^ w)
+MayCount kinds.Date count = count ≡ 8
+MayCount kinds.Uid count = (1 ≤ count) × (count ≤ 16)
+MayCount _ count = Unit {0}
+
+-- how many references a head has
+abbrev pub ref_count : Kind → ℕ → ℕ
+ref_count kinds.Array count = count
+ref_count kinds.Set count = count
+ref_count kinds.Dict count = 2 * count
+ref_count _ count = 0
+
+-- with this head the parts of an object can be read under this frame: they lie before the table
+pub record IsSafeHead (frame : Frame) (head : Head) : Type 0 where
+  pub may : MayCount head.kind head.count
+  pub body : head.body + head.count * unit frame.ref_size head.kind ≤ head.«end»
+  pub table : head.«end» ≤ frame.table
+
+-- with this head the bytes of an object can be read from a source of so many bytes
+pub record IsSafeBody (len : ℕ) (head : Head) : Type 0 where
+  pub may : MayCount head.kind head.count
+  pub body : head.body + head.count * unit 1 head.kind ≤ head.«end»
+  pub within : head.«end» ≤ len
+
+-- a frame as numbers
+abbrev pub frame_numbers : Frame → List ℕ
+frame_numbers frame = frame.offset_size ∷ frame.ref_size ∷ frame.objects ∷ frame.top.0 ∷ frame.table ∷ []

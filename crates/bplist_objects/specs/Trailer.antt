@@ -1,0 +1,13 @@
+-- The numbers of a trailer as a frame. Source: the format comment of CFBinaryPList.c.
+use Rattle.bplist_objects.specs.declared.frame.Trailer.{Trailer}
+use Rattle.bplist_objects.specs.declared.frame.Frame.{Frame}
+
+-- the frame of these five numbers
+abbrev pub told : Trailer → Frame
+told t = record {
+  offset_size = t.offset_size;
+  ref_size = t.ref_size;
+  objects = t.objects;
+  top = record { 0 = t.top };
+  table = t.table;
+}

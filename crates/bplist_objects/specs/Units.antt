@@ -1,0 +1,30 @@
+-- The units of a text, and the order of lists of units. Source: the format comment of CFBinaryPList.c; the order: profile.
+use Rattle.std.specs.Prelude.{ℕ, List, []}
+use Rattle.std.specs.declared.cmp.Ordering.{Ordering}
+use Rattle.std.specs.Ordering.{nat_cmp}
+use Rattle.std.specs.Cmp.Lexicographic.{slice_cmp}
+use Rattle.bplist_octets.specs.Octets.{part}
+use Rattle.bplist_objects.specs.declared.kind.Kind.{Kind}
+use Rattle.bplist_objects.specs.declared.kind.Kind.TheVariants as kinds
+use Rattle.bplist_objects.specs.declared.head.Head.{Head}
+use Rattle.bplist_objects.specs.Numbers.{nums_at}
+
+-- the kinds of texts
+abbrev pub IsTextKind : Kind → Type 0
+IsTextKind kinds.Ascii = Unit {0}
+IsTextKind kinds.Wide = Unit {0}
+IsTextKind _ = ⊥
+
+-- so many units of a text of this kind from a place on: a byte is the unit of the same number
+abbrev pub units_at : List ℕ → Kind → ℕ → ℕ → List ℕ
+units_at f kinds.Ascii count at = part f at count
+units_at f kinds.Wide count at = nums_at f at 2 count
+units_at f _ count at = []
+
+-- the units of the text with this head
+abbrev pub units_of : List ℕ → Head → List ℕ
+units_of f head = units_at f head.kind head.count head.body
+
+-- lists of units in their order: unit by unit, and a proper prefix before the longer
+abbrev pub compare_units : List ℕ → List ℕ → Ordering
+compare_units us vs = slice_cmp nat_cmp us vs

@@ -1,0 +1,36 @@
+-- Values: finite trees. Source: the format comment of CFBinaryPList.c for the kinds; that a text forgets how it was spelled and an integer how wide it was is this project's choice (profile).
+use Rattle.std.specs.Prelude.{ℕ, ℤ, List, [], ◌∷◌, Bool}
+
+-- a value without parts: numbers and dates as their bytes or their number, a text as its UTF-16 units
+pub data Leaf : Type 0 where
+  null : Leaf
+  boolean : Bool → Leaf
+  int : ℤ → Leaf
+  real : List ℕ → Leaf
+  date : List ℕ → Leaf
+  bytes : List ℕ → Leaf
+  text : List ℕ → Leaf
+  uid : ℕ → Leaf
+
+mutual
+  -- a value: a leaf, or a container with its members in the order in which the file lists them
+  pub data Value : Type 0 where
+    leaf : Leaf → Value
+    array : Values → Value
+    set : Values → Value
+    dict : Pairs → Value
+
+  -- values in order
+  pub data Values : Type 0 where
+    no_values : Values
+    value : Value → Values → Values
+
+  -- pairs in order, each of a key's units and its value
+  pub data Pairs : Type 0 where
+    no_pairs : Pairs
+    pair : List ℕ → Value → Pairs → Pairs
+
+-- the units of the keys, in order
+abbrev pub keys : Pairs → List (List ℕ)
+keys no_pairs = []
+keys (pair k v ps) = k ∷ keys ps

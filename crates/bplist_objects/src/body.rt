@@ -1,0 +1,207 @@
+//! The bodies of objects, and heads by all rules of an object by itself.
+
+ghost use Rattle.std.specs.Prelude.{◌≡◌, ◌+◌, ◌*◌, ◌≤◌, ◌<◌, IsTrue, IfOk, length};
+ghost use Rattle.bplist_octets.specs.Meaning.{OnlyReads};
+ghost use Rattle.bplist_objects.specs.Numbers.{num_at};
+ghost use Rattle.bplist_objects.specs.Frame.{off, IsFrame};
+ghost use Rattle.bplist_objects.specs.Safe.{IsSafe, IsSafeHead, ref_count};
+ghost use Rattle.bplist_objects.specs.Answers.{Gives, Never, read_failed};
+ghost use Rattle.bplist_objects.specs.Rules.{KeepsAll};
+ghost use Rattle.bplist_objects.specs.Scan.{AreBelow};
+ghost use Rattle.bplist_objects.specs.Announced.{HasHead};
+ghost use Rattle.bplist_objects.specs.Heads.{Content, content_at, Spells, IsHeadOf};
+ghost use Rattle.bplist_objects.specs.ObjectRules.{KeepsByObject, IsObjectFault, body_rules, object_rules};
+ghost use Rattle.bplist_objects.specs.Bodies.{IsAsciiFault, IsUidFault, IsRefFault};
+
+use crate::fault::{Fault, ObjectFault};
+use crate::frame::{Frame, ObjectNo};
+use crate::head::{Head, shape_at};
+use crate::kind::Kind;
+use crate::numbers::wide_in;
+use crate::refs::refs_of;
+use crate::rule::Rule;
+use crate::scan::{first_high_in, first_not_below};
+use crate::table::offset_of;
+use bplist_octets::Source;
+
+/// Looks for a byte of 128 or more in a text of one byte a unit.
+fn check_ascii<S: Source>(src: &mut S, n: ObjectNo, head: &Head) -> Result<(), ObjectFault>
+    requires { head.now.body + head.now.count ≤ length (S.means src.old).octets }
+    ensures reads { OnlyReads (read_failed result) (S.means src.old) (S.means src.new) }
+    ensures exact { IsTrue (S.means src.old).honest
+        → Gives (λ _. AreBelow (S.means src.old).octets head.now.body 1 head.now.count 128)
+        (IsAsciiFault (S.means src.old).octets n.0 head.now) result }
+{
+    let _len = src.len();
+    match first_high_in(src, head.body, head.count)? {
+        None => Ok(()),
+        Some(i) => Err(ObjectFault::Fault(Fault {
+            rule: Rule::NotAscii,
+            object: Some(n),
+            place: head.body + i,
+        })),
+    }
+}
+
+/// Looks at the number of a UID that stands at `place`.
+fn check_uid<S: Source>(
+    src: &mut S,
+    n: ObjectNo,
+    place: u64,
+    head: &Head,
+) -> Result<(), ObjectFault>
+    requires some { 1 ≤ head.now.count }
+    requires few { head.now.count ≤ 16 }
+    requires within { head.now.body + head.now.count ≤ length (S.means src.old).octets }
+    ensures reads { OnlyReads (read_failed result) (S.means src.old) (S.means src.new) }
+    ensures exact { IsTrue (S.means src.old).honest
+        → Gives (λ _. num_at (S.means src.old).octets head.now.body head.now.count ≤ 4294967295)
+        (IsUidFault (S.means src.old).octets n.0 place head.now) result }
+{
+    if wide_in(src, head.body, head.count as u8)? <= 4294967295 {
+        Ok(())
+    } else {
+        Err(ObjectFault::Fault(Fault {
+            rule: Rule::UidLarge,
+            object: Some(n),
+            place,
+        }))
+    }
+}
+
+/// Looks for a reference that names no object.
+fn check_refs<S: Source>(
+    src: &mut S,
+    frame: &Frame,
+    n: ObjectNo,
+    head: &Head,
+) -> Result<(), ObjectFault>
+    requires low { 1 ≤ frame.now.ref_size }
+    requires high { frame.now.ref_size ≤ 8 }
+    requires count { head.now.body + ref_count head.now.kind head.now.count ≤ head.now.«end» }
+    requires within { head.now.body + ref_count head.now.kind head.now.count * frame.now.ref_size
+        ≤ length (S.means src.old).octets }
+    ensures reads { OnlyReads (read_failed result) (S.means src.old) (S.means src.new) }
+    ensures exact { IsTrue (S.means src.old).honest
+        → Gives (λ _. AreBelow (S.means src.old).octets head.now.body frame.now.ref_size
+        (ref_count head.now.kind head.now.count) frame.now.objects)
+        (IsRefFault (S.means src.old).octets frame.now n.0 head.now) result }
+{
+    let _len = src.len();
+    let refs = refs_of(head);
+    match first_not_below(src, head.body, frame.ref_size, refs, frame.objects as u64)? {
+        None => Ok(()),
+        Some(i) => Err(ObjectFault::Fault(Fault {
+            rule: Rule::RefHigh,
+            object: Some(n),
+            place: head.body + i * frame.ref_size as u64,
+        })),
+    }
+}
+
+/// Looks at the body of an object, by its head.
+fn check_body<S: Source>(
+    src: &mut S,
+    frame: &Frame,
+    n: ObjectNo,
+    place: u64,
+    head: &Head,
+) -> Result<(), ObjectFault>
+    requires safe { IsSafe (length (S.means src.old).octets) frame.now }
+    requires head { IsSafeHead frame.now head.now }
+    ensures reads { OnlyReads (read_failed result) (S.means src.old) (S.means src.new) }
+    ensures exact { IsTrue (S.means src.old).honest → place ≡ off (S.means src.old).octets frame.now n.0
+        → HasHead (S.means src.old).octets frame.now n.0 head.now
+        → Gives (λ _. KeepsAll (KeepsByObject (S.means src.old).octets frame.now n.0) body_rules)
+        (IsObjectFault (S.means src.old).octets frame.now n.0 body_rules) result }
+{
+    match head.kind {
+        Kind::Ascii => check_ascii(src, n, head),
+        Kind::Uid => check_uid(src, n, place, head),
+        Kind::Array | Kind::Set | Kind::Dict => check_refs(src, frame, n, head),
+        _ => Ok(()),
+    }
+}
+
+/// The head of object `n`, whose place is known, or the first of rules 14 to 20 that it breaks.
+fn head_by_rules<S: Source>(
+    src: &mut S,
+    frame: &Frame,
+    n: ObjectNo,
+    place: u64,
+) -> Result<Head, ObjectFault>
+    requires safe { IsSafe (length (S.means src.old).octets) frame.now }
+    requires within { n.0 < frame.now.objects }
+    ensures reads { OnlyReads (read_failed result) (S.means src.old) (S.means src.new) }
+    ensures rules { IsTrue (S.means src.old).honest → IsFrame (S.means src.old).octets frame.now
+        → place ≡ off (S.means src.old).octets frame.now n.0
+        → Gives (λ head. HasHead (S.means src.old).octets frame.now n.0 head
+        × KeepsAll (KeepsByObject (S.means src.old).octets frame.now n.0) object_rules)
+        (IsObjectFault (S.means src.old).octets frame.now n.0 object_rules) result }
+    ensures safe { IfOk result (IsSafeHead frame.now) }
+    ensures behind { IfOk result (λ head. place < head.body) }
+{
+    let head = shape_at(src, frame, n, place)?;
+    check_body(src, frame, n, place, &head)?;
+    Ok(head)
+}
+
+/// The head of object `n`, or the first of rules 14 to 20 that it breaks.
+///
+/// `place` is the object's place as `offset_of` answers it. Over the file that the frame is of, with that
+/// place, a head is answered exactly where the object spells one. A place at or behind the table, which no
+/// such file has, is answered as OffsetHigh. Over any source and with any place the head lies before the
+/// table, and its body behind `place`.
+pub fn head_at<S: Source>(
+    src: &mut S,
+    frame: &Frame,
+    n: ObjectNo,
+    place: u64,
+) -> Result<Head, ObjectFault>
+    requires safe { IsSafe (length (S.means src.old).octets) frame.now }
+    requires within { n.0 < frame.now.objects }
+    ensures reads { OnlyReads (read_failed result) (S.means src.old) (S.means src.new) }
+    ensures rules { IsTrue (S.means src.old).honest → IsFrame (S.means src.old).octets frame.now
+        → place ≡ off (S.means src.old).octets frame.now n.0
+        → Gives (λ head. HasHead (S.means src.old).octets frame.now n.0 head
+        × KeepsAll (KeepsByObject (S.means src.old).octets frame.now n.0) object_rules)
+        (IsObjectFault (S.means src.old).octets frame.now n.0 object_rules) result }
+    ensures exact { IsTrue (S.means src.old).honest → IsFrame (S.means src.old).octets frame.now
+        → place ≡ off (S.means src.old).octets frame.now n.0
+        → Gives (IsHeadOf (S.means src.old).octets frame.now n.0)
+        (IsObjectFault (S.means src.old).octets frame.now n.0 object_rules) result }
+    ensures spelled { IsTrue (S.means src.old).honest → IsFrame (S.means src.old).octets frame.now
+        → place ≡ off (S.means src.old).octets frame.now n.0
+        → (c : Content) → Spells (S.means src.old).octets frame.now n.0 c
+        → Gives (λ head. c ≡ content_at (S.means src.old).octets frame.now head) Never result }
+    ensures safe { IfOk result (IsSafeHead frame.now) }
+    ensures behind { IfOk result (λ head. place < head.body) }
+{
+    head_by_rules(src, frame, n, place)
+}
+
+/// The head of object `n`, or the first of rules 14 to 20 that it breaks, with the object and the place,
+/// from the file's first byte.
+///
+/// The frame must fit the source and `n` must be an object. Over the file that the frame is of a head is
+/// answered exactly where the object spells one. `Read` is answered where a read failed. Over any source the
+/// head lies before the table.
+pub fn head_of<S: Source>(src: &mut S, frame: &Frame, n: ObjectNo) -> Result<Head, ObjectFault>
+    requires safe { IsSafe (length (S.means src.old).octets) frame.now }
+    requires within { n.0 < frame.now.objects }
+    ensures reads { OnlyReads (read_failed result) (S.means src.old) (S.means src.new) }
+    ensures rules { IsTrue (S.means src.old).honest → IsFrame (S.means src.old).octets frame.now
+        → Gives (λ head. HasHead (S.means src.old).octets frame.now n.0 head
+        × KeepsAll (KeepsByObject (S.means src.old).octets frame.now n.0) object_rules)
+        (IsObjectFault (S.means src.old).octets frame.now n.0 object_rules) result }
+    ensures exact { IsTrue (S.means src.old).honest → IsFrame (S.means src.old).octets frame.now
+        → Gives (IsHeadOf (S.means src.old).octets frame.now n.0)
+        (IsObjectFault (S.means src.old).octets frame.now n.0 object_rules) result }
+    ensures spelled { IsTrue (S.means src.old).honest → IsFrame (S.means src.old).octets frame.now
+        → (c : Content) → Spells (S.means src.old).octets frame.now n.0 c
+        → Gives (λ head. c ≡ content_at (S.means src.old).octets frame.now head) Never result }
+    ensures safe { IfOk result (IsSafeHead frame.now) }
+{
+    let place = offset_of(src, frame, n)?;
+    head_at(src, frame, n, place)
+}

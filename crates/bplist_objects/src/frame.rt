@@ -1,0 +1,212 @@
+//! The frame of a file: the five numbers of its trailer.
+
+ghost use Rattle.std.specs.Prelude.{◌≡◌, ℕ, ◌+◌, ◌*◌, ◌^◌, ◌≤◌, ◌<◌, List, length, IsTrue, IfOk, MatchResult};
+ghost use Rattle.bplist_octets.specs.Octets.{part, num};
+ghost use Rattle.bplist_octets.specs.Meaning.{OnlyReads};
+ghost use Rattle.bplist_objects.specs.Frame.{trailer as spelled, IsFrame};
+ghost use Rattle.bplist_objects.specs.Rules.{KeepsAll, IsFirstFault};
+ghost use Rattle.bplist_objects.specs.FrameRules.{Keeps, Breaks, IsFrameFault, number_rules, frame_rules};
+ghost use Rattle.bplist_objects.specs.Safe.{IsSafe, IsSafeFrame};
+ghost use Rattle.bplist_objects.specs.Trailer.{told};
+ghost use Rattle.bplist_objects.specs.declared.rule.Rule.TheVariants.{Magic};
+ghost use Rattle.bplist_objects.specs.declared.frame.Frame.{Frame as frame};
+ghost use Rattle.bplist_objects.specs.Answers.{Gives, Never, read_failed};
+
+use crate::fault::{Fault, ObjectFault};
+use crate::rule::Rule;
+use crate::table::check_entries;
+use bplist_octets::{Source, sized};
+
+/// The number of an object, from 0: the number of its entry in the offset table.
+#[derive(Clone, Copy, Debug, PartialEq, Eq, Drop)]
+pub struct ObjectNo(pub u32);
+
+/// What the trailer of a file says.
+#[derive(Clone, Copy, Debug, PartialEq, Eq, Drop)]
+pub struct Frame {
+    /// How many bytes an entry of the offset table has.
+    pub offset_size: u8,
+    /// How many bytes a reference has.
+    pub ref_size: u8,
+    /// How many objects there are.
+    pub objects: u32,
+    /// The object that the file is about.
+    pub top: ObjectNo,
+    /// The place of the offset table, from the file's first byte.
+    pub table: u64,
+}
+
+/// The five numbers of a trailer, not looked at yet.
+#[derive(Clone, Copy, Debug, PartialEq, Eq, Drop)]
+struct Trailer {
+    offset_size: u8,
+    ref_size: u8,
+    objects: u64,
+    top: u64,
+    table: u64,
+}
+
+const HEADER: [u8; 8] = *b"bplist00";
+
+fn fault_at(rule: Rule, place: u64) -> Fault
+    ensures rule { result.rule ≡ rule }
+    ensures object { result.object ≡ None }
+    ensures place { result.place ≡ place }
+{
+    Fault {
+        rule,
+        object: None,
+        place,
+    }
+}
+
+/// Looks at the header.
+fn check_header<S: Source>(src: &mut S) -> Result<(), ObjectFault>
+    requires { 8 ≤ length (S.means src.old).octets }
+    ensures reads { OnlyReads (read_failed result) (S.means src.old) (S.means src.new) }
+    ensures exact { IsTrue (S.means src.old).honest → Gives (λ _. Keeps (S.means src.old).octets Magic)
+        (λ fault. (fault.rule ≡ Magic) × Breaks (S.means src.old).octets Magic fault.object fault.place) result }
+{
+    let mut octets = [0u8; 8];
+    src.read_at(0, &mut octets)?;
+    for i in 0..8usize {
+        if octets[i] != HEADER[i] {
+            return Err(ObjectFault::Fault(fault_at(Rule::Magic, i as u64)));
+        }
+    }
+    Ok(())
+}
+
+/// The numbers that the 32 bytes of a trailer spell.
+fn trailer_in(octets: &[u8]) -> Trailer
+    requires { length octets.now ≡ 32 }
+    ensures offset_size { result.offset_size ≡ num (part octets.now 6 1) }
+    ensures ref_size { result.ref_size ≡ num (part octets.now 7 1) }
+    ensures objects { result.objects ≡ num (part octets.now 8 8) }
+    ensures top { result.top ≡ num (part octets.now 16 8) }
+    ensures table { result.table ≡ num (part octets.now 24 8) }
+{
+    Trailer {
+        offset_size: octets[6],
+        ref_size: octets[7],
+        objects: sized(&octets[8..16]),
+        top: sized(&octets[16..24]),
+        table: sized(&octets[24..32]),
+    }
+}
+
+/// A power of 256.
+fn power_of_256(k: u8) -> u64
+    requires { k < 8 }
+    ensures { result ≡ 256 ^ k }
+{
+    1u64 << (8 * k)
+}
+
+/// The frame that the numbers of a trailer give, in a file of so many bytes, or the first of rules 4 to 12
+/// that they break.
+fn frame_by(trailer: &Trailer, len: u64) -> Result<Frame, Fault>
+    requires low { 41 ≤ len }
+    requires high { len ≤ 4294967295 }
+    ensures exact { (f : List ℕ) → length f ≡ len → spelled f ≡ told trailer.now
+        → MatchResult result (λ x. (x ≡ told trailer.now) × KeepsAll (Keeps f) number_rules)
+        (IsFirstFault (Keeps f) (Breaks f) number_rules) }
+    ensures safe { IfOk result (IsSafeFrame len) }
+{
+    let Trailer {
+        offset_size,
+        ref_size,
+        objects,
+        top,
+        table,
+    } = *trailer;
+    if objects < 1 {
+        return Err(fault_at(Rule::NoObjects, len - 24));
+    }
+    if objects <= top {
+        return Err(fault_at(Rule::Top, len - 16));
+    }
+    if table < 9 {
+        return Err(fault_at(Rule::TableEarly, len - 8));
+    }
+    if len - 32 <= table {
+        return Err(fault_at(Rule::TableLate, len - 8));
+    }
+    if offset_size < 1 || offset_size > 8 {
+        return Err(fault_at(Rule::OffsetSize, len - 26));
+    }
+    if ref_size < 1 || ref_size > 8 {
+        return Err(fault_at(Rule::RefSize, len - 25));
+    }
+    let room = len - 32 - table;
+    // Each entry has a byte at least. With no more objects than bytes the product is far below 2^64.
+    if objects > room || objects * offset_size as u64 != room {
+        return Err(fault_at(Rule::Length, len - 32));
+    }
+    if ref_size < 8 && power_of_256(ref_size) <= objects {
+        return Err(fault_at(Rule::RefNarrow, len - 25));
+    }
+    if offset_size < 8 && power_of_256(offset_size) <= table {
+        return Err(fault_at(Rule::OffsetNarrow, len - 26));
+    }
+    Ok(Frame {
+        offset_size,
+        ref_size,
+        objects: objects as u32,
+        top: ObjectNo(top as u32),
+        table,
+    })
+}
+
+/// The frame that the trailer gives, or the first of rules 4 to 12 that its numbers break.
+fn numbers_of<S: Source>(src: &mut S) -> Result<Frame, ObjectFault>
+    requires low { 41 ≤ length (S.means src.old).octets }
+    requires high { length (S.means src.old).octets ≤ 4294967295 }
+    ensures reads { OnlyReads (read_failed result) (S.means src.old) (S.means src.new) }
+    ensures exact { IsTrue (S.means src.old).honest
+        → Gives (λ x. (x ≡ spelled (S.means src.old).octets) × KeepsAll (Keeps (S.means src.old).octets) number_rules)
+        (IsFirstFault (Keeps (S.means src.old).octets) (Breaks (S.means src.old).octets) number_rules) result }
+    ensures safe { IfOk result (IsSafeFrame (length (S.means src.old).octets)) }
+{
+    let len = src.len();
+    let mut octets = [0u8; 32];
+    src.read_at(len - 32, &mut octets)?;
+    Ok(frame_by(&trailer_in(&octets), len)?)
+}
+
+/// The frame by the rules that it keeps, or the first broken rule.
+fn frame_by_rules<S: Source>(src: &mut S) -> Result<Frame, ObjectFault>
+    ensures reads { OnlyReads (read_failed result) (S.means src.old) (S.means src.new) }
+    ensures exact { IsTrue (S.means src.old).honest
+        → Gives (λ x. (x ≡ spelled (S.means src.old).octets) × KeepsAll (Keeps (S.means src.old).octets) frame_rules)
+        (IsFrameFault (S.means src.old).octets) result }
+    ensures safe { IfOk result (IsSafeFrame (length (S.means src.old).octets)) }
+{
+    let len = src.len();
+    if len > 4294967295 {
+        return Err(ObjectFault::Fault(fault_at(Rule::TooLarge, len)));
+    }
+    if len < 41 {
+        return Err(ObjectFault::Fault(fault_at(Rule::TooShort, len)));
+    }
+    check_header(src)?;
+    let frame = numbers_of(src)?;
+    check_entries(src, &frame)?;
+    Ok(frame)
+}
+
+/// The frame of the file, or the fault of the first of rules 1 to 13 that is broken, in their order. The
+/// fault names an object where rule 13 OffsetHigh is broken, and its place counts from the file's first
+/// byte. Where the source is honest a frame is answered exactly where the file has one. `Read` is answered
+/// where a read failed. Over any source the frame fits it: its sizes are 1 to 8, its table lies within, and
+/// its top is an object.
+pub fn frame_of<S: Source>(src: &mut S) -> Result<Frame, ObjectFault>
+    ensures reads { OnlyReads (read_failed result) (S.means src.old) (S.means src.new) }
+    ensures exact { IsTrue (S.means src.old).honest
+        → Gives (IsFrame (S.means src.old).octets) (IsFrameFault (S.means src.old).octets) result }
+    ensures framed { IsTrue (S.means src.old).honest → (x : frame) → IsFrame (S.means src.old).octets x
+        → Gives (λ y. y ≡ x) Never result }
+    ensures safe { IfOk result (IsSafeFrame (length (S.means src.old).octets)) }
+{
+    frame_by_rules(src)
+}

@@ -1,0 +1,151 @@
+//! The heads of objects: what marker and count say.
+
+ghost use Rattle.std.specs.Prelude.{◌≡◌, ℕ, ◌+◌, ◌*◌, ◌≤◌, ◌<◌, IsTrue, IfOk, length};
+ghost use Rattle.bplist_octets.specs.Meaning.{OnlyReads};
+ghost use Rattle.bplist_objects.specs.Frame.{off, IsFrame};
+ghost use Rattle.bplist_objects.specs.Safe.{IsSafe, IsSafeHead};
+ghost use Rattle.bplist_objects.specs.Answers.{Gives, Never, read_failed};
+ghost use Rattle.bplist_objects.specs.Rules.{KeepsAll};
+ghost use Rattle.bplist_objects.specs.Announced.{HasHead};
+ghost use Rattle.bplist_objects.specs.Heads.{HasShape};
+ghost use Rattle.bplist_objects.specs.declared.head.Head.{Head as head};
+ghost use Rattle.bplist_objects.specs.ObjectRules.{KeepsByObject, IsObjectFault, shape_rules};
+
+use crate::count::count_of;
+use crate::fault::{Fault, ObjectFault};
+use crate::frame::{Frame, ObjectNo};
+use crate::kind::{Kind, kind_of, unit_of};
+use crate::numbers::octet_in;
+use crate::rule::Rule;
+use crate::table::{entry_place, offset_of};
+use bplist_octets::Source;
+
+/// What the marker and the count of an object say.
+#[derive(Clone, Copy, Debug, PartialEq, Eq, Drop)]
+pub struct Head {
+    pub kind: Kind,
+    /// Bytes for Int, Real, Date, Bytes, Ascii and Uid; units for Wide; members for Array and Set;
+    /// pairs for Dict; 0 for Null, False and True.
+    pub count: u64,
+    /// The place of the first byte after the marker and the count, from the file's first byte.
+    pub body: u64,
+    /// The place after the object's last byte, from the file's first byte.
+    pub end: u64,
+}
+
+/// The head of object `n`, whose place is known, by the rules of marker and count.
+fn shape_by_rules<S: Source>(
+    src: &mut S,
+    frame: &Frame,
+    n: ObjectNo,
+    place: u64,
+) -> Result<Head, ObjectFault>
+    requires safe { IsSafe (length (S.means src.old).octets) frame.now }
+    requires within { n.0 < frame.now.objects }
+    ensures reads { OnlyReads (read_failed result) (S.means src.old) (S.means src.new) }
+    ensures rules { IsTrue (S.means src.old).honest → IsFrame (S.means src.old).octets frame.now
+        → place ≡ off (S.means src.old).octets frame.now n.0
+        → Gives (λ head. HasHead (S.means src.old).octets frame.now n.0 head
+        × KeepsAll (KeepsByObject (S.means src.old).octets frame.now n.0) shape_rules)
+        (IsObjectFault (S.means src.old).octets frame.now n.0 shape_rules) result }
+    ensures safe { IfOk result (IsSafeHead frame.now) }
+    ensures behind { IfOk result (λ head. place < head.body) }
+{
+    if place < 8 {
+        return Err(ObjectFault::Fault(Fault {
+            rule: Rule::OffsetLow,
+            object: Some(n),
+            place: entry_place(frame, n.0, src.len()),
+        }));
+    }
+    if place >= frame.table {
+        return Err(ObjectFault::Fault(Fault {
+            rule: Rule::OffsetHigh,
+            object: Some(n),
+            place: entry_place(frame, n.0, src.len()),
+        }));
+    }
+    let marker = octet_in(src, place)?;
+    let Some(kind) = kind_of(marker) else {
+        return Err(ObjectFault::Fault(Fault {
+            rule: Rule::Marker,
+            object: Some(n),
+            place,
+        }));
+    };
+    let (count, body) = count_of(src, frame.table, place, n, kind, marker)?;
+    let unit = unit_of(kind, frame.ref_size);
+    let room = (frame.table - body) as u128;
+    // A count of up to 16 bytes is compared before it is multiplied, so that the product is exact.
+    if count > room || count * unit as u128 > room {
+        return Err(ObjectFault::Fault(Fault {
+            rule: Rule::Extent,
+            object: Some(n),
+            place,
+        }));
+    }
+    let count = count as u64;
+    Ok(Head {
+        kind,
+        count,
+        body,
+        end: body + count * unit as u64,
+    })
+}
+
+/// The head of object `n`, by marker and count alone, or the first of rules 14 to 17 that it breaks.
+///
+/// `place` is the object's place as `offset_of` answers it. Over the file that the frame is of, with that
+/// place, a head is answered exactly where the object has one. A place at or behind the table, which no such
+/// file has, is answered as OffsetHigh. Over any source and with any place the head lies before the table,
+/// and its body behind `place`.
+pub fn shape_at<S: Source>(
+    src: &mut S,
+    frame: &Frame,
+    n: ObjectNo,
+    place: u64,
+) -> Result<Head, ObjectFault>
+    requires safe { IsSafe (length (S.means src.old).octets) frame.now }
+    requires within { n.0 < frame.now.objects }
+    ensures reads { OnlyReads (read_failed result) (S.means src.old) (S.means src.new) }
+    ensures rules { IsTrue (S.means src.old).honest → IsFrame (S.means src.old).octets frame.now
+        → place ≡ off (S.means src.old).octets frame.now n.0
+        → Gives (λ head. HasHead (S.means src.old).octets frame.now n.0 head
+        × KeepsAll (KeepsByObject (S.means src.old).octets frame.now n.0) shape_rules)
+        (IsObjectFault (S.means src.old).octets frame.now n.0 shape_rules) result }
+    ensures exact { IsTrue (S.means src.old).honest → IsFrame (S.means src.old).octets frame.now
+        → place ≡ off (S.means src.old).octets frame.now n.0
+        → Gives (HasShape (S.means src.old).octets frame.now n.0)
+        (IsObjectFault (S.means src.old).octets frame.now n.0 shape_rules) result }
+    ensures shaped { IsTrue (S.means src.old).honest → IsFrame (S.means src.old).octets frame.now
+        → place ≡ off (S.means src.old).octets frame.now n.0
+        → (x : head) → HasShape (S.means src.old).octets frame.now n.0 x → Gives (λ y. y ≡ x) Never result }
+    ensures safe { IfOk result (IsSafeHead frame.now) }
+    ensures behind { IfOk result (λ head. place < head.body) }
+{
+    shape_by_rules(src, frame, n, place)
+}
+
+/// The head of object `n`, by marker and count alone, or the first of rules 14 to 17 that it breaks, with
+/// the object and the place, from the file's first byte. The bytes of the body are not looked at.
+///
+/// The frame must fit the source and `n` must be an object. `Read` is answered where a read failed. Over any
+/// source the head lies before the table.
+pub fn shape_of<S: Source>(src: &mut S, frame: &Frame, n: ObjectNo) -> Result<Head, ObjectFault>
+    requires safe { IsSafe (length (S.means src.old).octets) frame.now }
+    requires within { n.0 < frame.now.objects }
+    ensures reads { OnlyReads (read_failed result) (S.means src.old) (S.means src.new) }
+    ensures rules { IsTrue (S.means src.old).honest → IsFrame (S.means src.old).octets frame.now
+        → Gives (λ head. HasHead (S.means src.old).octets frame.now n.0 head
+        × KeepsAll (KeepsByObject (S.means src.old).octets frame.now n.0) shape_rules)
+        (IsObjectFault (S.means src.old).octets frame.now n.0 shape_rules) result }
+    ensures exact { IsTrue (S.means src.old).honest → IsFrame (S.means src.old).octets frame.now
+        → Gives (HasShape (S.means src.old).octets frame.now n.0)
+        (IsObjectFault (S.means src.old).octets frame.now n.0 shape_rules) result }
+    ensures shaped { IsTrue (S.means src.old).honest → IsFrame (S.means src.old).octets frame.now
+        → (x : head) → HasShape (S.means src.old).octets frame.now n.0 x → Gives (λ y. y ≡ x) Never result }
+    ensures safe { IfOk result (IsSafeHead frame.now) }
+{
+    let place = offset_of(src, frame, n)?;
+    shape_at(src, frame, n, place)
+}

@@ -1,0 +1,129 @@
+//! Laws of the definitions: each is the contract of a function that does nothing.
+
+ghost use Rattle.std.specs.Prelude.{◌≡◌, ◌↔◌, ◌⊎◌, ℕ, ◌+◌, ◌*◌, ◌^◌, ◌<◌, ◌≤◌, true, List, [], ◌∷◌, Contains, length, slice_index, Option, Some};
+ghost use Rattle.bplist_objects.specs.declared.fault.Fault.{Fault as fault};
+ghost use Rattle.bplist_objects.specs.declared.frame.Frame.{Frame as frame};
+ghost use Rattle.bplist_objects.specs.declared.frame.ObjectNo.{ObjectNo as object_no};
+ghost use Rattle.bplist_objects.specs.declared.head.Head.{Head as head};
+ghost use Rattle.bplist_objects.specs.declared.rule.Rule.{Rule as rule};
+ghost use Rattle.bplist_objects.specs.Frame.{IsFrame};
+ghost use Rattle.bplist_objects.specs.Value.{Value, leaf, boolean, array, value, no_values, dict, pair, no_pairs};
+ghost use Rattle.bplist_objects.specs.Heads.{Content, refs, content_at, HasShape, Spells, IsHeadOf};
+ghost use Rattle.bplist_objects.specs.Holds.{Holds};
+ghost use Rattle.bplist_objects.specs.File.{FileHolds};
+ghost use Rattle.bplist_objects.specs.Rules.{KeepsAll};
+ghost use Rattle.bplist_objects.specs.Scan.{nth_number};
+ghost use Rattle.bplist_objects.specs.FrameRules.{Keeps, Breaks, frame_rules, IsFrameFault};
+ghost use Rattle.bplist_objects.specs.Announced.{HasHead};
+ghost use Rattle.bplist_objects.specs.ObjectRules.{KeepsByObject, BreaksByObject, shape_rules, object_rules, IsObjectFault};
+ghost use Rattle.bplist_objects.specs.Safe.{ref_count, IsSafe, IsSafeFrame, IsSafeHead};
+ghost use Rattle.bplist_objects.specs.Spelled.{spelled_at, refs_at};
+ghost use Rattle.bplist_objects.specs.Reach.{Refs, Chain, Founded};
+ghost use Rattle.bplist_objects.specs.Rows.{row_true, row_array, row_dict};
+
+/// At one place marker and count say at most one head.
+pub fn one_shape()
+    ensures { (f : List ℕ) (F : frame) (n : ℕ) (a b : head) → HasShape f F n a → HasShape f F n b → a ≡ b }
+{}
+
+/// At one place at most one content is spelled.
+pub fn one_head()
+    ensures { (f : List ℕ) (F : frame) (n : ℕ) (c d : Content) → Spells f F n c → Spells f F n d → c ≡ d }
+{}
+
+/// An object holds at most one value.
+pub fn one_value()
+    ensures { (f : List ℕ) (F : frame) (n : ℕ) (v w : Value) → Holds f F n v → Holds f F n w → v ≡ w }
+{}
+
+/// A file holds at most one value.
+pub fn one_value_of_file()
+    ensures { (f : List ℕ) (v w : Value) → FileHolds f v → FileHolds f w → v ≡ w }
+{}
+
+/// A file keeps rules 1 to 13 exactly where it has a frame.
+pub fn keeps_iff_frame()
+    ensures { (f : List ℕ) → KeepsAll (Keeps f) frame_rules ↔ ((F : frame) × IsFrame f F) }
+{}
+
+/// Marker and count announce a head and the object keeps rules 14 to 17 exactly where the object has that head; and it
+/// keeps rules 14 to 20 exactly where besides it spells what the body means.
+pub fn kept_iff_head()
+    ensures shape { (f : List ℕ) (F : frame) → IsFrame f F → (n : ℕ) → n < F.objects
+        → (a : head) → (HasHead f F n a × KeepsAll (KeepsByObject f F n) shape_rules) ↔ HasShape f F n a }
+    ensures whole { (f : List ℕ) (F : frame) → IsFrame f F → (n : ℕ) → n < F.objects
+        → (a : head) → (HasHead f F n a × KeepsAll (KeepsByObject f F n) object_rules) ↔ IsHeadOf f F n a }
+{}
+
+/// An object keeps rules 14 to 20 exactly where it spells a content.
+pub fn keeps_iff_spells()
+    ensures { (f : List ℕ) (F : frame) → IsFrame f F → (n : ℕ) → n < F.objects
+        → KeepsAll (KeepsByObject f F n) object_rules ↔ ((c : Content) × Spells f F n c) }
+{}
+
+/// No rule of 1 to 20 is both kept and broken.
+pub fn kept_is_not_broken()
+    ensures file { (f : List ℕ) (r : rule) (object : Option object_no) (place : ℕ) → Keeps f r → Breaks f r object place → ⊥ }
+    ensures object { (f : List ℕ) (F : frame) (n : ℕ) (r : rule) (place : ℕ)
+        → KeepsByObject f F n r → BreaksByObject f F n r place → ⊥ }
+{}
+
+/// The first broken rule of 1 to 13 is one, with its object and place, and so is that of an object's rules.
+pub fn one_first_fault()
+    ensures file { (f : List ℕ) (a b : fault) → IsFrameFault f a → IsFrameFault f b → a ≡ b }
+    ensures object { (f : List ℕ) (F : frame) (n : ℕ) (rules : List rule) (a b : fault)
+        → IsObjectFault f F n rules a → IsObjectFault f F n rules b → a ≡ b }
+{}
+
+/// Where a rule of 1 to 13 is broken the file has no frame, where one of 14 to 17 is the object has no head, and where one
+/// of 14 to 20 is it spells nothing.
+pub fn fault_excludes()
+    ensures frame { (f : List ℕ) (F : frame) (a : fault) → IsFrameFault f a → IsFrame f F → ⊥ }
+    ensures shape { (f : List ℕ) (F : frame) (n : ℕ) (a : fault) (h : head) → IsObjectFault f F n shape_rules a → HasShape f F n h → ⊥ }
+    ensures content { (f : List ℕ) (F : frame) → IsFrame f F → (n : ℕ) → n < F.objects
+        → (a : fault) (c : Content) → IsObjectFault f F n object_rules a → Spells f F n c → ⊥ }
+{}
+
+/// A file has a frame, or a rule of 1 to 13 is the first that it breaks; under a frame an object spells a content, or a rule
+/// of 14 to 20 is the first that it breaks.
+pub fn kept_or_fault()
+    ensures file { (f : List ℕ) → ((F : frame) × IsFrame f F) ⊎ ((a : fault) × IsFrameFault f a) }
+    ensures object { (f : List ℕ) (F : frame) → IsFrame f F → (n : ℕ) → n < F.objects
+        → ((c : Content) × Spells f F n c) ⊎ ((a : fault) × IsObjectFault f F n object_rules a) }
+{}
+
+/// The references of a body are the numbers that stand in it, one by one.
+pub fn references_by_index()
+    ensures count { (f : List ℕ) (F : frame) (h : head) → length (refs (content_at f F h)) ≡ ref_count h.kind h.count }
+    ensures each { (f : List ℕ) (F : frame) (h : head) (i : ℕ) → i < ref_count h.kind h.count
+        → slice_index (refs (content_at f F h)) i ≡ nth_number f h.body F.ref_size i }
+{}
+
+/// What frames and heads of a file meet bounds them, and so over any source: a reference ends before the table, and a
+/// source of fewer than 2^64 bytes has fewer references than that, and bodies of fewer items.
+pub fn references_fit()
+    ensures frames { (f : List ℕ) (F : frame) → IsFrame f F → IsSafeFrame (length f) F }
+    ensures heads { (f : List ℕ) (F : frame) (n : ℕ) (h : head) → HasShape f F n h → IsSafeHead F h }
+    ensures places { (F : frame) (h : head) → IsSafeHead F h → (i : ℕ) → i < ref_count h.kind h.count
+        → h.body + (i + 1) * F.ref_size ≤ F.table }
+    ensures counts { (len : ℕ) (F : frame) (h : head) → IsSafe len F → len < 2 ^ 64 → IsSafeHead F h
+        → (ref_count h.kind h.count < 2 ^ 64) × (h.count < 2 ^ 64) }
+{}
+
+/// What an object spells is a function of the file, of its frame and of the object's number, and so are its references.
+pub fn spells_iff_computed()
+    ensures content { (f : List ℕ) (F : frame) (n : ℕ) (c : Content) → Spells f F n c ↔ (spelled_at f F n ≡ Some c) }
+    ensures references { (f : List ℕ) (F : frame) (n m : ℕ) → Refs f F n m ↔ Contains (refs_at f F n) m }
+{}
+
+/// No chain of references leads from a founded object to itself.
+pub fn founded_has_no_circle()
+    ensures { (f : List ℕ) (F : frame) (n : ℕ) → Founded f F n → Chain f F n n → ⊥ }
+{}
+
+/// Three small files hold their values: true, an array that has one object twice, and a dictionary from `a` to true.
+pub fn rows_hold()
+    ensures true_row { FileHolds row_true (leaf (boolean true)) }
+    ensures array_row { FileHolds row_array (array (value (leaf (boolean true)) (value (leaf (boolean true)) no_values))) }
+    ensures dict_row { FileHolds row_dict (dict (pair (97 ∷ []) (leaf (boolean true)) no_pairs)) }
+{}

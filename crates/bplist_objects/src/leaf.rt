@@ -1,0 +1,82 @@
+//! The values of leaves, read at a head.
+
+ghost use Rattle.std.specs.Prelude.{◌≡◌, ◌⊎◌, ◌+◌, ◌*◌, ◌^◌, ◌%◌, ◌≤◌, length, IsTrue, IfOk, OnOk, is_err};
+ghost use Rattle.bplist_octets.specs.Octets.{part};
+ghost use Rattle.bplist_octets.specs.Meaning.{OnlyReads};
+ghost use Rattle.bplist_objects.specs.Numbers.{integer, num_at};
+ghost use Rattle.bplist_objects.specs.Heads.{unit};
+ghost use Rattle.bplist_objects.specs.Kinds.{IsLeafKind};
+ghost use Rattle.bplist_objects.specs.Safe.{IsSafeBody};
+ghost use Rattle.bplist_objects.specs.declared.kind.Kind.TheVariants.{Int, Uid};
+
+use crate::head::Head;
+use crate::numbers::wide_in;
+use bplist_octets::{ReadFault, Source, sized, wide};
+
+/// The integer that 1, 2, 4, 8 or 16 bytes spell.
+fn integer_in(octets: &[u8]) -> i128
+    requires some { 1 ≤ length octets.now }
+    requires width { (length octets.now ≤ 4) ⊎ ((length octets.now ≡ 8) ⊎ (length octets.now ≡ 16)) }
+    ensures { result ≡ integer octets.now }
+{
+    if octets.len() <= 4 {
+        sized(octets) as i128
+    } else if octets.len() == 8 {
+        sized(octets).cast_signed() as i128
+    } else {
+        wide(octets).cast_signed()
+    }
+}
+
+/// The integer of an Int: 1, 2 and 4 bytes are unsigned, 8 and 16 are two's complement.
+///
+/// The head is one of kind Int whose body lies in the source. An error is a failed read.
+pub fn int_of<S: Source>(src: &mut S, head: &Head) -> Result<i128, ReadFault>
+    requires kind { head.now.kind ≡ Int }
+    requires head { IsSafeBody (length (S.means src.old).octets) head.now }
+    ensures reads { OnlyReads (is_err result) (S.means src.old) (S.means src.new) }
+    ensures value { IfOk result (λ i. IsTrue (S.means src.old).honest
+        → i ≡ integer (part (S.means src.old).octets head.now.body head.now.count)) }
+{
+    let mut octets = [0u8; 16];
+    let body = &mut octets[..head.count as usize];
+    src.read_at(head.body, body)?;
+    Ok(integer_in(body))
+}
+
+/// The UID of a Uid: the low 32 bits of its bytes.
+///
+/// The head is one of kind Uid whose body lies in the source. An error is a failed read.
+pub fn uid_of<S: Source>(src: &mut S, head: &Head) -> Result<u32, ReadFault>
+    requires kind { head.now.kind ≡ Uid }
+    requires head { IsSafeBody (length (S.means src.old).octets) head.now }
+    ensures reads { OnlyReads (is_err result) (S.means src.old) (S.means src.new) }
+    ensures low_bits { IfOk result (λ x. IsTrue (S.means src.old).honest
+        → x ≡ num_at (S.means src.old).octets head.now.body head.now.count % 2 ^ 32) }
+    ensures value { IfOk result (λ x. IsTrue (S.means src.old).honest
+        → num_at (S.means src.old).octets head.now.body head.now.count ≤ 4294967295
+        → x ≡ num_at (S.means src.old).octets head.now.body head.now.count) }
+{
+    let octets = wide_in(src, head.body, head.count as u8)?;
+    Ok((octets % (1 << 32)) as u32)
+}
+
+/// Fills `into` with the bytes of a leaf's body from its byte `i` on.
+///
+/// The head is that of a leaf whose body lies in the source, and `into` ends within the body.
+/// An error is a failed read, and then nothing is said of `into`.
+pub fn octets_at<S: Source>(
+    src: &mut S,
+    head: &Head,
+    i: u64,
+    into: &mut [u8],
+) -> Result<(), ReadFault>
+    requires kind { IsLeafKind head.now.kind }
+    requires head { IsSafeBody (length (S.means src.old).octets) head.now }
+    requires within { i + length into.old ≤ head.now.count * unit 1 head.now.kind }
+    ensures reads { OnlyReads (is_err result) (S.means src.old) (S.means src.new) }
+    ensures filled { OnOk result (IsTrue (S.means src.old).honest
+        → into.new ≡ part (S.means src.old).octets (head.now.body + i) (length into.old)) }
+{
+    src.read_at(head.body + i, into)
+}

@@ -1,0 +1,40 @@
+//! Laws of leaves and of the order of units: each is the contract of a function that does nothing.
+
+ghost use Rattle.std.specs.Prelude.{◌≡◌, ◌↔◌, ◌⊎◌, ℕ, ◌≤◌, List, ℤ, length};
+ghost use Rattle.std.specs.declared.cmp.Ordering.TheVariants.{Less, Equal};
+ghost use Rattle.std.specs.Ordering.{ordering_reverse};
+ghost use Rattle.bplist_octets.specs.Octets.{part};
+ghost use Rattle.bplist_objects.specs.declared.frame.Frame.{Frame as frame};
+ghost use Rattle.bplist_objects.specs.declared.head.Head.{Head as head};
+ghost use Rattle.bplist_objects.specs.declared.kind.Kind.TheVariants as kinds;
+ghost use Rattle.bplist_objects.specs.Numbers.{integer, num_at};
+ghost use Rattle.bplist_objects.specs.Value.{int, real, date, bytes, text, uid};
+ghost use Rattle.bplist_objects.specs.Heads.{leaf, content_at, Spells};
+ghost use Rattle.bplist_objects.specs.Units.{IsTextKind, units_of, compare_units};
+
+/// What a body means as a leaf is what the calls that read leaves read there. A UID that an object
+/// spells is all in its low 32 bits.
+pub fn leaves_by_parts()
+    ensures int { (f : List ℕ) (F : frame) (h : head) (i : ℤ) → leaf (int i) ≡ content_at f F h
+        → (h.kind ≡ kinds.Int) × (i ≡ integer (part f h.body h.count)) }
+    ensures real { (f : List ℕ) (F : frame) (h : head) (l : List ℕ) → leaf (real l) ≡ content_at f F h
+        → (h.kind ≡ kinds.Real) × (l ≡ part f h.body h.count) }
+    ensures date { (f : List ℕ) (F : frame) (h : head) (l : List ℕ) → leaf (date l) ≡ content_at f F h
+        → (h.kind ≡ kinds.Date) × (l ≡ part f h.body h.count) }
+    ensures bytes { (f : List ℕ) (F : frame) (h : head) (l : List ℕ) → leaf (bytes l) ≡ content_at f F h
+        → (h.kind ≡ kinds.Bytes) × (l ≡ part f h.body h.count) }
+    ensures uid { (f : List ℕ) (F : frame) (h : head) (x : ℕ) → leaf (uid x) ≡ content_at f F h
+        → (h.kind ≡ kinds.Uid) × (x ≡ num_at f h.body h.count) }
+    ensures uid_low { (f : List ℕ) (F : frame) (n x : ℕ) → Spells f F n (leaf (uid x)) → x ≤ 4294967295 }
+    ensures text { (f : List ℕ) (F : frame) (h : head) (us : List ℕ) → leaf (text us) ≡ content_at f F h
+        → IsTextKind h.kind × (us ≡ units_of f h) }
+    ensures units { (f : List ℕ) (F : frame) (h : head) → IsTextKind h.kind → content_at f F h ≡ leaf (text (units_of f h)) }
+{}
+
+/// The order of units is total: only equal units compare as equal, the other way round a comparison
+/// gives the reverse, and what lies below lies below all that lies above.
+pub fn units_are_ordered()
+    ensures equal { (us vs : List ℕ) → (compare_units us vs ≡ Equal) ↔ (us ≡ vs) }
+    ensures reverse { (us vs : List ℕ) → compare_units vs us ≡ ordering_reverse (compare_units us vs) }
+    ensures less { (us vs ws : List ℕ) → compare_units us vs ≡ Less → compare_units vs ws ≡ Less → compare_units us ws ≡ Less }
+{}

@@ -1,0 +1,170 @@
+//! Numbers of one to sixteen bytes at a place of a source.
+
+ghost use Rattle.std.specs.Prelude.{◌≡◌, ◌+◌, ◌*◌, ◌≤◌, ◌<◌, length, IsTrue, IfOk, OnOk, is_err, slice_index};
+ghost use Rattle.bplist_octets.specs.Octets.{part};
+ghost use Rattle.bplist_octets.specs.Meaning.{OnlyReads};
+ghost use Rattle.bplist_objects.specs.Numbers.{num_at};
+ghost use Rattle.bplist_objects.specs.Scan.{AreNumbers};
+
+use bplist_octets::{ReadFault, Source, sized, wide};
+
+/// How many numbers are read at once at most.
+pub(crate) const BLOCK: usize = 512;
+
+/// How many bytes a block of numbers has at most.
+pub(crate) const BLOCK_BYTES: usize = 4096;
+
+/// Up to so many numbers are read by way of a small buffer, since most containers have no more and a
+/// buffer is cleared before it is used.
+pub(crate) const FEW: u64 = 32;
+
+/// How many bytes a few numbers have at most.
+pub(crate) const FEW_BYTES: usize = 256;
+
+/// The number that the `size` bytes from `place` on spell.
+pub(crate) fn number_in<S: Source>(src: &mut S, place: u64, size: u8) -> Result<u64, ReadFault>
+    requires low { 1 ≤ size }
+    requires high { size ≤ 8 }
+    requires within { place + size ≤ length (S.means src.old).octets }
+    ensures reads { OnlyReads (is_err result) (S.means src.old) (S.means src.new) }
+    ensures value { IfOk result (λ x. IsTrue (S.means src.old).honest
+        → x ≡ num_at (S.means src.old).octets place size) }
+{
+    let mut octets = [0u8; 8];
+    let read = &mut octets[..size as usize];
+    src.read_at(place, read)?;
+    Ok(sized(read))
+}
+
+/// The number that the `size` bytes from `place` on spell, up to sixteen of them.
+pub(crate) fn wide_in<S: Source>(src: &mut S, place: u64, size: u8) -> Result<u128, ReadFault>
+    requires low { 1 ≤ size }
+    requires high { size ≤ 16 }
+    requires within { place + size ≤ length (S.means src.old).octets }
+    ensures reads { OnlyReads (is_err result) (S.means src.old) (S.means src.new) }
+    ensures value { IfOk result (λ x. IsTrue (S.means src.old).honest
+        → x ≡ num_at (S.means src.old).octets place size) }
+{
+    let mut octets = [0u8; 16];
+    let read = &mut octets[..size as usize];
+    src.read_at(place, read)?;
+    Ok(wide(read))
+}
+
+/// The byte at a place.
+pub(crate) fn octet_in<S: Source>(src: &mut S, place: u64) -> Result<u8, ReadFault>
+    requires within { place < length (S.means src.old).octets }
+    ensures reads { OnlyReads (is_err result) (S.means src.old) (S.means src.new) }
+    ensures value { IfOk result (λ x. IsTrue (S.means src.old).honest
+        → slice_index (S.means src.old).octets place ≡ x) }
+{
+    let mut octets = [0u8; 1];
+    src.read_at(place, &mut octets)?;
+    Ok(octets[0])
+}
+
+/// The `n` bytes from `place` on.
+pub(crate) fn part_of(l: &[u8], place: usize, n: usize) -> &[u8]
+    requires { place + n ≤ length l.now }
+    ensures part { result.now ≡ part l.now place n }
+    ensures len { length result.now ≡ n }
+{
+    &l[place..place + n]
+}
+
+/// The numbers that a block of bytes spells, `size` bytes each.
+fn numbers_of_block(block: &[u8], size: usize, into: &mut [u64])
+    requires low { 1 ≤ size }
+    requires high { size ≤ 8 }
+    requires room { length block.now ≡ length into.old * size }
+    ensures numbers { AreNumbers block.now 0 size into.new }
+{
+    for k in 0..into.len() {
+        into[k] = sized(part_of(block, k * size, size));
+    }
+}
+
+/// Fills `into` by one read of the source, which goes through `block`.
+fn read_block<S: Source>(
+    src: &mut S,
+    place: u64,
+    size: u8,
+    block: &mut [u8],
+    into: &mut [u64],
+) -> Result<(), ReadFault>
+    requires low { 1 ≤ size }
+    requires high { size ≤ 8 }
+    requires room { length block.old ≡ length into.old * size }
+    requires within { place + length into.old * size ≤ length (S.means src.old).octets }
+    ensures reads { OnlyReads (is_err result) (S.means src.old) (S.means src.new) }
+    ensures numbers { OnOk result (IsTrue (S.means src.old).honest
+        → AreNumbers (S.means src.old).octets place size into.new) }
+{
+    src.read_at(place, block)?;
+    numbers_of_block(block, size as usize, into);
+    Ok(())
+}
+
+/// Fills `into` with a few numbers, by one read.
+fn read_few<S: Source>(src: &mut S, place: u64, size: u8, into: &mut [u64]) -> Result<(), ReadFault>
+    requires low { 1 ≤ size }
+    requires high { size ≤ 8 }
+    requires few { length into.old ≤ 32 }
+    requires within { place + length into.old * size ≤ length (S.means src.old).octets }
+    ensures reads { OnlyReads (is_err result) (S.means src.old) (S.means src.new) }
+    ensures numbers { OnOk result (IsTrue (S.means src.old).honest
+        → AreNumbers (S.means src.old).octets place size into.new) }
+{
+    let mut buffer = [0u8; FEW_BYTES];
+    let block = &mut buffer[..into.len() * size as usize];
+    read_block(src, place, size, block, into)
+}
+
+/// Fills `into` with many numbers, block by block.
+fn read_many<S: Source>(
+    src: &mut S,
+    place: u64,
+    size: u8,
+    into: &mut [u64],
+) -> Result<(), ReadFault>
+    requires low { 1 ≤ size }
+    requires high { size ≤ 8 }
+    requires within { place + length into.old * size ≤ length (S.means src.old).octets }
+    ensures reads { OnlyReads (is_err result) (S.means src.old) (S.means src.new) }
+    ensures numbers { OnOk result (IsTrue (S.means src.old).honest
+        → AreNumbers (S.means src.old).octets place size into.new) }
+{
+    let _len = src.len();
+    let mut buffer = [0u8; BLOCK_BYTES];
+    let count = into.len();
+    let mut done = 0usize;
+    while done < count {
+        let now = (count - done).min(BLOCK);
+        let block = &mut buffer[..now * size as usize];
+        let at = place + done as u64 * size as u64;
+        read_block(src, at, size, block, &mut into[done..done + now])?;
+        done += now;
+    }
+    Ok(())
+}
+
+/// Fills `into` with the numbers of `size` bytes each that stand one behind the other from `place` on.
+pub(crate) fn numbers_in<S: Source>(
+    src: &mut S,
+    place: u64,
+    size: u8,
+    into: &mut [u64],
+) -> Result<(), ReadFault>
+    requires low { 1 ≤ size }
+    requires high { size ≤ 8 }
+    requires within { place + length into.old * size ≤ length (S.means src.old).octets }
+    ensures reads { OnlyReads (is_err result) (S.means src.old) (S.means src.new) }
+    ensures numbers { OnOk result (IsTrue (S.means src.old).honest
+        → AreNumbers (S.means src.old).octets place size into.new) }
+{
+    match into.len() as u64 {
+        0 => Ok(()),
+        1..=FEW => read_few(src, place, size, into),
+        _ => read_many(src, place, size, into),
+    }
+}

@@ -1,0 +1,69 @@
+//! The references of arrays, sets and dictionaries.
+
+ghost use Rattle.std.specs.Prelude.{◌≡◌, ℕ, ◌+◌, ◌*◌, ◌≤◌, ◌<◌, IsTrue, IfOk, OnOk, is_err, length, slice_index};
+ghost use Rattle.bplist_octets.specs.Meaning.{OnlyReads};
+ghost use Rattle.bplist_objects.specs.Safe.{IsSafe, IsSafeHead, ref_count};
+ghost use Rattle.bplist_objects.specs.Scan.{nth_number};
+ghost use Rattle.bplist_objects.specs.Heads.{refs, content_at};
+
+use crate::frame::Frame;
+use crate::head::Head;
+use crate::kind::Kind;
+use crate::numbers::{number_in, numbers_in};
+use bplist_octets::{ReadFault, Source};
+
+/// How many references an object with this head has: the count of an Array or a Set, twice the count of a
+/// Dict, and none of any other kind. Each reference has to take a byte at least between `body` and `end`.
+pub fn refs_of(head: &Head) -> u64
+    requires { head.now.body + ref_count head.now.kind head.now.count ≤ head.now.«end» }
+    ensures { result ≡ ref_count head.now.kind head.now.count }
+{
+    let _ends = (head.body, head.end);
+    match head.kind {
+        Kind::Array | Kind::Set => head.count,
+        Kind::Dict => 2 * head.count,
+        _ => 0,
+    }
+}
+
+/// The number of reference `i` of an object with this head, in the order in which they are written: in a
+/// Dict the keys stand before the values. Over the source that the head was read from by `head_of` it is the
+/// number of an object, over another it may be anything.
+pub fn ref_at<S: Source>(src: &mut S, frame: &Frame, head: &Head, i: u64) -> Result<u64, ReadFault>
+    requires safe { IsSafe (length (S.means src.old).octets) frame.now }
+    requires head { IsSafeHead frame.now head.now }
+    requires within { i < ref_count head.now.kind head.now.count }
+    ensures reads { OnlyReads (is_err result) (S.means src.old) (S.means src.new) }
+    ensures value { IfOk result (λ x. IsTrue (S.means src.old).honest
+        → x ≡ nth_number (S.means src.old).octets head.now.body frame.now.ref_size i) }
+    ensures reference { IfOk result (λ x. IsTrue (S.means src.old).honest
+        → slice_index (refs (content_at (S.means src.old).octets frame.now head.now)) i ≡ x) }
+{
+    let _len = src.len();
+    number_in(src, head.body + i * frame.ref_size as u64, frame.ref_size)
+}
+
+/// Fills `into` with the numbers of the references from number `from` on, as `ref_at` answers each. After a
+/// failed read `into` may hold anything.
+pub fn read_refs<S: Source>(
+    src: &mut S,
+    frame: &Frame,
+    head: &Head,
+    from: u64,
+    into: &mut [u64],
+) -> Result<(), ReadFault>
+    requires safe { IsSafe (length (S.means src.old).octets) frame.now }
+    requires head { IsSafeHead frame.now head.now }
+    requires within { from + length into.old ≤ ref_count head.now.kind head.now.count }
+    ensures reads { OnlyReads (is_err result) (S.means src.old) (S.means src.new) }
+    ensures numbers { OnOk result (IsTrue (S.means src.old).honest → (k : ℕ) → k < length into.new
+        → slice_index into.new k ≡ nth_number (S.means src.old).octets head.now.body frame.now.ref_size (from + k)) }
+{
+    let _len = src.len();
+    numbers_in(
+        src,
+        head.body + from * frame.ref_size as u64,
+        frame.ref_size,
+        into,
+    )
+}

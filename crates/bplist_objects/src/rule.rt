@@ -1,0 +1,115 @@
+//! The rules of files and certificates, 1 to 32.
+
+ghost use Rattle.std.specs.Prelude.{◌≡◌};
+ghost use Rattle.bplist_objects.specs.Words.{word_of};
+
+/// A rule of a file, a certificate or a path text, in the order of their numbers. Each line has the
+/// number, and says when the rule is broken.
+#[derive(Clone, Copy, Debug, PartialEq, Eq, Drop)]
+pub enum Rule {
+    /// 1: the file has more than 4294967295 bytes.
+    TooLarge,
+    /// 2: the file has fewer than 41 bytes.
+    TooShort,
+    /// 3: the first 8 bytes are not `bplist00`.
+    Magic,
+    /// 4: the trailer says that there are no objects.
+    NoObjects,
+    /// 5: the top object's number is not below the number of objects.
+    Top,
+    /// 6: the offset table starts before place 9.
+    TableEarly,
+    /// 7: the offset table starts at or behind the trailer.
+    TableLate,
+    /// 8: an entry of the offset table has not 1 to 8 bytes.
+    OffsetSize,
+    /// 9: a reference has not 1 to 8 bytes.
+    RefSize,
+    /// 10: the offset table does not end where the trailer begins.
+    Length,
+    /// 11: a reference has too few bytes for the number of objects.
+    RefNarrow,
+    /// 12: an entry has too few bytes for the place of the offset table.
+    OffsetNarrow,
+    /// 13: an entry of the offset table is not a place before the table.
+    OffsetHigh,
+    /// 14: an object's entry is a place before 8.
+    OffsetLow,
+    /// 15: an object's first byte is the marker of no object.
+    Marker,
+    /// 16: a count that stands behind the marker does not begin as an integer of 1 to 16 bytes.
+    Count,
+    /// 17: a byte of an object's count or body would lie in the offset table or behind it.
+    Extent,
+    /// 18: a byte of an Ascii text is 128 or more.
+    NotAscii,
+    /// 19: a UID is above 4294967295.
+    UidLarge,
+    /// 20: a reference is not below the number of objects.
+    RefHigh,
+    /// 21: a key reference of a dictionary names an object that spells no text.
+    KeyKind,
+    /// 22: a key of a dictionary has the units of an earlier key.
+    KeyTwice,
+    /// 23: references lead from an object that the top reaches back to that object.
+    Circle,
+    /// 24: the first 8 bytes of a certificate are neither `bplcert1` nor `bplcert2`.
+    CertMagic,
+    /// 25: a certificate's length does not fit its version and its number of heights.
+    CertLength,
+    /// 26: a certificate has not one height for each object.
+    CertCount,
+    /// 27: the height of the top object is 0.
+    TopNotVouched,
+    /// 28: a vouched object has a reference to an object of height 0.
+    ChildNotVouched,
+    /// 29: a vouched object has a reference to one whose height is not less than its own.
+    HeightNotLess,
+    /// 30: a path text does not begin with `/`, or a `~` in it is not followed by `0` or `1`.
+    PathText,
+    /// 31: the extents of the reached (or vouched) objects up to this one sum to more than the bytes
+    /// from place 8 to the offset table.
+    Overfull,
+    /// 32: a vouched dictionary's key list in a certificate is not wholly there or not sorted.
+    KeyOrder,
+}
+
+/// The word of a rule, as faults are printed: the name of its variant.
+pub fn rule_name(rule: Rule) -> &'static str
+    ensures { result.now ≡ word_of rule }
+{
+    match rule {
+        Rule::TooLarge => "TooLarge",
+        Rule::TooShort => "TooShort",
+        Rule::Magic => "Magic",
+        Rule::NoObjects => "NoObjects",
+        Rule::Top => "Top",
+        Rule::TableEarly => "TableEarly",
+        Rule::TableLate => "TableLate",
+        Rule::OffsetSize => "OffsetSize",
+        Rule::RefSize => "RefSize",
+        Rule::Length => "Length",
+        Rule::RefNarrow => "RefNarrow",
+        Rule::OffsetNarrow => "OffsetNarrow",
+        Rule::OffsetHigh => "OffsetHigh",
+        Rule::OffsetLow => "OffsetLow",
+        Rule::Marker => "Marker",
+        Rule::Count => "Count",
+        Rule::Extent => "Extent",
+        Rule::NotAscii => "NotAscii",
+        Rule::UidLarge => "UidLarge",
+        Rule::RefHigh => "RefHigh",
+        Rule::KeyKind => "KeyKind",
+        Rule::KeyTwice => "KeyTwice",
+        Rule::Circle => "Circle",
+        Rule::CertMagic => "CertMagic",
+        Rule::CertLength => "CertLength",
+        Rule::CertCount => "CertCount",
+        Rule::TopNotVouched => "TopNotVouched",
+        Rule::ChildNotVouched => "ChildNotVouched",
+        Rule::HeightNotLess => "HeightNotLess",
+        Rule::PathText => "PathText",
+        Rule::Overfull => "Overfull",
+        Rule::KeyOrder => "KeyOrder",
+    }
+}

@@ -1,0 +1,185 @@
+//! The first of many numbers of one size, or of many bytes, that is not below a bound, by blocks.
+
+ghost use Rattle.std.specs.Prelude.{◌≡◌, ◌+◌, ◌*◌, ◌≤◌, ◌<◌, length, IsTrue, IfOk, IfSome, MatchOption, is_err};
+ghost use Rattle.bplist_octets.specs.Meaning.{OnlyReads};
+ghost use Rattle.bplist_objects.specs.Scan.{AreBelow, IsFirstNotBelow};
+
+use crate::numbers::{BLOCK, BLOCK_BYTES, FEW, FEW_BYTES, part_of};
+use bplist_octets::{ReadFault, Source, first_high, sized};
+
+/// The first of the numbers of a block that is not below the bound.
+fn first_in_block(block: &[u8], size: usize, count: usize, bound: u64) -> Option<usize>
+    requires low { 1 ≤ size }
+    requires high { size ≤ 8 }
+    requires room { length block.now ≡ count * size }
+    ensures { MatchOption result (AreBelow block.now 0 size count bound) (IsFirstNotBelow block.now 0 size count bound) }
+{
+    for i in 0..count {
+        if sized(part_of(block, i * size, size)) >= bound {
+            return Some(i);
+        }
+    }
+    None
+}
+
+/// The first number of a block of them, where those before the block are below the bound.
+fn search_block<S: Source>(
+    src: &mut S,
+    place: u64,
+    size: u8,
+    count: u64,
+    bound: u64,
+    done: u64,
+    now: u64,
+    block: &mut [u8],
+) -> Result<Option<u64>, ReadFault>
+    requires low { 1 ≤ size }
+    requires high { size ≤ 8 }
+    requires within { place + count * size ≤ length (S.means src.old).octets }
+    requires part { done + now ≤ count }
+    requires room { length block.old ≡ now * size }
+    ensures reads { OnlyReads (is_err result) (S.means src.old) (S.means src.new) }
+    ensures found { IfOk result (λ found. IsTrue (S.means src.old).honest
+        → AreBelow (S.means src.old).octets place size done bound
+        → MatchOption found (AreBelow (S.means src.old).octets place size (done + now) bound)
+        (IsFirstNotBelow (S.means src.old).octets place size count bound)) }
+    ensures inside { IfOk result (λ found. IfSome found (λ i. i < count)) }
+{
+    let _len = src.len();
+    src.read_at(place + done * size as u64, block)?;
+    match first_in_block(block, size as usize, now as usize, bound) {
+        Some(i) => Ok(Some(done + i as u64)),
+        None => Ok(None),
+    }
+}
+
+/// The first of a few numbers that is not below the bound, by one read.
+fn first_of_few<S: Source>(
+    src: &mut S,
+    place: u64,
+    size: u8,
+    count: u64,
+    bound: u64,
+) -> Result<Option<u64>, ReadFault>
+    requires low { 1 ≤ size }
+    requires high { size ≤ 8 }
+    requires few { count ≤ 32 }
+    requires within { place + count * size ≤ length (S.means src.old).octets }
+    ensures reads { OnlyReads (is_err result) (S.means src.old) (S.means src.new) }
+    ensures found { IfOk result (λ found. IsTrue (S.means src.old).honest
+        → MatchOption found (AreBelow (S.means src.old).octets place size count bound)
+        (IsFirstNotBelow (S.means src.old).octets place size count bound)) }
+    ensures inside { IfOk result (λ found. IfSome found (λ i. i < count)) }
+{
+    let mut buffer = [0u8; FEW_BYTES];
+    let block = &mut buffer[..count as usize * size as usize];
+    search_block(src, place, size, count, bound, 0, count, block)
+}
+
+/// The first of many numbers that is not below the bound, block by block.
+fn first_of_many<S: Source>(
+    src: &mut S,
+    place: u64,
+    size: u8,
+    count: u64,
+    bound: u64,
+) -> Result<Option<u64>, ReadFault>
+    requires low { 1 ≤ size }
+    requires high { size ≤ 8 }
+    requires within { place + count * size ≤ length (S.means src.old).octets }
+    ensures reads { OnlyReads (is_err result) (S.means src.old) (S.means src.new) }
+    ensures found { IfOk result (λ found. IsTrue (S.means src.old).honest
+        → MatchOption found (AreBelow (S.means src.old).octets place size count bound)
+        (IsFirstNotBelow (S.means src.old).octets place size count bound)) }
+    ensures inside { IfOk result (λ found. IfSome found (λ i. i < count)) }
+{
+    let mut buffer = [0u8; BLOCK_BYTES];
+    let mut done = 0u64;
+    while done < count {
+        let now = (count - done).min(BLOCK as u64);
+        let block = &mut buffer[..now as usize * size as usize];
+        if let Some(i) = search_block(src, place, size, count, bound, done, now, block)? {
+            return Ok(Some(i));
+        }
+        done += now;
+    }
+    Ok(None)
+}
+
+/// The first of `count` numbers of `size` bytes each from `place` on that is not below the bound.
+pub(crate) fn first_not_below<S: Source>(
+    src: &mut S,
+    place: u64,
+    size: u8,
+    count: u64,
+    bound: u64,
+) -> Result<Option<u64>, ReadFault>
+    requires low { 1 ≤ size }
+    requires high { size ≤ 8 }
+    requires within { place + count * size ≤ length (S.means src.old).octets }
+    ensures reads { OnlyReads (is_err result) (S.means src.old) (S.means src.new) }
+    ensures found { IfOk result (λ found. IsTrue (S.means src.old).honest
+        → MatchOption found (AreBelow (S.means src.old).octets place size count bound)
+        (IsFirstNotBelow (S.means src.old).octets place size count bound)) }
+    ensures inside { IfOk result (λ found. IfSome found (λ i. i < count)) }
+{
+    match count {
+        0 => Ok(None),
+        1..=FEW => first_of_few(src, place, size, count, bound),
+        _ => first_of_many(src, place, size, count, bound),
+    }
+}
+
+/// How many bytes of a text are read at once at most.
+const TEXT_PART: usize = 256;
+
+/// The first byte of a part of a text that is 128 or more, where the bytes before the part are below.
+fn search_part<S: Source>(
+    src: &mut S,
+    place: u64,
+    count: u64,
+    done: u64,
+    part: &mut [u8],
+) -> Result<Option<u64>, ReadFault>
+    requires within { place + count ≤ length (S.means src.old).octets }
+    requires part { done + length part.old ≤ count }
+    ensures reads { OnlyReads (is_err result) (S.means src.old) (S.means src.new) }
+    ensures found { IfOk result (λ found. IsTrue (S.means src.old).honest
+        → AreBelow (S.means src.old).octets place 1 done 128
+        → MatchOption found (AreBelow (S.means src.old).octets place 1 (done + length part.old) 128)
+        (IsFirstNotBelow (S.means src.old).octets place 1 count 128)) }
+    ensures inside { IfOk result (λ found. IfSome found (λ i. i < count)) }
+{
+    let _len = src.len();
+    src.read_at(place + done, part)?;
+    match first_high(part) {
+        Some(i) => Ok(Some(done + i as u64)),
+        None => Ok(None),
+    }
+}
+
+/// The first of `count` bytes from `place` on that is 128 or more.
+pub(crate) fn first_high_in<S: Source>(
+    src: &mut S,
+    place: u64,
+    count: u64,
+) -> Result<Option<u64>, ReadFault>
+    requires within { place + count ≤ length (S.means src.old).octets }
+    ensures reads { OnlyReads (is_err result) (S.means src.old) (S.means src.new) }
+    ensures found { IfOk result (λ found. IsTrue (S.means src.old).honest
+        → MatchOption found (AreBelow (S.means src.old).octets place 1 count 128)
+        (IsFirstNotBelow (S.means src.old).octets place 1 count 128)) }
+    ensures inside { IfOk result (λ found. IfSome found (λ i. i < count)) }
+{
+    let mut buffer = [0u8; TEXT_PART];
+    let mut done = 0u64;
+    while done < count {
+        let now = (count - done).min(TEXT_PART as u64);
+        let part = &mut buffer[..now as usize];
+        if let Some(i) = search_part(src, place, count, done, part)? {
+            return Ok(Some(i));
+        }
+        done += now;
+    }
+    Ok(None)
+}

@@ -1,0 +1,89 @@
+//! The offset table, whose entries are the places of the objects.
+
+ghost use Rattle.std.specs.Prelude.{◌≡◌, ℕ, ◌+◌, ◌*◌, ◌≤◌, ◌<◌, length, slice_index, IsTrue, IfOk, OnOk, is_err};
+ghost use Rattle.bplist_octets.specs.Meaning.{OnlyReads};
+ghost use Rattle.bplist_objects.specs.Frame.{off};
+ghost use Rattle.bplist_objects.specs.Safe.{IsSafe};
+ghost use Rattle.bplist_objects.specs.FrameRules.{AreEntriesLow, IsEntryFault};
+ghost use Rattle.bplist_objects.specs.Answers.{Gives, read_failed};
+ghost use Rattle.bplist_objects.specs.declared.rule.Rule.TheVariants.{OffsetHigh};
+
+use crate::fault::{Fault, ObjectFault};
+use crate::frame::{Frame, ObjectNo};
+use crate::numbers::{number_in, numbers_in};
+use crate::rule::Rule;
+use crate::scan::first_not_below;
+use bplist_octets::{ReadFault, Source};
+
+/// The place of an entry of the offset table, in a file of so many bytes.
+pub(crate) fn entry_place(frame: &Frame, n: u32, len: u64) -> u64
+    requires safe { IsSafe len frame.now }
+    requires within { n < frame.now.objects }
+    ensures place { result ≡ frame.now.table + n * frame.now.offset_size }
+    ensures end { result + frame.now.offset_size ≤ len }
+{
+    let _sizes = (frame.objects, frame.offset_size);
+    frame.table + n as u64 * frame.offset_size as u64
+}
+
+/// The place of object `n`, counted from the file's first byte, as its entry in the offset table says.
+/// The frame must fit the source, and `n` must be an object. Nothing else of the entry is looked at: over
+/// the source that the frame was read from it is below `frame.table`, and over another it may be anything.
+pub fn offset_of<S: Source>(src: &mut S, frame: &Frame, n: ObjectNo) -> Result<u64, ReadFault>
+    requires safe { IsSafe (length (S.means src.old).octets) frame.now }
+    requires within { n.0 < frame.now.objects }
+    ensures reads { OnlyReads (is_err result) (S.means src.old) (S.means src.new) }
+    ensures value { IfOk result (λ place. IsTrue (S.means src.old).honest
+        → place ≡ off (S.means src.old).octets frame.now n.0) }
+{
+    let place = entry_place(frame, n.0, src.len());
+    number_in(src, place, frame.offset_size)
+}
+
+/// Fills `into` with the places of the objects from number `from` on, as `offset_of` answers each. The
+/// frame must fit the source, and all of them must be objects. After a failed read `into` may hold anything.
+pub fn read_offsets<S: Source>(
+    src: &mut S,
+    frame: &Frame,
+    from: u32,
+    into: &mut [u64],
+) -> Result<(), ReadFault>
+    requires safe { IsSafe (length (S.means src.old).octets) frame.now }
+    requires within { from + length into.old ≤ frame.now.objects }
+    ensures reads { OnlyReads (is_err result) (S.means src.old) (S.means src.new) }
+    ensures offsets { OnOk result (IsTrue (S.means src.old).honest → (k : ℕ) → k < length into.new
+        → slice_index into.new k ≡ off (S.means src.old).octets frame.now (from + k)) }
+{
+    let _len = src.len();
+    let place = frame.table + from as u64 * frame.offset_size as u64;
+    numbers_in(src, place, frame.offset_size, into)
+}
+
+/// Looks at every entry of the offset table.
+pub(crate) fn check_entries<S: Source>(src: &mut S, frame: &Frame) -> Result<(), ObjectFault>
+    requires { IsSafe (length (S.means src.old).octets) frame.now }
+    ensures reads { OnlyReads (read_failed result) (S.means src.old) (S.means src.new) }
+    ensures exact { IsTrue (S.means src.old).honest
+        → Gives (λ _. AreEntriesLow (S.means src.old).octets frame.now)
+        (λ fault. (fault.rule ≡ OffsetHigh) × IsEntryFault (S.means src.old).octets frame.now fault.object fault.place)
+        result }
+{
+    let first = first_not_below(
+        src,
+        frame.table,
+        frame.offset_size,
+        frame.objects as u64,
+        frame.table,
+    )?;
+    match first {
+        None => Ok(()),
+        Some(i) => {
+            let n = i as u32;
+            Err(ObjectFault::Fault(Fault {
+                rule: Rule::OffsetHigh,
+                object: Some(ObjectNo(n)),
+                place: entry_place(frame, n, src.len()),
+            }))
+        }
+    }
+}

@@ -1,0 +1,4 @@
+pub mod Spelled
+pub mod Groups
+pub mod Parts
+pub mod Sources

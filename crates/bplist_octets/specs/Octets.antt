@@ -1,0 +1,22 @@
+-- Bytes by place, and the numbers that they spell. Source of `num`: the format comment of CFBinaryPList.c, by
+-- which numbers of several bytes are big-endian. Source of the others: profile.
+use Rattle.std.specs.Prelude.{ℕ, ◌+◌, ◌*◌, ◌^◌, ◌<◌, ◌≤◌, List, [], ◌∷◌, length, take, drop, slice_index}
+
+-- the n bytes from a place on
+abbrev pub part : List ℕ → ℕ → ℕ → List ℕ
+part octets place n = take n (drop place octets)
+
+-- the number that bytes spell, greatest byte first
+unfoldable pub num : List ℕ → ℕ
+num [] = 0
+num (x ∷ xs) = x * 256 ^ length xs + num xs
+
+-- all bytes are below 128
+abbrev pub AreLow : List ℕ → Type 0
+AreLow octets = (k : ℕ) → k < length octets → slice_index octets k < 128
+
+-- the first byte of 128 or more stands at this place
+pub record IsFirstHigh (octets : List ℕ) (place : ℕ) : Type 0 where
+  pub within : place < length octets
+  pub high : 128 ≤ slice_index octets place
+  pub before : (k : ℕ) → k < place → slice_index octets k < 128

@@ -1,0 +1,54 @@
+-- The sources of the tests, as callers see them, and what the errors of a reading loop say. Source of these
+-- definitions: profile.
+use Rattle.std.specs.Prelude.{ℕ, zero, suc, List, [], true, false, Option, Some, None, Result, Ok, Err}
+use Rattle.std.specs.Io.KnownBytes.{IsAtEnd}
+use Rattle.bplist_octets.specs.Meaning.{Meaning}
+use Rattle.bplist_octets.specs.declared.source.ReadFault.{ReadFault}
+use Rattle.bplist_octets.specs.declared.source.ReadFault.TheVariants.{Device, Ended, TooManyTurns}
+
+-- bytes with one read that fails: how many reads come before that one, or none where it has come
+pub record Faulty : Type 0 where
+  pub octets : List ℕ
+  pub before : Option ℕ
+
+-- how many reads failed, by how many are to come before the one that fails
+abbrev pub failures_by : Option ℕ → ℕ
+failures_by None = 1
+failures_by (Some n) = 0
+
+-- how many reads are to come before the one that fails, after one more read
+abbrev pub before_next : Option ℕ → Option ℕ
+before_next None = None
+before_next (Some zero) = None
+before_next (Some (suc n)) = Some n
+
+-- what the next read answers
+abbrev pub faulty_answer : Option ℕ → Result (Unit {0}) ReadFault
+faulty_answer None = Ok tt
+faulty_answer (Some zero) = Err Device
+faulty_answer (Some (suc n)) = Ok tt
+
+-- what a source with a failing read means
+abbrev pub faulty_meaning : Faulty → Meaning
+faulty_meaning s =
+    record { octets = s.octets; honest = true; failures = failures_by s.before; beside = [] }
+
+-- bytes that change: those of the first reads, those of all later ones, and how many of the first are left
+pub record Shifting : Type 0 where
+  pub first : List ℕ
+  pub second : List ℕ
+  pub left : ℕ
+
+-- the bytes that the next read shows
+abbrev pub shown : Shifting → List ℕ
+shown s = elim s.left [ zero ↦ s.second | suc n ↦ s.first ]
+
+-- what a source that changes means
+abbrev pub shifting_meaning : Shifting → Meaning
+shifting_meaning s = record { octets = s.first; honest = false; failures = 0; beside = [] }
+
+-- what an error of the reading loop says of a reader whose bytes are known: with Ended none is left
+abbrev pub FillFailed : Option (List ℕ) → ReadFault → Type 0
+FillFailed known Ended = IsAtEnd known
+FillFailed known Device = Unit {0}
+FillFailed known TooManyTurns = Unit {0}

@@ -1,0 +1,178 @@
+//! A source over a file.
+
+ghost use Rattle.std.specs.Prelude.{◌≡◌, ℕ, ◌+◌, length, false, [], replicate, IfOk, IfSome, MatchResult};
+ghost use Rattle.std.specs.Io.KnownBytes.{Consumes, Keeps};
+ghost use Rattle.bplist_octets.specs.Sources.{FillFailed};
+
+use crate::source::{ReadFault, Source};
+use std::fs::{File, Files};
+use std::io::{ErrorKind, Read, Seek, SeekFrom};
+use thiserror::Error;
+
+/// The file could not be opened, its length could not be had, or the runtime lacked memory for it.
+#[derive(Clone, Copy, Debug, PartialEq, Eq, Drop, Error)]
+#[error("read Open")]
+pub struct OpenFault;
+
+/// A file that is open for reading, and its length when it was opened. It promises no honesty, since
+/// what a file holds between two reads is not known.
+#[derive(Drop)]
+pub struct FileSource {
+    file: File,
+    length: u64,
+    failures: u64,
+}
+
+/// How many reads a whole read may take beyond one for each byte.
+const SPARE_READS: usize = 64;
+
+/// Fills `into` by at most `into.len() + SPARE_READS` reads. An interrupted read is tried again.
+fn fill_from<R: Read>(reader: &mut R, into: &mut [u8]) -> Result<(), ReadFault>
+    ensures { MatchResult result
+        (λ _. Consumes (R.remaining reader.old) (R.remaining reader.new) into.new)
+        (FillFailed (R.remaining reader.new)) }
+{
+    let mut filled = 0;
+    for _ in 0..into.len() + SPARE_READS {
+        if filled >= into.len() {
+            return Ok(());
+        }
+        match reader.read(&mut into[filled..]) {
+            Ok(0) => return Err(ReadFault::Ended),
+            Ok(n) => filled += n,
+            Err(e) => {
+                if e.kind() != ErrorKind::Interrupted {
+                    return Err(ReadFault::Device);
+                }
+            }
+        }
+    }
+    if filled >= into.len() {
+        Ok(())
+    } else {
+        Err(ReadFault::TooManyTurns)
+    }
+}
+
+/// Fills `into` with the bytes that follow place `at`.
+fn fill_at<F: Read + Seek>(file: &mut F, at: u64, into: &mut [u8]) -> Result<(), ReadFault>
+    ensures { MatchResult result
+        (λ _. (sought : F) × IfSome (F.stream_position file.old) (λ _. F.stream_position sought ≡ Some at)
+        × Keeps (F.stream_bytes file.old) (F.stream_bytes sought)
+        × Consumes (F.remaining sought) (F.remaining file.new) into.new)
+        (FillFailed (F.remaining file.new)) }
+{
+    file.seek(SeekFrom::Start(at))
+        .map_err(|_| ReadFault::Device)?;
+    fill_from(file, into)
+}
+
+impl FileSource {
+    /// Opens a file for reading, and takes its length once.
+    pub fn open<R: Files<File = File>>(rt: &R, path: &str) -> Result<FileSource, OpenFault>
+        ensures { IfOk result (λ source. (⟦<FileSource as Source>⟧.means source).failures ≡ 0) }
+    {
+        let file = File::open(rt, path).map_err(|_| OpenFault)?;
+        let metadata = file.metadata().map_err(|_| OpenFault)?;
+        Ok(FileSource {
+            file,
+            length: metadata.len(),
+            failures: 0,
+        })
+    }
+}
+
+impl Source for FileSource {
+    // Any list of this length would do, since no read is promised to give its bytes.
+    ghost means = { λ s. record { octets = replicate s.length 0; honest = false; failures = s.failures; beside = [] } };
+
+    fn len(&self) -> u64 {
+        self.length
+    }
+
+    /// Seeks and reads until `into` is full. A refused seek or read is `Device`, an end of the file
+    /// `Ended`. After `into.len() + 64` reads with bytes still missing the answer is `TooManyTurns`.
+    fn read_at(&mut self, at: u64, into: &mut [u8]) -> Result<(), ReadFault> {
+        let result = fill_at(&mut self.file, at, into);
+        if result.is_err() {
+            self.failures = self.failures.saturating_add(1);
+        }
+        result
+    }
+}
+
+#[cfg(test)]
+mod tests {
+    use super::*;
+    use std::test::Fail;
+    use std::{env, fs, io};
+
+    /// Answers Interrupted some times, and then one byte a read.
+    #[derive(Drop)]
+    struct Slow {
+        interrupts: u64,
+        reads: u64,
+    }
+
+    impl Read for Slow {
+        fn read(&mut self, buf: &mut [u8]) -> io::Result<usize> {
+            self.reads = self.reads.wrapping_add(1);
+            if self.interrupts > 0 {
+                self.interrupts -= 1;
+                return Err(io::Error::from(ErrorKind::Interrupted));
+            }
+            match buf {
+                [first, ..] => {
+                    *first = 7;
+                    Ok(1)
+                }
+                [] => Ok(0),
+            }
+        }
+    }
+
+    #[test]
+    fn a_reader_that_is_interrupted(rt: HostRuntime) {
+        for (interrupts, want, reads) in [
+            (0, Ok(()), 5),
+            (64, Ok(()), 69),
+            (65, Err(ReadFault::TooManyTurns), 69),
+            (u64::MAX, Err(ReadFault::TooManyTurns), 69),
+        ] {
+            let mut reader = Slow {
+                interrupts,
+                reads: 0,
+            };
+            let mut into = [0; 5];
+            assert_eq!(rt; fill_from(&mut reader, &mut into), want, "at {interrupts}");
+            assert_eq!(rt; reader.reads, reads, "at {interrupts}");
+        }
+    }
+
+    #[test]
+    fn a_missing_file(rt: HostRuntime) -> Result<(), Fail> {
+        let Err(fault) = FileSource::open(&rt, "/nowhere/at/all") else {
+            return Err(Fail::from("it opened"));
+        };
+        let text = format!(in rt.alloc(); "{fault}")?;
+        assert!(rt; text.as_str() == "read Open");
+        Ok(())
+    }
+
+    #[test]
+    fn a_file_that_is_cut(rt: HostRuntime) -> Result<(), Fail> {
+        let path = env::temp_dir(&rt)?.join(rt.alloc(), "bplist_octets_file_source")?;
+        fs::write(&rt, path.as_str(), b"abcdef")?;
+        let mut source = FileSource::open(&rt, path.as_str())?;
+        assert!(rt; source.len() == 6);
+        let mut into = [0; 3];
+        assert_eq!(rt; source.read_at(2, &mut into), Ok(()));
+        assert!(rt; into == *b"cde");
+        fs::write(&rt, path.as_str(), b"abc")?;
+        assert!(rt; source.len() == 6);
+        assert_eq!(rt; source.read_at(2, &mut into), Err(ReadFault::Ended));
+        assert_eq!(rt; source.failures, 1);
+        fs::remove_file(&rt, path.as_str())?;
+        Ok(())
+    }
+}

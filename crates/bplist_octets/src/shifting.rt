@@ -1,0 +1,88 @@
+//! A source for tests: its bytes change.
+
+ghost use Rattle.std.specs.Prelude.{◌≡◌, ◌+◌, ◌-◌, ◌≤◌, length, IsTrue, OnOk, is_err};
+ghost use Rattle.bplist_octets.specs.Octets.{part};
+ghost use Rattle.bplist_octets.specs.Meaning.{OnlyReads};
+ghost use Rattle.bplist_octets.specs.Sources.{shifting_meaning, shown};
+
+use crate::slice::SliceSource;
+use crate::source::{ReadFault, Source};
+use std::marker::Model;
+
+/// A source over two slices of one length: its first reads are of the first, all later ones of the
+/// second. It promises no honesty, and no read of it fails.
+#[derive(Drop)]
+pub struct ShiftingSource<'a> {
+    first: &'a [u8],
+    second: &'a [u8],
+    /// How many reads of the first slice are left.
+    left: u64,
+}
+
+impl<'a> Model for ShiftingSource<'a> {
+    ghost use Rattle.std.specs.Prelude.{◌≡◌, length};
+    ghost use Rattle.bplist_octets.specs.Sources.{Shifting};
+
+    ghost Value = { Shifting };
+
+    ghost view = { λ s. record { first = s.first.now; second = s.second.now; left = s.left } };
+
+    ghost invariant = { λ s. length s.second.now ≡ length s.first.now };
+}
+
+impl Source for ShiftingSource<'_> {
+    ghost means = { shifting_meaning };
+
+    fn len(&self) -> u64 {
+        self.first.len() as u64
+    }
+
+    fn read_at(&mut self, at: u64, into: &mut [u8]) -> Result<(), ReadFault>
+        requires { at + length into.old ≤ length self.old.first }
+        ensures reads { OnlyReads (is_err result) (shifting_meaning self.old) (shifting_meaning self.new) }
+        ensures filled { OnOk result (IsTrue (shifting_meaning self.old).honest
+            → into.new ≡ part (shifting_meaning self.old).octets at (length into.old)) }
+        ensures never_fails { result ≡ Ok tt }
+        ensures turn { self.new ≡ record self.old { left = self.old.left - 1 } }
+        ensures shows { into.new ≡ part (shown self.old) at (length into.old) }
+    {
+        let octets = if self.left > 0 {
+            self.left -= 1;
+            self.first
+        } else {
+            self.second
+        };
+        SliceSource::new(octets).read_at(at, into)
+    }
+}
+
+impl<'a> ShiftingSource<'a> {
+    /// A source whose first `reads` reads are of `first`, and all later ones of `second`, which must be
+    /// as long.
+    pub fn new(first: &'a [u8], second: &'a [u8], reads: u64) -> ShiftingSource<'a>
+        requires { length first.now ≡ length second.now }
+        ensures { result ≡ record { first = first.now; second = second.now; left = reads } }
+    {
+        ShiftingSource {
+            first,
+            second,
+            left: reads,
+        }
+    }
+}
+
+#[cfg(test)]
+mod tests {
+    use super::*;
+
+    #[test]
+    fn the_bytes_change(rt: HostRuntime) {
+        let mut source = ShiftingSource::new(b"abcdef", b"ABCDEF", 2);
+        for want in [b"cde", b"cde", b"CDE", b"CDE"] {
+            let mut into = [0; 3];
+            assert!(rt; source.len() == 6);
+            assert_eq!(rt; source.read_at(2, &mut into), Ok(()));
+            assert!(rt; into == *want);
+        }
+    }
+}

@@ -1,0 +1,68 @@
+//! A source over a slice.
+
+ghost use Rattle.std.specs.Prelude.{◌≡◌, ◌+◌, ◌≤◌, length, true, [], IsTrue, OnOk, is_err};
+ghost use Rattle.bplist_octets.specs.Octets.{part};
+ghost use Rattle.bplist_octets.specs.Meaning.{OnlyReads};
+
+use crate::source::{ReadFault, Source};
+
+/// A source over a slice. It is honest, no read of it fails, and its count of failures is 0.
+#[derive(Clone, Copy, Debug, Drop)]
+pub struct SliceSource<'a> {
+    octets: &'a [u8],
+}
+
+impl<'a> Source for SliceSource<'a> {
+    ghost means = { λ s. record { octets = s.octets.now; honest = true; failures = 0; beside = [] } };
+
+    fn len(&self) -> u64 {
+        self.octets.len() as u64
+    }
+
+    fn read_at(&mut self, at: u64, into: &mut [u8]) -> Result<(), ReadFault>
+        requires { at + length into.old ≤ length (⟦<SliceSource<'a> as Source>⟧.means self.old).octets }
+        ensures reads { OnlyReads (is_err result) (⟦<SliceSource<'a> as Source>⟧.means self.old)
+            (⟦<SliceSource<'a> as Source>⟧.means self.new) }
+        ensures filled { OnOk result (IsTrue (⟦<SliceSource<'a> as Source>⟧.means self.old).honest
+            → into.new ≡ part (⟦<SliceSource<'a> as Source>⟧.means self.old).octets at (length into.old)) }
+        ensures never_fails { result ≡ Ok tt }
+        ensures same { self.new ≡ self.old }
+    {
+        let start = at as usize;
+        into.copy_from_slice(&self.octets[start..start + into.len()]);
+        Ok(())
+    }
+}
+
+impl<'a> SliceSource<'a> {
+    /// A source over these bytes.
+    pub fn new(octets: &'a [u8]) -> SliceSource<'a>
+        ensures { (⟦<SliceSource<'a> as Source>⟧.means result).octets ≡ octets.now }
+    {
+        SliceSource { octets }
+    }
+
+    /// The `n` bytes from place `at` on, which must lie inside the source.
+    pub fn borrow(&self, at: u64, n: u64) -> &'a [u8]
+        requires { at + n ≤ length (⟦<SliceSource<'a> as Source>⟧.means self.now).octets }
+        ensures { result.now ≡ part (⟦<SliceSource<'a> as Source>⟧.means self.now).octets at n }
+    {
+        let start = at as usize;
+        &self.octets[start..start + n as usize]
+    }
+}
+
+#[cfg(test)]
+mod tests {
+    use super::*;
+
+    #[test]
+    fn reads_and_lends(rt: HostRuntime) {
+        let mut source = SliceSource::new(b"abcdef");
+        assert_eq!(rt; source.len(), 6);
+        let mut into = [0; 3];
+        assert_eq!(rt; source.read_at(2, &mut into), Ok(()));
+        assert!(rt; into == *b"cde");
+        assert!(rt; source.borrow(3, 3) == b"def".as_slice());
+    }
+}

@@ -1,0 +1,206 @@
+//! A source over a source, with one window of bytes that were read.
+
+ghost use Rattle.std.specs.Prelude.{◌≡◌, ℕ, ◌+◌, ◌-◌, ◌≤◌, length, take, min, IsTrue, IfSome, OnOk, OnErr, is_err};
+ghost use Rattle.bplist_octets.specs.Octets.{part};
+ghost use Rattle.bplist_octets.specs.Meaning.{OnlyReads};
+
+use crate::source::{ReadFault, Source};
+
+/// How many bytes the window holds at most.
+const WINDOW: usize = 4096;
+
+/// A source over a source, with one window of 4,096 bytes. It has the bytes, the honesty and the count
+/// of failures of the source below it.
+///
+/// A read of bytes that lie in the window asks the source for nothing. Any other read moves the window
+/// to its place; the last window of a file may be shorter. A request longer than the window goes
+/// straight to the source. After a failed read the window is empty.
+#[derive(Drop)]
+pub struct Window<S: Source> {
+    source: S,
+    start: u64,
+    filled: usize,
+    octets: [u8; WINDOW],
+    ghost fits: { filled ≤ 4096 },
+    ghost inside: { start + filled ≤ length (S.means source).octets },
+    ghost holds: { IsTrue (S.means source).honest →
+        take filled octets ≡ part (S.means source).octets start filled },
+}
+
+/// Reads `count` bytes from place `at` on to the front of `into`.
+fn read_front<S: Source>(
+    source: &mut S,
+    at: u64,
+    into: &mut [u8],
+    count: usize,
+) -> Result<(), ReadFault>
+    requires room { count ≤ length into.old }
+    requires inside { at + count ≤ length (S.means source.old).octets }
+    ensures reads { OnlyReads (is_err result) (S.means source.old) (S.means source.new) }
+    ensures filled { OnOk result (IsTrue (S.means source.old).honest →
+        take count into.new ≡ part (S.means source.old).octets at count) }
+{
+    source.read_at(at, &mut into[..count])
+}
+
+impl<S: Source> Window<S> {
+    /// A source over `source`, with an empty window.
+    pub fn new(source: S) -> Window<S>
+        ensures { ⟦<Window<S> as Source>⟧.means result ≡ S.means source }
+    {
+        Window {
+            source,
+            start: 0,
+            filled: 0,
+            octets: [0; WINDOW],
+        }
+    }
+
+    /// Where the window has `count` bytes from place `at` on.
+    fn offset_of(&self, at: u64, count: usize) -> Option<usize>
+        ensures { IfSome result (λ from.
+            (self.now.start + from ≡ at) × (from + count ≤ self.now.filled)) }
+    {
+        let from = at.checked_sub(self.start)?;
+        if from > self.filled as u64 || count > self.filled - from as usize {
+            return None;
+        }
+        Some(from as usize)
+    }
+
+    /// Gives the window's bytes from its byte `from` on.
+    fn copy_part(&self, from: usize, into: &mut [u8])
+        requires { from + length into.old ≤ self.now.filled }
+        ensures { IsTrue (S.means self.now.source).honest →
+            into.new ≡ part (S.means self.now.source).octets (self.now.start + from) (length into.old) }
+    {
+        into.copy_from_slice(&self.octets[from..from + into.len()]);
+    }
+
+    /// Moves the window to place `at`. It is empty after a failed read.
+    fn refill(&mut self, at: u64) -> Result<(), ReadFault>
+        requires { at ≤ length (S.means self.old.source).octets }
+        ensures reads { OnlyReads (is_err result) (S.means self.old.source) (S.means self.new.source) }
+        ensures start { self.new.start ≡ at }
+        ensures filled { OnOk result
+            (self.new.filled ≡ min (length (S.means self.old.source).octets - at) WINDOW) }
+        ensures emptied { OnErr result (self.new.filled ≡ 0) }
+    {
+        self.filled = 0;
+        self.start = at;
+        let count = (self.source.len() - at).min(WINDOW as u64) as usize;
+        read_front(&mut self.source, at, &mut self.octets, count)?;
+        self.filled = count;
+        Ok(())
+    }
+
+    /// Reads from the source itself. The window is empty after a failed read.
+    fn read_past(&mut self, at: u64, into: &mut [u8]) -> Result<(), ReadFault>
+        requires { at + length into.old ≤ length (S.means self.old.source).octets }
+        ensures reads { OnlyReads (is_err result) (S.means self.old.source) (S.means self.new.source) }
+        ensures filled { OnOk result (IsTrue (S.means self.old.source).honest →
+            into.new ≡ part (S.means self.old.source).octets at (length into.old)) }
+        ensures emptied { OnErr result (self.new.filled ≡ 0) }
+    {
+        let result = self.source.read_at(at, into);
+        if result.is_err() {
+            self.filled = 0;
+        }
+        result
+    }
+}
+
+impl<S: Source> Source for Window<S> {
+    ghost means = { λ w. S.means w.source };
+
+    fn len(&self) -> u64 {
+        self.source.len()
+    }
+
+    fn read_at(&mut self, at: u64, into: &mut [u8]) -> Result<(), ReadFault> {
+        if into.len() > WINDOW {
+            return self.read_past(at, into);
+        }
+        if let Some(from) = self.offset_of(at, into.len()) {
+            self.copy_part(from, into);
+            return Ok(());
+        }
+        self.refill(at)?;
+        self.copy_part(0, into);
+        Ok(())
+    }
+}
+
+#[cfg(test)]
+mod tests {
+    use super::*;
+    use crate::faulty::FaultySource;
+    use crate::slice::SliceSource;
+
+    /// Bytes that tell their place.
+    fn numbered() -> [u8; 10_000] {
+        let mut bytes = [0; 10_000];
+        for (i, byte) in bytes.iter_mut().enumerate() {
+            *byte = (i % 251) as u8;
+        }
+        bytes
+    }
+
+    #[test]
+    fn reads_of_all_lengths(rt: HostRuntime) {
+        let bytes = numbered();
+        let mut window = Window::new(SliceSource::new(&bytes));
+        let mut into = [0; 5_000];
+        for (at, count) in [
+            (0, 1),
+            (4_095, 2),
+            (9_999, 1),
+            (0, 3),
+            (5_000, 4_096),
+            (5_000, 4_097),
+            (9_998, 2),
+            (10_000, 0),
+        ] {
+            let part = &mut into[..count];
+            assert!(rt; at + count as u64 <= window.len());
+            assert_eq!(rt; window.read_at(at, part), Ok(()));
+            for (i, byte) in part.iter().enumerate() {
+                let place = at.wrapping_add(i as u64);
+                assert_eq!(rt; u64::from(*byte), place % 251, "at {place}");
+            }
+        }
+    }
+
+    #[test]
+    fn empty_after_a_failed_read(rt: HostRuntime) {
+        let bytes = numbered();
+        for count in [2, 5_000] {
+            let mut window = Window::new(FaultySource::new(&bytes, 1));
+            let mut into = [0; 5_000];
+            for (at, count, want, filled) in [
+                (0, 2, Ok(()), 4_096),
+                (4_999, count, Err(ReadFault::Device), 0),
+                (1, 2, Ok(()), 4_096),
+            ] {
+                let part = &mut into[..count];
+                assert!(rt; at + count as u64 <= window.len());
+                assert_eq!(rt; window.read_at(at, part), want, "at {at}");
+                assert_eq!(rt; window.filled, filled, "at {at}");
+            }
+            assert!(rt; into[..2] == [1, 2]);
+        }
+    }
+
+    #[test]
+    fn asks_for_what_it_lacks_alone(rt: HostRuntime) {
+        let bytes = numbered();
+        // The second read of the source would fail.
+        let mut window = Window::new(FaultySource::new(&bytes, 1));
+        let mut into = [0; 100];
+        for at in [0, 5, 3_996, 1, 2_000, 0] {
+            assert!(rt; at + 100 <= window.len());
+            assert_eq!(rt; window.read_at(at, &mut into), Ok(()), "at {at}");
+            assert_eq!(rt; u64::from(into[0]), at % 251, "at {at}");
+        }
+    }
+}

@@ -1,0 +1,109 @@
+#!/usr/bin/env python3
+"""bench.py PROGRAM [WORD..]
+
+Times PROGRAM on large property lists and prints ratios: how many times as long as reading the file once (`cat` to
+nothing), each the best of three runs in one go, and the peak memory of a run. Where gcc and libplist's headers are there,
+libplist's parse of the same file is timed beside it. With words, only the files whose name has one of them are timed.
+
+FILE is read through Window<FileSource>; `-` (standard input) is read whole, so that the run is over a slice.
+"""
+import os
+import pathlib
+import plistlib
+import random
+import shutil
+import subprocess
+import sys
+import tempfile
+import time
+
+ROUNDS = 3
+
+
+def nested():
+    """32 MB: a dictionary of dictionaries."""
+    return {f"record{i:06}": {"name": f"name {i}", "number": i, "data": f"{i:032x}".encode()} for i in range(280_000)}
+
+
+FILES = {
+    "dictionaries, 32 MB": nested,
+    "100,000 keys": lambda: {f"key{i:06}": i for i in range(100_000)},
+    "1,000,000 integers": lambda: list(range(1_000_000)),
+    "200,000 texts": lambda: [f"text number {i}" for i in range(200_000)],
+}
+
+
+def measured(words, stdin=None):
+    """The least seconds of some runs, and the exit status and peak memory of the last."""
+    best = None
+    for _ in range(ROUNDS):
+        with open(stdin or os.devnull, "rb") as given:
+            begun = time.perf_counter()
+            child = subprocess.Popen(words, stdin=given, stdout=subprocess.DEVNULL, stderr=subprocess.DEVNULL)
+            _, status, usage = os.wait4(child.pid, 0)
+            taken = time.perf_counter() - begun
+            child.returncode = os.waitstatus_to_exitcode(status)
+        best = taken if best is None else min(best, taken)
+    return best, child.returncode, usage.ru_maxrss / 1024
+
+
+def libplist(folder):
+    """The program that parses by libplist, or None."""
+    source = pathlib.Path(__file__).with_name("bench_libplist.c")
+    target = os.path.join(folder, "bench_libplist")
+    if shutil.which("gcc") is None:
+        return None
+    built = subprocess.run(["gcc", "-O2", "-o", target, source, "-lplist-2.0"], capture_output=True, check=False)
+    return target if built.returncode == 0 else None
+
+
+def rows(program, file, sorted_cert, cert, parser, keys):
+    """What is timed: a name, the command, and the file on standard input."""
+    yield "lint, window", [program, "lint", file], None
+    yield "lint, slice", [program, "lint", "-"], file
+    if parser:
+        yield "libplist's parse", [parser, file], None
+    yield "check 1, window", [program, "check", file, cert], None
+    yield "check 1, slice", [program, "check", "-", cert], file
+    yield "check 2, window", [program, "check", file, sorted_cert], None
+    yield "check 2, slice", [program, "check", "-", sorted_cert], file
+    if keys:
+        paths = ["/" + key for key in random.Random(1).sample(keys, 1000)]
+        yield "get one, version 1", [program, "get", file, cert, paths[0]], None
+        # Through the window this row takes minutes: without key lists each look-up walks the keys.
+        yield "get 1,000, version 1, slice", [program, "get", "-", cert, *paths], file
+        yield "get one, version 2", [program, "get", file, sorted_cert, paths[0]], None
+        yield "get 1,000, version 2", [program, "get", file, sorted_cert, *paths], None
+        yield "get 1,000, version 2, slice", [program, "get", "-", sorted_cert, *paths], file
+
+
+def make(name, path):
+    """Writes one of the files. It is made in a process of its own, since a child's peak memory counts its parent's."""
+    pathlib.Path(path).write_bytes(plistlib.dumps(FILES[name](), fmt=plistlib.FMT_BINARY))
+
+
+def main():
+    if len(sys.argv) < 2:
+        sys.exit(__doc__)
+    if sys.argv[1] == "--make":
+        return make(*sys.argv[2:])
+    program, wanted = os.path.abspath(sys.argv[1]), sys.argv[2:]
+    with tempfile.TemporaryDirectory(prefix="bplint") as folder:
+        parser = libplist(folder)
+        for name in FILES:
+            if wanted and not any(word in name for word in wanted):
+                continue
+            file, cert, sorted_cert = (os.path.join(folder, part) for part in ("file", "cert", "sorted"))
+            subprocess.run([sys.executable, __file__, "--make", name, file], check=True)
+            subprocess.run([program, "certify", file, cert], check=False)
+            subprocess.run([program, "certify", "--sorted", file, sorted_cert], check=False)
+            once, _, _ = measured(["cat", file])
+            print(f"{name}: {os.path.getsize(file):,} bytes, read once in {once * 1000:.1f} ms")
+            keys = [f"key{i:06}" for i in range(100_000)] if name == "100,000 keys" else []
+            for row, words, stdin in rows(program, file, sorted_cert, cert, parser, keys):
+                seconds, status, memory = measured(words, stdin)
+                print(f"  {row:28} {seconds / once:8.1f} x {seconds * 1000:9.1f} ms {memory:7.1f} MiB  status {status}")
+
+
+if __name__ == "__main__":
+    main()

@@ -1,0 +1,94 @@
+#!/usr/bin/env python3
+"""run_library.py [--only PREFIX] TABLE PROGRAM
+
+Hands all lines of TABLE to PROGRAM, one request a line, and prints every answer that differs. A call that is not built
+yet is skipped by name and not counted as passed. The last line printed is `N passed, M failed`, with `, K skipped`
+where some were. The exit status is 1 where one failed. vectors/README.md has the table's columns, and the head of
+bplist_calls the form of a request.
+"""
+import argparse
+import collections
+import dataclasses
+import os
+import subprocess
+import sys
+
+from run_vectors import SHOWN, content, escaped, readable
+
+SECONDS = 300
+NOT_YET = b"notyet"
+WITH_PATH = ("size", "keys")
+
+
+@dataclasses.dataclass(frozen=True)
+class Vector:
+    name: str
+    file: str
+    cert: str
+    call: str
+    answer: str
+
+    def words(self):
+        return self.call.split(" ")
+
+
+def request(vector):
+    """The line that stands for this vector, without its line feed."""
+    inputs = [column if column == "=" else content(column).hex() for column in (vector.file, vector.cert)]
+    name, *operands = vector.words()
+    if name in WITH_PATH:
+        operands = [escaped(operand).hex() for operand in operands]
+    return "\t".join([*inputs, name, *operands])
+
+
+def read_table(path, prefix):
+    """The vectors whose name begins so. All lines of one file and certificate have one name."""
+    with open(path, encoding="utf-8", newline="\n") as lines:
+        next(lines)
+        vectors = [Vector(*line.rstrip("\n").split("\t")) for line in lines]
+    return [vector for vector in vectors if vector.name.startswith(prefix)]
+
+
+def answers(vectors, program):
+    """One answer for each vector, b"" behind the last where the program ended early, and what it says of that."""
+    requests = "".join(request(vector) + "\n" for vector in vectors)
+    ran = subprocess.run([program], input=requests.encode(), capture_output=True, timeout=SECONDS, check=False)
+    told = ran.stdout.split(b"\n")[:-1]
+    complaint = ran.stderr if ran.returncode or len(told) != len(vectors) else b""
+    return told[: len(vectors)] + (len(vectors) - len(told)) * [b""], complaint
+
+
+def report(vectors, told, complaint):
+    """Prints the differences and the closing line, and answers how many failed."""
+    failed, skipped = 0, collections.Counter()
+    for vector, answer in zip(vectors, told):
+        if answer == NOT_YET:
+            skipped[vector.words()[0]] += 1
+        elif answer != vector.answer.encode():
+            failed += 1
+            print(f"{vector.name}: {vector.call}\n    wanted {vector.answer[:SHOWN]}\n    got    {readable(answer)}")
+    if complaint:
+        print(f"bplist_calls says: {readable(complaint)}")
+    for call, count in sorted(skipped.items()):
+        print(f"skipped, not built yet: {count} of {call}")
+    passed = len(vectors) - failed - skipped.total()
+    if complaint and not failed:
+        failed = 1
+    closing = f"{passed} passed, {failed} failed"
+    print(closing + (f", {skipped.total()} skipped" if skipped else ""))
+    return failed
+
+
+def main():
+    parser = argparse.ArgumentParser(description=__doc__, formatter_class=argparse.RawDescriptionHelpFormatter)
+    parser.add_argument("--only", default="", metavar="PREFIX", help="the lines whose name begins so")
+    parser.add_argument("table")
+    parser.add_argument("program")
+    given = parser.parse_args()
+    vectors = read_table(given.table, given.only)
+    told, complaint = answers(vectors, os.path.abspath(given.program))
+    return 1 if report(vectors, told, complaint) else 0
+
+
+if __name__ == "__main__":
+    sys.exit(main())
