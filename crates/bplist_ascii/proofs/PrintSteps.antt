@@ -1,31 +1,36 @@
 -- What printing answers, by what the walk and the sink answer.
-use Rattle.std.proofs.Common.{◌≡◌, ◌<◌, ◌≤◌, ◌+◌, ℕ, List, [], ◌∷◌, ◌++◌, arith, length, refl, sym, ap, ◌∙◌, subst, Option, Some, None, append-nil}
+use Rattle.std.proofs.Common.{◌≡◌, inl, inr, ◌≤◌, ℕ, List, [], ◌++◌, arith, length, refl, ap, subst, Option, Some, None, append-nil}
+use Rattle.std.proofs.KnownBytes.{Keeps-refl}
 use Rattle.bplist_objects.specs.declared.frame.Frame.{Frame}
 use Rattle.bplist_objects.specs.Value.{Value}
 use Rattle.bplist_cursor.specs.OldStyle.{value_text, plain}
 use Rattle.bplist_ascii.specs.declared.print_fault.PrintFault.{PrintFault}
 use Rattle.bplist_ascii.specs.declared.print_fault.PrintFault.TheVariants.{NoAsciiForm, TooLong, Write, Read, Changed, Memory}
-use Rattle.bplist_ascii.specs.Sending.{Sending, Takes, TakesPart, IsOut, IsCut, AtMost}
+use Rattle.bplist_ascii.specs.Sending.{Sending, SendsSome, Takes, TakesPart, IsOut, IsCut, AtMost}
 use Rattle.bplist_ascii.specs.Writing.{IsReadFault, AddFails, TakesWithin}
-use Rattle.bplist_ascii.specs.Printed.{FitsLimit, PrintFails}
-use Rattle.bplist_ascii.proofs.SinkSteps.{out_start, out_takes, out_part, out_long, cut_bounded}
+use Rattle.bplist_ascii.specs.Printed.{FitsLimit, BeginsText, PrintFails}
+use Rattle.bplist_ascii.proofs.SinkSteps.{out_start, out_takes, out_part, out_long}
 
-pub read_prints : (old new : Option (List ℕ)) (before after : Sending) (f : List ℕ) (F : Frame) (n : ℕ) (v : Value) (limit : ℕ) (e : PrintFault) → IsReadFault e → PrintFails old new before after f F n v limit e
-read_prints old new before after f F n v limit (Read fault) h = tt
-read_prints old new before after f F n v limit (Write sent) h = absurd h
-read_prints old new before after f F n v limit Memory h = absurd h
-read_prints old new before after f F n v limit Changed h = absurd h
-read_prints old new before after f F n v limit TooLong h = absurd h
-read_prints old new before after f F n v limit (NoAsciiForm m) h = absurd h
+-- a failed read before anything is put in, of a value without a text
+pub read_prints : (now : Option (List ℕ)) (s : Sending) (f : List ℕ) (F : Frame) (n : ℕ) (v : Value) (limit : ℕ) (e : PrintFault) → value_text v ≡ None → IsReadFault e → PrintFails now now s s f F n v limit e
+read_prints now s f F n v limit (Read fault) none h = inl (none, Keeps-refl now, refl)
+read_prints now s f F n v limit (Write sent) none h = absurd h
+read_prints now s f F n v limit Memory none h = absurd h
+read_prints now s f F n v limit Changed none h = absurd h
+read_prints now s f F n v limit TooLong none h = absurd h
+read_prints now s f F n v limit (NoAsciiForm m) none h = absurd h
 
 pub walk_fails : (old new : Option (List ℕ)) (before after : Sending) (f : List ℕ) (F : Frame) (n : ℕ) (v : Value) (limit : ℕ) (e : PrintFault) (t : List ℕ) → value_text v ≡ Some t → plain v ≡ t → FitsLimit limit t
     → (length (plain v) ≤ limit → AddFails old new before (plain v) e) → PrintFails old new before after f F n v limit e
 walk_fails old new before after f F n v limit e t some is fits h = go e (h (let long = ap length is in let low = fits.0 in omega (arith, long, low)))
   where
+    begins : SendsSome old new (before.held ++ plain v) → BeginsText old new before.held v limit
+    begins p = (t, some, fits, subst (λ l. SendsSome old new (before.held ++ l)) is p)
+
     go : (e : PrintFault) → AddFails old new before (plain v) e → PrintFails old new before after f F n v limit e
     go (Write sent) p = (t, some, fits, subst (λ l. TakesPart old new before l sent) is p)
-    go (Read fault) p = tt
-    go Memory p = tt
+    go (Read fault) p = inr (begins p)
+    go Memory p = begins p
     go Changed p = absurd p
     go TooLong p = absurd p
     go (NoAsciiForm m) p = absurd p

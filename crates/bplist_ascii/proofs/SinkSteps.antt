@@ -5,7 +5,7 @@ use Rattle.std.specs.Io.KnownBytes.{Appends}
 use Rattle.std.proofs.KnownBytes.{Appends-trans, Appends-nil}
 use Rattle.std.proofs.lemmas.List.{length-append, take-append-le, length-take-le}
 use lib.Seq.{take-append-add}
-use Rattle.bplist_ascii.specs.Sending.{Sending, Takes, TakesPart, IsOut, IsCut, AtMost}
+use Rattle.bplist_ascii.specs.Sending.{Sending, SendsSome, Takes, TakesPart, IsOut, IsCut, AtMost}
 
 -- nothing was put in
 pub takes_nothing : (now : Option (List ℕ)) (s : Sending) → Takes now now s s []
@@ -52,6 +52,26 @@ takes_then_part old mid new s t xs ys k p q =
       counted = omega (arith, a, b);
       appended = subst (Appends old new) (sym (ap (take (length p.gone + q.gone)) all ∙ take-append-add p.gone (t.held ++ ys) q.gone)) (Appends-trans old mid new p.gone (take q.gone (t.held ++ ys)) p.appended q.appended);
     }
+
+-- of what was put in a first part went out
+pub some_of_takes : {old new : Option (List ℕ)} {s t : Sending} {xs : List ℕ} (ys : List ℕ) → Takes old new s t xs → SendsSome old new (s.held ++ (xs ++ ys))
+some_of_takes {s = s} {t = t} {xs = xs} ys p = record {
+  gone = p.gone;
+  rest = t.held ++ ys;
+  appended = p.appended;
+  all = sym (append_assoc s.held xs ys) ∙ ap (λ l. l ++ ys) p.all ∙ append_assoc p.gone t.held ys;
+}
+
+-- what was put in first went out with a first part of more, and others would have followed
+pub takes_then_some : (old mid new : Option (List ℕ)) {s t : Sending} {xs : List ℕ} (ys zs : List ℕ) → Takes old mid s t xs → SendsSome mid new (t.held ++ ys)
+    → SendsSome old new (s.held ++ (xs ++ (ys ++ zs)))
+takes_then_some old mid new {s} {t} {xs} ys zs p q = record {
+  gone = p.gone ++ q.gone;
+  rest = q.rest ++ zs;
+  appended = Appends-trans old mid new p.gone q.gone p.appended q.appended;
+  all = sym (append_assoc s.held xs (ys ++ zs)) ∙ ap (λ l. l ++ (ys ++ zs)) p.all ∙ append_assoc p.gone t.held (ys ++ zs) ∙ ap (λ l. p.gone ++ l) (sym (append_assoc t.held ys zs) ∙ ap (λ l. l ++ zs) q.all ∙ append_assoc q.gone q.rest zs)
+      ∙ sym (append_assoc p.gone q.gone (q.rest ++ zs));
+}
 
 -- what is cut is cut in a longer text
 pub part_of_more : (old new : Option (List ℕ)) (s : Sending) (xs ys : List ℕ) (k : ℕ) → TakesPart old new s xs k → TakesPart old new s (xs ++ ys) k

@@ -1,16 +1,15 @@
 -- What is put into a sink, piece by piece.
-use Rattle.std.proofs.Common.{IsTrue, take-append-drop, slice_index, ◌&&◌, ◌≡◌, ◌≢◌, ℕ, zero, suc, ◌+◌, ◌<◌, ◌≤◌, Bool, true, false, List, [], ◌∷◌, ◌++◌, arith, length, take, drop, refl, sym, ap, ◌∙◌, subst, append_assoc, append-nil, Result, Ok, Err}
-use Rattle.std.specs.Prelude.{Option, Some, OnErr}
+use Rattle.std.proofs.Common.{IsTrue, take-append-drop, slice_index, ◌&&◌, ◌≡◌, ℕ, suc, ◌+◌, ◌<◌, ◌≤◌, Bool, true, false, List, [], ◌∷◌, ◌++◌, arith, length, take, drop, refl, sym, ap, ◌∙◌, subst, append_assoc, append-nil, Result, Ok, Err}
+use Rattle.std.specs.Prelude.{Option, OnErr}
 use Rattle.std.specs.List.{flat_map, list_all}
-use Rattle.std.specs.Io.KnownBytes.{Appends}
-use Rattle.std.proofs.KnownBytes.{Appends-trans, Appends-nil}
+use Rattle.std.proofs.KnownBytes.{Appends-trans}
 use Rattle.std.proofs.lemmas.List.{length-append}
 use Rattle.std.proofs.lemmas.Grind.{flat_map-append}
 use Rattle.std.proofs.lemmas.List.Folds.{list_all-append}
 use Rattle.std.proofs.lemmas.List.{drop_more}
 use lib.Seq.{take-add}
 use Rattle.bplist_octets.specs.Octets.{part}
-use Rattle.bplist_ascii.specs.Sending.{Sending, Takes, TakesPart, AtMost}
+use Rattle.bplist_ascii.specs.Sending.{Sending, SendsSome, TakesPart}
 use Rattle.bplist_cursor.specs.Texts.{is_plain, text_of_units, quoted}
 use Rattle.bplist_ascii.specs.declared.style.Style.TheVariants.{Bare, Quoted}
 use Rattle.bplist_octets.specs.Meaning.{Meaning}
@@ -20,7 +19,7 @@ use Rattle.bplist_objects.specs.Answers.{GivesFault, Never}
 use Rattle.bplist_ascii.specs.Writing.{IsReadFault, print_fault_of, styled, fits, is_bare_text, Adds, AddsText, AddFails, StaysWithin}
 use Rattle.bplist_ascii.specs.declared.print_fault.PrintFault.{PrintFault}
 use Rattle.bplist_ascii.specs.declared.print_fault.PrintFault.TheVariants.{NoAsciiForm, TooLong, Write, Read, Changed, Memory}
-use Rattle.bplist_ascii.proofs.SinkSteps.{takes_nothing, takes_more, takes_then_part, part_of_more}
+use Rattle.bplist_ascii.proofs.SinkSteps.{takes_nothing, takes_more, takes_then_part, takes_then_some, some_of_takes, part_of_more}
 
 pub adds_nothing : (now : Option (List ℕ)) (s : Sending) (room : ℕ) → Adds now now s s room room []
 adds_nothing now s room = record { taken = takes_nothing now s; counted = omega arith }
@@ -62,10 +61,13 @@ adds_fail old mid new {s} {t} {r} {r'} {xs} ys zs whole e p q is low =
     let part = q (omega (arith, counted, low, long, length-append xs (ys ++ zs), length-append ys zs)) in
     go e part
   where
+    some : SendsSome mid new (t.held ++ ys) → SendsSome old new (s.held ++ whole)
+    some out = subst (λ l. SendsSome old new (s.held ++ l)) (sym is) (takes_then_some old mid new ys zs p.taken out)
+
     go : (e : PrintFault) → AddFails mid new t ys e → AddFails old new s whole e
     go (Write sent) part = subst (λ l. TakesPart old new s l sent) (append_assoc xs ys zs ∙ sym is) (part_of_more old new s (xs ++ ys) zs sent (takes_then_part old mid new s t xs ys sent p.taken part))
-    go (Read fault) part = tt
-    go Memory part = tt
+    go (Read fault) part = some part
+    go Memory part = some part
     go Changed part = part
     go TooLong part = part
     go (NoAsciiForm n) part = part
@@ -189,14 +191,19 @@ pub read_never : (e : ObjectFault) → GivesFault Never e → IsReadFault (print
 read_never (objects.Fault x) h = h
 read_never (objects.Read x) h = tt
 
--- after a failed read nothing is said
-pub read_fails : (old new : Option (List ℕ)) (s : Sending) (bytes : List ℕ) (e : PrintFault) → IsReadFault e → AddFails old new s bytes e
-read_fails old new s bytes (Read fault) h = tt
-read_fails old new s bytes (Write sent) h = absurd h
-read_fails old new s bytes Memory h = absurd h
-read_fails old new s bytes Changed h = absurd h
-read_fails old new s bytes TooLong h = absurd h
-read_fails old new s bytes (NoAsciiForm n) h = absurd h
+-- of bytes of which the first were put in a first part went out
+pub adds_some : {old new : Option (List ℕ)} {s t : Sending} {r r' : ℕ} {xs whole : List ℕ} (ys : List ℕ) → Adds old new s t r r' xs → whole ≡ xs ++ ys → SendsSome old new (s.held ++ whole)
+adds_some {old} {new} {s} ys p is = subst (λ l. SendsSome old new (s.held ++ l)) (sym is) (some_of_takes ys p.taken)
+
+-- a failed read where the first of the bytes were put in
+pub read_fails : {old new : Option (List ℕ)} {s t : Sending} {r r' : ℕ} {xs whole : List ℕ} (ys : List ℕ) (e : PrintFault) → Adds old new s t r r' xs → whole ≡ xs ++ ys → IsReadFault e
+    → AddFails old new s whole e
+read_fails ys (Read fault) p is h = adds_some ys p is
+read_fails ys (Write sent) p is h = absurd h
+read_fails ys Memory p is h = absurd h
+read_fails ys Changed p is h = absurd h
+read_fails ys TooLong p is h = absurd h
+read_fails ys (NoAsciiForm n) p is h = absurd h
 
 -- a text where more is given
 pub text_where : {old new : Option (List ℕ)} {s t : Sending} {r r' : ℕ} {P Q : Type 0} {xs ys : List ℕ} → (Q → P) → (Q → xs ≡ ys) → AddsText old new s t r r' P xs → AddsText old new s t r r' Q ys

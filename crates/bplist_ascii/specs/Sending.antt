@@ -14,6 +14,13 @@ pub record SendsPart (old new : Option (List ℕ)) (before : ℕ) (bytes : List 
   pub counted : sent ≡ before + gone
   pub appended : Appends old new (take gone bytes)
 
+-- a first part of these bytes went out
+pub record SendsSome (old new : Option (List ℕ)) (bytes : List ℕ) : Type 0 where
+  pub gone : List ℕ
+  pub rest : List ℕ
+  pub appended : Appends old new gone
+  pub all : bytes ≡ gone ++ rest
+
 -- a sink took bytes: of what it held and these, a first part went out, and it holds the rest
 pub record Takes (old new : Option (List ℕ)) (before after : Sending) (bytes : List ℕ) : Type 0 where
   pub gone : List ℕ

@@ -1,5 +1,5 @@
 -- What is put into a sink where there is room for so many bytes. Source: profile.
-use Rattle.std.specs.Prelude.{◌≡◌, ℕ, ◌+◌, ◌<◌, ◌≤◌, Bool, true, false, List, [], ◌∷◌, ◌++◌, length, flat_map, Option, Result, Ok, Err, IsTrue, ⊤}
+use Rattle.std.specs.Prelude.{◌≡◌, ℕ, ◌+◌, ◌≤◌, Bool, true, false, List, [], ◌∷◌, ◌++◌, length, Option, Result, Ok, Err, IsTrue, ⊤}
 use Rattle.std.specs.List.{list_all}
 use Rattle.bplist_octets.specs.Meaning.{Meaning}
 use Rattle.bplist_objects.specs.declared.frame.Frame.{Frame}
@@ -7,7 +7,7 @@ use Rattle.bplist_objects.specs.declared.fault.ObjectFault.{ObjectFault}
 use Rattle.bplist_objects.specs.declared.fault.ObjectFault.TheVariants as objects
 use Rattle.bplist_objects.specs.Frame.{IsFrame}
 use Rattle.bplist_cursor.specs.Texts.{is_plain, quoted_unit}
-use Rattle.bplist_ascii.specs.Sending.{Sending, Takes, TakesPart, AtMost}
+use Rattle.bplist_ascii.specs.Sending.{Sending, SendsSome, Takes, TakesPart, AtMost}
 use Rattle.bplist_ascii.specs.declared.print_fault.PrintFault.{PrintFault}
 use Rattle.bplist_ascii.specs.declared.print_fault.PrintFault.TheVariants.{Write, Read, Changed, Memory}
 use Rattle.bplist_ascii.specs.declared.style.Style.{Style}
@@ -58,11 +58,12 @@ pub record AddsText (old new : Option (List ℕ)) (before after : Sending) (room
   pub adds : Adds old new before after room left bytes
   pub is : premise → bytes ≡ text
 
--- why bytes that have room were not put in: a write failed where a first part of them was out, and fewer than all; or a read failed, or a growth was refused
+-- why bytes that have room were not put in: a write failed where a first part of what was held and them was out, and fewer than all; or a read failed,
+-- or a growth was refused, and a first part may be out
 abbrev pub AddFails : Option (List ℕ) → Option (List ℕ) → Sending → List ℕ → PrintFault → Type 0
 AddFails old new before bytes (Write sent) = TakesPart old new before bytes sent
-AddFails old new before bytes (Read _) = ⊤
-AddFails old new before bytes Memory = ⊤
+AddFails old new before bytes (Read _) = SendsSome old new (before.held ++ bytes)
+AddFails old new before bytes Memory = SendsSome old new (before.held ++ bytes)
 AddFails old new before bytes _ = ⊥
 
 -- at most what the sink held and what there was room for went out

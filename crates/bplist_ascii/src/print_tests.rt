@@ -2,7 +2,7 @@
 
 use crate::{PrintFault, print};
 use bplist_cert::{Certificate, Checked, check};
-use bplist_cursor::{Measures, Node, measure};
+use bplist_cursor::{Node, measure};
 use bplist_objects::ObjectNo;
 use bplist_octets::{FaultySource, ReadFault, SliceSource, Source};
 use std::alloc::Global;
@@ -81,16 +81,6 @@ fn checked_of<S: Source + Drop>(
     Ok(check(alloc, source, certificate).ok())
 }
 
-fn measured(alloc: Global, file: &[u8], objects: u32) -> Result<Measures, Fail> {
-    let Some(mut checked) = checked_of(alloc, SliceSource::new(file), objects)? else {
-        return Err(Fail::new("the check refused"));
-    };
-    match measure(alloc, &mut checked) {
-        Ok(measures) => Ok(measures),
-        Err(_) => Err(Fail::new("no measures")),
-    }
-}
-
 fn node(n: u32) -> Node {
     Node {
         object: ObjectNo(n),
@@ -105,9 +95,11 @@ fn printed(
     n: u32,
     limit: u64,
 ) -> Result<(Vec<u8>, Result<(), PrintFault>), Fail> {
-    let measures = measured(alloc, file, objects)?;
     let Some(mut checked) = checked_of(alloc, SliceSource::new(file), objects)? else {
         return Err(Fail::new("the check refused"));
+    };
+    let Ok(measures) = measure(alloc, &mut checked) else {
+        return Err(Fail::new("no measures"));
     };
     let mut out = Vec::new(alloc);
     let answer = print(alloc, &mut checked, &measures, node(n), limit, &mut out);
@@ -205,11 +197,12 @@ fn deep_arrays(rt: HostRuntime) -> Result<(), Fail> {
     let alloc = rt.alloc();
     let file = chain(alloc, 2000)?;
     let (text, answer) = printed(alloc, &file, 2001, 0, 4001)?;
+    let mut want = Vec::new(alloc);
+    want.extend_from_slice(&[b'('; 2000])?;
+    want.push(b'a')?;
+    want.extend_from_slice(&[b')'; 2000])?;
     assert_eq!(rt; answer, Ok(()));
-    assert_eq!(rt; text.len(), 4001);
-    assert!(rt; text[..2000].iter().all(|byte| *byte == b'('));
-    assert_eq!(rt; text[2000], b'a');
-    assert!(rt; text[2001..].iter().all(|byte| *byte == b')'));
+    assert_eq!(rt; text.as_slice(), want.as_slice());
     let (text, answer) = printed(alloc, &file, 2001, 0, 4000)?;
     assert_eq!(rt; answer, Err(PrintFault::TooLong));
     assert_eq!(rt; text.len(), 0);
@@ -243,42 +236,50 @@ impl Write for Short {
 fn a_writer_that_fails(rt: HostRuntime) -> Result<(), Fail> {
     let alloc = rt.alloc();
     let file = file_of(alloc, &PRINTABLE)?;
-    let measures = measured(alloc, &file, 3)?;
-    let Some(mut checked) = checked_of(alloc, SliceSource::new(&file), 3)? else {
-        return Err(Fail::new("the check refused"));
-    };
-    let mut out = Short {
-        room: 4,
-        held: Vec::new(alloc),
-    };
-    let answer = print(alloc, &mut checked, &measures, node(0), 10, &mut out);
-    assert_eq!(rt; answer, Err(PrintFault::Write { sent: 4 }));
-    assert_eq!(rt; out.held.as_slice(), b"{a=\"".as_slice());
-    out.room = 10;
-    out.held.clear();
-    let answer = print(alloc, &mut checked, &measures, node(0), 10, &mut out);
-    assert_eq!(rt; answer, Ok(()));
-    assert_eq!(rt; out.held.as_slice(), b"{a=\"b c\";}".as_slice());
+    let rows: [(usize, Result<(), PrintFault>, &str); 2] = [
+        (4, Err(PrintFault::Write { sent: 4 }), "{a=\""),
+        (10, Ok(()), "{a=\"b c\";}"),
+    ];
+    for (room, want, held) in rows {
+        let Some(mut checked) = checked_of(alloc, SliceSource::new(&file), 3)? else {
+            return Err(Fail::new("the check refused"));
+        };
+        let Ok(measures) = measure(alloc, &mut checked) else {
+            return Err(Fail::new("no measures"));
+        };
+        let mut out = Short {
+            room,
+            held: Vec::new(alloc),
+        };
+        let answer = print(alloc, &mut checked, &measures, node(0), 10, &mut out);
+        assert_eq!(rt; answer, want);
+        assert_eq!(rt; out.held.as_slice(), held.as_bytes());
+    }
     Ok(())
 }
 
-/// One read fails at each turn of check, measure and print, and print made again answers as over a slice.
+/// One read fails at each turn of print, after check and measure, and print made again answers as over a slice.
 #[test]
 fn each_read_fails_once(rt: HostRuntime) -> Result<(), Fail> {
     let alloc = rt.alloc();
     for objects in [&PRINTABLE, &UNPRINTABLE] {
         let file = file_of(alloc, objects)?;
         let (want, told) = printed(alloc, &file, 3, 0, 10)?;
-        let measures = measured(alloc, &file, 3)?;
-        let mut failed = 0;
+        let mut failed = 0u8;
         for fails in 0..200 {
             let Some(mut checked) = checked_of(alloc, FaultySource::new(&file, fails), 3)? else {
+                continue;
+            };
+            let Ok(measures) = measure(alloc, &mut checked) else {
                 continue;
             };
             let mut out = Vec::new(alloc);
             let answer = print(alloc, &mut checked, &measures, node(0), 10, &mut out);
             if answer == Err(PrintFault::Read(ReadFault::Device)) {
-                failed += 1;
+                failed = failed.saturating_add(1);
+                let Ok(measures) = measure(alloc, &mut checked) else {
+                    return Err(Fail::new("no measures"));
+                };
                 out.clear();
                 let again = print(alloc, &mut checked, &measures, node(0), 10, &mut out);
                 assert_eq!(rt; again, told);

@@ -25,7 +25,8 @@ use std::io::Write;
 ///
 /// This is [`print`] for a caller who has more to write after the text: `Ok` means that the sink took the text, and some
 /// of it may still be held back. Conditions and faults are those of `print`; `sent` of `Write` counts all bytes of the
-/// sink, and `NoAsciiForm` and `TooLong` leave sink and writer as they were.
+/// sink, and `NoAsciiForm` and `TooLong` leave sink and writer as they were. After `Read` and `Memory` a first part of what
+/// the sink held and of the text may be out.
 pub fn print_into<S: Source, W: Write>(
     alloc: Global,
     checked: &mut Checked<S>,
@@ -73,10 +74,10 @@ pub fn print_into<S: Source, W: Write>(
 /// data are read and written in parts. An interrupted write is tried again, up to 64 times in all.
 ///
 /// `NoAsciiForm` is decided first, then `TooLong`, and both write nothing. After `Write` the first `sent` bytes of the text
-/// are out, fewer than all; after `Read`, `Changed` and `Memory` a first part of it may be. `Changed` is answered for a node
-/// whose object the certificate does not vouch for, and where the source gives other bytes than those that were checked.
-/// Over any source at most `limit` bytes go out, and the `Checked` stays as it was, save the count of failures of its
-/// source.
+/// are out, fewer than all; after `Read` and `Memory` a first part of the text may be, and nothing else: of a value without
+/// a text nothing is. `Changed` is answered for a node whose object the certificate does not vouch for, and where the source
+/// gives other bytes than those that were checked; some bytes may be out then. Over any source at most `limit` bytes go out,
+/// and the `Checked` stays as it was, save the count of failures of its source.
 pub fn print<S: Source, W: Write>(
     alloc: Global,
     checked: &mut Checked<S>,

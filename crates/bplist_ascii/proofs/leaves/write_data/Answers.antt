@@ -1,9 +1,15 @@
-use Rattle.std.proofs.Common.{rules, arith, ◌++◌, ◌∷◌, [], ◌≡◌, ◌+◌, ◌<◌, ◌≤◌, Err, length, refl, subst, sym, ap, ◌∙◌, IsTrue, ℕ, List}
+use Rattle.std.proofs.Common.{rules, ◌++◌, ◌∷◌, [], ◌≡◌, Err, refl}
 use Rattle.std.specs.List.{flat_map}
 use Rattle.bplist_octets.specs.Octets.{part}
 use Rattle.bplist_cursor.specs.Texts.{hex_digits, text_of_bytes}
-use Rattle.bplist_ascii.proofs.WriteSteps.{on_err, adds_fit, adds_within, adds_fail, text_after, text_more, text_adds, text_under}
+use Rattle.bplist_ascii.proofs.WriteSteps.{adds_within, adds_fail, adds_nothing, text_after, text_more, text_adds}
 use Rattle.bplist_ascii.proofs.leaves.write_data.Goals as goal
+
+pub returns-in_err-write-clause-fails : goal.returns-in_err-write-clause-fails
+returns-in_err-write-clause-fails g c =
+    let is : c.from_residual.result ≡ Err c.in_err-write.field-0.0 = search rules in
+    let all = part (g.S.Source.means c.args.src.now).octets c.args.head.now.body c.args.head.now.count in
+    rw is (λ honest low. adds_fail _ _ _ (60 ∷ []) (flat_map hex_digits all ++ 62 ∷ []) (text_of_bytes all) _ (adds_nothing (g.W.Write.contents c.args.out.now) c.args.sink.now c.args.room.now) c.in_err-write.ensures.fails refl low)
 
 pub returns-in_err-write_data_body-clause-fails : goal.returns-in_err-write_data_body-clause-fails
 returns-in_err-write_data_body-clause-fails g c =

@@ -1,11 +1,18 @@
-use Rattle.std.proofs.Common.{rules, arith, ◌++◌, ◌≡◌, ◌+◌, ◌<◌, ◌≤◌, Err, length, take, drop, refl, subst, sym, ap, ◌∙◌, IsTrue, ℕ, List}
+use Rattle.std.proofs.Common.{rules, arith, ◌++◌, ◌≡◌, ◌+◌, Err, length, take, drop, refl, sym, ap, ◌∙◌, IsTrue}
 use Rattle.std.proofs.lemmas.List.{take_all, length-take, length-take-le}
 use Rattle.std.specs.List.{flat_map}
 use Rattle.bplist_octets.specs.Octets.{part}
 use Rattle.bplist_objects.proofs.Parts.{part-part}
 use Rattle.bplist_cursor.specs.Texts.{hex_digits}
-use Rattle.bplist_ascii.proofs.WriteSteps.{on_err, adds_fit, adds_within, adds_fail, text_more, text_adds, text_under, flat_part, flat_parts}
+use Rattle.bplist_ascii.proofs.WriteSteps.{on_err, adds_some, adds_fit, adds_within, adds_fail, text_more, text_adds, text_under, flat_part, flat_parts}
+use Rattle.bplist_ascii.specs.declared.print_fault.PrintFault.TheVariants.{Read}
 use Rattle.bplist_ascii.proofs.leaves.write_data_body.Goals as goal
+
+pub returns-in_err-octets_at-clause-fails : goal.returns-in_err-octets_at-clause-fails
+returns-in_err-octets_at-clause-fails g c =
+    let is : c.from_residual.result ≡ Err (Read c.in_err-octets_at.field-0.0) = search rules in
+    let all = part (g.S.Source.means c.args.src.now).octets c.args.head.now.body c.args.head.now.count in
+    rw is (λ honest low. adds_some _ (text_adds c.loop-done.invariant.so_far honest) (flat_parts hex_digits all c.loop-done.done 0))
 
 pub returns-in_err-octets_at-clause-bounded : goal.returns-in_err-octets_at-clause-bounded
 returns-in_err-octets_at-clause-bounded g c = on_err c.from_residual.result (adds_fit c.loop-done.invariant.so_far.adds)

@@ -1,9 +1,15 @@
-use Rattle.std.proofs.Common.{rules, arith, ◌++◌, ◌∷◌, [], ◌≡◌, ◌+◌, ◌<◌, ◌≤◌, Err, length, refl, subst, sym, ap, ◌∙◌, IsTrue, ℕ, List}
+use Rattle.std.proofs.Common.{rules, ◌++◌, ◌∷◌, [], ◌≡◌, Err, refl}
 use Rattle.std.specs.List.{flat_map}
 use Rattle.bplist_objects.specs.Units.{units_of}
 use Rattle.bplist_cursor.specs.Texts.{quoted_unit, quoted}
-use Rattle.bplist_ascii.proofs.WriteSteps.{on_err, adds_fit, adds_within, adds_fail, text_after, text_more, text_adds, text_under, all_fit}
+use Rattle.bplist_ascii.proofs.WriteSteps.{adds_within, adds_fail, adds_nothing, text_after, text_more, text_adds, all_fit}
 use Rattle.bplist_ascii.proofs.leaves.write_quoted.Goals as goal
+
+pub returns-in_err-write-clause-fails : goal.returns-in_err-write-clause-fails
+returns-in_err-write-clause-fails g c =
+    let is : c.from_residual.result ≡ Err c.in_err-write.field-0.0 = search rules in
+    let all = units_of (g.S.Source.means c.args.src.now).octets c.args.head.now in
+    rw is (λ honest low. adds_fail _ _ _ (34 ∷ []) (flat_map quoted_unit all ++ 34 ∷ []) (quoted all) _ (adds_nothing (g.W.Write.contents c.args.out.now) c.args.sink.now c.args.room.now) c.in_err-write.ensures.fails refl low)
 
 pub returns-in_err-write_text_body-clause-fails : goal.returns-in_err-write_text_body-clause-fails
 returns-in_err-write_text_body-clause-fails g c =

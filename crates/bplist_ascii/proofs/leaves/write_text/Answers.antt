@@ -1,11 +1,16 @@
-use Rattle.std.proofs.Common.{rules, ◌≡◌, Err, sym, ap, ◌∙◌, IsTrue, true, false, ℕ, List}
+use Rattle.std.proofs.Common.{rules, ◌≡◌, Err, refl, sym, ◌∙◌}
 use Rattle.std.specs.List.{flat_map}
 use Rattle.bplist_objects.specs.Units.{units_of}
 use Rattle.bplist_cursor.specs.Texts.{text_of_units, quoted}
 use Rattle.bplist_ascii.specs.declared.style.Style.TheVariants.{Bare}
 use Rattle.bplist_ascii.specs.Writing.{styled}
-use Rattle.bplist_ascii.proofs.WriteSteps.{bare_text, quoted_text, flat_bare, text_under, fails_under, fails_same}
+use Rattle.bplist_ascii.proofs.WriteSteps.{bare_text, quoted_text, flat_bare, text_under, fails_under, fails_same, read_fails, adds_nothing}
 use Rattle.bplist_ascii.proofs.leaves.write_text.Goals as goal
+
+pub returns-in_err-is_bare-clause-fails : goal.returns-in_err-is_bare-clause-fails
+returns-in_err-is_bare-clause-fails g c =
+    let is : c.from_residual.result ≡ Err c.in_err-is_bare.field-0.0 = search rules in
+    rw is (λ honest low. read_fails _ c.in_err-is_bare.field-0.0 (adds_nothing (g.W.Write.contents c.args.out.now) c.args.sink.now c.args.room.now) refl c.in_err-is_bare.ensures.read)
 
 pub returns-in_err-write_text_body-clause-fails : goal.returns-in_err-write_text_body-clause-fails
 returns-in_err-write_text_body-clause-fails g c =

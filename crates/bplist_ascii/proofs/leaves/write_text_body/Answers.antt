@@ -1,12 +1,19 @@
-use Rattle.std.proofs.Common.{rules, arith, ◌++◌, ◌≡◌, ◌+◌, ◌<◌, ◌≤◌, Err, length, take, drop, refl, subst, sym, ap, ◌∙◌, IsTrue, ℕ, List}
+use Rattle.std.proofs.Common.{rules, arith, ◌++◌, ◌≡◌, Err, length, take, ap, ◌∙◌, IsTrue}
 use Rattle.std.proofs.lemmas.List.{take_all, length-take-le}
-use Rattle.std.specs.List.{flat_map, list_all}
+use Rattle.std.specs.List.{flat_map}
 use Rattle.bplist_octets.specs.Octets.{part}
 use Rattle.bplist_objects.specs.Units.{units_of}
 use Rattle.bplist_objects.proofs.Units.{length-units_at}
 use Rattle.bplist_ascii.specs.Writing.{styled, fits}
-use Rattle.bplist_ascii.proofs.WriteSteps.{on_err, adds_fit, adds_within, adds_fail, text_more, text_adds, flat_part, flat_parts, all_in_part, length-bare, text_under}
+use Rattle.bplist_ascii.proofs.WriteSteps.{on_err, adds_some, adds_fit, adds_within, adds_fail, text_more, text_adds, flat_part, flat_parts, all_in_part, length-bare, text_under}
+use Rattle.bplist_ascii.specs.declared.print_fault.PrintFault.TheVariants.{Read}
 use Rattle.bplist_ascii.proofs.leaves.write_text_body.Goals as goal
+
+pub returns-in_err-read_units-clause-fails : goal.returns-in_err-read_units-clause-fails
+returns-in_err-read_units-clause-fails g c =
+    let is : c.from_residual.result ≡ Err (Read c.in_err-read_units.field-0.0) = search rules in
+    let us = units_of (g.S.Source.means c.args.src.now).octets c.args.head.now in
+    rw is (λ honest all low. adds_some _ (text_adds c.loop-done.invariant.so_far honest) (flat_parts (styled c.args.style) us c.loop-done.done 0))
 
 pub returns-in_err-read_units-clause-bounded : goal.returns-in_err-read_units-clause-bounded
 returns-in_err-read_units-clause-bounded g c = on_err c.from_residual.result (adds_fit c.loop-done.invariant.so_far.adds)

@@ -1,7 +1,7 @@
-use Rattle.std.proofs.Common.{rules, arith, ◌≡◌, ◌<◌, ◌≤◌, ◌⊎◌, inl, inr, length, refl, sym, ap, ◌∙◌, subst, Some, None, Err, ℕ, List}
+use Rattle.std.proofs.Common.{rules, arith, ◌≡◌, ◌<◌, ◌≤◌, inl, inr, length, refl, sym, ap, ◌∙◌, subst, Some, None, Err}
 use Rattle.bplist_cursor.specs.declared.form.Form.TheVariants.{NoForm, Length}
 use Rattle.bplist_cursor.specs.Forms.{form_of}
-use Rattle.bplist_cursor.specs.OldStyle.{value_text, plain}
+use Rattle.bplist_cursor.specs.OldStyle.{value_text}
 use Rattle.bplist_cursor.proofs.CheckedFrames.{frame_of_checked}
 use Rattle.bplist_cursor.proofs.Forming.{text_formed}
 use Rattle.bplist_ascii.specs.Sending.{Takes}
@@ -16,7 +16,8 @@ returns-in_err-part-in-Some-NoForm-clause-exact g c = λ honest vouched v h.
     let is : c.from_residual.result ≡ Err c.in_err-part-in-Some-NoForm.field-0.0 = search rules in
     let form = (c.requires.measured honest).form c.args.node.object.0 v vouched h in
     let both : Some NoForm ≡ Some (form_of v) = ap Some (sym c.in-Some-NoForm.field-0-is) ∙ c.in-Some-NoForm.ensures ∙ form in
-    rw is (read_prints _ _ c.args.sink.now c.args.sink.now _ _ _ v _ c.in_err-part-in-Some-NoForm.field-0.0 (c.in_err-part-in-Some-NoForm.ensures.exact honest vouched v h (no_text_of (value_text v) (cc both))))
+    let none = no_text_of (value_text v) (cc both) in
+    rw is (read_prints _ c.args.sink.now _ _ _ v _ c.in_err-part-in-Some-NoForm.field-0.0 none (c.in_err-part-in-Some-NoForm.ensures.exact honest vouched v h none))
 
 pub returns-in_ok-part-in-Some-NoForm-clause-exact : goal.returns-in_ok-part-in-Some-NoForm-clause-exact
 returns-in_ok-part-in-Some-NoForm-clause-exact g c = λ honest vouched v h.

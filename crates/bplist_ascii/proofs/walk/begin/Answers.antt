@@ -1,13 +1,14 @@
-use Rattle.std.proofs.Common.{rules, ◌≡◌, ◌++◌, ◌∷◌, [], Err, List, ℕ, refl, sym, ap, ◌∙◌}
+use Rattle.std.proofs.Common.{rules, ◌≡◌, ◌++◌, ◌∷◌, [], Err, refl, sym, ap, ◌∙◌}
 use Rattle.bplist_octets.specs.Octets.{part}
-use Rattle.bplist_objects.specs.Heads.{content_at, content_of}
+use Rattle.bplist_objects.specs.Heads.{content_of}
 use Rattle.bplist_objects.specs.Units.{units_of}
 use Rattle.bplist_objects.proofs.Leaves.{text_content}
 use Rattle.bplist_cursor.specs.Texts.{text_of_units, text_of_bytes}
 use Rattle.bplist_cursor.specs.OldStyle.{plain}
 use Rattle.bplist_cursor.proofs.Taking.{content_of_value}
-use Rattle.bplist_ascii.proofs.WriteSteps.{read_fails, fails_under, fails_same, text_adds, adds_nothing, adds_fit, adds_fail}
+use Rattle.bplist_ascii.proofs.WriteSteps.{adds_some, read_fails, fails_under, fails_same, text_adds, adds_nothing, adds_fit, adds_fail}
 use Rattle.bplist_ascii.proofs.WalkSteps.{text_kind, text_of_value, data_of_value, array_begun, dict_begun, no_form, stack_push, safe_push}
+use Rattle.bplist_ascii.specs.declared.print_fault.PrintFault.TheVariants.{Memory}
 use Rattle.bplist_ascii.proofs.walk.begin.Goals as goal
 
 pub returns-in_err-head-clause-fails : goal.returns-in_err-head-clause-fails
@@ -15,7 +16,7 @@ returns-in_err-head-clause-fails g c =
     let is : c.from_residual.result ≡ Err c.in_err-head.field-0.0 = search rules in
     rw is (λ t v h formed low.
     let s = content_of_value (g.S.Source.means c.args.src.now).octets c.args.frame.now v c.args.n.0 h in
-    read_fails _ _ c.args.sink.now (plain v) c.in_err-head.field-0.0 (c.in_err-head.ensures.exact t s.0 s.1))
+    read_fails (plain v) c.in_err-head.field-0.0 (adds_nothing (g.W.Write.contents c.args.out.now) c.args.sink.now c.args.room.now) refl (c.in_err-head.ensures.exact t s.0 s.1))
 
 pub returns-in_err-write_text-in-Ascii-clause-fails : goal.returns-in_err-write_text-in-Ascii-clause-fails
 returns-in_err-write_text-in-Ascii-clause-fails g c =
@@ -50,6 +51,20 @@ returns-in_err-write-in-Dict-clause-fails g c =
     rw is (λ t v h formed low.
     let b = dict_begun (g.S.Source.means c.args.src.now).octets c.args.frame.now c.args.n.0 v c.in_ok-head.head c.in-Dict.is (c.in_ok-head.ensures.exact t) h formed in
     adds_fail _ _ _ (123 ∷ []) b.0 (plain v) _ (adds_nothing _ _ _) c.in_err-write-in-Dict.ensures.fails b.1 low)
+
+pub returns-in_err-push-in-Array-clause-fails : goal.returns-in_err-push-in-Array-clause-fails
+returns-in_err-push-in-Array-clause-fails g c =
+    let is : c.from_residual-in_err-push-in-Array.result ≡ Err Memory = search rules in
+    rw is (λ t v h formed low.
+    let b = array_begun (g.S.Source.means c.args.src.now).octets c.args.frame.now c.args.n.0 v c.in_ok-head.head c.in-Array.is (c.in_ok-head.ensures.exact t) h formed in
+    adds_some b.0 c.in_ok-write-in-Array.ensures.adds b.1)
+
+pub returns-in_err-push-in-Dict-clause-fails : goal.returns-in_err-push-in-Dict-clause-fails
+returns-in_err-push-in-Dict-clause-fails g c =
+    let is : c.from_residual-in_err-push-in-Dict.result ≡ Err Memory = search rules in
+    rw is (λ t v h formed low.
+    let b = dict_begun (g.S.Source.means c.args.src.now).octets c.args.frame.now c.args.n.0 v c.in_ok-head.head c.in-Dict.is (c.in_ok-head.ensures.exact t) h formed in
+    adds_some b.0 c.in_ok-write-in-Dict.ensures.adds b.1)
 
 pub returns-in_ok-write_text-in-Ascii-clause-exact : goal.returns-in_ok-write_text-in-Ascii-clause-exact
 returns-in_ok-write_text-in-Ascii-clause-exact g c = λ t v h formed left stands.

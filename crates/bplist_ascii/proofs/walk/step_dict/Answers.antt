@@ -1,10 +1,11 @@
-use Rattle.std.proofs.Common.{rules, arith, ◌≡◌, ◌<◌, ◌+◌, ◌++◌, ◌∷◌, [], Err, List, ℕ, refl, sym, ap, ◌∙◌, subst, slice_index, append_assoc}
+use Rattle.std.proofs.Common.{rules, arith, ◌≡◌, ◌+◌, ◌++◌, ◌∷◌, [], Err, sym, ◌∙◌, subst, slice_index, append_assoc}
 use Rattle.bplist_objects.specs.Holds.{Holds}
 use Rattle.bplist_cursor.specs.Texts.{text_of_units}
 use Rattle.bplist_cursor.specs.OldStyle.{plain}
 use Rattle.bplist_ascii.specs.Walks.{after_first}
-use Rattle.bplist_ascii.proofs.WriteSteps.{on_err, read_fails, adds_more, adds_fit, adds_within, adds_fail, adds_nothing}
+use Rattle.bplist_ascii.proofs.WriteSteps.{on_err, adds_some, read_fails, adds_more, adds_fit, adds_within, adds_fail, adds_nothing}
 use Rattle.bplist_ascii.proofs.WalkSteps.{dict_ends, dict_front, dict_goes_on, safe_push, adds_goes_on}
+use Rattle.bplist_ascii.specs.declared.print_fault.PrintFault.TheVariants.{Memory}
 use Rattle.bplist_ascii.proofs.walk.step_dict.Goals as goal
 
 pub returns-in_err-write_after_first-clause-fails : goal.returns-in_err-write_after_first-clause-fails
@@ -53,10 +54,19 @@ returns-in_err-m-clause-fails g c =
     let is : c.from_residual-in_err-m.result ≡ Err c.in_err-m.field-0.0 = search rules in
     rw is (λ t left stands low.
     let q = dict_goes_on (g.S.Source.means c.args.src.now).octets c.args.frame.now _ _ _ c.requires.kind stands (omega (arith, c.if-opened.false)) in
-    read_fails _ _ c.args.sink.now left c.in_err-m.field-0.0 ((rw c.in_ok-write_next_key.ensures.reads at c.in_err-m.ensures.exact) t _ q.next.means q.next.value_is_object))
+    read_fails (plain q.next.value ++ (q.next.rest ++ q.rest)) c.in_err-m.field-0.0 (adds_more c.in_ok-write_after_first.ensures.adds (c.in_ok-write_next_key.ensures.exact t q.part q.next))
+    (q.is ∙ sym (append_assoc (after_first c.args.opened.next (59 ∷ [])) (text_of_units q.next.units ++ 61 ∷ []) (plain q.next.value ++ (q.next.rest ++ q.rest)))) ((rw c.in_ok-write_next_key.ensures.reads at c.in_err-m.ensures.exact) t _ q.next.means q.next.value_is_object))
 
 pub returns-in_err-m-clause-bounded : goal.returns-in_err-m-clause-bounded
 returns-in_err-m-clause-bounded g c = let k = c.in_ok-write_next_key.ensures.adds in on_err c.from_residual-in_err-m.result (adds_fit (adds_more c.in_ok-write_after_first.ensures.adds k.1))
+
+pub returns-in_err-push-clause-fails : goal.returns-in_err-push-clause-fails
+returns-in_err-push-clause-fails g c =
+    let is : c.from_residual-in_err-push.result ≡ Err Memory = search rules in
+    rw is (λ t left stands low.
+    let q = dict_goes_on (g.S.Source.means c.args.src.now).octets c.args.frame.now _ _ _ c.requires.kind stands (omega (arith, c.if-opened.false)) in
+    adds_some (plain q.next.value ++ (q.next.rest ++ q.rest)) (adds_more c.in_ok-write_after_first.ensures.adds (c.in_ok-write_next_key.ensures.exact t q.part q.next))
+    (q.is ∙ sym (append_assoc (after_first c.args.opened.next (59 ∷ [])) (text_of_units q.next.units ++ 61 ∷ []) (plain q.next.value ++ (q.next.rest ++ q.rest)))))
 
 pub returns-in_err-push-clause-bounded : goal.returns-in_err-push-clause-bounded
 returns-in_err-push-clause-bounded g c = let k = c.in_ok-write_next_key.ensures.adds in on_err c.from_residual-in_err-push.result (adds_fit (adds_more c.in_ok-write_after_first.ensures.adds k.1))

@@ -1,4 +1,4 @@
-use Rattle.std.proofs.Common.{rules, ◌≡◌, Err, sym, ap, ◌∙◌}
+use Rattle.std.proofs.Common.{rules, ◌≡◌, Err, refl, sym, ap}
 use Rattle.bplist_objects.specs.Value.{text}
 use Rattle.bplist_objects.specs.Heads.{Content}
 use Rattle.bplist_objects.specs.Units.{units_of}
@@ -11,7 +11,7 @@ use Rattle.bplist_ascii.proofs.walk.write_key.Goals as goal
 pub returns-in_err-head-clause-fails : goal.returns-in_err-head-clause-fails
 returns-in_err-head-clause-fails g c =
     let is : c.from_residual.result ≡ Err c.in_err-head.field-0.0 = search rules in
-    rw is (λ t units s low. read_fails _ _ c.args.sink.now (text_of_units units) c.in_err-head.field-0.0 (c.in_err-head.ensures.exact t (Content.leaf (text units)) s))
+    rw is (λ t units s low. read_fails (text_of_units units) c.in_err-head.field-0.0 (adds_nothing (g.W.Write.contents c.args.out.now) c.args.sink.now c.args.room.now) refl (c.in_err-head.ensures.exact t (Content.leaf (text units)) s))
 
 pub returns-in_err-write_text-in-Ascii-clause-fails : goal.returns-in_err-write_text-in-Ascii-clause-fails
 returns-in_err-write_text-in-Ascii-clause-fails g c =

@@ -1,9 +1,8 @@
-use Rattle.std.proofs.Common.{rules, arith, ◌≡◌, ◌<◌, ◌++◌, ◌∷◌, [], Err, List, ℕ, refl, sym, ap, ◌∙◌, subst, slice_index, append-nil}
+use Rattle.std.proofs.Common.{rules, arith, ◌≡◌, ◌++◌, ◌∷◌, [], Err, refl, sym, subst, slice_index}
 use Rattle.bplist_objects.specs.Value.{text}
 use Rattle.bplist_objects.specs.Heads.{Content, Spells}
 use Rattle.bplist_cursor.specs.Texts.{text_of_units}
-use Rattle.bplist_ascii.specs.Walks.{NextPair}
-use Rattle.bplist_ascii.proofs.WriteSteps.{on_err, read_fails, adds_more, adds_fit, adds_within, adds_fail, adds_nothing, text_adds}
+use Rattle.bplist_ascii.proofs.WriteSteps.{read_fails, adds_more, adds_within, adds_fail, adds_nothing, text_adds}
 use Rattle.bplist_ascii.proofs.walk.write_next_key.Goals as goal
 
 pub reference_in-requires-clause-within : goal.reference_in-requires-clause-within
@@ -12,7 +11,7 @@ reference_in-requires-clause-within g c = rw c.requires.kind (omega arith)
 pub returns-in_err-key-clause-fails : goal.returns-in_err-key-clause-fails
 returns-in_err-key-clause-fails g c =
     let is : c.from_residual.result ≡ Err c.in_err-key.field-0.0 = search rules in
-    rw is (λ t left m low. read_fails _ _ c.args.sink.now (text_of_units m.units ++ 61 ∷ []) c.in_err-key.field-0.0 (c.in_err-key.ensures.exact t _ m.means m.key_is_object))
+    rw is (λ t left m low. read_fails (text_of_units m.units ++ 61 ∷ []) c.in_err-key.field-0.0 (adds_nothing (g.W.Write.contents c.args.out.now) c.args.sink.now c.args.room.now) refl (c.in_err-key.ensures.exact t _ m.means m.key_is_object))
 
 pub returns-in_err-write_key-clause-fails : goal.returns-in_err-write_key-clause-fails
 returns-in_err-write_key-clause-fails g c =
