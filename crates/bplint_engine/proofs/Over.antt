@@ -11,7 +11,7 @@ use Rattle.bplint_engine.specs.Answers.{Answer, refuses, Leaves, is_read}
 use Rattle.bplint_engine.specs.Commands.{Asked}
 use Rattle.bplint_engine.specs.Hexadecimal.{spelled}
 use Rattle.bplint_engine.specs.Said.{Says, SaysBeside, SaysOver, takes_cert, most}
-use Rattle.bplint_engine.proofs.Leaving.{at_most, kept_self, said_as}
+use Rattle.bplint_engine.proofs.Leaving.{begins_nothing, kept_self, said_as}
 
 -- the inputs are the bytes themselves
 pub as_bytes : (command : Asked) (file cert : List ℕ) (old new : Option (List ℕ)) (result : Result Said RunFault) → command.hex ≡ false
@@ -52,7 +52,7 @@ wrong_says (Err e) X Y h y = y
 pub text_refused : (command : Asked) (file cert f : List ℕ) (old : Option (List ℕ)) (fault : RunFault) → command.hex ≡ true
     → spelled file ≡ Ok f → takes_cert command.verb ≡ true → (fault ≡ Memory) ⊎ ((fault ≡ Hex) × IsErr (spelled cert))
     → Leaves (SaysOver command.hex command file cert) (most command) old old (Err fault)
-text_refused command file cert f old fault hex is takes (inl memory) = rw memory (merely (at_most old old (most command) (kept_self old)))
+text_refused command file cert f old fault hex is takes (inl memory) = rw memory (merely (begins_nothing (SaysOver command.hex command file cert) (most command) old old (kept_self old)))
 text_refused command file cert f old fault hex is takes (inr (wrong, none)) =
     rw wrong (merely (
       over_file command file cert f hex is (refuses Hex) (subst (λ b. SaysBeside b command f cert (refuses Hex)) (sym takes)

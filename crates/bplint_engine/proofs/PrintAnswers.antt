@@ -1,5 +1,5 @@
 -- What `print` says and leaves, from the answers of the cursor and of the printer.
-use Rattle.std.proofs.Common.{◌≡◌, ℕ, ◌+◌, List, [], ◌∷◌, ◌++◌, length, ap, sym, subst, refl, arith, Option, Result, Ok, Err}
+use Rattle.std.proofs.Common.{◌≡◌, inl, inr, ◌∙◌, append_assoc, ℕ, ◌+◌, List, [], ◌∷◌, ◌++◌, length, ap, sym, subst, refl, arith, Option, Result, Ok, Err}
 use Rattle.std.specs.Prelude.{IfOk, IfErr}
 use Rattle.std.proofs.Math.Logic.{∥∥₁_map}
 use Rattle.bplist_objects.specs.declared.frame.Frame.{Frame}
@@ -17,7 +17,7 @@ use Rattle.bplist_cursor.specs.Causes.{IsExcused}
 use Rattle.bplist_cursor.specs.Found.{IsFound, LeadTo, IsHeld}
 use Rattle.bplist_cursor.specs.Look.{look}
 use Rattle.bplist_ascii.specs.Sending.{Sending, Takes, TakesPart, AtMost}
-use Rattle.bplist_ascii.specs.Printed.{PrintFails, Prints}
+use Rattle.bplist_ascii.specs.Printed.{BeginsText, PrintFails, Prints}
 use Rattle.bplist_ascii.specs.declared.sink.WriteFault.{WriteFault}
 use Rattle.bplist_ascii.specs.declared.print_fault.PrintFault.{PrintFault}
 use Rattle.bplist_ascii.specs.declared.print_fault.PrintFault.TheVariants as print_faults
@@ -27,20 +27,34 @@ use Rattle.bplint_engine.specs.declared.fault.RunFault.TheVariants as faults
 use Rattle.bplint_engine.specs.declared.output.Output.{Output}
 use Rattle.bplint_engine.specs.declared.said.Said.{Said}
 use Rattle.bplint_engine.specs.declared.said.Said.TheVariants.{All, SomeMissing}
-use Rattle.bplint_engine.specs.Answers.{Answer, gives, refuses, Answers, IsRefusal, Leaves, LeavesBy, LeavesFault}
+use Rattle.bplint_engine.specs.Answers.{Answer, gives, refuses, Answers, BeginsAnswer, IsRefusal, Leaves, LeavesBy, LeavesFault}
 use Rattle.bplint_engine.specs.Asking.{AreQueries}
 use Rattle.bplint_engine.specs.Faults.{cursor_fault, print_fault}
 use Rattle.bplint_engine.specs.OutputLines.{missing_line}
 use Rattle.bplint_engine.specs.Printing.{NodeSays, PathSays, PrintSays, PrintGives}
 use Rattle.bplint_engine.specs.Vouching.{IsVouchedFor}
-use Rattle.bplint_engine.proofs.Leaving.{at_most, kept_self, said_as}
+use Rattle.bplint_engine.proofs.Leaving.{begins_nothing, kept_self, said_as}
 
 -- the cursor met a failed read or a refused growth
 pub cursor_stopped : (Says : Answer → Type 0) (most : ℕ) (old : Option (List ℕ)) (fault : CursorFault) → IsExcused fault
     → LeavesFault Says most old old (cursor_fault fault)
-cursor_stopped Says most old (cursor_faults.Read _) h = at_most old old most (kept_self old)
+cursor_stopped Says most old (cursor_faults.Read _) h = begins_nothing Says most old old (kept_self old)
 cursor_stopped Says most old cursor_faults.Changed h = absurd h
-cursor_stopped Says most old cursor_faults.Memory h = at_most old old most (kept_self old)
+cursor_stopped Says most old cursor_faults.Memory h = begins_nothing Says most old old (kept_self old)
+
+within : (old new : Option (List ℕ)) (s : Sending) (limit : ℕ) → s ≡ record { sent = 0; held = [] } → AtMost old new (length s.held + limit) → AtMost old new limit
+within old new s limit start (gone, few, added) = (gone, omega (arith, few, ap (λ x. length x.held) start), added)
+
+-- a first part of the text is one of the answer
+begun_answer : (old new : Option (List ℕ)) (s : Sending) (f : List ℕ) (F : Frame) (n : ℕ) (w : Value) (limit : ℕ)
+    → s ≡ record { sent = 0; held = [] } → BeginsText old new s.held w limit → AtMost old new (length s.held + limit)
+    → BeginsAnswer (NodeSays f F limit n w) limit old new
+begun_answer old new s f F n w limit start (t, is, fits, some) bound =
+    let all : t ++ 10 ∷ [] ≡ some.gone ++ (some.rest ++ 10 ∷ []) =
+    ap (λ l. l ++ 10 ∷ []) (sym (ap (λ x. x.held ++ t) start) ∙ some.all) ∙ append_assoc some.gone some.rest (10 ∷ []) in (
+      within old new s limit start bound,
+      inr (All, t ++ 10 ∷ [], (t, is, fits, refl, refl), record { gone = some.gone; rest = some.rest ++ 10 ∷ []; appended = some.appended; all = all }),
+    )
 
 -- the text was not put in whole
 pub print_failed : (old new : Option (List ℕ)) (s u : Sending) (f : List ℕ) (F : Frame) (n : ℕ) (w : Value) (limit : ℕ) (fault : PrintFault)
@@ -54,11 +68,10 @@ print_failed old new s u f F n w limit (print_faults.Write sent) start (t, is, f
   (t, is, fits, refl, refl),
   cut_more old new t (10 ∷ []) sent (out_part old old new s [] t sent (out_start old s (ap (λ x. x.sent) start) (ap (λ x. x.held) start)) part),
 )
-print_failed old new s u f F n w limit (print_faults.Read _) start h (gone, few, added) =
-    (gone, omega (arith, ap (λ x. length x.held) start), added)
+print_failed old new s u f F n w limit (print_faults.Read _) start (inl (none, kept, _)) bound = (within old new s limit start bound, inl kept)
+print_failed old new s u f F n w limit (print_faults.Read _) start (inr begun) bound = begun_answer old new s f F n w limit start begun bound
 print_failed old new s u f F n w limit print_faults.Changed start h bound = absurd h
-print_failed old new s u f F n w limit print_faults.Memory start h (gone, few, added) =
-    (gone, omega (arith, ap (λ x. length x.held) start), added)
+print_failed old new s u f F n w limit print_faults.Memory start begun bound = begun_answer old new s f F n w limit start begun bound
 
 -- the text was put in, and its line feed was not
 pub end_failed : (old mid new : Option (List ℕ)) (s t : Sending) (f : List ℕ) (F : Frame) (n : ℕ) (w : Value) (limit sent : ℕ)

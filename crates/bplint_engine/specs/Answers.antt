@@ -1,7 +1,7 @@
 -- Answers to a command, and what they leave with the writer. Source: profile.
-use Rattle.std.specs.Prelude.{◌≡◌, ℕ, List, Bool, true, false, Option, Result, Ok, Err}
+use Rattle.std.specs.Prelude.{◌≡◌, ◌⊎◌, ℕ, List, Bool, true, false, Option, Result, Ok, Err}
 use Rattle.std.specs.Io.KnownBytes.{Appends, Keeps}
-use Rattle.bplist_ascii.specs.Sending.{IsCut, AtMost}
+use Rattle.bplist_ascii.specs.Sending.{SendsSome, IsCut, AtMost}
 use Rattle.bplint_engine.specs.declared.fault.RunFault.{RunFault}
 use Rattle.bplint_engine.specs.declared.fault.RunFault.TheVariants as faults
 use Rattle.bplint_engine.specs.declared.output.Output.{Output}
@@ -40,13 +40,18 @@ Sends old new (Ok output) (Ok said) = (said ≡ output.said) × Appends old new 
 Sends old new (Ok output) (Err fault) = (sent : ℕ) × (fault ≡ faults.Write sent) × IsCut old new output.bytes.items sent
 Sends old new (Err fault) result = (result ≡ Err fault) × Keeps old new
 
+-- nothing went out, or a first part of the answer's bytes, and at most `most` bytes
+abbrev pub BeginsAnswer : (Answer → Type 0) → ℕ → Option (List ℕ) → Option (List ℕ) → Type 0
+BeginsAnswer Says most old new =
+    AtMost old new most × (Keeps old new ⊎ ((said : Said) × (bytes : List ℕ) × Says (gives said bytes) × SendsSome old new bytes))
+
 -- what a fault leaves with the writer: nothing went out, but where a write failed a first part of the answer did, and where
--- a read failed or memory was refused at most `most` bytes
+-- a read failed or memory was refused a first part of it may have, of at most `most` bytes
 abbrev pub LeavesFault : (Answer → Type 0) → ℕ → Option (List ℕ) → Option (List ℕ) → RunFault → Type 0
 LeavesFault Says most old new (faults.Write sent) =
     (said : Said) × (bytes : List ℕ) × Says (gives said bytes) × IsCut old new bytes sent
-LeavesFault Says most old new (faults.Read _) = AtMost old new most
-LeavesFault Says most old new faults.Memory = AtMost old new most
+LeavesFault Says most old new (faults.Read _) = BeginsAnswer Says most old new
+LeavesFault Says most old new faults.Memory = BeginsAnswer Says most old new
 LeavesFault Says most old new fault = Says (refuses fault) × Keeps old new
 
 -- what a run leaves with the writer: exactly the answer's bytes went out

@@ -29,6 +29,7 @@ abbrev pub most_by : Verb → ℕ → ℕ
 most_by Print limit = limit
 most_by _ limit = 0
 
+-- the same of a command
 abbrev pub most : Asked → ℕ
 most command = most_by command.verb command.limit
 
