@@ -21,7 +21,7 @@ use Rattle.bplist_lint.specs.declared.references.WalkFault.TheVariants as walk_f
 use Rattle.bplist_lint.specs.declared.refusal.LintRefusal.{LintRefusal}
 use Rattle.bplist_lint.specs.declared.refusal.LintRefusal.TheVariants as refusals
 use Rattle.bplist_lint.specs.declared.answer.Lint.{Lint}
-use Rattle.bplist_lint.specs.declared.faults.Tally.{Tally}
+use Rattle.bplist_lint.specs.declared.linting.Sifted.{Sifted}
 use Rattle.bplist_lint.specs.Graph.{Reaches, AreLeast, IsCircleOf}
 use Rattle.bplist_lint.specs.Reaching.{IsMarked}
 use Rattle.bplist_lint.specs.ReachRules.{Tallied, sum_below, number_below, references_below, is_marked}
@@ -64,6 +64,10 @@ lints_mean P O Q S R T (Err e) oks faults circles h = refusal_means Q S R T e fa
 pub reached_exact : (f : List ℕ) (F : Frame) (marks : List Bool) → ((n : ℕ) → IsMarked marks n ↔ Reaches (refs_at f F) F.top.0 n) → (n : ℕ) → IsMarked marks n ↔ Reach f F n
 reached_exact f F marks h n = ((λ m. (reach_iff f F n).0 ((h n).0 m)), λ r. (h n).1 ((reach_iff f F n).1 r))
 
+-- and what is reached in the file is marked in the graph
+pub reached_in_graph : (f : List ℕ) (F : Frame) (marks : List Bool) → ((n : ℕ) → IsMarked marks n ↔ Reach f F n) → (n : ℕ) → IsMarked marks n ↔ Reaches (refs_at f F) F.top.0 n
+reached_in_graph f F marks h n = ((λ m. (reach_iff f F n).1 ((h n).0 m)), λ r. (h n).1 ((reach_iff f F n).0 r))
+
 -- ---- sums over the same objects
 sum_same : (g k : ℕ → ℕ) (n : ℕ) → ((m : ℕ) → m < n → g m ≡ k m) → sum_below g n ≡ sum_below k n
 sum_same g k zero same = refl
@@ -79,37 +83,34 @@ vouched-lt zero e = absurd (false≢true e)
 vouched-lt (suc h) e = omega arith
 
 module _ (f : List ℕ) (F : Frame) where
-  module _ (marks : List Bool) (marked : (n : ℕ) → IsMarked marks n ↔ Reach f F n) where
-    -- the passes over the objects
-    pub sifted : IsFrame f F → (tally : Tally) → Tallied f F marks F.objects tally → KeepKeysBelow f F F.objects → IsSifted f F tally
-    sifted frame tally t keys = record {
-      marks = marks;
-      marked = λ n. (marked n).0;
-      marking = λ n. (marked n).1;
-      kept = t.kept;
-      keys = keys;
-      reached = t.reached;
-      references = t.references;
-    }
+  -- the passes over the objects
+  pub is_sifted : (sifted : Sifted) → ((n : ℕ) → IsMarked sifted.marks.items n ↔ Reach f F n) → Tallied f F sifted.marks.items F.objects sifted.tally → KeepKeysBelow f F F.objects → IsSifted f F sifted
+  is_sifted sifted marked t keys = record {
+    marked = marked;
+    kept = t.kept;
+    keys = keys;
+    reached = t.reached;
+    references = t.references;
+  }
 
   -- the marked objects are those with a height
-  module _ (tally : Tally) (s : IsSifted f F tally) (heights : List ℕ) (least : AreLeastHeights f F heights) (vouched : (n : ℕ) → Reach f F n → IsVouchedBy heights n) where
-    same_objects : (n : ℕ) → is_marked s.marks n ≡ is_vouched heights n
-    same_objects n = same_bools (is_marked s.marks n) (is_vouched heights n)
-        (λ e. let v = vouched n (s.marked n e) in lt-ltb 0 (slice_index heights n) (omega arith))
-        (λ e. let v = vouched-lt (slice_index heights n) e in s.marking n (least.only n (omega arith)))
+  module _ (sifted : Sifted) (s : IsSifted f F sifted) (heights : List ℕ) (least : AreLeastHeights f F heights) (vouched : (n : ℕ) → Reach f F n → IsVouchedBy heights n) where
+    same_objects : (n : ℕ) → is_marked sifted.marks.items n ≡ is_vouched heights n
+    same_objects n = same_bools (is_marked sifted.marks.items n) (is_vouched heights n)
+        (λ e. let v = vouched n ((s.marked n).0 e) in lt-ltb 0 (slice_index heights n) (omega arith))
+        (λ e. let v = vouched-lt (slice_index heights n) e in (s.marked n).1 (least.only n (omega arith)))
 
-    pub same_number : tally.reached ≡ number_below (is_vouched heights) F.objects
+    pub same_number : sifted.tally.reached ≡ number_below (is_vouched heights) F.objects
     same_number = s.reached ∙ sum_same _ _ F.objects (λ m low. ap (λ b. cond b 1 0) (same_objects m))
 
-    pub same_references : tally.references ≡ references_below f F (is_vouched heights) F.objects
+    pub same_references : sifted.tally.references ≡ references_below f F (is_vouched heights) F.objects
     same_references = s.references ∙ sum_same _ _ F.objects (λ m low. ap (λ b. cond b (length (refs_at f F m)) 0) (same_objects m))
 
   -- the answer
-  pub linted : IsFrame f F → (tally : Tally) → IsSifted f F tally → tally.references + 8 ≤ F.table → (lint : Lint) → lint.certificate.keys ≡ None
+  pub linted : IsFrame f F → (sifted : Sifted) → IsSifted f F sifted → sifted.tally.references + 8 ≤ F.table → (lint : Lint) → lint.certificate.keys ≡ None
       → length lint.certificate.heights ≡ F.objects → AreLeast (refs_at f F) F.top.0 lint.certificate.heights → lint.height ≡ slice_index lint.certificate.heights F.top.0 → 0 < lint.height
-      → lint.reached ≡ tally.reached → lint.references ≡ tally.references → IsLintedBy f F lint
-  linted frame tally s few lint version count walked height has reached references =
+      → lint.reached ≡ sifted.tally.reached → lint.references ≡ sifted.tally.references → IsLintedBy f F lint
+  linted frame sifted s few lint version count walked height has reached references =
       let heights : List ℕ = lint.certificate.heights in
       let yes = lint_yes f F frame s.kept s.keys heights count walked (omega (arith, height)) in
       let value = formed_holds f F yes.0 in
@@ -122,14 +123,14 @@ module _ (f : List ℕ) (F : Frame) where
         valid = yes.2;
         lowest = λ other valid n r. (least_lowest f F other heights valid yes.1.least n r).1;
         height = height;
-        reached = reached ∙ same_number tally s heights yes.1 vouched;
-        references = references ∙ same_references tally s heights yes.1 vouched;
+        reached = reached ∙ same_number sifted s heights yes.1 vouched;
+        references = references ∙ same_references sifted s heights yes.1 vouched;
         few = omega (arith, references);
       }
 
   -- the circle
-  pub circled : IsFrame f F → (tally : Tally) → IsSifted f F tally → (circle : List ℕ) → IsCircleOf (refs_at f F) F.top.0 circle → IsFramedCircle f F circle
-  circled frame tally s circle c = (s.kept, s.keys, (circle_iff f F (kept_spells f F frame s.kept) circle).0 c)
+  pub circled : IsFrame f F → (sifted : Sifted) → IsSifted f F sifted → (circle : List ℕ) → IsCircleOf (refs_at f F) F.top.0 circle → IsFramedCircle f F circle
+  circled frame sifted s circle c = (s.kept, s.keys, (circle_iff f F (kept_spells f F frame s.kept) circle).0 c)
 
 -- ---- a fault excludes heights and values
 pub fault_decides : (f : List ℕ) (fault : Fault) → IsFileFault f fault → HasNoHeights f

@@ -1,5 +1,5 @@
 -- What the keys of a dictionary keep and break, and what a refusal says.
-use Rattle.std.proofs.Common.{◌≡◌, ℕ, ◌+◌, ◌<◌, inl, inr, List, sym, subst, arith}
+use Rattle.std.proofs.Common.{◌≡◌, ℕ, ◌+◌, ◌<◌, inl, inr, List, [], length, sym, ap, ◌∙◌, subst, arith}
 use Rattle.std.proofs.lemmas.Bool.{cases_eq}
 use Rattle.bplist_objects.specs.declared.rule.Rule.TheVariants as rules
 use Rattle.bplist_objects.specs.declared.fault.Fault.{Fault}
@@ -13,6 +13,12 @@ use Rattle.bplist_objects.specs.Answers.{GivesFault}
 use Rattle.bplist_objects.specs.Rules.{KeepsAll, IsFirstFault}
 use Rattle.bplist_objects.specs.ObjectRules.{KeepsByObject, IsObjectFault, shape_rules, object_rules}
 use Rattle.bplist_objects.specs.Reach.{Reach}
+use Rattle.bplist_objects.specs.Frame.{IsFrame}
+use Rattle.bplist_objects.specs.Safe.{ref_count}
+use Rattle.bplist_objects.specs.Spelled.{refs_at}
+use Rattle.bplist_objects.proofs.Ties.{head_tie}
+use Rattle.bplist_objects.proofs.References.{length-refs}
+use Rattle.bplist_objects.proofs.Reaching.{refs_spelled}
 use Rattle.bplist_objects.proofs.BodyLaws.{HasHead-unique}
 use Rattle.bplist_objects.proofs.Broken.{no_object_fault}
 use Rattle.bplist_cert.specs.declared.refusal.Refusal.{Refusal}
@@ -82,3 +88,21 @@ module _ (f : List ℕ) (F : Frame) where
 
   pub keys_none : KeepKeysBelow f F 0
   keys_none m low r = absurd (omega arith)
+
+-- an object without references that keeps rules 14 to 20 has no keys
+pub bare_keys : (f : List ℕ) (F : Frame) (n : ℕ) → IsFrame f F → n < F.objects → KeepsAll (KeepsByObject f F n) object_rules → refs_at f F n ≡ []
+    → KeepsAll (KeepsByKeys f F n) key_rules
+bare_keys f F n framed within kept none = (texts, (differ, tt))
+  where
+    no_keys : (head : Head) → HasHead f F n head → head.kind ≡ Dict → head.count ≡ 0
+    no_keys head has dict =
+        let spelled = ((head_tie f F n framed within head).0 (has, kept)).1 in
+        let long : ref_count head.kind head.count ≡ 0 = sym (length-refs f F head.kind head.count head.body) ∙ ap length (sym (refs_spelled f F n _ spelled) ∙ none) in
+        let pairs : ref_count Dict head.count ≡ 0 = sym (ap (λ k. ref_count k head.count) dict) ∙ long in
+        omega (arith, pairs)
+
+    texts : KeepsByKeys f F n rules.KeyKind
+    texts head has dict k low = absurd (let z = no_keys head has dict in omega (arith, z, low))
+
+    differ : KeepsByKeys f F n rules.KeyTwice
+    differ head has dict i j _ low = absurd (let z = no_keys head has dict in omega (arith, z, low))

@@ -9,6 +9,7 @@ pub mod Referring
 pub mod Tallying
 pub mod PlaceSteps
 pub mod KeySteps
+pub mod Fingerprinting
 pub mod Founding
 pub mod Forming
 pub mod Making

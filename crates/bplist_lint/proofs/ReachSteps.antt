@@ -70,7 +70,7 @@ marking_over refs top n marks w not_marked = record {
   ];
 }
 
-marked_within : (marks : List Bool) (n : ℕ) → IsMarked marks n → n < length marks
+pub marked_within : (marks : List Bool) (n : ℕ) → IsMarked marks n → n < length marks
 marked_within [] n h = absurd (false≢true h)
 marked_within (x ∷ marks) zero h = omega arith
 marked_within (x ∷ marks) (suc n) h = let r = marked_within marks n h in omega arith

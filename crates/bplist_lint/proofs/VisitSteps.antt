@@ -166,19 +166,17 @@ standing_finish size seen heights rest v h s high low =
       ];
     }
 
--- the walk begins
-pub standing_start : (size top count : ℕ) → top < size → Standing size (set (replicate size false) top true) (replicate size 0) ([] ++ record { object = top; next = 0; count = count; best = 0; sound = true } ∷ [])
-standing_start size top count in' = standing_open size (replicate size false) (replicate size 0) [] top count
-    (record {
-      all_seen = length-replicate size false;
-      all_heights = length-replicate size 0;
-      visits = λ k h. absurd (omega arith);
-      unfinished = λ k h. absurd (omega arith);
-      differ = λ j k less h. absurd (omega arith);
-      low = λ n. rw (none_high size n) (omega arith);
-      known = λ n h. absurd (let z = none_high size n in omega arith);
-    })
-    in' (none_seen size top)
+-- nothing is seen
+pub standing_none : (size : ℕ) → Standing size (replicate size false) (replicate size 0) []
+standing_none size = record {
+  all_seen = length-replicate size false;
+  all_heights = length-replicate size 0;
+  visits = λ k h. absurd (omega arith);
+  unfinished = λ k h. absurd (omega arith);
+  differ = λ j k less h. absurd (omega arith);
+  low = λ n. rw (none_high size n) (omega arith);
+  known = λ n h. absurd (let z = none_high size n in omega arith);
+}
 
 -- one more reference was looked at
 pub work_advance : (seen : List Bool) (rest : List Visit) (v v' : Visit) → v.next < v.count → v'.next ≡ v.next + 1 → v'.count ≡ v.count → work seen (rest ++ v' ∷ []) < work seen (rest ++ v ∷ [])

@@ -1,10 +1,10 @@
 -- Steps of the walk that finds the least heights, of what it knows of the references.
 use Rattle.std.proofs.Common.{◌≡◌, ℕ, suc, ◌+◌, ◌<◌, ◌≤◌, max, ◌⊎◌, inl, inr, Bool, true, false, List, [], ◌∷◌, ◌++◌, length, get_or, set, replicate, Contains, refl, sym, ◌∙◌, ap, arith, below_more, add-one}
 use Rattle.std.proofs.lemmas.Bool.{cases_eq, cases_lt, false≢true}
-use Rattle.std.proofs.lemmas.List.{get_or-set_same, get_or_append_left, get_or_push, get_or_default, length_push, length-replicate}
+use Rattle.std.proofs.lemmas.List.{get_or-set_same, get_or_append_left, get_or_push, length_push}
 use Rattle.std.proofs.lemmas.List.Elements.{Contains-get_or}
 use Rattle.bplist_lint.specs.Graph.{Reaches, Ends, Least, greatest, AreLeast}
-use Rattle.bplist_lint.specs.Graph.Reaches.{start, onward}
+use Rattle.bplist_lint.specs.Graph.Reaches.{onward}
 use Rattle.bplist_lint.specs.Graph.Ends.{ends}
 use Rattle.bplist_lint.specs.Graph.Least.{above}
 use Rattle.bplist_lint.specs.Reaching.{IsMarked}
@@ -51,6 +51,9 @@ on_more stack v n p = let long = length_push stack v in (p.0, (let low = p.1 in 
 on_last : (stack : List Visit) (v : Visit) → IsOnStack (stack ++ v ∷ []) v.object
 on_last stack v = let long = length_push stack v in (length stack, omega arith, ap (λ (x : Visit). x.object) (get_or_push stack v no_visit (length stack) refl))
 
+none_on : (n : ℕ) → IsOnStack [] n → ⊥
+none_on n p = let low = p.1 in omega arith
+
 on_cases : (stack : List Visit) (v : Visit) (n : ℕ) → IsOnStack (stack ++ v ∷ []) n → IsOnStack stack n ⊎ (n ≡ v.object)
 on_cases stack v n p = elim (push_cases stack v no_visit p.0 p.1) [
   | inl c ↦ inl (p.0, c.0, ap (λ (x : Visit). x.object) (sym c.1) ∙ p.2)
@@ -68,7 +71,6 @@ walking_advance refs top seen heights rest v v' w same read =
       | inr c ↦ ap (λ (x : Visit). x.object) c.1 ∙ same ∙ sym (ap (λ (x : Visit). x.object) (get_or_push rest v no_visit k (sym c.0)))
     ] in
     record {
-      begun = w.begun;
       reached = w.reached;
       linked = λ k h. let low : suc k < length (rest ++ v ∷ []) = omega arith in rw (same_at k (omega arith), same_at (suc k) h) (w.linked k low);
       visits = each_push (λ _ g. IsRead refs seen g) rest v' (each_front (λ _ g. IsRead refs seen g) rest v w.visits) read;
@@ -87,7 +89,6 @@ walking_open refs top seen heights rest v m count w known within among counted =
     let long = length_push rest v in
     let long' = length_push stack g in
     record {
-      begun = seen-set seen m top within w.begun;
       reached = λ n h. elim (at_set seen m true false n within) [
         | inl c ↦ rw c.0 (onward v.object m (w.reached v.object known) among)
         | inr c ↦ w.reached n (sym c.1 ∙ h)
@@ -122,7 +123,6 @@ walking_leave refs top seen heights rest v w whole unsound =
     let here = each_last (λ _ g. IsRead refs seen g) rest v w.visits in
     let long = length_push rest v in
     record {
-      begun = w.begun;
       reached = w.reached;
       linked = λ k h. let low : k < length rest = omega arith in
           rw (get_or_append_left rest (v ∷ []) no_visit k low, get_or_append_left rest (v ∷ []) no_visit (suc k) h) at (w.linked k (omega arith));
@@ -143,7 +143,6 @@ walking_finish refs top seen heights rest v h w within whole high least =
     let here = each_last (λ _ g. IsRead refs seen g) rest v w.visits in
     let long = length_push rest v in
     record {
-      begun = w.begun;
       reached = w.reached;
       linked = λ k h. let low : k < length rest = omega arith in
           rw (get_or_append_left rest (v ∷ []) no_visit k low, get_or_append_left rest (v ∷ []) no_visit (suc k) h) at (w.linked k (omega arith));
@@ -167,31 +166,40 @@ walking_finish refs top seen heights rest v h w within whole high least =
       ];
     }
 
--- the walk begins
-pub walking_start : (refs : ℕ → List ℕ) (size top count : ℕ) → top < size → count ≡ length (refs top) → Walking refs top (set (replicate size false) top true) (replicate size 0) ([] ++ record { object = top; next = 0; count = count; best = 0; sound = true } ∷ [])
-walking_start refs size top count in' counted =
-    let seen : List Bool = replicate size false in
-    let within : top < length seen = omega (arith, length-replicate size false) in
-    let g : Visit = record { object = top; next = 0; count = count; best = 0; sound = true } in
-    let old : (n : ℕ) → get_or seen n false ≡ false = none_seen size in
+-- nothing is seen
+pub walking_none : (refs : ℕ → List ℕ) (top size : ℕ) → Walking refs top (replicate size false) (replicate size 0) []
+walking_none refs top size = record {
+  reached = λ n h. absurd (false≢true (sym (none_seen size n) ∙ h));
+  linked = λ k h. absurd (omega arith);
+  visits = λ k h. absurd (omega arith);
+  measured = λ n h. absurd (let z = none_high size n in omega arith);
+  settled = λ n h. absurd (false≢true (sym (none_seen size n) ∙ h));
+}
+
+-- a walk begins at an object that is reached
+pub walking_begin : (refs : ℕ → List ℕ) (top : ℕ) (seen : List Bool) (heights : List ℕ) (n count : ℕ) → Walking refs top seen heights [] → Reaches refs top n → n < length seen → count ≡ length (refs n) → Walking refs top (set seen n true) heights ([] ++ record { object = n; next = 0; count = count; best = 0; sound = true } ∷ [])
+walking_begin refs top seen heights n count w reached within counted =
+    let g : Visit = record { object = n; next = 0; count = count; best = 0; sound = true } in
     record {
-      begun = get_or-set_same seen top true false within;
-      reached = λ n h. elim (at_set seen top true false n within) [
-        | inl c ↦ rw c.0 start
-        | inr c ↦ absurd (false≢true (sym (old n) ∙ sym c.1 ∙ h))
+      reached = λ m h. elim (at_set seen n true false m within) [
+        | inl c ↦ rw c.0 reached
+        | inr c ↦ w.reached m (sym c.1 ∙ h)
       ];
       linked = λ k h. absurd (omega arith);
-      visits = each_push (λ _ x. IsRead refs (set seen top true) x) [] g (λ k h. absurd (omega arith))
+      visits = each_push (λ _ x. IsRead refs (set seen n true) x) [] g (λ k h. absurd (omega arith))
           (record {
             counted = counted;
             seen = λ k h. absurd (omega arith);
             measured = λ _. record { heights = []; long = refl; each = λ k h. absurd (omega arith); best_is = refl };
             circular = λ e. absurd (false≢true (sym e));
           });
-      measured = λ n h. absurd (let z = none_high size n in omega arith);
-      settled = λ n h. elim (at_set seen top true false n within) [
+      measured = w.measured;
+      settled = λ m h. elim (at_set seen n true false m within) [
         | inl c ↦ inl (rw c.0 (on_last [] g))
-        | inr c ↦ absurd (false≢true (sym (old n) ∙ sym c.1 ∙ h))
+        | inr c ↦ elim (w.settled m (sym c.1 ∙ h)) [
+          | inl on ↦ absurd (none_on m on)
+          | inr is ↦ inr (record { all = λ i l. seen-set seen n _ within (is.all i l); circular = is.circular })
+        ]
       ];
     }
 
@@ -243,26 +251,15 @@ least_finish refs seen v r sound all =
     let least = above v.object m.heights (m.long ∙ whole) (λ i in'. m.each i (rw whole in')) in
     rw (add-one, m.best_is) least
 
--- the stack is empty
-module _ (refs : ℕ → List ℕ) (top : ℕ) (seen : List Bool) (heights : List ℕ) (w : Walking refs top seen heights []) where
-  none_on : (n : ℕ) → IsOnStack [] n → ⊥
-  none_on n p = let low = p.1 in omega arith
-
-  pub walked_all : (n : ℕ) → Reaches refs top n → IsMarked seen n
-  walked_all _ start = w.begun
-  walked_all _ (onward p n reached c) = elim (w.settled p (walked_all p reached)) [
-    | inl on ↦ absurd (none_on p on)
-    | inr is ↦ rw (get_or_default (refs p) c.0 0 n c.1, c.2) at (is.all c.0 c.1)
-  ]
-
-  pub are_least : ((n : ℕ) → 0 < get_or heights n 0 → IsMarked seen n) → AreLeast refs top heights
-  are_least known = record {
-    vouched = λ n h. (w.reached n (known n h), w.measured n h);
-    all = λ n reached is. elim (w.settled n (walked_all n reached)) [
-      | inl on ↦ absurd (none_on n on)
-      | inr done ↦ elim (cases_lt 0 (get_or heights n 0)) [
-        | inl has ↦ has
-        | inr none ↦ absurd (done.circular (omega arith) is)
-      ]
-    ];
-  }
+-- the stack is empty, and all that is reached is seen
+pub are_least : (refs : ℕ → List ℕ) (top : ℕ) (seen : List Bool) (heights : List ℕ) → Walking refs top seen heights [] → ((n : ℕ) → Reaches refs top n → IsMarked seen n) → ((n : ℕ) → 0 < get_or heights n 0 → IsMarked seen n) → AreLeast refs top heights
+are_least refs top seen heights w all known = record {
+  vouched = λ n h. (w.reached n (known n h), w.measured n h);
+  all = λ n reached is. elim (w.settled n (all n reached)) [
+    | inl on ↦ absurd (none_on n on)
+    | inr done ↦ elim (cases_lt 0 (get_or heights n 0)) [
+      | inl has ↦ has
+      | inr none ↦ absurd (done.circular (omega arith) is)
+    ]
+  ];
+}

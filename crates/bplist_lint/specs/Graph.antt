@@ -2,9 +2,11 @@
 -- Source: the reader of CFBinaryPList.c, which refuses circles; heights and circles as lists are profile.
 use Rattle.std.specs.Prelude.{◌≡◌, ℕ, suc, ◌+◌, ◌<◌, max, List, [], ◌∷◌, length, slice_index, Contains}
 
--- how many objects there are, and the references of each in written order. Where they are read through a borrow, through is its ghost name
+-- how many objects there are, and the references of each in written order. Where they are read through
+-- a borrow, and what is known of them is kept in another, through and beside are their ghost names
 pub record Graph : Type 0 where
   pub through : ℕ
+  pub beside : ℕ
   pub size : ℕ
   pub refs : ℕ → List ℕ
 

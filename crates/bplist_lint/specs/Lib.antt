@@ -7,6 +7,7 @@ pub mod Trail
 pub mod Referring
 pub mod ReachRules
 pub mod KeyRules
+pub mod Fingerprints
 pub mod FileFault
 pub mod Refusals
 pub mod Least

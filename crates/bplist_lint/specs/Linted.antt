@@ -1,5 +1,5 @@
 -- What the linter says of a file that holds a value. Source: profile.
-use Rattle.std.specs.Prelude.{◌≡◌, ℕ, ◌+◌, ◌≤◌, Bool, nat_lt, List, slice_index, None}
+use Rattle.std.specs.Prelude.{◌≡◌, ◌↔◌, ℕ, ◌+◌, ◌≤◌, Bool, nat_lt, List, slice_index, None}
 use Rattle.bplist_objects.specs.declared.frame.Frame.{Frame}
 use Rattle.bplist_objects.specs.Frame.{IsFrame}
 use Rattle.bplist_objects.specs.Value.{Value}
@@ -7,7 +7,7 @@ use Rattle.bplist_objects.specs.File.{FileHolds}
 use Rattle.bplist_objects.specs.Reach.{Reach}
 use Rattle.bplist_cert.specs.Valid.{IsValid}
 use Rattle.bplist_lint.specs.declared.answer.Lint.{Lint}
-use Rattle.bplist_lint.specs.declared.faults.Tally.{Tally}
+use Rattle.bplist_lint.specs.declared.linting.Sifted.{Sifted}
 use Rattle.bplist_lint.specs.Least.{AreLeastHeights}
 use Rattle.bplist_lint.specs.Reaching.{IsMarked}
 use Rattle.bplist_lint.specs.ReachRules.{KeepReachBelow, number_below, references_below, is_marked}
@@ -40,12 +40,10 @@ IsLinted f lint = (F : Frame) × IsFrame f F × IsLintedBy f F lint
 abbrev pub HasNoHeights : List ℕ → Type 0
 HasNoHeights f = (F : Frame) (heights : List ℕ) → IsValid f F heights → ⊥
 
--- the reached objects keep all rules but 23, and this is their tally
-pub record IsSifted (f : List ℕ) (F : Frame) (tally : Tally) : Type 0 where
-  pub marks : List Bool
-  pub marked : (n : ℕ) → IsMarked marks n → Reach f F n
-  pub marking : (n : ℕ) → Reach f F n → IsMarked marks n
+-- the reached objects keep all rules but 23, exactly they are marked, and this is their tally
+pub record IsSifted (f : List ℕ) (F : Frame) (sifted : Sifted) : Type 0 where
+  pub marked : (n : ℕ) → IsMarked sifted.marks.items n ↔ Reach f F n
   pub kept : KeepReachBelow f F F.objects
   pub keys : KeepKeysBelow f F F.objects
-  pub reached : tally.reached ≡ number_below (is_marked marks) F.objects
-  pub references : tally.references ≡ references_below f F (is_marked marks) F.objects
+  pub reached : sifted.tally.reached ≡ number_below (is_marked sifted.marks.items) F.objects
+  pub references : sifted.tally.references ≡ references_below f F (is_marked sifted.marks.items) F.objects

@@ -67,7 +67,6 @@ pub record IsSettled (refs : ℕ → List ℕ) (seen : List Bool) (heights : Lis
 
 -- what the marks, the heights and the stack say of the references
 pub record Walking (refs : ℕ → List ℕ) (top : ℕ) (seen : List Bool) (heights : List ℕ) (stack : List Visit) : Type 0 where
-  pub begun : IsMarked seen top
   pub reached : (n : ℕ) → IsMarked seen n → Reaches refs top n
   pub linked : (k : ℕ) → suc k < length stack → Contains (refs (visit_at stack k).object) (visit_at stack (suc k)).object
   pub visits : EachVisit (λ _ v. IsRead refs seen v) stack

@@ -1,9 +1,10 @@
 //! Which objects are founded, and their least heights.
 
-ghost use Rattle.std.specs.Prelude.{◌≡◌, ℕ, ◌^◌, ◌<◌, List, [], ◌∷◌, ◌++◌, IsTrue, slice_index, vec_len, IfOk, OnOk};
+ghost use Rattle.std.specs.Prelude.{◌≡◌, ◌↔◌, ℕ, ◌^◌, ◌<◌, [], ◌∷◌, ◌++◌, false, IsTrue, length, slice_index_or, vec_len, IfOk, OnOk};
 ghost use Rattle.bplist_octets.specs.Meaning.{OnlyReads};
 ghost use Rattle.bplist_lint.specs.Answers.{walk_failed};
-ghost use Rattle.bplist_lint.specs.Graph.{AreLeast};
+ghost use Rattle.bplist_lint.specs.Graph.{Reaches, AreLeast};
+ghost use Rattle.bplist_lint.specs.Reaching.{IsMarked};
 ghost use Rattle.bplist_lint.specs.Visits.{Standing, Walking, work};
 
 use crate::references::{References, WalkFault};
@@ -40,6 +41,7 @@ fn step<R: References>(
     ensures standing { OnOk result (Standing (R.graph graph.old).size seen.new.items heights.new.items stack.new.items) }
     ensures less { OnOk result (work seen.new.items stack.new.items
         < work seen.old.items (stack.old.items ++ visit ∷ [])) }
+    ensures keeps { OnOk result ((m : ℕ) → IsMarked seen.old.items m → IsMarked seen.new.items m) }
     ensures walking { OnOk result (IsTrue (R.means graph.old).honest → (top : ℕ)
         → Walking (R.graph graph.old).refs top seen.old.items heights.old.items (stack.old.items ++ visit ∷ [])
         → Walking (R.graph graph.old).refs top seen.new.items heights.new.items stack.new.items) }
@@ -83,35 +85,70 @@ fn step<R: References>(
     Ok(())
 }
 
-/// The least height of each object that is reached from `top` and founded, and 0 for each other.
-pub fn least_heights<R: References>(
-    alloc: Global,
+/// Walks from object `n`, which is not seen yet: sees what it leads to, and gives each object there that is founded its
+/// least height. The stack is empty before and after.
+fn walk_from<R: References>(
     graph: &mut R,
-    size: u32,
-    top: u32,
-) -> Result<Vec<u32>, WalkFault>
-    requires size { size ≡ (R.graph graph.old).size }
-    requires top { top < size }
+    seen: &mut Vec<bool>,
+    heights: &mut Vec<u32>,
+    stack: &mut Vec<Visit>,
+    n: u32,
+) -> Result<(), WalkFault>
+    requires fits { (R.graph graph.old).size < 2 ^ 32 }
+    requires n_in { n < (R.graph graph.old).size }
+    requires fresh { slice_index_or seen.old.items n false ≡ false }
+    requires empty { vec_len stack.old ≡ 0 }
+    requires standing { Standing (R.graph graph.old).size seen.old.items heights.old.items [] }
     ensures same { R.graph graph.new ≡ R.graph graph.old }
     ensures reads { OnlyReads (walk_failed result) (R.means graph.old) (R.means graph.new) }
-    ensures all_heights { IfOk result (λ heights. vec_len heights ≡ size) }
-    ensures exact { IsTrue (R.means graph.old).honest → IfOk result (λ heights.
-        AreLeast (R.graph graph.old).refs top heights.items) }
+    ensures empty { OnOk result (vec_len stack.new ≡ 0) }
+    ensures standing { OnOk result (Standing (R.graph graph.old).size seen.new.items heights.new.items []) }
+    ensures sees { OnOk result (IsMarked seen.new.items n) }
+    ensures keeps { OnOk result ((m : ℕ) → IsMarked seen.old.items m → IsMarked seen.new.items m) }
+    ensures walking { OnOk result (IsTrue (R.means graph.old).honest → (top : ℕ) → Reaches (R.graph graph.old).refs top n
+        → Walking (R.graph graph.old).refs top seen.old.items heights.old.items []
+        → Walking (R.graph graph.old).refs top seen.new.items heights.new.items []) }
 {
-    let mut seen = vec![in alloc; false; size as usize]?;
-    let mut heights = vec![in alloc; 0; size as usize]?;
-    let mut stack = Vec::new(alloc);
-    let count = graph.count(top)?;
-    seen[top as usize] = true;
+    let count = graph.count(n)?;
+    seen[n as usize] = true;
     stack.push(Visit {
-        object: top,
+        object: n,
         next: 0,
         count,
         best: 0,
         sound: true,
     })?;
     while let Some(visit) = stack.pop() {
-        step(graph, &mut seen, &mut heights, &mut stack, visit)?;
+        step(graph, seen, heights, stack, visit)?;
+    }
+    Ok(())
+}
+
+/// The least height of each founded object among the marked ones, which are those reached from one object, and 0 for
+/// each other. A walk begins at each of them that is not seen, the last first: where each reference leads to a greater
+/// number, the references of each object are looked at in one go.
+pub fn least_heights<R: References>(
+    alloc: Global,
+    graph: &mut R,
+    size: u32,
+    marks: &[bool],
+) -> Result<Vec<u32>, WalkFault>
+    requires size { size ≡ (R.graph graph.old).size }
+    requires all_marks { length marks.now ≡ size }
+    ensures same { R.graph graph.new ≡ R.graph graph.old }
+    ensures reads { OnlyReads (walk_failed result) (R.means graph.old) (R.means graph.new) }
+    ensures all_heights { IfOk result (λ heights. vec_len heights ≡ size) }
+    ensures exact { IsTrue (R.means graph.old).honest → (top : ℕ)
+        → ((n : ℕ) → IsMarked marks.now n ↔ Reaches (R.graph graph.old).refs top n)
+        → IfOk result (λ heights. AreLeast (R.graph graph.old).refs top heights.items) }
+{
+    let mut seen = vec![in alloc; false; size as usize]?;
+    let mut heights = vec![in alloc; 0; size as usize]?;
+    let mut stack = Vec::new(alloc);
+    for n in (0..size).rev() {
+        if marks[n as usize] && !seen[n as usize] {
+            walk_from(graph, &mut seen, &mut heights, &mut stack, n)?;
+        }
     }
     Ok(heights)
 }

@@ -4,7 +4,9 @@
 mod answer;
 mod circling;
 mod faults;
+mod fingerprint;
 mod heights;
+mod key_texts;
 mod keys;
 mod laws;
 mod linting;

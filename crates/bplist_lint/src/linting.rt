@@ -12,7 +12,7 @@ ghost use Rattle.bplist_objects.specs.Answers.{Never};
 ghost use Rattle.bplist_lint.specs.Answers.{walk_failed};
 ghost use Rattle.bplist_lint.specs.Graph.{AreLeast, IsCircleOf};
 ghost use Rattle.bplist_lint.specs.Reaching.{IsMarked};
-ghost use Rattle.bplist_lint.specs.Referring.{AreOffsets};
+ghost use Rattle.bplist_lint.specs.Referring.{AreOffsets, AreBare};
 ghost use Rattle.bplist_lint.specs.Trail.{number};
 ghost use Rattle.bplist_lint.specs.FileFault.{IsObjectsFault, IsFileFault, IsFileCircle, IsFramedCircle};
 ghost use Rattle.bplist_lint.specs.Refusals.{Lints, lint_failed, no_circle};
@@ -35,46 +35,67 @@ use bplist_objects::{Frame, ObjectNo, frame_of};
 use bplist_octets::Source;
 use std::alloc::Global;
 
-/// Marks exactly the objects that the top reaches.
+/// Marks on the objects of a file, one for each.
+#[derive(Drop)]
+struct Marked {
+    /// Exactly the reached objects are marked.
+    marks: Vec<bool>,
+    /// Marked objects have no references.
+    bare: Vec<bool>,
+}
+
+/// Marks exactly the objects that the top reaches, and those among them that turn out to have no references.
 fn mark_reached<S: Source>(
     alloc: Global,
     src: &mut S,
     frame: &Frame,
     places: &[u32],
-) -> Result<Vec<bool>, WalkFault>
+) -> Result<Marked, WalkFault>
     requires frame { IsSafeFrame (length (S.means src.old).octets) frame.now }
     requires places { length places.now ≡ frame.now.objects }
     requires framed { IsTrue (S.means src.old).honest → IsFrame (S.means src.old).octets frame.now }
     requires placed { IsTrue (S.means src.old).honest → AreOffsets (S.means src.old).octets frame.now places.now }
     ensures reads { OnlyReads (walk_failed result) (S.means src.old) (S.means src.new) }
-    ensures all { IfOk result (λ marks. vec_len marks ≡ frame.now.objects) }
-    ensures exact { IsTrue (S.means src.old).honest → IfOk result (λ marks.
-        (n : ℕ) → IsMarked marks.items n ↔ Reach (S.means src.old).octets frame.now n) }
+    ensures all { IfOk result (λ marked. vec_len marked.marks ≡ frame.now.objects) }
+    ensures all_bare { IfOk result (λ marked. vec_len marked.bare ≡ frame.now.objects) }
+    ensures exact { IsTrue (S.means src.old).honest → IfOk result (λ marked.
+        (n : ℕ) → IsMarked marked.marks.items n ↔ Reach (S.means src.old).octets frame.now n) }
+    ensures bare { IsTrue (S.means src.old).honest → IfOk result (λ marked.
+        AreBare (S.means src.old).octets frame.now marked.bare.items) }
 {
     let (size, top) = (frame.objects, frame.top.0);
-    let mut objects = Objects::new(src, *frame, places);
-    reached(alloc, &mut objects, size, top)
+    let mut bare = vec![in alloc; false; size as usize]?;
+    let mut objects = Objects::new(src, *frame, places, &mut bare);
+    let marks = reached(alloc, &mut objects, size, top)?;
+    Ok(Marked { marks, bare })
 }
 
-/// The least height of each object that is reached and founded, and 0 for each other.
+/// The least height of each object that is reached and founded, and 0 for each other, where `marks` marks exactly the
+/// reached objects, and `bare` only objects that have no references.
 fn find_heights<S: Source>(
     alloc: Global,
     src: &mut S,
     frame: &Frame,
     places: &[u32],
+    marks: &[bool],
+    mut bare: Vec<bool>,
 ) -> Result<Vec<u32>, WalkFault>
     requires frame { IsSafeFrame (length (S.means src.old).octets) frame.now }
     requires places { length places.now ≡ frame.now.objects }
+    requires marks { length marks.now ≡ frame.now.objects }
+    requires all_bare { vec_len bare ≡ frame.now.objects }
     requires framed { IsTrue (S.means src.old).honest → IsFrame (S.means src.old).octets frame.now }
     requires placed { IsTrue (S.means src.old).honest → AreOffsets (S.means src.old).octets frame.now places.now }
+    requires bare { IsTrue (S.means src.old).honest → AreBare (S.means src.old).octets frame.now bare.items }
     ensures reads { OnlyReads (walk_failed result) (S.means src.old) (S.means src.new) }
     ensures all { IfOk result (λ heights. vec_len heights ≡ frame.now.objects) }
-    ensures exact { IsTrue (S.means src.old).honest → IfOk result (λ heights.
-        AreLeast (refs_at (S.means src.old).octets frame.now) frame.now.top.0 heights.items) }
+    ensures exact { IsTrue (S.means src.old).honest
+        → ((n : ℕ) → IsMarked marks.now n ↔ Reach (S.means src.old).octets frame.now n)
+        → IfOk result (λ heights. AreLeast (refs_at (S.means src.old).octets frame.now) frame.now.top.0 heights.items) }
 {
-    let (size, top) = (frame.objects, frame.top.0);
-    let mut objects = Objects::new(src, *frame, places);
-    least_heights(alloc, &mut objects, size, top)
+    let size = frame.objects;
+    let mut objects = Objects::new(src, *frame, places, &mut bare);
+    least_heights(alloc, &mut objects, size, marks)
 }
 
 /// The circle that first references without a height lead to from the top.
@@ -98,8 +119,19 @@ fn find_circle<S: Source>(
         IsCircleOf (refs_at (S.means src.old).octets frame.now) frame.now.top.0 (map number circle.items)) }
 {
     let top = frame.top.0;
-    let mut objects = Objects::new(src, *frame, places);
+    let mut bare = vec![in alloc; false; frame.objects as usize]?;
+    let mut objects = Objects::new(src, *frame, places, &mut bare);
     circle(alloc, &mut objects, heights, top)
+}
+
+/// What the passes over the reached objects come to.
+#[derive(Drop)]
+struct Sifted {
+    tally: Tally,
+    /// Exactly the reached objects are marked.
+    marks: Vec<bool>,
+    /// Marked objects have no references.
+    bare: Vec<bool>,
 }
 
 /// Looks at the reached objects by rules 14 to 22 and 31, first each by itself and then at the keys of each.
@@ -108,21 +140,25 @@ fn sift<S: Source>(
     src: &mut S,
     frame: &Frame,
     places: &[u32],
-) -> Result<Tally, LintRefusal>
+) -> Result<Sifted, LintRefusal>
     requires frame { IsSafeFrame (length (S.means src.old).octets) frame.now }
     requires places { length places.now ≡ frame.now.objects }
     requires framed { IsTrue (S.means src.old).honest → IsFrame (S.means src.old).octets frame.now }
     requires placed { IsTrue (S.means src.old).honest → AreOffsets (S.means src.old).octets frame.now places.now }
     ensures reads { OnlyReads (lint_failed result) (S.means src.old) (S.means src.new) }
-    ensures room { IfOk result (λ tally. tally.references + 8 ≤ frame.now.table) }
+    ensures room { IfOk result (λ sifted. sifted.tally.references + 8 ≤ frame.now.table) }
+    ensures all { IfOk result (λ sifted. vec_len sifted.marks ≡ frame.now.objects) }
+    ensures all_bare { IfOk result (λ sifted. vec_len sifted.bare ≡ frame.now.objects) }
+    ensures bare { IsTrue (S.means src.old).honest → IfOk result (λ sifted.
+        AreBare (S.means src.old).octets frame.now sifted.bare.items) }
     ensures exact { IsTrue (S.means src.old).honest
         → Lints (IsSifted (S.means src.old).octets frame.now) (IsObjectsFault (S.means src.old).octets frame.now)
         no_circle result }
 {
-    let marks = mark_reached(alloc, src, frame, places)?;
+    let Marked { marks, bare } = mark_reached(alloc, src, frame, places)?;
     let tally = check_reached(src, frame, places, &marks)?;
-    check_keys(alloc, src, frame, places, &marks)?;
-    Ok(tally)
+    check_keys(alloc, src, frame, places, &marks, &bare)?;
+    Ok(Sifted { tally, marks, bare })
 }
 
 /// What the linter says of a file with this frame, whose objects stand at these places.
@@ -141,8 +177,8 @@ fn lint_objects<S: Source>(
         → Lints (IsLintedBy (S.means src.old).octets frame.now) (IsObjectsFault (S.means src.old).octets frame.now)
         (IsFramedCircle (S.means src.old).octets frame.now) result }
 {
-    let tally = sift(alloc, src, frame, places)?;
-    let heights = find_heights(alloc, src, frame, places)?;
+    let Sifted { tally, marks, bare } = sift(alloc, src, frame, places)?;
+    let heights = find_heights(alloc, src, frame, places, &marks, bare)?;
     let height = heights[frame.top.0 as usize];
     if height == 0 {
         let circle = find_circle(alloc, src, frame, places, &heights)?;

@@ -57,6 +57,17 @@ fn doubling(alloc: Global) -> Result<Vec<u8>, Fail> {
     small(alloc, objects.as_slice(), table.as_slice())
 }
 
+/// An array with a True as its member so many times, the last of these references being the number given.
+fn wide(alloc: Global, members: u8, last: u8) -> Result<Vec<u8>, Fail> {
+    let mut objects = Vec::new(alloc);
+    objects.extend_from_slice(&[0xaf, 0x10, members])?;
+    for _ in 1..members {
+        objects.push(1)?;
+    }
+    objects.extend_from_slice(&[last, 9])?;
+    small(alloc, objects.as_slice(), &[8, members.saturating_add(11)])
+}
+
 fn two_trues(alloc: Global) -> Result<Vec<u8>, Fail> {
     small(alloc, &[0xa2, 1, 1, 9], &[8, 11])
 }
@@ -167,6 +178,21 @@ fn deep_and_shared(rt: HostRuntime) -> Result<(), Fail> {
 }
 
 #[test]
+fn blocks_of_references(rt: HostRuntime) -> Result<(), Fail> {
+    let alloc = rt.alloc();
+    for members in [127u8, 128, 129, 200] {
+        let sound = wide(alloc, members, 1)?;
+        assert!(rt; is_yes(alloc, sound.as_slice(), &[2, 1], 2, members as u64));
+        let high = wide(alloc, members, 2)?;
+        let place = 10 + members as u64;
+        assert!(rt; fault(alloc, high.as_slice()) == broken(Rule::RefHigh, 0, place));
+        let own = wide(alloc, members, 0)?;
+        assert!(rt; is_circle(alloc, own.as_slice(), &[ObjectNo(0)]));
+    }
+    Ok(())
+}
+
+#[test]
 fn circles(rt: HostRuntime) -> Result<(), Fail> {
     let alloc = rt.alloc();
     let own = small(alloc, &[0xa1, 0], &[8])?;
@@ -226,6 +252,52 @@ fn faults_of_keys(rt: HostRuntime) -> Result<(), Fail> {
         &[8, 11, 16, 19, 21],
     )?;
     assert!(rt; fault(alloc, dicts.as_slice()) == broken(Rule::KeyTwice, 1, 13));
+    Ok(())
+}
+
+/// A dictionary with two keys of 70 units, of which the first ones are given.
+fn long_keys(alloc: Global, first: u8, second: u8) -> Result<Vec<u8>, Fail> {
+    let mut objects = Vec::new(alloc);
+    objects.extend_from_slice(&[0xd2, 1, 2, 3, 3])?;
+    for start in [first, second] {
+        objects.extend_from_slice(&[0x5f, 0x10, 70, start])?;
+        objects.extend_from_slice(&[0x61; 69])?;
+    }
+    objects.push(9)?;
+    small(alloc, objects.as_slice(), &[8, 13, 86, 159])
+}
+
+#[test]
+fn shared_keys(rt: HostRuntime) -> Result<(), Fail> {
+    let alloc = rt.alloc();
+    let heights = [3, 2, 2, 1, 1, 1];
+    let same = [
+        0xa2, 1, 2, 0xd2, 3, 4, 5, 5, 0xd2, 4, 3, 5, 5, 0x51, 0x61, 0x51, 0x62, 9,
+    ];
+    let same = small(alloc, &same, &[8, 11, 16, 21, 23, 25])?;
+    assert!(rt; is_yes(alloc, same.as_slice(), &heights, 6, 10));
+    // Object 2 has a key twice that object 1 has once.
+    let twice = [
+        0xa2, 1, 2, 0xd2, 3, 4, 5, 5, 0xd2, 3, 3, 5, 5, 0x51, 0x61, 0x51, 0x62, 9,
+    ];
+    let twice = small(alloc, &twice, &[8, 11, 16, 21, 23, 25])?;
+    assert!(rt; fault(alloc, twice.as_slice()) == broken(Rule::KeyTwice, 2, 18));
+    // A key of object 2 is a value of object 1.
+    let value = [
+        0xa2, 1, 2, 0xd2, 3, 4, 5, 5, 0xd2, 3, 5, 5, 5, 0x51, 0x61, 0x51, 0x62, 9,
+    ];
+    let value = small(alloc, &value, &[8, 11, 16, 21, 23, 25])?;
+    assert!(rt; fault(alloc, value.as_slice()) == broken(Rule::KeyKind, 2, 18));
+    Ok(())
+}
+
+#[test]
+fn keys_that_end_alike(rt: HostRuntime) -> Result<(), Fail> {
+    let alloc = rt.alloc();
+    let different = long_keys(alloc, 0x61, 0x62)?;
+    assert!(rt; is_yes(alloc, different.as_slice(), &[2, 1, 1, 1], 4, 4));
+    let same = long_keys(alloc, 0x61, 0x61)?;
+    assert!(rt; fault(alloc, same.as_slice()) == broken(Rule::KeyTwice, 0, 10));
     Ok(())
 }
 

@@ -3,7 +3,7 @@
 //! The walks go to and fro between a few places: an object, the one that refers to it, and its keys. Over a file that
 //! is read through one window each turn would be a read of the file.
 
-ghost use Rattle.std.specs.Prelude.{◌≡◌, ℕ, ◌+◌, ◌≤◌, All, length, IfOk, IfSome, is_err};
+ghost use Rattle.std.specs.Prelude.{◌≡◌, ℕ, ◌+◌, ◌≤◌, All, length, IfSome, OnOk, is_err};
 ghost use Rattle.bplist_octets.specs.Octets.{part};
 ghost use Rattle.bplist_octets.specs.Meaning.{OnlyReads};
 ghost use Rattle.bplist_lint.specs.Windows.{IsPane, borrowed};
@@ -52,25 +52,22 @@ fn copy_part(pane: &Pane, from: usize, into: &mut [u8])
     into.copy_from_slice(&pane.octets[from..from + into.len()]);
 }
 
-/// Reads the window that serves place `at`: it has the bytes from there on, as many as the longest request wants and
-/// the source has.
-fn read_pane<S: Source>(source: &mut S, at: u64) -> Result<Pane, ReadFault>
+/// Moves the window to where it serves place `at`: it has the bytes from there on, as many as the longest request wants
+/// and the source has. It is empty after a failed read.
+fn refill<S: Source>(source: &mut S, pane: &mut Pane, at: u64) -> Result<(), ReadFault>
     requires { at ≤ length (S.means source.old).octets }
     ensures reads { OnlyReads (is_err result) (S.means source.old) (S.means source.new) }
-    ensures pane { IfOk result (IsPane (S.means source.old).octets (S.means source.old).honest) }
-    ensures start { IfOk result (λ pane. pane.start ≤ at) }
-    ensures room { IfOk result (λ pane. (count : ℕ) → count ≤ 512
-        → at + count ≤ length (S.means source.old).octets → at + count ≤ pane.start + pane.filled) }
+    ensures pane { IsPane (S.means source.old).octets (S.means source.old).honest pane.new }
+    ensures start { pane.new.start ≤ at }
+    ensures room { OnOk result ((count : ℕ) → count ≤ 512
+        → at + count ≤ length (S.means source.old).octets → at + count ≤ pane.new.start + pane.new.filled) }
 {
-    let start = at - at % STEP;
-    let filled = (source.len() - start).min(PANE as u64) as usize;
-    let mut octets = [0; PANE];
-    source.read_at(start, &mut octets[..filled])?;
-    Ok(Pane {
-        start,
-        filled,
-        octets,
-    })
+    pane.filled = 0;
+    pane.start = at - at % STEP;
+    let count = (source.len() - pane.start).min(PANE as u64) as usize;
+    source.read_at(pane.start, &mut pane.octets[..count])?;
+    pane.filled = count;
+    Ok(())
 }
 
 /// A source over a borrowed source, with several windows. The place of a request says which window serves it, and that
@@ -111,14 +108,13 @@ impl<S: Source> Source for Windows<'_, S> {
             return self.source.read_at(at, into);
         }
         let k = (at / STEP) as usize % PANES;
-        let pane = &self.panes[k];
+        let pane = &mut self.panes[k];
         if let Some(from) = pane.offset_of(at, into.len()) {
             copy_part(pane, from, into);
             return Ok(());
         }
-        let pane = read_pane(self.source, at)?;
-        copy_part(&pane, (at - pane.start) as usize, into);
-        self.panes[k] = pane;
+        refill(self.source, pane, at)?;
+        copy_part(pane, (at - pane.start) as usize, into);
         Ok(())
     }
 }

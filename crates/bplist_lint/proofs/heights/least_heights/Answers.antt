@@ -1,21 +1,41 @@
-use Rattle.std.proofs.Common.{◌≡◌, [], arith, rules, false, replicate}
+use Rattle.std.proofs.Common.{◌≡◌, ◌-◌, inl, inr, arith, rules, false, replicate, ◌∙◌}
 use Rattle.std.proofs.lemmas.Grind.{common_steps}
-use Rattle.bplist_lint.proofs.VisitSteps.{standing_start, nothing}
-use Rattle.bplist_lint.proofs.WalkSteps.{walking_start, are_least}
+use Rattle.std.proofs.lemmas.Bool.{cases_eq}
+use Rattle.bplist_lint.proofs.ReachSteps.{marked_within}
+use Rattle.bplist_lint.proofs.VisitSteps.{standing_none, nothing}
+use Rattle.bplist_lint.proofs.WalkSteps.{walking_none, are_least}
 use Rattle.bplist_lint.proofs.heights.least_heights.Goals as goal
 
-pub loop-visit-init : goal.loop-visit-init
-loop-visit-init g c =
+pub loop-n-init : goal.loop-n-init
+loop-n-init g c =
     let all_new : c.in_ok-seen.seen.items ≡ replicate c.args.size false = search rules in
     let all_low : c.in_ok-heights.heights.items ≡ replicate c.args.size nothing = search rules in
     record {
-      same = c.count.ensures.same;
-      reads = c.in_ok-count.ensures.reads;
-      standing = rw (← c.requires.size, all_new, all_low, c.in_ok-push.ensures.items, c.new-stack.ensures.items) (standing_start _ _ c.in_ok-count.count c.requires.top);
-      walking = λ honest. rw (all_new, all_low, c.in_ok-push.ensures.items, c.new-stack.ensures.items) (walking_start _ _ _ c.in_ok-count.count c.requires.top (c.in_ok-count.ensures.value honest));
+      same = cc;
+      reads = cc;
+      empty = grind (arith, common_steps);
+      standing = rw (← c.requires.size, all_new, all_low) (standing_none _);
+      sees = λ m h is. absurd (let low = marked_within c.args.marks.now m is in omega (arith, low, h, c.requires.all_marks));
+      walking = λ honest top reached. rw (all_new, all_low) (walking_none _ _ _);
+    }
+
+pub loop-n-preserved-then-not-index : goal.loop-n-preserved-then-not-index
+loop-n-preserved-then-not-index g c =
+    let i = c.loop-n.invariant in
+    let walked = c.in_ok-walk_from.ensures in
+    record {
+      same = c.walk_from.ensures.same ∙ i.same;
+      reads = walked.reads ∙ i.reads;
+      empty = walked.empty;
+      standing = rw i.same at walked.standing;
+      sees = λ m h is. elim (cases_eq m (c.loop-n.n - 1)) [
+        | inl e ↦ rw e walked.sees
+        | inr ne ↦ walked.keeps m (i.sees m (omega (arith, h, ne)) is)
+      ];
+      walking = λ honest top reached. (rw (i.same, i.reads) at walked.walking) honest top (reached _ c.if-marks-n.true) (i.walking honest top reached);
     }
 
 pub returns-clause-exact : goal.returns-clause-exact
-returns-clause-exact g c = λ honest.
-    let empty : c.loop-visit.stack.items ≡ [] = grind (arith, common_steps) in
-    are_least _ _ _ _ (rw empty at (c.loop-visit.invariant.walking honest)) c.loop-visit.invariant.standing.known
+returns-clause-exact g c = λ honest top marked.
+    let i = c.loop-n.invariant in
+    are_least _ _ _ _ (i.walking honest top (λ m. (marked m).0)) (λ m reached. i.sees m (omega arith) ((marked m).1 reached)) i.standing.known

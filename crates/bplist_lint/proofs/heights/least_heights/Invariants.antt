@@ -1,14 +1,15 @@
-use Rattle.std.proofs.Common.{◌≡◌, IsTrue}
-use Rattle.bplist_lint.specs.Visits.{Standing, Walking, work}
+use Rattle.std.proofs.Common.{◌≡◌, ◌≤◌, ℕ, [], IsTrue, vec_len}
+use Rattle.bplist_lint.specs.Graph.{Reaches}
+use Rattle.bplist_lint.specs.Reaching.{IsMarked}
+use Rattle.bplist_lint.specs.Visits.{Standing, Walking}
 use Rattle.bplist_lint.proofs.heights.least_heights.Given as goal
 
-abbrev pub invariant-loop-visit : goal.invariant-loop-visit
-invariant-loop-visit g l = record {
+abbrev pub invariant-loop-n : goal.invariant-loop-n
+invariant-loop-n g l = record {
   same : g.R.References.graph l.graph ≡ g.R.References.graph l.fn.graph;
   reads : g.R.References.means l.graph ≡ g.R.References.means l.fn.graph;
-  standing : Standing (g.R.References.graph l.fn.graph).size l.seen.items l.heights.items l.stack.items;
-  walking : IsTrue (g.R.References.means l.fn.graph).honest → Walking (g.R.References.graph l.fn.graph).refs l.top l.seen.items l.heights.items l.stack.items;
+  empty : vec_len l.stack ≡ 0;
+  standing : Standing (g.R.References.graph l.fn.graph).size l.seen.items l.heights.items [];
+  sees : (m : ℕ) → l.n ≤ m → IsMarked l.marks m → IsMarked l.seen.items m;
+  walking : IsTrue (g.R.References.means l.fn.graph).honest → (top : ℕ) → ((m : ℕ) → IsMarked l.marks m → Reaches (g.R.References.graph l.fn.graph).refs top m) → Walking (g.R.References.graph l.fn.graph).refs top l.seen.items l.heights.items [];
 }
-
-abbrev pub decreases-loop-visit : goal.decreases-loop-visit
-decreases-loop-visit g l = work l.seen.items l.stack.items

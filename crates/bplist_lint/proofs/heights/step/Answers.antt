@@ -2,7 +2,7 @@ use Rattle.std.proofs.Common.{ℕ, ◌<◌, arith, false, count_by, [], ◌∷�
 use Rattle.std.proofs.lemmas.List.{get_or_read}
 use Rattle.bplist_lint.specs.Visits.{is_height, IsVisit, IsOpen, Standing, Walking, IsRead}
 use Rattle.bplist_lint.specs.declared.heights.Visit.{Visit}
-use Rattle.bplist_lint.proofs.VisitSteps.{each_last, height_below, standing_open, standing_advance, standing_finish, standing_leave, work_advance}
+use Rattle.bplist_lint.proofs.VisitSteps.{each_last, seen-set, height_below, standing_open, standing_advance, standing_finish, standing_leave, work_advance}
 use Rattle.bplist_lint.proofs.WalkSteps.{walking_open, walking_advance, walking_finish, walking_leave, read_height, read_circle, not_founded, among_at, least_finish}
 use Rattle.bplist_lint.proofs.heights.step.Goals as goal
 use Rattle.bplist_lint.proofs.heights.step.Goals.{then-height-eq0, else-height-eq0}
@@ -51,6 +51,9 @@ returns-then-not-index-clause-standing g c =
     let in' = c.in_ok-m.ensures.inside in
     let new = sym (get_or_read c.args.seen.now.items c.in_ok-m.m c.index.result.now (omega (arith, s.all_seen, in')) c.index.ensures false) ∙ c.if-not-index.true in
     rw (c.in_ok-push-2.ensures.items, c.in_ok-push.ensures.items) (standing_open _ _ _ _ c.in_ok-m.m c.in_ok-count.count s in' new)
+
+pub returns-then-not-index-clause-keeps : goal.returns-then-not-index-clause-keeps
+returns-then-not-index-clause-keeps g c = λ n h. seen-set c.args.seen.now.items c.in_ok-m.m n (omega (arith, c.requires.standing.all_seen, c.in_ok-m.ensures.inside)) h
 
 pub returns-then-not-index-clause-walking : goal.returns-then-not-index-clause-walking
 returns-then-not-index-clause-walking g c = λ honest top w.

@@ -1,22 +1,16 @@
 use Rattle.std.proofs.lemmas.Result.{err_from_is_err_and}
-use Rattle.bplist_lint.proofs.KeySteps.{object_refused, refusals_mean, kept_keys, keyless, twice}
+use Rattle.bplist_lint.proofs.KeySteps.{refusals_mean, kept_keys}
 use Rattle.bplist_lint.proofs.keys.check_dict.Goals as goal
 
-pub returns-in_err-check_texts-clause-exact : goal.returns-in_err-check_texts-clause-exact
-returns-in_err-check_texts-clause-exact g c = λ honest framed has.
-    let f = (g.S.Source.means c.args.src.now).octets in
+pub returns-in_err-differ-clause-exact : goal.returns-in_err-differ-clause-exact
+returns-in_err-differ-clause-exact g c = λ honest sound known has.
     let p = err_from_is_err_and c.from_residual.result c.from_residual.ensures.1 in
-    rw (p.1, p.2) (object_refused _ _ c.in_err-check_texts.field-0.0 (λ fault k. keyless f c.args.frame.now c.args.n.0 c.args.head.now has fault c.requires.dict k) (c.in_err-check_texts.ensures.exact honest framed))
+    rw (p.1, p.2) (refusals_mean _ _ c.in_err-differ.field-0.0 (λ fault never. absurd never) c.in_err-differ.ensures.differ)
 
-pub returns-in_err-check_twice-clause-exact : goal.returns-in_err-check_twice-clause-exact
-returns-in_err-check_twice-clause-exact g c = λ honest framed has.
-    let f = (g.S.Source.means c.args.src.now).octets in
-    let p = err_from_is_err_and c.from_residual-in_err-check_twice.result c.from_residual-in_err-check_twice.ensures.1 in
-    let texts = c.in_ok-check_texts.ensures.exact honest framed in
-    rw (p.1, p.2) (refusals_mean _ _ c.in_err-check_twice.field-0.0 (λ fault k. twice f c.args.frame.now c.args.n.0 c.args.head.now has fault c.requires.dict texts k) ((rw c.in_ok-check_texts.ensures.reads at c.in_err-check_twice.ensures.exact) honest framed texts))
+pub returns-then-branch-clause-exact : goal.returns-then-branch-clause-exact
+returns-then-branch-clause-exact g c = λ honest sound known has.
+    let keys = c.in_ok-differ.ensures.differ c.if-branch.true honest sound known in
+    kept_keys (g.S.Source.means c.args.src.now).octets c.args.frame.now c.args.n.0 c.args.head.now has keys.0 keys.1
 
 pub returns-clause-exact : goal.returns-clause-exact
-returns-clause-exact g c = λ honest framed has.
-    let f = (g.S.Source.means c.args.src.now).octets in
-    let texts = c.in_ok-check_texts.ensures.exact honest framed in
-    kept_keys f c.args.frame.now c.args.n.0 c.args.head.now has texts ((rw c.in_ok-check_texts.ensures.reads at c.in_ok-check_twice.ensures.exact) honest framed texts)
+returns-clause-exact g c = λ honest sound known has. (rw c.in_ok-differ.ensures.reads at c.check_units.ensures.exact) honest sound.framed has

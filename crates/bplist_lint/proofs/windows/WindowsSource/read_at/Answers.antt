@@ -10,12 +10,12 @@ returns-in-Some-clause-filled g c = λ honest.
 
 pub copy_part-requires-2-clause-inside : goal.copy_part-requires-2-clause-inside
 copy_part-requires-2-clause-inside g c =
-    let room = c.in_ok-pane.ensures.room _ (omega (arith, c.if-into-gt-LONGEST.false)) c.requires in
-    omega (arith, room, c.in_ok-pane.ensures.start)
+    let room = c.in_ok-refill.ensures.room _ (omega (arith, c.if-into-gt-LONGEST.false)) c.requires in
+    omega (arith, room, c.in_ok-refill.ensures.start)
 
 pub returns-clause-filled : goal.returns-clause-filled
 returns-clause-filled g c = λ honest.
     let m = g.S.Source.means c.args.self.now.source.now in
-    let room = c.in_ok-pane.ensures.room _ (omega (arith, c.if-into-gt-LONGEST.false)) c.requires in
+    let room = c.in_ok-refill.ensures.room _ (omega (arith, c.if-into-gt-LONGEST.false)) c.requires in
     c.copy_part-2.ensures
-    ∙ pane_part m.octets m.honest c.in_ok-pane.pane _ _ _ c.in_ok-pane.ensures.pane (omega (arith, c.in_ok-pane.ensures.start)) (omega (arith, room, c.in_ok-pane.ensures.start)) honest
+    ∙ pane_part m.octets m.honest _ _ _ _ c.in_ok-refill.ensures.pane (omega (arith, c.in_ok-refill.ensures.start)) (omega (arith, room, c.in_ok-refill.ensures.start)) honest

@@ -1,0 +1,41 @@
+use Rattle.std.proofs.Common.{◌≡◌, ◌<◌, [], arith, false, true, length, ◌∙◌}
+use Rattle.std.proofs.lemmas.Grind.{common_steps}
+use Rattle.std.proofs.lemmas.List.{get_or-set_same}
+use Rattle.bplist_lint.proofs.VisitSteps.{seen-set, standing_open}
+use Rattle.bplist_lint.proofs.WalkSteps.{walking_begin}
+use Rattle.bplist_lint.proofs.heights.walk_from.Goals as goal
+
+pub loop-visit-init : goal.loop-visit-init
+loop-visit-init g c =
+    let none : c.args.stack.now.items ≡ [] = grind (arith, common_steps) in
+    let within : c.args.n < length c.args.seen.now.items = omega (arith, c.requires.standing.all_seen, c.requires.n_in) in
+    record {
+      same = c.count.ensures.same;
+      reads = c.in_ok-count.ensures.reads;
+      standing = rw (c.in_ok-push.ensures.items, none) (standing_open _ _ _ [] c.args.n c.in_ok-count.count c.requires.standing c.requires.n_in c.requires.fresh);
+      sees = get_or-set_same c.args.seen.now.items c.args.n true false within;
+      keeps = λ m h. seen-set _ _ m within h;
+      walking = λ honest top reached w. rw (c.in_ok-push.ensures.items, none) (walking_begin _ _ _ _ c.args.n c.in_ok-count.count w reached within (c.in_ok-count.ensures.value honest));
+    }
+
+pub loop-visit-preserved : goal.loop-visit-preserved
+loop-visit-preserved g c =
+    let i = c.loop-visit.invariant in
+    record {
+      same = c.step.ensures.same ∙ i.same;
+      reads = c.in_ok-step.ensures.reads ∙ i.reads;
+      standing = rw i.same at c.in_ok-step.ensures.standing;
+      sees = c.in_ok-step.ensures.keeps _ i.sees;
+      keeps = λ m h. c.in_ok-step.ensures.keeps m (i.keeps m h);
+      walking = λ honest top reached w. (rw (i.same, i.reads) at c.in_ok-step.ensures.walking) honest top (rw c.in-Some.ensures.items at (i.walking honest top reached w));
+    }
+
+pub returns-clause-standing : goal.returns-clause-standing
+returns-clause-standing g c =
+    let empty : c.loop-visit.stack.items ≡ [] = grind (arith, common_steps) in
+    rw empty at c.loop-visit.invariant.standing
+
+pub returns-clause-walking : goal.returns-clause-walking
+returns-clause-walking g c = λ honest top reached w.
+    let empty : c.loop-visit.stack.items ≡ [] = grind (arith, common_steps) in
+    rw empty at (c.loop-visit.invariant.walking honest top reached w)
