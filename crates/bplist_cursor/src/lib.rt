@@ -1,5 +1,4 @@
 //! Key paths, and answers about the value of a checked file.
-// NOTE FROM THE LEAD (11:05): main has FACES showing/members/bytes/nodes and MEASURE measures/object_sizes/text_length: keep MAIN versions, drop your own showing.rt, members.rt, lending.rt, specs Members, Lent; read /work/ws/cursor/FROM_FACES*.md, FROM_MEASURE.md, FROM_LEAD.md. Then delete this line.
 #![tactic(auto)]
 
 #[cfg(test)]

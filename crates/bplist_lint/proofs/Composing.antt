@@ -1,5 +1,5 @@
 -- What the linter's passes come to, one behind the other.
-use Rattle.std.proofs.Common.{◌≡◌, ◌↔◌, ℕ, zero, suc, ◌+◌, ◌<◌, ◌≤◌, inr, Bool, true, false, cond, nat_lt, Result, Ok, Err, List, length, slice_index, None, refl, sym, ap, ap₂, ◌∙◌, arith, lt-ltb}
+use Rattle.std.proofs.Common.{◌≡◌, ◌↔◌, ℕ, zero, suc, ◌+◌, ◌<◌, ◌≤◌, inl, inr, Bool, true, false, cond, nat_lt, Result, Ok, Err, List, length, slice_index, None, refl, sym, ap, ap₂, ◌∙◌, arith, lt-ltb}
 use Rattle.std.proofs.lemmas.Bool.{false≢true}
 use Rattle.bplist_objects.specs.declared.fault.Fault.{Fault}
 use Rattle.bplist_objects.specs.declared.fault.ObjectFault.{ObjectFault}
@@ -7,7 +7,9 @@ use Rattle.bplist_objects.specs.declared.fault.ObjectFault.TheVariants as object
 use Rattle.bplist_objects.specs.declared.frame.Frame.{Frame}
 use Rattle.bplist_objects.specs.Answers.{GivesFault, Never}
 use Rattle.bplist_objects.specs.Frame.{IsFrame}
+use Rattle.bplist_objects.specs.FrameRules.{IsTrailer, IsTrailerFault}
 use Rattle.bplist_objects.specs.File.{FileHolds}
+use Rattle.bplist_objects.proofs.FrameTies.{trailer_fault, entry_fault, low_is_frame}
 use Rattle.bplist_objects.specs.Value.{Value}
 use Rattle.bplist_objects.specs.Reach.{Reach}
 use Rattle.bplist_objects.specs.Spelled.{refs_at}
@@ -28,10 +30,12 @@ use Rattle.bplist_lint.specs.ReachRules.{Tallied, sum_below, number_below, refer
 use Rattle.bplist_lint.specs.KeyRules.{KeepKeysBelow}
 use Rattle.bplist_lint.specs.FileFault.{IsFileFault, IsFileCircle, IsObjectsFault, IsFramedCircle}
 use Rattle.bplist_lint.specs.Refusals.{of_object, of_walk, of_check, Refuses, Lints, no_circle}
+use Rattle.bplist_lint.specs.Places.{AreKept, AreBelowTable, IsPlaceFault}
 use Rattle.bplist_lint.specs.Least.{AreLeastHeights}
 use Rattle.bplist_lint.specs.Linted.{is_vouched, IsSifted, IsLintedBy, IsLinted, HasNoHeights}
 use Rattle.bplist_lint.proofs.Forming.{formed_holds, holds_formed}
 use Rattle.bplist_lint.proofs.Keeping.{kept_spells}
+use Rattle.bplist_lint.proofs.PlaceSteps.{kept_low, kept_high}
 use Rattle.bplist_lint.proofs.Graphing.{reach_iff, circle_iff}
 use Rattle.bplist_lint.proofs.Answering.{formed_by_valid, least_lowest, lint_yes}
 use Rattle.bplist_lint.proofs.Faulting.{fault_not_formed, circle_not_formed}
@@ -144,6 +148,17 @@ fault_never f v holds fault h = let w = holds_formed f v holds in fault_not_form
 
 pub circle_never : (f : List ℕ) (v : Value) → FileHolds f v → (circle : List ℕ) → IsFileCircle f circle → no_circle circle
 circle_never f v holds circle h = let w = holds_formed f v holds in circle_not_formed f w.0 circle h w.1
+
+-- ---- the trailer, and then the table as it is kept, decide rules 1 to 13
+pub trailer_fault_of_file : (f : List ℕ) (fault : Fault) → IsTrailerFault f fault → IsFileFault f fault
+trailer_fault_of_file f fault h = inl (trailer_fault f fault h)
+
+module _ (f : List ℕ) (F : Frame) (trailed : IsTrailer f F) (places : List ℕ) (kept : AreKept f F F.objects places) where
+  pub place_fault_of_file : (fault : Fault) → IsPlaceFault F places fault → IsFileFault f fault
+  place_fault_of_file fault h = inl (entry_fault f F fault trailed h.rule (kept_high f F places kept fault trailed h))
+
+  pub frame_by_places : AreBelowTable F places → IsFrame f F
+  frame_by_places low = low_is_frame f F trailed (kept_low f F places kept trailed low)
 
 -- ---- what holds under the frame holds of the file
 module _ (f : List ℕ) (F : Frame) (frame : IsFrame f F) where

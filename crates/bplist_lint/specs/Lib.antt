@@ -5,6 +5,7 @@ pub mod Visits
 pub mod Windows
 pub mod Trail
 pub mod Referring
+pub mod Places
 pub mod ReachRules
 pub mod KeyRules
 pub mod Fingerprints

@@ -36,7 +36,3 @@ AreReferences f F body count block =
 abbrev pub IsBlock : List ℕ → ℕ → ℕ → List ℕ → Type 0
 IsBlock references first count block =
     (k : ℕ) → k < count → first + k < length references → slice_index block k ≡ slice_index references (first + k)
-
--- the first so many of these are the places of the objects
-abbrev pub ArePlacesBelow : List ℕ → Frame → ℕ → List ℕ → Type 0
-ArePlacesBelow f F count offsets = (n : ℕ) → n < count → slice_index offsets n ≡ off f F n

@@ -25,13 +25,13 @@ use crate::heights::least_heights;
 use crate::keys::check_keys;
 use crate::object_nos::ObjectNos;
 use crate::objects::Objects;
-use crate::places::places_of;
+use crate::places::{check_places, places_of};
 use crate::reaching::reached;
 use crate::references::WalkFault;
 use crate::refusal::LintRefusal;
 use crate::windows::Windows;
 use bplist_cert::Certificate;
-use bplist_objects::{Frame, ObjectNo, frame_of};
+use bplist_objects::{Frame, ObjectNo, trailer_of};
 use bplist_octets::Source;
 use std::alloc::Global;
 
@@ -201,13 +201,10 @@ fn lint_through<S: Source>(alloc: Global, src: &mut S) -> Result<Lint, LintRefus
     ensures exact { IsTrue (S.means src.old).honest
         → Lints (IsLinted (S.means src.old).octets) (IsFileFault (S.means src.old).octets)
         (IsFileCircle (S.means src.old).octets) result }
-    ensures decisive { IsTrue (S.means src.old).honest
-        → Lints (λ _. ⊤) (λ _. HasNoHeights (S.means src.old).octets) (λ _. HasNoHeights (S.means src.old).octets) result }
-    ensures never { IsTrue (S.means src.old).honest → (v : Value) → FileHolds (S.means src.old).octets v
-        → Lints (λ _. ⊤) Never no_circle result }
 {
-    let frame = frame_of(src)?;
+    let frame = trailer_of(src)?;
     let places = places_of(alloc, src, &frame)?;
+    check_places(&frame, &places, src.len())?;
     lint_objects(alloc, src, &frame, &places)
 }
 

@@ -1,27 +1,27 @@
-//! The places of all objects, from the offset table.
+//! The places of all objects, from the offset table, and rule 13 of them.
 
-ghost use Rattle.std.specs.Prelude.{◌≡◌, ℕ, ◌+◌, ◌^◌, ◌≤◌, ◌<◌, IsTrue, IfOk, OnOk, is_err, length, slice_index, vec_len};
+ghost use Rattle.std.specs.Prelude.{◌≡◌, ℕ, ◌+◌, ◌≤◌, ◌<◌, IsTrue, IfOk, MatchResult, is_err, length, slice_index, vec_len};
 ghost use Rattle.bplist_octets.specs.Meaning.{OnlyReads};
-ghost use Rattle.bplist_objects.specs.Frame.{off, IsFrame};
 ghost use Rattle.bplist_objects.specs.Safe.{IsSafe};
 ghost use Rattle.bplist_lint.specs.Answers.{walk_failed};
-ghost use Rattle.bplist_lint.specs.Referring.{AreOffsets, ArePlacesBelow};
+ghost use Rattle.bplist_lint.specs.Places.{IsKept, AreKept, AreBelowTable, IsPlaceFault};
 
 use crate::references::WalkFault;
-use bplist_objects::{Frame, read_offsets};
+use bplist_objects::{Fault, Frame, ObjectNo, high_entry, read_offsets};
 use bplist_octets::{ReadFault, Source};
 use std::alloc::Global;
 
 /// How many entries of the table are read at once.
 const BLOCK: usize = 256;
 
-/// Puts places into the table from number `from` on. Over an honest source each is below 2^32.
+/// Puts places into the table from number `from` on. One that needs more than 32 bits is kept as their greatest number,
+/// which lies behind any offset table too.
 fn put_places(places: &[u64], from: usize, table: &mut [u32])
     requires { from + length places.now ≤ length table.old }
     ensures length { length table.new ≡ length table.old }
     ensures before { (k : ℕ) → k < from → slice_index table.new k ≡ slice_index table.old k }
-    ensures put { (k : ℕ) → k < length places.now → slice_index places.now k < 2 ^ 32
-        → slice_index table.new (from + k) ≡ slice_index places.now k }
+    ensures put { (k : ℕ) → k < length places.now
+        → IsKept (slice_index places.now k) (slice_index table.new (from + k)) }
 {
     for (k, place) in places.iter().enumerate() {
         table[from + k] = (*place).min(u32::MAX as u64) as u32;
@@ -41,9 +41,9 @@ fn read_places<S: Source>(
     ensures reads { OnlyReads (is_err result) (S.means src.old) (S.means src.new) }
     ensures all { length table.new ≡ length table.old }
     ensures next { IfOk result (λ next. (from < next) × (next ≤ frame.now.objects)) }
-    ensures exact { IsTrue (S.means src.old).honest → IsFrame (S.means src.old).octets frame.now
-        → ArePlacesBelow (S.means src.old).octets frame.now from table.old
-        → IfOk result (λ next. ArePlacesBelow (S.means src.old).octets frame.now next table.new) }
+    ensures exact { IsTrue (S.means src.old).honest
+        → AreKept (S.means src.old).octets frame.now from table.old
+        → IfOk result (λ next. AreKept (S.means src.old).octets frame.now next table.new) }
 {
     let count = (frame.objects - from).min(BLOCK as u32);
     let mut places = [0; BLOCK];
@@ -53,7 +53,8 @@ fn read_places<S: Source>(
     Ok(from + count)
 }
 
-/// The place of each object, in the order of their numbers.
+/// The place of each object, in the order of their numbers, as their entries say. One that needs more than 32 bits is
+/// answered as their greatest number.
 pub fn places_of<S: Source>(
     alloc: Global,
     src: &mut S,
@@ -62,8 +63,8 @@ pub fn places_of<S: Source>(
     requires { IsSafe (length (S.means src.old).octets) frame.now }
     ensures reads { OnlyReads (walk_failed result) (S.means src.old) (S.means src.new) }
     ensures all { IfOk result (λ places. vec_len places ≡ frame.now.objects) }
-    ensures exact { IsTrue (S.means src.old).honest → IsFrame (S.means src.old).octets frame.now
-        → IfOk result (λ places. AreOffsets (S.means src.old).octets frame.now places.items) }
+    ensures exact { IsTrue (S.means src.old).honest
+        → IfOk result (λ places. AreKept (S.means src.old).octets frame.now frame.now.objects places.items) }
 {
     let mut places = vec![in alloc; 0; frame.objects as usize]?;
     let mut next = 0;
@@ -71,4 +72,18 @@ pub fn places_of<S: Source>(
         next = read_places(src, frame, next, &mut places)?;
     }
     Ok(places)
+}
+
+/// Looks at the places of all objects by rule 13 OffsetHigh, in a file of `len` bytes.
+pub fn check_places(frame: &Frame, places: &[u32], len: u64) -> Result<(), Fault>
+    requires safe { IsSafe len frame.now }
+    requires all { length places.now ≡ frame.now.objects }
+    ensures { MatchResult result (λ _. AreBelowTable frame.now places.now) (IsPlaceFault frame.now places.now) }
+{
+    for n in 0..frame.objects {
+        if places[n as usize] as u64 >= frame.table {
+            return Err(high_entry(frame, ObjectNo(n), len));
+        }
+    }
+    Ok(())
 }

@@ -4,6 +4,7 @@ ghost use Rattle.std.specs.Prelude.{◌≡◌};
 ghost use Rattle.bplist_objects.specs.declared.fault.ObjectFault.{ObjectFault as object_fault};
 ghost use Rattle.bplist_cert.specs.declared.refusal.Refusal.{Refusal as cert_refusal};
 ghost use Rattle.bplist_lint.specs.declared.references.WalkFault.{WalkFault as walk_fault};
+ghost use Rattle.bplist_lint.specs.declared.refusal.LintRefusal.TheVariants.{Fault as is_fault};
 ghost use Rattle.bplist_lint.specs.Refusals.{of_object, of_walk, of_check};
 
 use crate::object_nos::ObjectNos;
@@ -23,6 +24,14 @@ pub enum LintRefusal {
     Read(ReadFault),
     /// A growth was refused.
     Memory,
+}
+
+impl From<Fault> for LintRefusal {
+    ghost from_gives = { λ fault e. e ≡ is_fault fault };
+
+    fn from(fault: Fault) -> LintRefusal {
+        LintRefusal::Fault(fault)
+    }
 }
 
 impl From<ObjectFault> for LintRefusal {

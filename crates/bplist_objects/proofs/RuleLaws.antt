@@ -1,5 +1,5 @@
 -- Laws of the first broken rule.
-use Rattle.std.proofs.Common.{ℕ, List, [], ◌∷◌, ◌++◌, Option, inr}
+use Rattle.std.proofs.Common.{ℕ, List, [], ◌∷◌, ◌++◌, Option, inl, inr}
 use Rattle.bplist_objects.specs.declared.rule.Rule.{Rule}
 use Rattle.bplist_objects.specs.declared.fault.Fault.{Fault}
 use Rattle.bplist_objects.specs.declared.frame.ObjectNo.{ObjectNo}
@@ -10,3 +10,14 @@ pub first_fault_after : (keeps : Rule → Type 0) (breaks : Rule → Option Obje
 first_fault_after keeps breaks [] ys fault kept h = h
 first_fault_after keeps breaks (x ∷ xs) ys fault kept h =
     inr (kept.0, first_fault_after keeps breaks xs ys fault kept.1 h)
+
+-- a first fault is one, whatever rules come after
+pub first_fault_among : (keeps : Rule → Type 0) (breaks : Rule → Option ObjectNo → ℕ → Type 0) (xs ys : List Rule) (fault : Fault) → IsFirstFault keeps breaks xs fault → IsFirstFault keeps breaks (xs ++ ys) fault
+first_fault_among keeps breaks [] ys fault h = absurd h
+first_fault_among keeps breaks (x ∷ xs) ys fault (inl broken) = inl broken
+first_fault_among keeps breaks (x ∷ xs) ys fault (inr (kept, h)) = inr (kept, first_fault_among keeps breaks xs ys fault h)
+
+-- these rules are kept, and those after them
+pub kept_all_after : (keeps : Rule → Type 0) (xs ys : List Rule) → KeepsAll keeps xs → KeepsAll keeps ys → KeepsAll keeps (xs ++ ys)
+kept_all_after keeps [] ys kept more = more
+kept_all_after keeps (x ∷ xs) ys (kept, rest) more = (kept, kept_all_after keeps xs ys rest more)

@@ -7,7 +7,7 @@ use Rattle.bplist_objects.specs.declared.fault.Fault.{Fault}
 use Rattle.bplist_objects.specs.declared.frame.ObjectNo.{ObjectNo}
 use Rattle.bplist_objects.specs.declared.frame.Frame.{Frame}
 use Rattle.bplist_objects.specs.Frame.{header, trailer, off}
-use Rattle.bplist_objects.specs.Rules.{IsFirstFault}
+use Rattle.bplist_objects.specs.Rules.{KeepsAll, IsFirstFault}
 
 -- every entry of the offset table is below the table's place
 abbrev pub AreEntriesLow : List ℕ → Frame → Type 0
@@ -35,6 +35,12 @@ abbrev pub frame_rules : List Rule
 frame_rules =
     TooLarge ∷ TooShort ∷ Magic ∷ NoObjects ∷ Top ∷ TableEarly ∷ TableLate ∷ OffsetSize ∷ RefSize ∷ Length ∷ RefNarrow
     ∷ OffsetNarrow ∷ OffsetHigh ∷ []
+
+-- those of them for which no entry of the offset table is read
+abbrev pub trailer_rules : List Rule
+trailer_rules =
+    TooLarge ∷ TooShort ∷ Magic ∷ NoObjects ∷ Top ∷ TableEarly ∷ TableLate ∷ OffsetSize ∷ RefSize ∷ Length ∷ RefNarrow
+    ∷ OffsetNarrow ∷ []
 
 -- those of them that speak of the trailer's numbers and the length alone
 abbrev pub number_rules : List Rule
@@ -82,6 +88,14 @@ Breaks f OffsetNarrow object place =
     × (place + 26 ≡ length f)
 Breaks f OffsetHigh object place = IsEntryFault f (trailer f) object place
 Breaks f _ object place = ⊥
+
+-- F is what the trailer gives, and none of the rules before that of the entries is broken
+abbrev pub IsTrailer : List ℕ → Frame → Type 0
+IsTrailer f F = (F ≡ trailer f) × KeepsAll (Keeps f) trailer_rules
+
+-- the fault is that of the first broken rule before that of the entries
+abbrev pub IsTrailerFault : List ℕ → Fault → Type 0
+IsTrailerFault f fault = IsFirstFault (Keeps f) (Breaks f) trailer_rules fault
 
 -- the fault is that of the first broken rule of the file as a whole
 abbrev pub IsFrameFault : List ℕ → Fault → Type 0

@@ -5,7 +5,7 @@ ghost use Rattle.bplist_octets.specs.Octets.{part, num};
 ghost use Rattle.bplist_octets.specs.Meaning.{OnlyReads};
 ghost use Rattle.bplist_objects.specs.Frame.{trailer as spelled, IsFrame};
 ghost use Rattle.bplist_objects.specs.Rules.{KeepsAll, IsFirstFault};
-ghost use Rattle.bplist_objects.specs.FrameRules.{Keeps, Breaks, IsFrameFault, number_rules, frame_rules};
+ghost use Rattle.bplist_objects.specs.FrameRules.{Keeps, Breaks, IsTrailer, IsTrailerFault, IsFrameFault, number_rules};
 ghost use Rattle.bplist_objects.specs.Safe.{IsSafe, IsSafeFrame};
 ghost use Rattle.bplist_objects.specs.Trailer.{told};
 ghost use Rattle.bplist_objects.specs.declared.rule.Rule.TheVariants.{Magic};
@@ -174,12 +174,15 @@ fn numbers_of<S: Source>(src: &mut S) -> Result<Frame, ObjectFault>
     Ok(frame_by(&trailer_in(&octets), len)?)
 }
 
-/// The frame by the rules that it keeps, or the first broken rule.
-fn frame_by_rules<S: Source>(src: &mut S) -> Result<Frame, ObjectFault>
+/// The frame that the trailer gives, or the fault of the first of rules 1 to 12 that is broken, in their
+/// order. It names no object, and its place counts from the file's first byte. The entries of the offset
+/// table are not read: a caller who keeps what they say looks at rule 13 OffsetHigh there, and any other asks
+/// `frame_of`. `Read` is answered where a read failed. Over any source the frame fits it: its sizes are 1 to
+/// 8, its table lies within, and its top is an object.
+pub fn trailer_of<S: Source>(src: &mut S) -> Result<Frame, ObjectFault>
     ensures reads { OnlyReads (read_failed result) (S.means src.old) (S.means src.new) }
     ensures exact { IsTrue (S.means src.old).honest
-        → Gives (λ x. (x ≡ spelled (S.means src.old).octets) × KeepsAll (Keeps (S.means src.old).octets) frame_rules)
-        (IsFrameFault (S.means src.old).octets) result }
+        → Gives (IsTrailer (S.means src.old).octets) (IsTrailerFault (S.means src.old).octets) result }
     ensures safe { IfOk result (IsSafeFrame (length (S.means src.old).octets)) }
 {
     let len = src.len();
@@ -190,9 +193,7 @@ fn frame_by_rules<S: Source>(src: &mut S) -> Result<Frame, ObjectFault>
         return Err(ObjectFault::Fault(fault_at(Rule::TooShort, len)));
     }
     check_header(src)?;
-    let frame = numbers_of(src)?;
-    check_entries(src, &frame)?;
-    Ok(frame)
+    numbers_of(src)
 }
 
 /// The frame of the file, or the fault of the first of rules 1 to 13 that is broken, in their order. The
@@ -208,5 +209,7 @@ pub fn frame_of<S: Source>(src: &mut S) -> Result<Frame, ObjectFault>
         → Gives (λ y. y ≡ x) Never result }
     ensures safe { IfOk result (IsSafeFrame (length (S.means src.old).octets)) }
 {
-    frame_by_rules(src)
+    let frame = trailer_of(src)?;
+    check_entries(src, &frame)?;
+    Ok(frame)
 }

@@ -23,7 +23,7 @@ mod text;
 
 pub use body::{head_at, head_of};
 pub use fault::{Fault, ObjectFault};
-pub use frame::{Frame, ObjectNo, frame_of};
+pub use frame::{Frame, ObjectNo, frame_of, trailer_of};
 pub use head::{Head, shape_at, shape_of};
 pub use kind::Kind;
 pub use laws::{
@@ -35,5 +35,5 @@ pub use leaf::{int_of, octets_at, uid_of};
 pub use leaf_laws::{leaves_by_parts, units_are_ordered};
 pub use refs::{read_refs, ref_at, refs_of};
 pub use rule::{Rule, rule_name};
-pub use table::{offset_of, read_offsets};
+pub use table::{high_entry, offset_of, read_offsets};
 pub use text::{key_cmp, read_units, unit_at};

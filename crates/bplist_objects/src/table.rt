@@ -59,6 +59,22 @@ pub fn read_offsets<S: Source>(
     numbers_in(src, place, frame.offset_size, into)
 }
 
+/// The fault of object `n` by rule 13 OffsetHigh, in a file of `len` bytes: it stands where the entry does. The
+/// frame must fit the file, and `n` must be an object; whether its entry is too high is the caller's to know.
+pub fn high_entry(frame: &Frame, n: ObjectNo, len: u64) -> Fault
+    requires safe { IsSafe len frame.now }
+    requires within { n.0 < frame.now.objects }
+    ensures rule { result.rule ≡ OffsetHigh }
+    ensures object { result.object ≡ Some n }
+    ensures place { result.place ≡ frame.now.table + n.0 * frame.now.offset_size }
+{
+    Fault {
+        rule: Rule::OffsetHigh,
+        object: Some(n),
+        place: entry_place(frame, n.0, len),
+    }
+}
+
 /// Looks at every entry of the offset table.
 pub(crate) fn check_entries<S: Source>(src: &mut S, frame: &Frame) -> Result<(), ObjectFault>
     requires { IsSafe (length (S.means src.old).octets) frame.now }
@@ -77,13 +93,6 @@ pub(crate) fn check_entries<S: Source>(src: &mut S, frame: &Frame) -> Result<(),
     )?;
     match first {
         None => Ok(()),
-        Some(i) => {
-            let n = i as u32;
-            Err(ObjectFault::Fault(Fault {
-                rule: Rule::OffsetHigh,
-                object: Some(ObjectNo(n)),
-                place: entry_place(frame, n, src.len()),
-            }))
-        }
+        Some(i) => Err(high_entry(frame, ObjectNo(i as u32), src.len()).into()),
     }
 }

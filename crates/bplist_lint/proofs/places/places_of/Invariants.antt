@@ -1,6 +1,5 @@
 use Rattle.std.proofs.Common.{◌≡◌, ◌≤◌, ◌-◌, IsTrue, vec_len}
-use Rattle.bplist_objects.specs.Frame.{IsFrame}
-use Rattle.bplist_lint.specs.Referring.{ArePlacesBelow}
+use Rattle.bplist_lint.specs.Places.{AreKept}
 use Rattle.bplist_lint.proofs.places.places_of.Given as goal
 
 abbrev pub invariant-loop-next : goal.invariant-loop-next
@@ -8,7 +7,7 @@ invariant-loop-next g l = record {
   reads : g.S.Source.means l.src ≡ g.S.Source.means l.fn.src;
   all : vec_len l.places ≡ l.frame.objects;
   within : l.next ≤ l.frame.objects;
-  exact : IsTrue (g.S.Source.means l.fn.src).honest → IsFrame (g.S.Source.means l.fn.src).octets l.frame → ArePlacesBelow (g.S.Source.means l.fn.src).octets l.frame l.next l.places.items;
+  exact : IsTrue (g.S.Source.means l.fn.src).honest → AreKept (g.S.Source.means l.fn.src).octets l.frame l.next l.places.items;
 }
 
 abbrev pub decreases-loop-next : goal.decreases-loop-next

@@ -4,6 +4,7 @@ use Rattle.bplist_lint.proofs.PlaceSteps.{places_more}
 use Rattle.bplist_lint.proofs.places.read_places.Goals as goal
 
 pub returns-clause-exact : goal.returns-clause-exact
-returns-clause-exact g c = λ honest framed below.
+returns-clause-exact g c = λ honest below.
+    let f = (g.S.Source.means c.args.src.now).octets in
     let long : length c.read_offsets.new.into ≡ c.min-count.result = grind (arith, common_steps) in
-    places_more _ _ _ _ _ _ c.read_offsets.new.into framed (omega (arith, c.min-count.ensures)) long c.put_places.ensures.before c.put_places.ensures.put (c.in_ok-read_offsets.ensures.offsets honest) below
+    places_more f c.args.frame.now _ _ _ _ c.read_offsets.new.into long c.put_places.ensures.before c.put_places.ensures.put (c.in_ok-read_offsets.ensures.offsets honest) below
