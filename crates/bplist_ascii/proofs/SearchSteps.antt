@@ -1,5 +1,5 @@
 -- The search for the first object without a form, step by step.
-use Rattle.std.proofs.Common.{◌≡◌, ◌<◌, ◌≤◌, ◌+◌, ◌*◌, ℕ, List, [], ◌∷◌, ◌++◌, arith, length, drop, slice_index, refl, sym, ap, ◌∙◌, subst, IsTrue, Option, Some, None}
+use Rattle.std.proofs.Common.{◌≡◌, ◌<◌, ◌≤◌, ◌+◌, ℕ, List, [], ◌∷◌, ◌++◌, arith, length, drop, slice_index, refl, sym, ap, ◌∙◌, subst, IsTrue, Option, Some, None}
 use Rattle.std.specs.Prelude.{option_map, option_and_then, MatchOption, ⊤}
 use Rattle.std.specs.List.{AllByRecursion}
 use Rattle.std.proofs.lemmas.Grind.{not_there}
@@ -10,7 +10,7 @@ use Rattle.bplist_objects.specs.declared.head.Head.{Head}
 use Rattle.bplist_objects.specs.declared.kind.Kind.{Kind}
 use Rattle.bplist_objects.specs.declared.kind.Kind.TheVariants as kinds
 use Rattle.bplist_objects.specs.Numbers.{nums_at}
-use Rattle.bplist_objects.specs.Value.{Leaf, Value, leaf, array, set, dict, Values, no_values, value, Pairs, no_pairs, pair, text}
+use Rattle.bplist_objects.specs.Value.{Value, leaf, array, set, dict, Values, no_values, value, Pairs, no_pairs, pair}
 use Rattle.bplist_objects.specs.Heads.{Content, Spells, content_of, content_at, refs}
 use Rattle.bplist_objects.specs.Kinds.{IsLeafKind}
 use Rattle.bplist_objects.specs.Holds.{Holds, HoldEach, HoldPairs}
@@ -19,12 +19,11 @@ use Rattle.bplist_objects.proofs.Leaves.{leaf_kind}
 use Rattle.bplist_objects.proofs.References.{length-nums_at, dict_parts, as_many}
 use Rattle.bplist_cert.specs.CheckedFile.{CheckedFile, IsChecked}
 use Rattle.bplist_cert.specs.Valid.{IsVouchedBy}
-use Rattle.bplist_cursor.specs.declared.form.Form.{Form}
 use Rattle.bplist_cursor.specs.declared.form.Form.TheVariants.{NoForm, Length}
 use Rattle.bplist_cursor.specs.Nodes.{cap}
 use Rattle.bplist_cursor.specs.Texts.{text_of_units}
 use Rattle.bplist_cursor.specs.OldStyle.{comma, value_text, members_text, pairs_text}
-use Rattle.bplist_cursor.specs.Forms.{form_of, form_of_text}
+use Rattle.bplist_cursor.specs.Forms.{form_of_text}
 use Rattle.bplist_cursor.specs.Formless.{IsFormless, IsFirstFormless, IsFirstFormlessOf}
 use Rattle.bplist_cursor.proofs.CheckedFrames.{stable_le, stable_lt}
 use Rattle.bplist_ascii.specs.Searching.{LacksText, first_part, HaveMembers, HaveTexts, IsFirstWithout, LeadsOn}

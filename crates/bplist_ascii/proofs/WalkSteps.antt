@@ -1,17 +1,16 @@
 -- What is left to write, step by step.
 use Rattle.std.proofs.Common.{◌≡◌, ◌⊎◌, inl, inr, ℕ, suc, zero, ◌+◌, ◌<◌, ◌≤◌, List, [], ◌∷◌, ◌++◌, arith, length, drop, refl, sym, ap, ◌∙◌, append_assoc, append-nil, slice_index, subst, ◌*◌}
 use Rattle.std.specs.Prelude.{Option}
-use Rattle.std.specs.List.{AllByRecursion}
 use Rattle.std.proofs.lemmas.List.{drop_more, drop_all, length-append, get_or_append_left, get_or-append-add}
 use Rattle.std.proofs.lemmas.List.Elements.{All-get_or, All-from_recursion}
 use Rattle.bplist_objects.specs.declared.frame.Frame.{Frame}
 use Rattle.bplist_objects.specs.declared.head.Head.{Head}
 use Rattle.bplist_objects.specs.declared.kind.Kind.{Kind}
 use Rattle.bplist_objects.specs.declared.kind.Kind.TheVariants as kinds
-use Rattle.bplist_objects.specs.Value.{Leaf, null, boolean, int, real, date, bytes, text, uid, Value, leaf, array, set, dict, Values, no_values, value, Pairs, no_pairs, pair}
+use Rattle.bplist_objects.specs.Value.{null, boolean, int, real, date, bytes, text, uid, Value, leaf, array, set, dict, Values, no_values, value, Pairs, no_pairs, pair}
 use Rattle.bplist_objects.specs.Heads.{Content, Spells, content_of, content_at}
 use Rattle.bplist_objects.specs.Holds.{Holds, HoldEach, HoldPairs}
-use Rattle.bplist_objects.specs.Units.{IsTextKind, units_of}
+use Rattle.bplist_objects.specs.Units.{IsTextKind}
 use Rattle.bplist_objects.proofs.References.{length-nums_at, dict_parts}
 use Rattle.bplist_objects.proofs.Leaves.{text_value, bytes_value}
 use Rattle.bplist_objects.specs.Numbers.{nums_at}

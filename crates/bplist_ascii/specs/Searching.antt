@@ -4,7 +4,7 @@ use Rattle.bplist_objects.specs.declared.frame.Frame.{Frame}
 use Rattle.bplist_objects.specs.declared.head.Head.{Head}
 use Rattle.bplist_objects.specs.declared.kind.Kind.{Kind}
 use Rattle.bplist_objects.specs.declared.kind.Kind.TheVariants as kinds
-use Rattle.bplist_objects.specs.Value.{Value, Values, no_values, value, Pairs, no_pairs, pair}
+use Rattle.bplist_objects.specs.Value.{Value, Values, no_values, value}
 use Rattle.bplist_objects.specs.Heads.{Content, content_at, refs}
 use Rattle.bplist_objects.specs.Holds.{Holds, HoldEach}
 use Rattle.bplist_cert.specs.Valid.{IsVouchedBy}

@@ -1,4 +1,4 @@
-use Rattle.std.proofs.Common.{rules, arith, ◌≡◌, ◌<◌, slice_index, refl, sym, ap, ◌∙◌, subst, Err}
+use Rattle.std.proofs.Common.{rules, ◌≡◌, refl, Err}
 use Rattle.bplist_ascii.proofs.SearchSteps.{match_none, leads_further}
 use Rattle.bplist_ascii.proofs.formless.first_formless.Goals as goal
 

@@ -1,6 +1,4 @@
-use Rattle.std.proofs.Common.{rules, arith, ◌≡◌, ◌<◌, ◌+◌, length, slice_index, refl, sym, ap, ◌∙◌, subst, Some, Err, ℕ, List}
-use Rattle.std.proofs.lemmas.Result.{err_from_is_err_and}
-use Rattle.bplist_objects.specs.Heads.{refs}
+use Rattle.std.proofs.Common.{rules, arith, ◌≡◌, ◌<◌, length, slice_index, refl, sym, ap, ◌∙◌, subst, Some, Err}
 use Rattle.bplist_cursor.specs.declared.form.Form.TheVariants.{NoForm}
 use Rattle.bplist_cursor.specs.OldStyle.{value_text}
 use Rattle.bplist_cursor.specs.Forms.{form_of}

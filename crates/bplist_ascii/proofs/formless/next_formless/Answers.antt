@@ -1,5 +1,4 @@
-use Rattle.std.proofs.Common.{rules, arith, ◌≡◌, ◌<◌, slice_index, refl, sym, ap, ◌∙◌, subst, Some, None, Err, ℕ, List}
-use Rattle.std.proofs.lemmas.Result.{err_from_is_err_and}
+use Rattle.std.proofs.Common.{rules, arith, ◌≡◌, sym, ◌∙◌, Err}
 use Rattle.bplist_cursor.proofs.CheckedFrames.{frame_of_checked}
 use Rattle.bplist_cursor.proofs.Taking.{content_of_value}
 use Rattle.bplist_ascii.specs.Searching.{first_part}

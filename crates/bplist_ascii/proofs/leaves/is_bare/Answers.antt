@@ -1,4 +1,4 @@
-use Rattle.std.proofs.Common.{rules, arith, ◌++◌, ◌≡◌, ◌+◌, ◌<◌, ◌≤◌, true, false, length, take, drop, refl, subst, sym, ap, ◌∙◌, IsTrue, ℕ, List}
+use Rattle.std.proofs.Common.{rules, arith, ◌≡◌, length, take, sym, ap, ◌∙◌}
 use Rattle.std.proofs.lemmas.List.{take_all, length-take-le}
 use Rattle.std.specs.List.{list_all}
 use Rattle.bplist_octets.specs.Octets.{part}

@@ -1,4 +1,4 @@
-use Rattle.std.proofs.Common.{rules, arith, ◌≡◌, [], Err, ap, ◌∙◌}
+use Rattle.std.proofs.Common.{rules, ◌≡◌, [], Err, ap}
 use Rattle.bplist_ascii.specs.Sending.{Sending}
 use Rattle.bplist_ascii.specs.declared.print_fault.PrintFault.TheVariants.{Write}
 use Rattle.bplist_ascii.proofs.SinkSteps.{cut_bounded}

@@ -1,4 +1,4 @@
-use Rattle.std.proofs.Common.{rules, ◌≡◌, Err, refl, ◌∷◌, [], ◌++◌}
+use Rattle.std.proofs.Common.{rules, ◌≡◌, Err, refl}
 use Rattle.bplist_ascii.proofs.WriteSteps.{adds_fit, adds_nothing}
 use Rattle.bplist_ascii.proofs.WalkSteps.{safe_pop, no_container}
 use Rattle.bplist_ascii.proofs.walk.step.Goals as goal

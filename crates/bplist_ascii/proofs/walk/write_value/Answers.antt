@@ -1,9 +1,8 @@
-use Rattle.std.proofs.Common.{rules, arith, ◌≡◌, ◌++◌, ◌∷◌, [], Err, List, ℕ, refl, sym, ap, ◌∙◌, subst, append-nil}
+use Rattle.std.proofs.Common.{rules, arith, ◌≡◌, ◌++◌, ◌∷◌, [], Err, refl, sym, ap, ◌∙◌, subst, append-nil}
 use Rattle.std.proofs.lemmas.Grind.{common_steps}
 use Rattle.bplist_cursor.specs.OldStyle.{plain}
-use Rattle.bplist_ascii.specs.Sending.{Takes}
 use Rattle.bplist_ascii.specs.Walks.{GoesOn}
-use Rattle.bplist_ascii.proofs.WriteSteps.{on_err, adds_more, adds_fit, adds_within, adds_fail, adds_nothing}
+use Rattle.bplist_ascii.proofs.WriteSteps.{adds_more, adds_within, adds_fail}
 use Rattle.bplist_ascii.proofs.WalkSteps.{adds_goes_on, walk_ends}
 use Rattle.bplist_ascii.proofs.walk.write_value.Goals as goal
 

@@ -1,4 +1,4 @@
-use Rattle.std.proofs.Common.{◌≡◌, ◌+◌, ◌++◌, List, ℕ, length}
+use Rattle.std.proofs.Common.{◌≡◌}
 use Rattle.bplist_objects.specs.Value.{Value}
 use Rattle.bplist_objects.specs.Holds.{Holds}
 use Rattle.bplist_cursor.specs.OldStyle.{IsFormed, plain}

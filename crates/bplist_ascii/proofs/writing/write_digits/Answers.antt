@@ -1,4 +1,4 @@
-use Rattle.std.proofs.Common.{rules, arith, ◌≡◌, ◌<◌, Err, length, take, drop, subst, slice_index}
+use Rattle.std.proofs.Common.{rules, ◌≡◌, ◌<◌, Err, length, drop, subst, slice_index}
 use Rattle.std.specs.List.{flat_map}
 use Rattle.bplist_cursor.specs.Texts.{hex_digits}
 use Rattle.bplist_ascii.specs.Writing.{Adds}
