@@ -1,9 +1,6 @@
 //! Key paths, and answers about the value of a checked file.
-// NOTE FROM THE LEAD (11:05): main has FACES showing/members/bytes/nodes and MEASURE measures/object_sizes/text_length: keep MAIN versions, drop your own showing.rt, members.rt, lending.rt, specs Members, Lent; read /work/ws/cursor/FROM_FACES*.md, FROM_MEASURE.md, FROM_LEAD.md. Then delete this line.
 #![tactic(auto)]
 
-#[cfg(test)]
-mod answer_tests;
 mod answers;
 mod bytes;
 mod faces;
@@ -18,16 +15,12 @@ mod list;
 mod locating;
 mod measures;
 mod members;
-#[cfg(test)]
-mod node_tests;
 mod nodes;
 mod object_sizes;
 mod path;
 mod reading;
 mod reply;
 mod showing;
-#[cfg(test)]
-mod size_tests;
 mod stepping;
 #[cfg(test)]
 mod tests;
