@@ -1,8 +1,6 @@
 //! Key paths, and answers about the value of a checked file.
 #![tactic(auto)]
 
-#[cfg(test)]
-mod answer_tests;
 mod answers;
 mod bytes;
 mod faces;
@@ -17,16 +15,12 @@ mod list;
 mod locating;
 mod measures;
 mod members;
-#[cfg(test)]
-mod node_tests;
 mod nodes;
 mod object_sizes;
 mod path;
 mod reading;
 mod reply;
 mod showing;
-#[cfg(test)]
-mod size_tests;
 mod stepping;
 #[cfg(test)]
 mod tests;

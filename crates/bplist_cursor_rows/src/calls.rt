@@ -1,0 +1,75 @@
+//! Calls of the library, and their answers as text.
+//!
+//! None has a clause, so that a test is proved without the clauses of what it calls.
+
+use bplist_cert::Checked;
+use bplist_cursor::{
+    CursorFault, Found, Node, Path, Query, answer, answer_all, face, locate_counted, member,
+};
+use bplist_objects::ObjectNo;
+use bplist_octets::Source;
+use std::alloc::{AllocError, Global};
+use std::fmt::Debug;
+use std::test::Fail;
+
+pub fn node(n: u32) -> Node {
+    Node {
+        object: ObjectNo(n),
+    }
+}
+
+/// The value as `Debug` writes it.
+pub fn text_of<T: Debug + Drop>(alloc: Global, value: T) -> Result<String, AllocError> {
+    format!(in alloc; "{value:?}")
+}
+
+pub fn face_text<S: Source>(
+    alloc: Global,
+    file: &mut Checked<S>,
+    n: u32,
+) -> Result<String, AllocError> {
+    text_of(alloc, face(alloc, file, node(n)))
+}
+
+pub fn member_of<S: Source>(
+    file: &mut Checked<S>,
+    n: u32,
+    i: u64,
+) -> Result<Option<Node>, CursorFault> {
+    member(file, node(n), i)
+}
+
+/// Which query is asked at a path.
+#[derive(Debug, Clone, Copy)]
+pub enum Asked {
+    Get,
+    Keys,
+    Size,
+}
+
+pub fn query_of(alloc: Global, asked: Asked, path: &str) -> Result<Query, Fail> {
+    let path = Path::parse(alloc, path)?;
+    Ok(match asked {
+        Asked::Get => Query::Get(path),
+        Asked::Keys => Query::Keys(path),
+        Asked::Size => Query::Size(path),
+    })
+}
+
+pub fn answer_text<S: Source>(
+    alloc: Global,
+    file: &mut Checked<S>,
+    asked: Asked,
+    path: &str,
+) -> Result<String, Fail> {
+    let query = query_of(alloc, asked, path)?;
+    Ok(text_of(alloc, answer(alloc, file, &query))?)
+}
+
+pub fn answers_text<S: Source>(
+    alloc: Global,
+    file: &mut Checked<S>,
+    queries: &[Query],
+) -> Result<String, AllocError> {
+    text_of(alloc, answer_all(alloc, file, queries))
+}

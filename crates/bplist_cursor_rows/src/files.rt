@@ -1,0 +1,135 @@
+//! The files of the tests, and how they are checked.
+
+use bplist_cert::{Certificate, Checked, KeyLists, check};
+use bplist_octets::Source;
+use std::alloc::{AllocError, Global};
+use std::test::Fail;
+
+/// A dictionary, its keys `a/b`, the empty text and `s`, an array, False, a set, and True.
+const THREE_KEYS: &[u8] = &[
+    0xd3, 1, 2, 3, 4, 5, 6, 0x53, 0x61, 0x2f, 0x62, 0x50, 0x51, 0x73, 0xa1, 7, 8, 0xc1, 7, 9,
+];
+
+pub const THREE_KEYS_HEIGHTS: &[u32] = &[3, 1, 1, 1, 2, 1, 2, 1];
+
+/// Adds the table, with offsets and references of this size, and the trailer, with object 0 as the top.
+fn close(file: &mut Vec<u8>, table: &[u8], size: u8, objects: u64) -> Result<(), AllocError> {
+    let place = file.len() as u64;
+    file.extend_from_slice(table)?;
+    file.extend_from_slice(&[0, 0, 0, 0, 0, 0, size, size])?;
+    file.extend_from_slice(&objects.to_be_bytes())?;
+    file.extend_from_slice(&[0; 8])?;
+    file.extend_from_slice(&place.to_be_bytes())
+}
+
+/// The file of these objects, with offsets and references of one byte.
+pub fn file_of(alloc: Global, objects: &[u8], table: &[u8]) -> Result<Vec<u8>, AllocError> {
+    let mut file = Vec::from_slice(alloc, b"bplist00")?;
+    file.extend_from_slice(objects)?;
+    close(&mut file, table, 1, table.len() as u64)?;
+    Ok(file)
+}
+
+pub fn three_keys(alloc: Global) -> Result<Vec<u8>, AllocError> {
+    file_of(alloc, THREE_KEYS, &[8, 15, 19, 20, 22, 24, 25, 27])
+}
+
+/// 64 arrays, each with the next object twice, and at last this leaf.
+pub fn doubling(alloc: Global, leaf: &[u8]) -> Result<Vec<u8>, AllocError> {
+    let mut objects = Vec::new(alloc);
+    let mut table = Vec::new(alloc);
+    for next in 1..65u8 {
+        objects.extend_from_slice(&[0xa2, next, next])?;
+        table.push(3 * next + 5)?;
+    }
+    objects.extend_from_slice(leaf)?;
+    table.push(200)?;
+    file_of(alloc, &objects, &table)
+}
+
+/// So many arrays, each with the next object once, and at last this leaf, with offsets and references of four bytes.
+pub fn chain(alloc: Global, arrays: u32, leaf: &[u8]) -> Result<Vec<u8>, AllocError> {
+    let mut file = Vec::from_slice(alloc, b"bplist00")?;
+    let mut table = Vec::from_slice(alloc, &8u32.to_be_bytes())?;
+    for next in 1..arrays.saturating_add(1) {
+        file.push(0xa1)?;
+        file.extend_from_slice(&next.to_be_bytes())?;
+        let place = next.saturating_mul(5).saturating_add(8);
+        table.extend_from_slice(&place.to_be_bytes())?;
+    }
+    file.extend_from_slice(leaf)?;
+    close(&mut file, &table, 4, arrays as u64 + 1)?;
+    Ok(file)
+}
+
+/// A dictionary of the keys `0000` to `0999` and one value, with offsets and references of two bytes.
+pub fn thousand_keys(alloc: Global) -> Result<Vec<u8>, AllocError> {
+    let mut file = Vec::from_slice(alloc, b"bplist00\xdf\x11\x03\xe8")?;
+    for key in 1..1001u16 {
+        file.extend_from_slice(&key.to_be_bytes())?;
+    }
+    for _ in 0..1000 {
+        file.extend_from_slice(&1001u16.to_be_bytes())?;
+    }
+    let mut table = Vec::from_slice(alloc, &8u16.to_be_bytes())?;
+    for key in 0..1000u16 {
+        table.extend_from_slice(&(4012 + 5 * key).to_be_bytes())?;
+        file.extend_from_slice(format!(in alloc; "T{key:04}")?.as_bytes())?;
+    }
+    table.extend_from_slice(&9012u16.to_be_bytes())?;
+    file.push(9)?;
+    close(&mut file, &table, 2, 1002)?;
+    Ok(file)
+}
+
+/// Heights that fall by one from object to object.
+pub fn falling(alloc: Global, objects: u32) -> Result<Vec<u32>, AllocError> {
+    let mut heights = Vec::new(alloc);
+    for n in 0..objects {
+        heights.push(objects - n)?;
+    }
+    Ok(heights)
+}
+
+/// A certificate of these heights, and with these positions one of version 2 whose lists all begin at 0.
+fn certificate_of(
+    alloc: Global,
+    heights: &[u32],
+    positions: Option<&[u32]>,
+) -> Result<Certificate, AllocError> {
+    let keys = match positions {
+        Some(positions) => Some(KeyLists {
+            starts: vec![in alloc; 0u32; heights.len()]?,
+            positions: Vec::from_slice(alloc, positions)?,
+        }),
+        None => None,
+    };
+    Ok(Certificate {
+        heights: Vec::from_slice(alloc, heights)?,
+        keys,
+    })
+}
+
+/// The source with such a certificate. None where the check says no.
+pub fn accepted<S: Source + Drop>(
+    alloc: Global,
+    source: S,
+    heights: &[u32],
+    positions: Option<&[u32]>,
+) -> Result<Option<Checked<S>>, AllocError> {
+    let certificate = certificate_of(alloc, heights, positions)?;
+    Ok(check(alloc, source, certificate).ok())
+}
+
+/// The source with such a certificate, which the check has to take.
+pub fn checked<S: Source + Drop>(
+    alloc: Global,
+    source: S,
+    heights: &[u32],
+    positions: Option<&[u32]>,
+) -> Result<Checked<S>, Fail> {
+    match accepted(alloc, source, heights, positions)? {
+        Some(checked) => Ok(checked),
+        None => Err(Fail::new("the check refused")),
+    }
+}
