@@ -1,5 +1,5 @@
 -- Steps of the reading of the offset table, and what the places that are kept say of the table.
-use Rattle.std.proofs.Common.{◌≡◌, ℕ, ◌+◌, ◌-◌, ◌^◌, ◌<◌, ◌≤◌, inl, inr, List, length, slice_index, sym, ◌∙◌, ap, subst, arith}
+use Rattle.std.proofs.Common.{◌≡◌, ℕ, ◌+◌, ◌-◌, ◌^◌, ◌<◌, ◌≤◌, inl, inr, List, length, slice_index, sym, ap, subst, arith}
 use Rattle.std.proofs.lemmas.Bool.{cases_lt}
 use Rattle.bplist_objects.specs.declared.fault.Fault.{Fault}
 use Rattle.bplist_objects.specs.declared.frame.Frame.{Frame}
@@ -57,9 +57,13 @@ module _ (f : List ℕ) (F : Frame) (places : List ℕ) (kept : AreKept f F F.ob
   -- the first kept place that is not below the table is that of the first such entry
   pub kept_high : (fault : Fault) → IsTrailer f F → IsPlaceFault F places fault → IsEntryFault f F fault.object fault.place
   kept_high fault trailed h =
-      let fits = table_fits f F trailed in
-      (h.n, record {
-        within = h.within;
-        high = high h.n h.within fits h.high;
-        before = λ k low. below fits k (let w = h.within in omega (arith, w, low)) (h.before k low);
-      }, h.object, h.place)
+      let fits = table_fits f F trailed in (
+        h.n,
+        record {
+          within = h.within;
+          high = high h.n h.within fits h.high;
+          before = λ k low. below fits k (let w = h.within in omega (arith, w, low)) (h.before k low);
+        },
+        h.object,
+        h.place,
+      )
