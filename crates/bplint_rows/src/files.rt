@@ -1,6 +1,6 @@
 //! Files in the notation of the rows.
 
-use std::alloc::Global;
+use std::alloc::{AllocError, Global};
 use std::test::Fail;
 
 /// The header, `bplist00`.
@@ -30,11 +30,16 @@ pub fn top_only(alloc: Global, object: &[(&str, usize)]) -> Result<Vec<u8>, Fail
     for (text, times) in object {
         add(alloc, &mut file, text, *times)?;
     }
+    close(&mut file)?;
+    Ok(file)
+}
+
+/// Adds the table and the trailer of a file of one object.
+fn close(file: &mut Vec<u8>) -> Result<(), AllocError> {
     let table = file.len() as u64;
     file.push(8)?;
     file.extend_from_slice(&[0, 0, 0, 0, 0, 0, 1, 1])?;
     file.extend_from_slice(&1u64.to_be_bytes())?;
     file.extend_from_slice(&0u64.to_be_bytes())?;
-    file.extend_from_slice(&table.to_be_bytes())?;
-    Ok(file)
+    file.extend_from_slice(&table.to_be_bytes())
 }

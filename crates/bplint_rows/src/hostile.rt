@@ -2,7 +2,7 @@
 
 ghost use Rattle.bplint_engine.specs.Commands.{PrintsOnePath};
 
-use crate::runs::{answers, get, lints, plain, print, told};
+use crate::runs::{answers, get, lints, plain, print, told, told_over};
 use bplint_engine::{Command, RunFault, Said, Verb, run_on, run_over};
 use bplist_octets::ShiftingSource;
 use std::alloc::Global;
@@ -134,19 +134,23 @@ fn word_of(line: &str) -> usize {
         .unwrap_or(13)
 }
 
+/// Which line `lint` of the file gives with another byte at a place.
+fn word_of_change(alloc: Global, file: &[u8], place: usize, byte: u8) -> Result<usize, Fail> {
+    let changed = with_byte(alloc, file, place, byte)?;
+    let line = told_over(alloc, &plain(alloc, Verb::Lint), &changed, b"")?;
+    Ok(word_of(line.as_str()))
+}
+
 #[test]
 fn changes_of_one_byte_by_counts(rt: HostRuntime) -> Result<(), Fail> {
     let alloc = rt.alloc();
-    let command = plain(alloc, Verb::Lint);
     let file = hex::decode(alloc, SMALLEST)?;
     let mut counts: [u32; 14] = [0; 14];
     for (place, byte) in file.iter().enumerate() {
         for other in 0..=255 {
             if other != *byte {
-                let changed = with_byte(alloc, &file, place, other)?;
-                let (answer, out) = answer_of(alloc, &command, &changed, b"")?;
-                let line = told(alloc, answer, &out)?;
-                if let Some(count) = counts.get_mut(word_of(line.as_str())) {
+                let word = word_of_change(alloc, &file, place, other)?;
+                if let Some(count) = counts.get_mut(word) {
                     *count = count.saturating_add(1);
                 }
             }
@@ -236,31 +240,44 @@ fn certificate_of_another_file(rt: HostRuntime) -> Result<(), Fail> {
     Ok(())
 }
 
+/// What a command says of a file with its own certificate to a writer with so much room, and what that writer took.
+fn told_with_room(
+    alloc: Global,
+    command: &Command,
+    text: &str,
+    room: usize,
+) -> Result<(String, Vec<u8>), Fail>
+    requires { PrintsOnePath command.now }
+{
+    let file = hex::decode(alloc, text)?;
+    let Some(cert) = certificate_of(alloc, &file)? else {
+        return Err(Fail::from("no certificate"));
+    };
+    let mut out = Short {
+        room,
+        held: Vec::new(alloc),
+    };
+    let answer = run_over(alloc, command, &file, &cert, &mut out);
+    Ok((told(alloc, answer, b"")?, out.held))
+}
+
 #[test]
-fn writers_with_little_room(rt: HostRuntime) -> Result<(), Fail> {
+fn get_with_little_room(rt: HostRuntime) -> Result<(), Fail> {
     let alloc = rt.alloc();
-    let file = hex::decode(alloc, THREE_KEYS)?;
-    let Some(cert) = certificate_of(alloc, &file)? else {
-        return Err(Fail::from("no certificate"));
-    };
-    let mut out = Short {
-        room: 3,
-        held: Vec::new(alloc),
-    };
-    let answer = run_over(alloc, &get(alloc, &["/a~1b"])?, &file, &cert, &mut out);
-    assert_eq!(rt; told(alloc, answer, b"")?.as_str(), "3 write 3\n");
-    assert_eq!(rt; out.held.as_slice(), b"arr".as_slice());
-    let file = hex::decode(alloc, PRINTABLE_DICT)?;
-    let Some(cert) = certificate_of(alloc, &file)? else {
-        return Err(Fail::from("no certificate"));
-    };
-    let mut out = Short {
-        room: 10,
-        held: Vec::new(alloc),
-    };
-    let answer = run_over(alloc, &print(alloc, "", 10)?, &file, &cert, &mut out);
-    assert_eq!(rt; told(alloc, answer, b"")?.as_str(), "3 write 10\n");
-    assert_eq!(rt; out.held.as_slice(), b"{a=\"b c\";}".as_slice());
+    let command = get(alloc, &["/a~1b"])?;
+    let (line, held) = told_with_room(alloc, &command, THREE_KEYS, 3)?;
+    assert_eq!(rt; line.as_str(), "3 write 3\n");
+    assert_eq!(rt; held.as_slice(), b"arr".as_slice());
+    Ok(())
+}
+
+#[test]
+fn print_with_little_room(rt: HostRuntime) -> Result<(), Fail> {
+    let alloc = rt.alloc();
+    let command = print(alloc, "", 10)?;
+    let (line, held) = told_with_room(alloc, &command, PRINTABLE_DICT, 10)?;
+    assert_eq!(rt; line.as_str(), "3 write 10\n");
+    assert_eq!(rt; held.as_slice(), b"{a=\"b c\";}".as_slice());
     Ok(())
 }
 

@@ -70,6 +70,24 @@ pub fn told(alloc: Global, answer: Result<Said, RunFault>, written: &[u8]) -> Re
     }
 }
 
+/// What a command says by `run_over`.
+pub fn told_over(alloc: Global, command: &Command, file: &[u8], cert: &[u8]) -> Result<String, Fail>
+    requires { PrintsOnePath command.now }
+{
+    let mut out = Vec::new(alloc);
+    let answer = run_over(alloc, command, file, cert, &mut out);
+    told(alloc, answer, &out)
+}
+
+/// What a command says by `run_on` over a slice.
+pub fn told_on(alloc: Global, command: &Command, file: &[u8], cert: &[u8]) -> Result<String, Fail>
+    requires { PrintsOnePath command.now }
+{
+    let mut out = Vec::new(alloc);
+    let (answer, _source) = run_on(alloc, command, SliceSource::new(file), cert, &mut out);
+    told(alloc, answer, &out)
+}
+
 /// Runs a command by `run_over` and by `run_on`, and compares both with the row's answer.
 pub fn answers(
     rt: &impl Abort,
@@ -82,20 +100,10 @@ pub fn answers(
 ) -> Result<(), Fail>
     requires { PrintsOnePath command.now }
 {
-    let mut out = Vec::new(alloc);
-    let answer = run_over(alloc, command, file, cert, &mut out);
-    assert_eq!(rt;
-        told(alloc, answer, &out)?.as_str(),
-        want,
-        "row {row} by run_over"
-    );
-    let mut out = Vec::new(alloc);
-    let (answer, _source) = run_on(alloc, command, SliceSource::new(file), cert, &mut out);
-    assert_eq!(rt;
-        told(alloc, answer, &out)?.as_str(),
-        want,
-        "row {row} by run_on"
-    );
+    let over = told_over(alloc, command, file, cert)?;
+    assert_eq!(rt; over.as_str(), want, "row {row} by run_over");
+    let on = told_on(alloc, command, file, cert)?;
+    assert_eq!(rt; on.as_str(), want, "row {row} by run_on");
     Ok(())
 }
 
@@ -171,6 +179,19 @@ pub fn prints(
     )
 }
 
+/// The command `certify` of a file in hexadecimal text.
+fn certify(alloc: Global, sorted: bool) -> Command
+    ensures { PrintsOnePath result }
+{
+    Command {
+        verb: Verb::Certify,
+        paths: Vec::new(alloc),
+        limit: 0,
+        hex: true,
+        sorted,
+    }
+}
+
 /// Makes a certificate, and compares its hexadecimal text. `run_over` takes the file as such a text too.
 pub fn certifies(
     rt: &impl Abort,
@@ -180,27 +201,11 @@ pub fn certifies(
     text: &str,
     want: &str,
 ) -> Result<(), Fail> {
-    let command = Command {
-        verb: Verb::Certify,
-        paths: Vec::new(alloc),
-        limit: 0,
-        hex: true,
-        sorted,
-    };
-    let mut out = Vec::new(alloc);
-    let answer = run_over(alloc, &command, text.as_bytes(), b"", &mut out);
-    assert_eq!(rt;
-        told(alloc, answer, &out)?.as_str(),
-        want,
-        "row {row} by run_over"
-    );
+    let command = certify(alloc, sorted);
+    let over = told_over(alloc, &command, text.as_bytes(), b"")?;
+    assert_eq!(rt; over.as_str(), want, "row {row} by run_over");
     let file = hex::decode(alloc, text)?;
-    let mut out = Vec::new(alloc);
-    let (answer, _source) = run_on(alloc, &command, SliceSource::new(&file), b"", &mut out);
-    assert_eq!(rt;
-        told(alloc, answer, &out)?.as_str(),
-        want,
-        "row {row} by run_on"
-    );
+    let on = told_on(alloc, &command, &file, b"")?;
+    assert_eq!(rt; on.as_str(), want, "row {row} by run_on");
     Ok(())
 }

@@ -167,7 +167,7 @@ fn step_of(alloc: Global, key: u16) -> Result<Vec<u16>, AllocError> {
     Ok(step)
 }
 
-/// Looks a key up, of which all but 1000 are there, each with the one value as object 1001.
+/// Looks a key up. Each below 1000 leads to object 1001, and key 1000 is not there.
 fn look_up(
     rt: &impl Abort,
     alloc: Global,
@@ -226,7 +226,7 @@ fn a_thousand_keys(rt: HostRuntime) -> Result<(), Fail> {
     Ok(())
 }
 
-/// Where `/a~1b/0` leads, asked again where a read failed. Says in `refused` that one did.
+/// Where a path leads, asked again where a read failed. Says in `refused` that one did.
 fn located_again(
     file: &mut Checked<FaultySource<'_>>,
     path: &Path,
