@@ -1,7 +1,8 @@
 //! The command line, by `clap`.
 //!
 //! Each argument is made by a function of its own: many of them in one function take minutes to check.
-ghost use Rattle.std.specs.Prelude.{◌≡◌, IfOk, vec_len};
+ghost use Rattle.std.specs.Prelude.{◌≡◌, ◌≢◌, ◌∷◌, [], IfOk, codes, false, map, string_bytes};
+ghost use Rattle.bplint.specs.Lines.{IsFlag, IsLimit, paths_in, text_in, verb_named};
 ghost use Rattle.bplint_engine.specs.Commands.{PrintsOnePath};
 
 use bplint_engine::{Command, Verb};
@@ -125,7 +126,9 @@ fn bplint<'a>(alloc: Global) -> Result<clap::Command<'a>, AllocError> {
         .subcommand(print(alloc)?)
 }
 
-fn verb_of(name: &str) -> Verb {
+fn verb_of(name: &str) -> Verb
+    ensures { result ≡ verb_named name.now }
+{
     match name {
         "lint" => Verb::Lint,
         "certify" => Verb::Certify,
@@ -136,21 +139,24 @@ fn verb_of(name: &str) -> Verb {
 }
 
 fn one_path(alloc: Global, text: &str) -> Result<Vec<String>, AllocError>
-    ensures { IfOk result (λ paths. vec_len paths ≡ 1) }
+    ensures { IfOk result (λ paths. map (λ path. string_bytes path) paths.items ≡ text.now ∷ []) }
 {
     let path = String::from_str(alloc, text)?;
     Ok(vec![in alloc; path]?)
 }
 
-fn all_paths(alloc: Global, texts: &[&str]) -> Result<Vec<String>, AllocError> {
-    texts
-        .iter()
-        .map(|text| String::from_str(alloc, text))
-        .try_collect(alloc)
+fn all_paths(alloc: Global, texts: &[&str]) -> Result<Vec<String>, AllocError>
+    ensures { IfOk result (λ paths. map (λ path. string_bytes path) paths.items ≡ map (λ text. text.now) texts.now) }
+{
+    let mut paths = Vec::new(alloc);
+    for text in texts {
+        paths.push(String::from_str(alloc, text)?)?;
+    }
+    Ok(paths)
 }
 
 fn paths_of(alloc: Global, verb: Verb, matches: &ArgMatches<'_>) -> Result<Vec<String>, AllocError>
-    ensures { IfOk result (λ paths. verb ≡ Verb.Print → vec_len paths ≡ 1) }
+    ensures { IfOk result (λ paths. map (λ path. string_bytes path) paths.items ≡ paths_in verb matches.now) }
 {
     match verb {
         Verb::Print => one_path(alloc, matches.get_str("PATH").unwrap_or("")),
@@ -160,7 +166,16 @@ fn paths_of(alloc: Global, verb: Verb, matches: &ArgMatches<'_>) -> Result<Vec<S
 }
 
 fn line_of<'a>(alloc: Global, verb: Verb, matches: &ArgMatches<'a>) -> Result<Line<'a>, AllocError>
-    ensures { IfOk result (λ line. PrintsOnePath line.command) }
+    ensures one_path { IfOk result (λ line. PrintsOnePath line.command) }
+    ensures verb { IfOk result (λ line. line.command.verb ≡ verb) }
+    ensures paths { IfOk result (λ line. line.command.paths ≡ paths_in verb matches.now) }
+    ensures limit { IfOk result (λ line. IsLimit matches.now line.command.limit) }
+    ensures hex { IfOk result (λ line. IsFlag matches.now (codes "hex") line.command.hex) }
+    ensures sorted { IfOk result (λ line. verb ≡ Verb.Certify → IsFlag matches.now (codes "sorted") line.command.sorted) }
+    ensures plain { IfOk result (λ line. verb ≢ Verb.Certify → line.command.sorted ≡ false) }
+    ensures file { IfOk result (λ line. line.file.now ≡ text_in matches.now (codes "FILE") []) }
+    ensures cert { IfOk result (λ line. line.cert.now ≡ text_in matches.now (codes "CERT") []) }
+    ensures out { IfOk result (λ line. line.out.now ≡ text_in matches.now (codes "OUT") (codes "-")) }
 {
     Ok(Line {
         command: Command {

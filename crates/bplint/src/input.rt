@@ -1,5 +1,6 @@
 //! Inputs that are read whole.
-ghost use Rattle.std.specs.Prelude.{◌≡◌, ◌≤◌, IfOk, IfSome, vec_len};
+ghost use Rattle.std.specs.Prelude.{◌≡◌, ◌≤◌, ◌<◌, IfErr, IfOk, IfSome, length, vec_len};
+ghost use Rattle.bplint.specs.Inputs.{IsWholeFault};
 
 use crate::args::Line;
 use bplint_engine::{RunFault, Verb};
@@ -15,9 +16,14 @@ pub const WHOLE_LIMIT: usize = 67_108_864;
 pub const SPARE_READS: usize = 64;
 
 /// Reads to the end of the input. An interrupted read is tried again.
+///
+/// `bytes` and `too_long` speak of a reader whose `remaining` the kit knows. Of a `File` and of standard input it is `None`.
 fn read_whole<R: Read>(alloc: Global, reader: &mut R) -> Result<Vec<u8>, RunFault>
     ensures bounded { IfOk result (λ v. vec_len v ≤ WHOLE_LIMIT) }
     ensures bytes { IfOk result (λ v. IfSome (R.remaining reader.old) (λ xs. v.items ≡ xs)) }
+    ensures too_long { IfErr result (λ fault. fault ≡ RunFault.InputTooLong
+        → IfSome (R.remaining reader.old) (λ xs. WHOLE_LIMIT < length xs)) }
+    ensures faults { IfErr result IsWholeFault }
 {
     let mut all = Vec::new(alloc);
     let mut chunk = [0; 16_384];
