@@ -2,6 +2,8 @@ mod CertifyAnswers
 mod GetAnswers
 mod Leaving
 mod LintAnswers
+mod OneAnswer
+mod OneEnd
 mod Over
 mod PrintAnswers
 mod Queries
