@@ -4,6 +4,7 @@ mod Leaving
 mod LintAnswers
 mod OneAnswer
 mod OneEnd
+mod OneListing
 mod Over
 mod PrintAnswers
 mod Queries

@@ -1,5 +1,5 @@
 -- The answer to a command is one, verb by verb.
-use Rattle.std.proofs.Common.{◌≡◌, ◌⊎◌, ℕ, ◌<◌, ◌++◌, List, [], ◌∷◌, map, slice_index, length, inl, inr, Bool, true, false, Option, Some, None, Result, Ok, Err, refl, sym, ap, ◌∙◌, subst, arith}
+use Rattle.std.proofs.Common.{◌≡◌, ◌⊎◌, ℕ, ◌++◌, List, [], ◌∷◌, map, slice_index, length, inl, inr, Bool, true, false, Option, Some, None, Result, Ok, Err, refl, sym, ap, ◌∙◌, subst, arith}
 use Rattle.std.specs.Prelude.{MatchResult}
 use Rattle.std.specs.Str.{bytes_eq}
 use Rattle.std.proofs.Math.Logic.{∥∥₁_map}
@@ -10,16 +10,15 @@ use Rattle.hex.specs.declared.error.FromHexError.{FromHexError}
 use Rattle.bplist_objects.specs.declared.fault.Fault.{Fault}
 use Rattle.bplist_objects.specs.declared.frame.Frame.{Frame}
 use Rattle.bplist_objects.specs.declared.frame.ObjectNo.{ObjectNo}
-use Rattle.bplist_objects.specs.Frame.{IsFrame, trailer}
-use Rattle.bplist_objects.specs.Heads.{Content, Spells}
+use Rattle.bplist_objects.specs.Frame.{trailer}
+use Rattle.bplist_objects.specs.Heads.{Spells}
 use Rattle.bplist_objects.specs.Holds.{Holds}
 use Rattle.bplist_objects.specs.Value.{Value}
 use Rattle.bplist_objects.proofs.Fronts.{one_head}
 use Rattle.bplist_objects.proofs.Holding.{holds_one}
 use Rattle.bplist_cert.specs.Encoding.{octets_of, IsOctetsFault}
-use Rattle.bplist_cert.specs.Lists.{Keyed, Lists, IsCertificate}
+use Rattle.bplist_cert.specs.Lists.{Lists, IsCertificate}
 use Rattle.bplist_cert.specs.PairFault.{IsPairFault}
-use Rattle.bplist_cert.specs.Sorted.{IsAccepted}
 use Rattle.bplist_cert.proofs.Accepting.{fault_refutes}
 use Rattle.bplist_cert.proofs.Spelling.{octets_once, magic_kept, length_kept}
 use Rattle.bplist_cert.proofs.Unique.{one_pair_fault}
@@ -38,6 +37,7 @@ use Rattle.bplist_lint.specs.declared.answer.Lint.{Lint}
 use Rattle.bplist_lint.specs.Linted.{IsLintedBy, is_vouched}
 use Rattle.bplist_lint.specs.ReachRules.{number_below}
 use Rattle.bplist_lint.specs.Trail.{number}
+use Rattle.bplist_lint.specs.Upgraded.{IsUpgraded}
 use Rattle.bplist_lint.proofs.Answering.{fault_not_held, circle_not_held, formed_by_valid, least_heights_one}
 use Rattle.bplist_lint.proofs.Faulting.{one_frame, one_file_fault, one_file_circle, fault_or_circle}
 use Rattle.bplist_lint.proofs.Opening.{open_equal}
@@ -47,14 +47,20 @@ use Rattle.bplint_engine.specs.declared.said.Said.{Said}
 use Rattle.bplint_engine.specs.declared.said.Said.TheVariants.{All, SomeMissing}
 use Rattle.bplint_engine.specs.Answers.{Answer, gives, refuses}
 use Rattle.bplint_engine.specs.Asking.{IsQueryOf, AreQueries, IsWrongAmong, IsAskingFault}
-use Rattle.bplint_engine.specs.Certifying.{LeastSays, written}
+use Rattle.bplint_engine.specs.Certifying.{LeastSays, SortedSays, CertifySays, written}
 use Rattle.bplint_engine.specs.Checking.{CheckSays}
 use Rattle.bplint_engine.specs.Getting.{GetSays, said_of, reply_lines}
 use Rattle.bplint_engine.specs.Linting.{IsLintFault, LintSays}
-use Rattle.bplint_engine.specs.OutputLines.{check_line, content_word, lint_line, missing_line}
-use Rattle.bplint_engine.specs.Printing.{PrintGives, PrintRefuses, IsPrintRefusal, PathSays, ValueSays, PrintSays}
+use Rattle.bplint_engine.specs.OutputLines.{check_line, content_word, lint_line}
+use Rattle.bplint_engine.specs.Printing.{PrintGives, PrintRefuses, PathSays, ValueSays, PrintSays}
 use Rattle.bplint_engine.specs.Vouching.{IsVouchedFor, IsVouchingFault}
+use Rattle.bplint_engine.specs.Commands.{Asked}
+use Rattle.bplint_engine.specs.Hexadecimal.{spelled}
+use Rattle.bplint_engine.specs.Said.{Says, SaysBy, SaysBeside, SaysOver, takes_cert}
+use Rattle.bplint_engine.specs.declared.command.Verb.{Verb}
+use Rattle.bplint_engine.specs.declared.command.Verb.TheVariants as verbs
 use Rattle.bplint_engine.proofs.OneEnd.{one_end}
+use Rattle.bplint_engine.proofs.OneListing.{one_upgraded}
 
 -- ---- equal parts
 same_gives : (s t : Said) (xs ys : List ℕ) → s ≡ t → xs ≡ ys → gives s xs ≡ gives t ys
@@ -351,3 +357,47 @@ module _ (hex : Bool) (f : List ℕ) where
   one_least (gives s xs) (refuses b) h k = absurd (not_linted f h.0 h.1 b h.3 k)
   one_least (refuses a) (gives t ys) h k = absurd (not_linted f k.0 k.1 a k.3 h)
   one_least (refuses a) (refuses b) h k = ap refuses (one_lint_fault f a b h k)
+
+  pub one_sorted : (a b : Answer) → SortedSays hex f a → SortedSays hex f b → a ≡ b
+  one_sorted (gives s xs) (gives t ys) (F, x, c, is, l, certificate, up, all, line) (G, y, d, is', m, certificate', up', all', line') =
+      let same : G ≡ F = one_frame f G F is' is in
+      let n : IsLintedBy f F y = subst (λ X. IsLintedBy f X y) same m in
+      let heights = same_heights f F y x n l in
+      let other = subst (λ hs. ∥ IsUpgraded f F hs d ∥₁) heights (subst (λ X. ∥ IsUpgraded f X y.certificate.heights d ∥₁) same up') in
+      same_gives s t xs ys (all ∙ sym all')
+      (open_bytes up xs ys (λ u. open_bytes other xs ys (λ w.
+      line ∙ ap (λ z. written hex (octets_of z)) (one_upgraded f F x.certificate.heights c d certificate certificate' u w) ∙ sym line')))
+  one_sorted (gives s xs) (refuses b) h k = absurd (not_linted f h.0 h.1 b h.4 k)
+  one_sorted (refuses a) (gives t ys) h k = absurd (not_linted f k.0 k.1 a k.4 h)
+  one_sorted (refuses a) (refuses b) h k = ap refuses (one_lint_fault f a b h k)
+
+one_certified : (sorted hex : Bool) (f : List ℕ) (a b : Answer) → CertifySays sorted hex f a → CertifySays sorted hex f b → a ≡ b
+one_certified false hex f a b h k = one_least hex f a b h k
+one_certified true hex f a b h k = one_sorted hex f a b h k
+
+-- ---- a command
+one_by : (verb : Verb) (command : Asked) (f cert : List ℕ) (a b : Answer) → SaysBy verb command f cert a → SaysBy verb command f cert b → a ≡ b
+one_by verbs.Lint command f cert a b h k = one_lint f a b h k
+one_by verbs.Check command f cert a b h k = one_check f cert a b h k
+one_by verbs.Certify command f cert a b h k = one_certified command.sorted command.hex f a b h k
+one_by verbs.Get command f cert a b h k = one_get f cert command.paths a b h k
+one_by verbs.Print command f cert a b h k = one_print f cert command.paths command.limit a b h k
+
+pub one_answer : (command : Asked) (f cert : List ℕ) (a b : Answer) → Says command f cert a → Says command f cert b → a ≡ b
+one_answer command = one_by command.verb command
+
+-- ---- a command over inputs
+-- an answer for what a text spells is one, and so is the refusal of one that spells nothing
+one_spelled : (text : Result (List ℕ) FromHexError) (P : List ℕ → Answer → Type 0) (a b : Answer) → ((xs : List ℕ) → P xs a → P xs b → a ≡ b)
+    → MatchResult text (λ xs. P xs a) (λ _. a ≡ refuses faults.Hex) → MatchResult text (λ xs. P xs b) (λ _. b ≡ refuses faults.Hex) → a ≡ b
+one_spelled (Ok xs) P a b one h k = one xs h k
+one_spelled (Err _) P a b one h k = h ∙ sym k
+
+one_beside : (takes : Bool) (command : Asked) (f text : List ℕ) (a b : Answer) → SaysBeside takes command f text a → SaysBeside takes command f text b → a ≡ b
+one_beside false command f text a b h k = one_answer command f [] a b h k
+one_beside true command f text a b h k = one_spelled (spelled text) (λ cert. Says command f cert) a b (λ cert. one_answer command f cert a b) h k
+
+pub one_answer_over : (hex : Bool) (command : Asked) (file cert : List ℕ) (a b : Answer) → SaysOver hex command file cert a → SaysOver hex command file cert b → a ≡ b
+one_answer_over false command file cert a b h k = one_answer command file cert a b h k
+one_answer_over true command file cert a b h k =
+    one_spelled (spelled file) (λ f. SaysBeside (takes_cert command.verb) command f cert) a b (λ f. one_beside (takes_cert command.verb) command f cert a b) h k

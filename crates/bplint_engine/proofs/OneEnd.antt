@@ -1,5 +1,5 @@
 -- Steps lead from an object that holds a value to one object.
-use Rattle.std.proofs.Common.{◌≡◌, ◌⊎◌, ℕ, zero, suc, ◌<◌, ◌^◌, List, [], ◌∷◌, slice_index, slice_index_or, length, inl, inr, sym, ap, ◌∙◌, subst, arith}
+use Rattle.std.proofs.Common.{◌≡◌, ℕ, zero, suc, ◌<◌, List, [], ◌∷◌, slice_index, slice_index_or, length, inl, inr, sym, ap, ◌∙◌, subst, arith}
 use Rattle.std.proofs.lemmas.Bool.{cases_order}
 use Rattle.std.proofs.lemmas.Fmt.{decimal_injective}
 use Rattle.bplist_objects.specs.declared.frame.Frame.{Frame}
@@ -9,7 +9,7 @@ use Rattle.bplist_objects.specs.Holds.{Holds, HoldPairs}
 use Rattle.bplist_objects.specs.Value.{text, Value, leaf, array, set, dict, Pairs, no_pairs, pair, keys}
 use Rattle.bplist_objects.proofs.Fronts.{one_head}
 use Rattle.bplist_cursor.specs.Found.{LeadTo}
-use Rattle.bplist_cursor.specs.Leads.{IsTaken, Leads}
+use Rattle.bplist_cursor.specs.Leads.{IsTaken}
 use Rattle.bplist_cursor.proofs.Counts.{few_refs}
 use Rattle.bplist_cursor.proofs.Looking.{leads_held}
 

@@ -23,6 +23,6 @@ mod vouching;
 
 pub use command::{Command, Verb};
 pub use fault::RunFault;
-pub use laws::one_answer;
+pub use laws::{one_answer, one_answer_over};
 pub use running::{run_on, run_over};
 pub use said::Said;
