@@ -16,7 +16,6 @@ use Rattle.bplint_engine.specs.Answers.{Answer, gives, refuses}
 use Rattle.bplint_engine.specs.Checking.{CheckSays}
 use Rattle.bplint_engine.specs.OutputLines.{check_line}
 use Rattle.bplint_engine.specs.Vouching.{IsVouchedFor, IsVouchingFault}
-use Rattle.bplint_engine.specs.Hexadecimal.{spelled}
 use Rattle.bplint_engine.proofs.OneParts.{same_gives}
 
 -- ---- the bytes of a certificate
