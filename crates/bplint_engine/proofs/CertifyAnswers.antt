@@ -4,7 +4,7 @@ use Rattle.std.specs.Prelude.{None, Option}
 use Rattle.bplist_objects.specs.declared.frame.Frame.{Frame}
 use Rattle.bplist_objects.specs.Answers.{Never}
 use Rattle.bplist_cert.specs.Encoding.{octets_of}
-use Rattle.bplist_cert.specs.Lists.{Keyed, Lists}
+use Rattle.bplist_cert.specs.Lists.{Keyed, Lists, IsCertificate}
 use Rattle.bplist_cert.specs.Refusals.{GivesRefusal}
 use Rattle.bplist_cert.specs.Sorted.{AreListed, IsAccepted}
 use Rattle.bplist_cert.specs.declared.refusal.Refusal.{Refusal}
@@ -50,10 +50,10 @@ recheck_refused hex f found refusals.Memory linted never = tt
 -- the key lists were made
 pub sorted_says : (hex : Bool) (f : List ℕ) (found : Lint) (G : Frame) (certificate : Lists) (made : Result Output RunFault) → IsLinted f found
     → ((F : Frame) → IsAccepted f F found.certificate → G ≡ F) → certificate ≡ found.certificate
-    → Gives (λ output. (lists : Lists) × ∥ IsUpgraded f G certificate.heights lists ∥₁ × (output.said ≡ All)
+    → Gives (λ output. (lists : Lists) × IsCertificate lists × ∥ IsUpgraded f G certificate.heights lists ∥₁ × (output.said ≡ All)
     × (output.bytes.items ≡ written hex (octets_of lists))) made
     → Answers (SortedSays hex f) made
-sorted_says hex f found G certificate (Ok output) (F, is, linted) frame same (lists, upgraded, said, bytes) =
+sorted_says hex f found G certificate (Ok output) (F, is, linted) frame same (lists, certified, upgraded, said, bytes) =
     let there = subst (λ c. ∥ IsUpgraded f G c.heights lists ∥₁) same upgraded in
-    (F, found, lists, is, linted, subst (λ X. ∥ IsUpgraded f X found.certificate.heights lists ∥₁) (frame F (accepted f F found linted)) there, said, bytes)
+    (F, found, lists, is, linted, certified, subst (λ X. ∥ IsUpgraded f X found.certificate.heights lists ∥₁) (frame F (accepted f F found linted)) there, said, bytes)
 sorted_says hex f found G certificate (Err fault) linted frame same h = excused_refused (SortedSays hex f) fault h

@@ -2,6 +2,15 @@ mod CertifyAnswers
 mod GetAnswers
 mod Leaving
 mod LintAnswers
+mod OneAnswer
+mod OneCertify
+mod OneCheck
+mod OneEnd
+mod OneGet
+mod OneLint
+mod OneListing
+mod OneParts
+mod OnePrint
 mod Over
 mod PrintAnswers
 mod Queries

@@ -4,7 +4,7 @@ use Rattle.hex.specs.Hex.{encode_lower}
 use Rattle.bplist_objects.specs.declared.frame.Frame.{Frame}
 use Rattle.bplist_objects.specs.Frame.{IsFrame}
 use Rattle.bplist_cert.specs.Encoding.{octets_of}
-use Rattle.bplist_cert.specs.Lists.{Lists}
+use Rattle.bplist_cert.specs.Lists.{Lists, IsCertificate}
 use Rattle.bplist_lint.specs.declared.answer.Lint.{Lint}
 use Rattle.bplist_lint.specs.Linted.{IsLintedBy}
 use Rattle.bplist_lint.specs.Upgraded.{IsUpgraded}
@@ -28,7 +28,7 @@ LeastSays hex f (refuses fault) = IsLintFault f fault
 abbrev pub SortedSays : Bool → List ℕ → Answer → Type 0
 SortedSays hex f (gives said bytes) =
     (F : Frame) × (lint : Lint) × (lists : Lists) × IsFrame f F × IsLintedBy f F lint
-    × ∥ IsUpgraded f F lint.certificate.heights lists ∥₁ × (said ≡ All) × (bytes ≡ written hex (octets_of lists))
+    × IsCertificate lists × ∥ IsUpgraded f F lint.certificate.heights lists ∥₁ × (said ≡ All) × (bytes ≡ written hex (octets_of lists))
 SortedSays hex f (refuses fault) = IsLintFault f fault
 
 -- the answer of `certify` with or without key lists

@@ -2,7 +2,7 @@
 ghost use Rattle.std.specs.Prelude.{◌≡◌, IfOk, IsTrue};
 ghost use Rattle.bplist_octets.specs.Meaning.{OnlyReads};
 ghost use Rattle.bplist_cert.specs.Encoding.{octets_of};
-ghost use Rattle.bplist_cert.specs.Lists.{Lists};
+ghost use Rattle.bplist_cert.specs.Lists.{Lists, IsCertificate};
 ghost use Rattle.bplist_lint.specs.Upgraded.{IsUpgraded};
 ghost use Rattle.bplint_engine.specs.Answers.{Answers, read_failed};
 ghost use Rattle.bplint_engine.specs.Certifying.{CertifySays, LeastSays, SortedSays, written};
@@ -78,7 +78,7 @@ fn upgraded_output<S: Source>(
 ) -> (Result<Output, RunFault>, S)
     ensures source { OnlyReads (read_failed result.0) checked.source (S.means result.1) }
     ensures exact { IsTrue checked.source.honest → Gives (λ output. (lists : Lists)
-        × ∥ IsUpgraded checked.source.octets checked.frame checked.certificate.heights lists ∥₁
+        × IsCertificate lists × ∥ IsUpgraded checked.source.octets checked.frame checked.certificate.heights lists ∥₁
         × (output.said ≡ Said.All) × (output.bytes.items ≡ written hex (octets_of lists))) result.0 }
 {
     let mut checked = checked;
@@ -94,7 +94,7 @@ fn output_with_keys<S: Source>(
 ) -> Result<Output, RunFault>
     ensures reads { OnlyReads (read_failed result) checked.old.source checked.new.source }
     ensures exact { IsTrue checked.old.source.honest → Gives (λ output. (lists : Lists)
-        × ∥ IsUpgraded checked.old.source.octets checked.old.frame checked.old.certificate.heights lists ∥₁
+        × IsCertificate lists × ∥ IsUpgraded checked.old.source.octets checked.old.frame checked.old.certificate.heights lists ∥₁
         × (output.said ≡ Said.All) × (output.bytes.items ≡ written hex (octets_of lists))) result }
 {
     let certificate = upgrade(alloc, checked)?;
@@ -103,7 +103,8 @@ fn output_with_keys<S: Source>(
 
 /// What is written for a certificate.
 fn output_of(alloc: Global, certificate: &Certificate, hex: bool) -> Result<Output, AllocError>
-    ensures { IfOk result (λ output. (output.said ≡ Said.All) × (output.bytes.items ≡ written hex (octets_of certificate.now))) }
+    ensures { IfOk result (λ output. IsCertificate certificate.now × (output.said ≡ Said.All)
+        × (output.bytes.items ≡ written hex (octets_of certificate.now))) }
 {
     let bytes = bytes_of(alloc, certificate, hex)?;
     Ok(Output {
@@ -114,7 +115,7 @@ fn output_of(alloc: Global, certificate: &Certificate, hex: bool) -> Result<Outp
 
 /// The bytes of a certificate, or with `hex` their text and a line feed.
 fn bytes_of(alloc: Global, certificate: &Certificate, hex: bool) -> Result<Vec<u8>, AllocError>
-    ensures { IfOk result (λ bytes. bytes.items ≡ written hex (octets_of certificate.now)) }
+    ensures { IfOk result (λ bytes. IsCertificate certificate.now × (bytes.items ≡ written hex (octets_of certificate.now))) }
 {
     let octets = certificate.to_octets(alloc)?;
     if !hex {

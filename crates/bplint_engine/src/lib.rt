@@ -8,6 +8,7 @@ mod command;
 mod fault;
 mod getting;
 mod hexadecimal;
+mod laws;
 mod linting;
 mod output;
 mod output_lines;
@@ -22,5 +23,6 @@ mod vouching;
 
 pub use command::{Command, Verb};
 pub use fault::RunFault;
+pub use laws::{one_answer, one_answer_over};
 pub use running::{run_on, run_over};
 pub use said::Said;

@@ -1,4 +1,4 @@
-mod Escapes
+pub mod Escapes
 mod TokenSteps
 mod DigitSteps
 pub mod Looking

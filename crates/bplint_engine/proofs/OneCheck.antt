@@ -1,0 +1,74 @@
+-- What `check` says is one, and so is the first fault of a file with the bytes of a certificate.
+use Rattle.std.proofs.Common.{◌≡◌, ℕ, ◌++◌, List, [], ◌∷◌, slice_index, inl, inr, sym, ap, ◌∙◌, subst}
+use Rattle.std.proofs.lemmas.Grind.{not_there}
+use Rattle.bplist_objects.specs.declared.fault.Fault.{Fault}
+use Rattle.bplist_objects.specs.declared.frame.Frame.{Frame}
+use Rattle.bplist_objects.specs.Frame.{trailer}
+use Rattle.bplist_cert.specs.Encoding.{octets_of, IsOctetsFault}
+use Rattle.bplist_cert.specs.Lists.{Lists, IsCertificate}
+use Rattle.bplist_cert.specs.PairFault.{IsPairFault}
+use Rattle.bplist_cert.proofs.Accepting.{fault_refutes}
+use Rattle.bplist_cert.proofs.Spelling.{octets_once, magic_kept, length_kept}
+use Rattle.bplist_cert.proofs.Unique.{one_pair_fault}
+use Rattle.bplist_lint.proofs.Opening.{open_equal}
+use Rattle.bplint_engine.specs.declared.fault.RunFault.TheVariants as faults
+use Rattle.bplint_engine.specs.Answers.{Answer, gives, refuses}
+use Rattle.bplint_engine.specs.Checking.{CheckSays}
+use Rattle.bplint_engine.specs.OutputLines.{check_line}
+use Rattle.bplint_engine.specs.Vouching.{IsVouchedFor, IsVouchingFault}
+use Rattle.bplint_engine.proofs.OneParts.{same_gives}
+
+-- ---- the bytes of a certificate
+octets_kept : (cert : List ℕ) (lists : Lists) (a : Fault) → IsCertificate lists → cert ≡ octets_of lists → IsOctetsFault cert a → ⊥
+octets_kept cert lists a is spelled (inl h) = h.0 (magic_kept cert lists spelled)
+octets_kept cert lists a is spelled (inr h) = h.1 (length_kept cert lists is spelled)
+
+one_octets_fault : (cert : List ℕ) (a b : Fault) → IsOctetsFault cert a → IsOctetsFault cert b → a ≡ b
+one_octets_fault cert a b (inl h) (inl k) = h.1 ∙ sym k.1
+one_octets_fault cert a b (inl h) (inr k) = absurd (h.0 k.0)
+one_octets_fault cert a b (inr h) (inl k) = absurd (k.0 h.0)
+one_octets_fault cert a b (inr h) (inr k) = h.2 ∙ sym k.2
+
+module _ (f cert : List ℕ) where
+  pub same_lists : (l m : Lists) → IsCertificate l → IsCertificate m → cert ≡ octets_of l → cert ≡ octets_of m → l ≡ m
+  same_lists l m is is' spelled spelled' = octets_once l m is is' (sym spelled ∙ spelled')
+
+  vouched_frame : (F : Frame) (lists : Lists) → IsVouchedFor f cert F lists → F ≡ trailer f
+  vouched_frame F lists v =
+      let at : (part : Frame → ℕ) → part F ≡ part (trailer f) = λ part. open_equal v.accepted (part F) (part (trailer f)) (λ a. ap part a.valid.frame.spelled) in
+      let offset_size = at (λ X. X.offset_size) in
+      let ref_size = at (λ X. X.ref_size) in
+      let objects = at (λ X. X.objects) in
+      let top = at (λ X. X.top.0) in
+      let table = at (λ X. X.table) in
+      λ i. record { offset_size = offset_size i; ref_size = ref_size i; objects = objects i; top = record { 0 = top i }; table = table i }
+
+  pub same_frame : (F G : Frame) (l m : Lists) → IsVouchedFor f cert F l → IsVouchedFor f cert G m → F ≡ G
+  same_frame F G l m v w = vouched_frame F l v ∙ sym (vouched_frame G m w)
+
+  pub not_vouched : (F : Frame) (lists : Lists) (a : Fault) → IsVouchedFor f cert F lists → IsVouchingFault f cert a → ⊥
+  not_vouched F lists a v (inl h) = octets_kept cert lists a v.certificate v.spelled h
+  not_vouched F lists a v (inr (other, is, spelled, h)) =
+      let same = same_lists other lists is v.certificate spelled v.spelled in
+      not_there v.accepted (λ accepted. fault_refutes f F lists a (subst (λ l. IsPairFault f l a) same h) accepted)
+
+  pub one_vouching : (a b : Fault) → IsVouchingFault f cert a → IsVouchingFault f cert b → a ≡ b
+  one_vouching a b (inl h) (inl k) = one_octets_fault cert a b h k
+  one_vouching a b (inl h) (inr (lists, is, spelled, k)) = absurd (octets_kept cert lists a is spelled h)
+  one_vouching a b (inr (lists, is, spelled, h)) (inl k) = absurd (octets_kept cert lists b is spelled k)
+  one_vouching a b (inr (l, is, spelled, h)) (inr (m, is', spelled', k)) =
+      one_pair_fault f m a b (subst (λ x. IsPairFault f x a) (same_lists l m is is' spelled spelled') h) k
+
+  -- ---- check
+  pub one_check : (a b : Answer) → CheckSays f cert a → CheckSays f cert b → a ≡ b
+  one_check (gives s xs) (gives t ys) (F, l, v, all, line) (G, m, w, all', line') =
+      let frame = same_frame F G l m v w in
+      let lists = same_lists l m v.certificate w.certificate v.spelled w.spelled in
+      same_gives s t xs ys (all ∙ sym all')
+      (line ∙ (λ i. check_line (frame i).objects (slice_index (lists i).heights (frame i).top.0) ++ 10 ∷ []) ∙ sym line')
+  one_check (gives s xs) (refuses (faults.Fault b)) h k = absurd (not_vouched h.0 h.1 b h.2 k)
+  one_check (gives s xs) (refuses _) h k = absurd k
+  one_check (refuses (faults.Fault a)) (gives t ys) h k = absurd (not_vouched k.0 k.1 a k.2 h)
+  one_check (refuses (faults.Fault a)) (refuses (faults.Fault b)) h k = ap (λ x. refuses (faults.Fault x)) (one_vouching a b h k)
+  one_check (refuses (faults.Fault a)) (refuses _) h k = absurd k
+  one_check (refuses _) b h k = absurd h

@@ -1,0 +1,90 @@
+-- What `get` says is one, and so are the queries of path texts.
+use Rattle.std.proofs.Common.{◌≡◌, ℕ, List, [], ◌∷◌, map, inl, inr, refl, sym, ap, ◌∙◌, subst}
+use Rattle.std.proofs.Math.Logic.{∥∥₁_map}
+use Rattle.bplist_objects.specs.declared.frame.Frame.{Frame}
+use Rattle.bplist_objects.specs.Holds.{Holds}
+use Rattle.bplist_objects.specs.Value.{Value}
+use Rattle.bplist_cert.specs.Lists.{Lists}
+use Rattle.bplist_cert.proofs.Vouching.{object_holds}
+use Rattle.bplist_cursor.specs.declared.reply.Query.{Query}
+use Rattle.bplist_cursor.specs.declared.reply.Query.TheVariants as queries
+use Rattle.bplist_cursor.specs.Path.{IsPathOf, IsNoPath, units}
+use Rattle.bplist_cursor.specs.Replies.{reply}
+use Rattle.bplist_cursor.proofs.Escapes.{same_place, same_written}
+use Rattle.bplint_engine.specs.declared.fault.RunFault.{RunFault}
+use Rattle.bplint_engine.specs.declared.fault.RunFault.TheVariants as faults
+use Rattle.bplint_engine.specs.Answers.{Answer, gives, refuses}
+use Rattle.bplint_engine.specs.Asking.{IsQueryOf, AreQueries, IsWrongAmong, IsAskingFault}
+use Rattle.bplint_engine.specs.Getting.{GetSays, said_of, reply_lines}
+use Rattle.bplint_engine.specs.Vouching.{IsVouchedFor}
+use Rattle.bplint_engine.proofs.OneParts.{same_gives, open_bytes, open_said}
+use Rattle.bplint_engine.proofs.OneCheck.{same_frame, not_vouched, one_vouching}
+
+-- ---- path texts
+one_path : (text : List ℕ) (a b : List (List ℕ)) → IsPathOf text a → IsPathOf text b → a ≡ b
+one_path text a b p q = p.2 ∙ ap (map units) (same_written p.0 q.0 (sym p.1 ∙ q.1)) ∙ sym q.2
+
+one_query : (text : List ℕ) (q r : Query) → IsQueryOf text q → IsQueryOf text r → q ≡ r
+one_query text (queries.Get a) (queries.Get b) h k = ap queries.Get (one_path text a b h k)
+one_query text (queries.Get a) _ h k = absurd k
+one_query text _ r h k = absurd h
+
+pub one_queries : (texts : List (List ℕ)) (qs rs : List Query) → AreQueries texts qs → AreQueries texts rs → qs ≡ rs
+one_queries [] [] [] h k = refl
+one_queries [] [] (r ∷ rs) h k = absurd k
+one_queries [] (q ∷ qs) rs h k = absurd h
+one_queries (t ∷ ts) [] rs h k = absurd h
+one_queries (t ∷ ts) (q ∷ qs) [] h k = absurd k
+one_queries (t ∷ ts) (q ∷ qs) (r ∷ rs) h k =
+    let first = one_query t q r h.0 k.0 in
+    let rest = one_queries ts qs rs h.1 k.1 in
+    λ i. first i ∷ rest i
+
+not_both : (text : List ℕ) (q : Query) (place : ℕ) → IsQueryOf text q → IsNoPath text place → ⊥
+not_both text (queries.Get steps) place h wrong = wrong.none steps h
+not_both text _ place h wrong = absurd h
+
+not_wrong : (texts : List (List ℕ)) (qs : List Query) (place : ℕ) → AreQueries texts qs → IsWrongAmong texts place → ⊥
+not_wrong [] qs place h wrong = wrong
+not_wrong (t ∷ ts) [] place h wrong = h
+not_wrong (t ∷ ts) (q ∷ qs) place h (inl first) = not_both t q place h.0 first
+not_wrong (t ∷ ts) (q ∷ qs) place h (inr wrong) = not_wrong ts qs place h.1 wrong.2
+
+one_wrong : (texts : List (List ℕ)) (p q : ℕ) → IsWrongAmong texts p → IsWrongAmong texts q → p ≡ q
+one_wrong [] p q h k = absurd h
+one_wrong (t ∷ ts) p q (inl h) (inl k) = same_place _ p q h.wrong k.wrong
+one_wrong (t ∷ ts) p q (inl h) (inr k) = absurd (not_both t k.0 p k.1 h)
+one_wrong (t ∷ ts) p q (inr h) (inl k) = absurd (not_both t h.0 q h.1 k)
+one_wrong (t ∷ ts) p q (inr h) (inr k) = one_wrong ts p q h.2 k.2
+
+module _ (f cert : List ℕ) (texts : List (List ℕ)) where
+  pub one_asking : (a b : RunFault) → IsAskingFault f cert texts a → IsAskingFault f cert texts b → a ≡ b
+  one_asking (faults.Path p) (faults.Path q) h k = ap faults.Path (one_wrong texts p q h k)
+  one_asking (faults.Path p) (faults.Fault y) h k = absurd (not_wrong texts k.0 p k.1 h)
+  one_asking (faults.Path p) _ h k = absurd k
+  one_asking (faults.Fault x) (faults.Path q) h k = absurd (not_wrong texts h.0 q h.1 k)
+  one_asking (faults.Fault x) (faults.Fault y) h k = ap faults.Fault (one_vouching f cert x y h.2 k.2)
+  one_asking (faults.Fault x) _ h k = absurd k
+  one_asking _ b h k = absurd h
+
+  pub not_asking : (qs : List Query) (F : Frame) (lists : Lists) (a : RunFault) → AreQueries texts qs → IsVouchedFor f cert F lists → IsAskingFault f cert texts a → ⊥
+  not_asking qs F lists (faults.Path p) are v h = not_wrong texts qs p are h
+  not_asking qs F lists (faults.Fault x) are v h = not_vouched f cert F lists x v h.2
+  not_asking qs F lists _ are v h = h
+
+  -- ---- get
+  value_there : (F : Frame) (lists : Lists) → IsVouchedFor f cert F lists → ∥ ((x : Value) × Holds f F F.top.0 x) ∥₁
+  value_there F lists v = ∥∥₁_map v.accepted (λ a. let h = object_holds f F lists.heights a.valid F.top.0 a.valid.top in (h.0, h.1))
+
+  pub one_get : (a b : Answer) → GetSays f cert texts a → GetSays f cert texts b → a ≡ b
+  one_get (gives s xs) (gives t ys) (qs, F, l, are, v, told) (rs, G, m, are', w, told') =
+      let Told : List Query → Frame → Value → Type 0 = λ zs X x. Holds f X X.top.0 x → (t ≡ said_of (map (reply x) zs)) × (ys ≡ reply_lines (map (reply x) zs)) in
+      let other : (x : Value) → Told rs F x = subst (λ X. (x : Value) → Told rs X x) (same_frame f cert G F m l w v) told' in
+      let same : (x : Value) → Told qs F x = subst (λ zs. (x : Value) → Told zs F x) (one_queries texts rs qs are' are) other in
+      let value = value_there F l v in
+      same_gives s t xs ys
+      (open_said value s t (λ h. (told h.0 h.1).0 ∙ sym (same h.0 h.1).0))
+      (open_bytes value xs ys (λ h. (told h.0 h.1).1 ∙ sym (same h.0 h.1).1))
+  one_get (gives s xs) (refuses b) h k = absurd (not_asking h.0 h.1 h.2 b h.3 h.4 k)
+  one_get (refuses a) (gives t ys) h k = absurd (not_asking k.0 k.1 k.2 a k.3 k.4 h)
+  one_get (refuses a) (refuses b) h k = ap refuses (one_asking a b h k)

@@ -1,0 +1,218 @@
+-- The key lists of a certificate of least heights are one.
+use Rattle.std.proofs.Common.{◌≡◌, ℕ, zero, suc, ◌+◌, ◌-◌, ◌<◌, ◌≤◌, List, [], ◌∷◌, slice_index, slice_index_or, length, inl, inr, Bool, true, false, cond, nat_lt, Less, Option, Some, None, refl, sym, ap, ◌∙◌, subst, arith}
+use Rattle.std.specs.List.{AllZip}
+use Rattle.std.proofs.lemmas.Bool.{cases_lt, cases_order, false≢true}
+use Rattle.std.proofs.lemmas.List.{ext_get_or}
+use Rattle.std.proofs.lemmas.List.Elements.{All-get_or, All-from_recursion}
+use Rattle.bplist_octets.specs.Octets.{part}
+use Rattle.bplist_objects.specs.declared.frame.Frame.{Frame}
+use Rattle.bplist_objects.specs.Heads.{Content, Spells}
+use Rattle.bplist_objects.specs.Spelled.{spelled_at}
+use Rattle.bplist_objects.specs.Units.{compare_units}
+use Rattle.bplist_objects.proofs.Fronts.{one_head}
+use Rattle.bplist_objects.proofs.Parts.{get_or-part}
+use Rattle.bplist_objects.proofs.Spelling.{spells_iff}
+use Rattle.bplist_objects.proofs.UnitOrder.{compare_units-less_less, compare_units-not_less}
+use Rattle.bplist_cert.specs.Lists.{Lists, IsCertificate, HasStarts}
+use Rattle.bplist_cert.specs.Sorted.{Ascend, IsSorted, AreListed}
+use Rattle.bplist_cert.specs.Valid.{IsVouchedBy, SpellsText}
+use Rattle.bplist_cert.proofs.Onto.{onto}
+use Rattle.bplist_lint.specs.Linted.{is_vouched}
+use Rattle.bplist_lint.specs.ReachRules.{sum_below}
+use Rattle.bplist_lint.specs.Upgraded.{is_dict, pairs_of, pairs, start, IsUpgraded}
+
+-- ---- positions whose units ascend
+module _ (us : List (List ℕ)) (n : ℕ) where
+  -- so many positions below so many, in ascending order
+  record IsRising (xs : List ℕ) : Type 0 where
+    count : length xs ≡ n
+    within : (j : ℕ) → j < n → slice_index xs j < n
+    ascend : Ascend us xs
+
+  abbrev unit_at : ℕ → List ℕ
+  unit_at p = slice_index_or us p []
+
+  -- the units at place j of the list
+  abbrev units_of : List ℕ → ℕ → List ℕ
+  units_of xs j = unit_at (slice_index xs j)
+
+  module _ (xs : List ℕ) (r : IsRising xs) where
+    far : (i k : ℕ) → suc (i + k) < n → compare_units (units_of xs i) (units_of xs (suc (i + k))) ≡ Less
+    far i zero l =
+        let e : suc i ≡ suc (i + 0) = omega arith in
+        subst (λ j. compare_units (units_of xs i) (units_of xs j) ≡ Less) e (r.ascend i (omega (arith, l, r.count)))
+    far i (suc k) l =
+        let e : suc (suc (i + k)) ≡ suc (i + suc k) = omega arith in
+        let last = r.ascend (suc (i + k)) (omega (arith, l, r.count)) in
+        subst (λ j. compare_units (units_of xs i) (units_of xs j) ≡ Less) e
+        (compare_units-less_less (units_of xs i) (units_of xs (suc (i + k))) (units_of xs (suc (suc (i + k)))) (far i k (omega (arith, l))) last)
+
+    rises : (i j : ℕ) → i < j → j < n → compare_units (units_of xs i) (units_of xs j) ≡ Less
+    rises i j low l =
+        let e : suc (i + (j - suc i)) ≡ j = omega (arith, low) in
+        subst (λ k. compare_units (units_of xs i) (units_of xs k) ≡ Less) e (far i (j - suc i) (omega (arith, e, l)))
+
+    apart : (i j : ℕ) → i < j → j < n → slice_index xs i ≡ slice_index xs j → ⊥
+    apart i j low l e = compare_units-not_less (units_of xs i) (units_of xs j) (ap unit_at e) (rises i j low l)
+
+    -- each position is there
+    place : (p : ℕ) → p < n → (j : ℕ) × (j < n) × (slice_index xs j ≡ p)
+    place p l = onto n (slice_index xs) r.within apart p l
+
+    -- the place of lesser units is less
+    before : (i j : ℕ) → i < n → j < n → compare_units (units_of xs i) (units_of xs j) ≡ Less → i < j
+    before i j l m less = elim (cases_order i j) [
+      | inl e ↦ absurd (compare_units-not_less (units_of xs i) (units_of xs j) (ap (units_of xs) e) less)
+      | inr (inl low) ↦ low
+      | inr (inr high) ↦ absurd (compare_units-not_less (units_of xs i) (units_of xs i) refl
+          (compare_units-less_less (units_of xs i) (units_of xs j) (units_of xs i) less (rises j i high l)))
+    ]
+
+  module _ (xs ys : List ℕ) (r : IsRising xs) (q : IsRising ys) where
+    -- what stands at a place in one list stands no earlier in the other
+    no_earlier : (j : ℕ) (l : j < n) → j ≤ (place ys q (slice_index xs j) (r.within j l)).0
+    no_earlier zero l = omega arith
+    no_earlier (suc j) l =
+        let low : j < n = omega (arith, l) in
+        let a = place ys q (slice_index xs j) (r.within j low) in
+        let b = place ys q (slice_index xs (suc j)) (r.within (suc j) l) in
+        let less = r.ascend j (omega (arith, l, r.count)) in
+        let there = subst (λ p. compare_units (unit_at p) (units_of ys b.0) ≡ Less) (sym a.2)
+        (subst (λ p. compare_units (units_of xs j) (unit_at p) ≡ Less) (sym b.2) less) in
+        let up = before ys q a.0 b.0 a.1 b.1 there in
+        let so_far = no_earlier j low in
+        omega (arith, up, so_far)
+
+  -- two lists of positions in ascending order are the same
+  one_rising : (xs ys : List ℕ) → IsRising xs → IsRising ys → xs ≡ ys
+  one_rising xs ys r q = ext_get_or 0 xs ys (r.count ∙ sym q.count) (λ j low. same j (omega (arith, low, r.count)))
+    where
+      same : (j : ℕ) → j < n → slice_index xs j ≡ slice_index ys j
+      same j l =
+          let a = place ys q (slice_index xs j) (r.within j l) in
+          let b = place xs r (slice_index ys a.0) (q.within a.0 a.1) in
+          let up = no_earlier xs ys r q j l in
+          let back = no_earlier ys xs q r a.0 a.1 in
+          let e : slice_index xs b.0 ≡ slice_index xs j = b.2 ∙ a.2 in
+          let there : b.0 ≡ j = elim (cases_order b.0 j) [
+            | inl k ↦ k
+            | inr (inl low) ↦ absurd (apart xs r b.0 j low l e)
+            | inr (inr high) ↦ absurd (apart xs r j b.0 high b.1 (sym e))
+          ] in
+          let here : a.0 ≡ j = omega (arith, up, back, there) in
+          sym a.2 ∙ ap (slice_index ys) here
+
+-- ---- the sorted positions of keys
+module _ (f : List ℕ) (F : Frame) where
+  one_text : (n : ℕ) (u v : List ℕ) → SpellsText f F n u → SpellsText f F n v → u ≡ v
+  one_text n u v s t = cc (one_head f F n _ _ s t)
+
+  one_texts : (ks : List ℕ) (us vs : List (List ℕ)) → AllZip (SpellsText f F) ks us → AllZip (SpellsText f F) ks vs → us ≡ vs
+  one_texts [] [] [] h k = refl
+  one_texts [] [] (v ∷ vs) h k = absurd k
+  one_texts [] (u ∷ us) vs h k = absurd h
+  one_texts (n ∷ ns) [] vs h k = absurd h
+  one_texts (n ∷ ns) (u ∷ us) [] h k = absurd k
+  one_texts (n ∷ ns) (u ∷ us) (v ∷ vs) h k =
+      let first = one_text n u v h.0 k.0 in
+      let rest = one_texts ns us vs h.1 k.1 in
+      λ i. first i ∷ rest i
+
+  rising : (us : List (List ℕ)) (ks xs : List ℕ) (s : IsSorted f F ks xs) → s.units ≡ us → IsRising us (length ks) xs
+  rising us ks xs s same = record {
+    count = s.count;
+    within = λ j l. All-get_or (λ p. p < length ks) xs j 0 (omega (arith, l, s.count)) (All-from_recursion (λ p. p < length ks) xs s.within);
+    ascend = subst (λ u. Ascend u xs) same s.ascend;
+  }
+
+  one_sorted : (ks xs ys : List ℕ) → IsSorted f F ks xs → IsSorted f F ks ys → xs ≡ ys
+  one_sorted ks xs ys s t =
+      one_rising s.units (length ks) xs ys (rising s.units ks xs s refl) (rising s.units ks ys t (one_texts ks t.units s.units t.texts s.texts))
+
+-- ---- sums
+-- what is below a sum is within one of its parts
+part_of : (g : ℕ → ℕ) (n p : ℕ) → p < sum_below g n → (m : ℕ) × (m < n) × (sum_below g m ≤ p) × (p < sum_below g m + g m)
+part_of g zero p l = absurd (omega (arith, l))
+part_of g (suc n) p l = elim (cases_lt p (sum_below g n)) [
+  | inl low ↦ let r = part_of g n p low in (r.0, omega (arith, r.1), r.2, r.3)
+  | inr high ↦ (n, omega arith, omega (arith, high), omega (arith, l))
+]
+
+vouched_by : (h : ℕ) → nat_lt 0 h ≡ true → 1 ≤ h
+vouched_by zero e = absurd (false≢true e)
+vouched_by (suc h) e = omega arith
+
+-- an object that has positions is a vouched dictionary
+module _ (f : List ℕ) (F : Frame) (heights : List ℕ) where
+  record IsListedDict (n : ℕ) : Type 0 where
+    vouched : IsVouchedBy heights n
+    ks : List ℕ
+    ms : List ℕ
+    spells : Spells f F n (Content.dict ks ms)
+    many : pairs f F heights n ≡ length ks
+    begin : start f F heights n ≡ sum_below (pairs f F heights) n
+
+  module _ (n : ℕ) (has : 0 < pairs f F heights n) where
+    listed_by : (b : Bool) (o : Option Content) → is_vouched heights n ≡ b → spelled_at f F n ≡ o → IsListedDict n
+    listed_by b o vouched spelled = go b o vouched spelled (λ i. cond (vouched i) (pairs_of (spelled i)) 0) (λ i. cond (vouched i) (cond (is_dict (spelled i)) (sum_below (pairs f F heights) n) 0) 0)
+      where
+        go : (b : Bool) (o : Option Content) → is_vouched heights n ≡ b → spelled_at f F n ≡ o → pairs f F heights n ≡ cond b (pairs_of o) 0
+            → start f F heights n ≡ cond b (cond (is_dict o) (sum_below (pairs f F heights) n) 0) 0 → IsListedDict n
+        go false o v e many begin = absurd (omega (arith, has, many))
+        go true None v e many begin = absurd (omega (arith, has, many))
+        go true (Some (Content.leaf l)) v e many begin = absurd (omega (arith, has, many))
+        go true (Some (Content.array ms)) v e many begin = absurd (omega (arith, has, many))
+        go true (Some (Content.set ms)) v e many begin = absurd (omega (arith, has, many))
+        go true (Some (Content.dict ks ms)) v e many begin = record {
+          vouched = vouched_by (slice_index heights n) v;
+          ks = ks;
+          ms = ms;
+          spells = (spells_iff f F n (Content.dict ks ms)).1 e;
+          many = many;
+          begin = begin;
+        }
+
+    listed_dict : IsListedDict n
+    listed_dict = listed_by (is_vouched heights n) (spelled_at f F n) refl refl
+
+  -- ---- the key lists
+  abbrev before_it : ℕ → ℕ
+  before_it n = sum_below (pairs f F heights) n
+
+  module _ (c : Lists) (is : IsCertificate c) (u : IsUpgraded f F heights c) where
+    all_starts : length u.keyed.starts ≡ F.objects
+    all_starts = subst (HasStarts c.heights) u.keys is.starts ∙ u.accepted.valid.count
+
+    -- the key list of a dictionary
+    list_there : (n : ℕ) → n < F.objects → (x : IsListedDict n) → IsSorted f F x.ks (part u.keyed.positions (before_it n) (length x.ks))
+    list_there n low x =
+        let listed = subst (AreListed f F c.heights) u.keys u.accepted.listed in
+        let own = (listed n x.ks x.ms (subst (λ hs. IsVouchedBy hs n) (sym u.same) x.vouched) x.spells).1 in
+        subst (λ k. IsSorted f F x.ks (part u.keyed.positions k (length x.ks))) (u.starts n low ∙ x.begin) own
+
+  module _ (c d : Lists) (is : IsCertificate c) (js : IsCertificate d) (u : IsUpgraded f F heights c) (w : IsUpgraded f F heights d) where
+    same_position : (p : ℕ) → p < before_it F.objects → slice_index u.keyed.positions p ≡ slice_index w.keyed.positions p
+    same_position p low =
+        let own = part_of (pairs f F heights) F.objects p low in
+        let x = listed_dict own.0 (omega (arith, own.2, own.3)) in
+        let i = p - before_it own.0 in
+        let at : before_it own.0 + i ≡ p = omega (arith, own.2) in
+        let within : i < length x.ks = omega (arith, own.2, own.3, x.many) in
+        let same = one_sorted f F x.ks _ _ (list_there c is u own.0 own.1 x) (list_there d js w own.0 own.1 x) in
+        sym (get_or-part u.keyed.positions (before_it own.0) (length x.ks) i 0 within ∙ ap (slice_index u.keyed.positions) at)
+        ∙ ap (λ xs. slice_index xs i) same
+        ∙ get_or-part w.keyed.positions (before_it own.0) (length x.ks) i 0 within ∙ ap (slice_index w.keyed.positions) at
+
+    -- the certificate with key lists is one
+    pub one_upgraded : c ≡ d
+    one_upgraded =
+        let many = all_starts c is u in
+        let others = all_starts d js w in
+        let starts : u.keyed.starts ≡ w.keyed.starts =
+        ext_get_or 0 u.keyed.starts w.keyed.starts (many ∙ sym others) (λ n low. u.starts n (omega (arith, low, many)) ∙ sym (w.starts n (omega (arith, low, many)))) in
+        let positions : u.keyed.positions ≡ w.keyed.positions =
+        ext_get_or 0 u.keyed.positions w.keyed.positions (u.total ∙ sym w.total) (λ p low. same_position p (omega (arith, low, u.total))) in
+        let keyed : u.keyed ≡ w.keyed = λ i. record { starts = starts i; positions = positions i } in
+        let heights_same : c.heights ≡ d.heights = u.same ∙ sym w.same in
+        let keys : c.keys ≡ d.keys = u.keys ∙ ap Some keyed ∙ sym w.keys in
+        λ i. record { heights = heights_same i; keys = keys i }
