@@ -185,12 +185,13 @@ module _ (f : List ℕ) (F : Frame) (heights : List ℕ) where
     vouched_keys dict = let o = valid.vouched n vouched in rules_from_keys f F n head vouched_shape o.content o.spells o.keys dict
 
   -- all are listed
-  module _ (valid : IsValid f F heights) (keyed : Keyed) (l : Listed f F heights F.objects keyed.starts keyed.positions) where
+  module _ (valid : IsValid f F heights) (keyed : Keyed) (count : length keyed.starts ≡ F.objects) (l : Listed f F heights F.objects keyed.starts keyed.positions) where
     pub upgraded : IsUpgraded f F heights (record { heights = heights; keys = Some keyed })
     upgraded = record {
       same = refl;
       keyed = keyed;
       keys = refl;
+      count = count;
       starts = l.begins;
       total = l.total;
       accepted = accepted f F (record { heights = heights; keys = Some keyed }) (record {

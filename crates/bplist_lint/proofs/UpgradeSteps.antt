@@ -1,5 +1,5 @@
 -- What an upgrade answers, in other words.
-use Rattle.std.proofs.Common.{ℕ, Result, Ok, Err, List, Some}
+use Rattle.std.proofs.Common.{◌≡◌, ℕ, Result, Ok, Err, List, length, Some}
 use Rattle.std.proofs.Math.Logic.{∥∥₁_map}
 use Rattle.std.proofs.lemmas.Grind.{not_there}
 use Rattle.bplist_objects.specs.declared.fault.Fault.{Fault}
@@ -45,6 +45,6 @@ open_no_change t (faults.Read _) from = tt
 open_no_change t faults.Memory from = tt
 
 -- the certificate of a checked file with its key lists
-pub upgrade_yes : (f : List ℕ) (F : Frame) (old : Lists) (keyed : Keyed) → ∥ IsAccepted f F old ∥₁ → (IsValid f F old.heights → Listed f F old.heights F.objects keyed.starts keyed.positions)
+pub upgrade_yes : (f : List ℕ) (F : Frame) (old : Lists) (keyed : Keyed) → ∥ IsAccepted f F old ∥₁ → length keyed.starts ≡ F.objects → (IsValid f F old.heights → Listed f F old.heights F.objects keyed.starts keyed.positions)
     → ∥ IsUpgraded f F old.heights (record { heights = old.heights; keys = Some keyed }) ∥₁
-upgrade_yes f F old keyed t listed = ∥∥₁_map t (λ a. upgraded f F old.heights a.valid keyed (listed a.valid))
+upgrade_yes f F old keyed t count listed = ∥∥₁_map t (λ a. upgraded f F old.heights a.valid keyed count (listed a.valid))

@@ -49,11 +49,12 @@ module _ (f : List ℕ) (F : Frame) (heights : List ℕ) where
     pub few : length positions ≤ used
 
   -- the certificate has these heights, and the key lists of the vouched dictionaries one behind the other in the order of
-  -- the objects, with the number of positions before each as its start and 0 as every other start
+  -- the objects, with the number of positions before each as its start and 0 as the start of every other object
   pub record IsUpgraded (certificate : Lists) : Type 0 where
     pub same : certificate.heights ≡ heights
     pub keyed : Keyed
     pub keys : certificate.keys ≡ Some keyed
+    pub count : length keyed.starts ≡ F.objects
     pub starts : (n : ℕ) → n < F.objects → slice_index keyed.starts n ≡ start n
     pub total : length keyed.positions ≡ sum_below pairs F.objects
     pub accepted : IsAccepted f F certificate
