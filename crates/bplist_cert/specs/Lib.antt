@@ -11,5 +11,6 @@ pub mod Refusals
 pub mod CheckedFile
 pub mod Repeats
 pub mod KeyUnits
+pub mod Places
 pub mod KeyPlaces
 pub mod Listing

@@ -25,6 +25,7 @@ use crate::heights::{check_heights, height_at};
 use crate::key_equality::check_twice;
 use crate::key_order::check_order;
 use crate::keys::check_texts;
+use crate::places::Places;
 use crate::refusal::Refusal;
 use bplist_objects::{Fault, Frame, Head, Kind, ObjectNo, Rule, frame_of, head_at, read_offsets};
 use bplist_octets::Source;
@@ -56,7 +57,7 @@ fn check_last<S: Source>(
         (IsLastFault (S.means src.old).octets frame.now count keys.now n.0 head.now) result }
 {
     match keys {
-        None => check_twice(alloc, src, frame, n, head),
+        None => check_twice(alloc, src, frame, Places::Table, n, head),
         Some(keys) => Ok(check_order(src, frame, keys, count, n, head)?),
     }
 }
@@ -84,7 +85,7 @@ fn check_keys<S: Source>(
 {
     match head.kind {
         Kind::Dict => {
-            check_texts(src, frame, n, head)?;
+            check_texts(src, frame, Places::Table, n, head)?;
             check_last(alloc, src, frame, keys, count, n, head)
         }
         _ => Ok(()),

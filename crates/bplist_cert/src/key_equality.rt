@@ -8,6 +8,7 @@ ghost use Rattle.bplist_objects.specs.Units.{IsTextKind, units_of};
 ghost use Rattle.bplist_objects.specs.declared.kind.Kind.TheVariants.{Dict};
 ghost use Rattle.bplist_cert.specs.Keys.{HaveTexts, KeysDiffer, IsFirstTwice, IsTwiceFault};
 ghost use Rattle.bplist_cert.specs.Heights.{ref};
+ghost use Rattle.bplist_cert.specs.Places.{TellPlaces};
 ghost use Rattle.bplist_cert.specs.KeyUnits.{AreBounds, AreParts, IsKeyWith, IsShared, digits};
 ghost use Rattle.bplist_cert.specs.Repeats.{IsLeastOrNone};
 ghost use Rattle.bplist_cert.specs.Refusals.{Judges, refused_read};
@@ -17,6 +18,7 @@ use crate::heights::ref_place;
 use crate::key_places::{BLOCK, read_places};
 use crate::key_units::KeyUnits;
 use crate::keys::{keyless, text_at};
+use crate::places::Places;
 use crate::refusal::Refusal;
 use bplist_objects::{Fault, Frame, Head, ObjectNo, Rule, read_units, ref_at};
 use bplist_octets::Source;
@@ -96,31 +98,33 @@ fn read_references<S: Source>(
 fn push_keys<S: Source>(
     src: &mut S,
     frame: &Frame,
+    places: Places,
     n: ObjectNo,
     head: &Head,
     done: u64,
     refs: &mut [u64],
-    places: &mut [u64],
+    found: &mut [u64],
     keys: &mut KeyUnits,
 ) -> Result<(), Refusal>
     requires safe { IsSafe (length (S.means src.old).octets) frame.now }
     requires head { IsSafeHead frame.now head.now }
     requires dict { head.now.kind ≡ Dict }
     requires within { done + length refs.old ≤ head.now.count }
-    requires many { length places.old ≡ length refs.old }
+    requires many { length found.old ≡ length refs.old }
     requires bounds { AreBounds keys.old.units.items keys.old.bounds.items done }
     ensures reads { OnlyReads (refused_read result) (S.means src.old) (S.means src.new) }
     ensures bounds { OnOk result (AreBounds keys.new.units.items keys.new.bounds.items (done + length refs.old)) }
     ensures exact { IsTrue (S.means src.old).honest → IsFrame (S.means src.old).octets frame.now
+        → TellPlaces (S.means src.old).octets frame.now places.entry
         → HaveTexts (S.means src.old).octets frame.now head.now head.now.count
         → AreParts (IsKeyWith (S.means src.old).octets frame.now head.now) keys.old.units.items keys.old.bounds.items done
         → Judges (λ _. AreParts (IsKeyWith (S.means src.old).octets frame.now head.now) keys.new.units.items keys.new.bounds.items
         (done + length refs.old)) Never result }
 {
-    read_places(src, frame, head, done, refs, places)?;
+    read_places(src, frame, places, head, done, refs, found)?;
     let count = refs.len();
     for k in 0..count {
-        let Some(key) = text_at(src, frame, refs[k], places[k])? else {
+        let Some(key) = text_at(src, frame, refs[k], found[k])? else {
             return Err(Refusal::Fault(keyless(frame, n, head, done + k as u64, src.len())));
         };
         push_units(src, &key, &mut keys.units)?;
@@ -134,6 +138,7 @@ pub(crate) fn read_keys<S: Source>(
     alloc: Global,
     src: &mut S,
     frame: &Frame,
+    places: Places,
     n: ObjectNo,
     head: &Head,
     count: u64,
@@ -145,19 +150,20 @@ pub(crate) fn read_keys<S: Source>(
     ensures reads { OnlyReads (refused_read result) (S.means src.old) (S.means src.new) }
     ensures bounds { IfOk result (λ keys. AreBounds keys.units.items keys.bounds.items count) }
     ensures exact { IsTrue (S.means src.old).honest → IsFrame (S.means src.old).octets frame.now
+        → TellPlaces (S.means src.old).octets frame.now places.entry
         → HaveTexts (S.means src.old).octets frame.now head.now head.now.count
         → Judges (λ keys. AreParts (IsKeyWith (S.means src.old).octets frame.now head.now) keys.units.items keys.bounds.items count)
         Never result }
 {
     let mut keys = KeyUnits::without_parts(alloc)?;
     let mut refs = [0u64; BLOCK];
-    let mut places = [0u64; BLOCK];
+    let mut found = [0u64; BLOCK];
     let mut done = 0u64;
     while done < count {
         let now = (count - done).min(BLOCK as u64);
         let block = &mut refs[..now as usize];
-        let at = &mut places[..now as usize];
-        push_keys(src, frame, n, head, done, block, at, &mut keys)?;
+        let at = &mut found[..now as usize];
+        push_keys(src, frame, places, n, head, done, block, at, &mut keys)?;
         done += now;
     }
     Ok(keys)
@@ -188,6 +194,7 @@ fn first_equal<S: Source>(
     alloc: Global,
     src: &mut S,
     frame: &Frame,
+    places: Places,
     n: ObjectNo,
     head: &Head,
     count: u64,
@@ -198,12 +205,13 @@ fn first_equal<S: Source>(
     requires within { count ≤ head.now.count }
     ensures reads { OnlyReads (refused_read result) (S.means src.old) (S.means src.new) }
     ensures exact { IsTrue (S.means src.old).honest → IsFrame (S.means src.old).octets frame.now
+        → TellPlaces (S.means src.old).octets frame.now places.entry
         → HaveTexts (S.means src.old).octets frame.now head.now head.now.count
         → Judges (λ found. MatchOption found (KeysDiffer (S.means src.old).octets frame.now head.now count)
         (IsFirstTwice (S.means src.old).octets frame.now head.now)) Never result }
     ensures inside { IfOk result (λ found. IfSome found (λ i. i < count)) }
 {
-    let keys = read_keys(alloc, src, frame, n, head, count)?;
+    let keys = read_keys(alloc, src, frame, places, n, head, count)?;
     Ok(keys.first_repeated(alloc, count)?)
 }
 
@@ -213,6 +221,7 @@ fn first_twice<S: Source>(
     alloc: Global,
     src: &mut S,
     frame: &Frame,
+    places: Places,
     n: ObjectNo,
     head: &Head,
 ) -> Result<Option<u64>, Refusal>
@@ -221,14 +230,15 @@ fn first_twice<S: Source>(
     requires dict { head.now.kind ≡ Dict }
     ensures reads { OnlyReads (refused_read result) (S.means src.old) (S.means src.new) }
     ensures exact { IsTrue (S.means src.old).honest → IsFrame (S.means src.old).octets frame.now
+        → TellPlaces (S.means src.old).octets frame.now places.entry
         → HaveTexts (S.means src.old).octets frame.now head.now head.now.count
         → Judges (λ found. MatchOption found (KeysDiffer (S.means src.old).octets frame.now head.now head.now.count)
         (IsFirstTwice (S.means src.old).octets frame.now head.now)) Never result }
     ensures inside { IfOk result (λ found. IfSome found (λ i. i < head.now.count)) }
 {
     match first_shared(alloc, src, frame, head)? {
-        None => first_equal(alloc, src, frame, n, head, head.count),
-        Some(shared) => match first_equal(alloc, src, frame, n, head, shared)? {
+        None => first_equal(alloc, src, frame, places, n, head, head.count),
+        Some(shared) => match first_equal(alloc, src, frame, places, n, head, shared)? {
             None => Ok(Some(shared)),
             Some(equal) => Ok(Some(equal)),
         },
@@ -240,6 +250,7 @@ pub fn check_twice<S: Source>(
     alloc: Global,
     src: &mut S,
     frame: &Frame,
+    places: Places,
     n: ObjectNo,
     head: &Head,
 ) -> Result<(), Refusal>
@@ -248,11 +259,12 @@ pub fn check_twice<S: Source>(
     requires dict { head.now.kind ≡ Dict }
     ensures reads { OnlyReads (refused_read result) (S.means src.old) (S.means src.new) }
     ensures exact { IsTrue (S.means src.old).honest → IsFrame (S.means src.old).octets frame.now
+        → TellPlaces (S.means src.old).octets frame.now places.entry
         → HaveTexts (S.means src.old).octets frame.now head.now head.now.count
         → Judges (λ _. KeysDiffer (S.means src.old).octets frame.now head.now head.now.count)
         (IsTwiceFault (S.means src.old).octets frame.now n.0 head.now) result }
 {
-    match first_twice(alloc, src, frame, n, head)? {
+    match first_twice(alloc, src, frame, places, n, head)? {
         None => Ok(()),
         Some(i) => Err(Refusal::Fault(Fault {
             rule: Rule::KeyTwice,

@@ -5,53 +5,42 @@
 
 ghost use Rattle.std.specs.Prelude.{◌≡◌, ◌+◌, ◌≤◌, ◌<◌, ℕ, length, slice_index, IsTrue, IfOk, OnOk, is_err};
 ghost use Rattle.bplist_octets.specs.Meaning.{OnlyReads};
-ghost use Rattle.bplist_objects.specs.Frame.{off};
 ghost use Rattle.bplist_objects.specs.Safe.{IsSafe, IsSafeHead, ref_count};
 ghost use Rattle.bplist_cert.specs.Heights.{ref};
+ghost use Rattle.bplist_cert.specs.Places.{TellPlaces};
 ghost use Rattle.bplist_cert.specs.KeyPlaces.{ArePlaced, AreRefs};
 
-use bplist_objects::{Frame, Head, ObjectNo, offset_of, read_refs};
+use crate::places::{Places, place_of};
+use bplist_objects::{Frame, Head, read_refs};
 use bplist_octets::{ReadFault, Source};
 
 /// How many keys are read ahead at most.
 pub(crate) const BLOCK: usize = 256;
 
-/// The place of object number `m`, and 0 for a number that names no object.
-pub(crate) fn place_of<S: Source>(src: &mut S, frame: &Frame, m: u64) -> Result<u64, ReadFault>
-    requires safe { IsSafe (length (S.means src.old).octets) frame.now }
-    ensures reads { OnlyReads (is_err result) (S.means src.old) (S.means src.new) }
-    ensures value { IfOk result (λ place. IsTrue (S.means src.old).honest → m < frame.now.objects
-        → place ≡ off (S.means src.old).octets frame.now m) }
-{
-    if m >= frame.objects as u64 {
-        return Ok(0);
-    }
-    offset_of(src, frame, ObjectNo(m as u32))
-}
-
-/// Fills `refs` with the numbers of references from number `from` on, and `places` with the places of the
+/// Fills `refs` with the numbers of references from number `from` on, and `found` with the places of the
 /// objects that they name.
 pub(crate) fn read_places<S: Source>(
     src: &mut S,
     frame: &Frame,
+    places: Places,
     head: &Head,
     from: u64,
     refs: &mut [u64],
-    places: &mut [u64],
+    found: &mut [u64],
 ) -> Result<(), ReadFault>
     requires safe { IsSafe (length (S.means src.old).octets) frame.now }
     requires head { IsSafeHead frame.now head.now }
     requires within { from + length refs.old ≤ ref_count head.now.kind head.now.count }
-    requires many { length places.old ≡ length refs.old }
+    requires many { length found.old ≡ length refs.old }
     ensures reads { OnlyReads (is_err result) (S.means src.old) (S.means src.new) }
     ensures refs { OnOk result (IsTrue (S.means src.old).honest
         → AreRefs (S.means src.old).octets frame.now head.now from refs.new) }
-    ensures places { OnOk result (IsTrue (S.means src.old).honest
-        → ArePlaced (S.means src.old).octets frame.now refs.new places.new (length refs.new)) }
+    ensures found { OnOk result (IsTrue (S.means src.old).honest → TellPlaces (S.means src.old).octets frame.now places.entry
+        → ArePlaced (S.means src.old).octets frame.now refs.new found.new (length refs.new)) }
 {
     read_refs(src, frame, head, from, refs)?;
     for k in 0..refs.len() {
-        places[k] = place_of(src, frame, refs[k])?;
+        found[k] = place_of(src, frame, places, refs[k])?;
     }
     Ok(())
 }

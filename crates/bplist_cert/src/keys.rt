@@ -10,10 +10,12 @@ ghost use Rattle.bplist_objects.specs.declared.kind.Kind.TheVariants.{Dict};
 ghost use Rattle.bplist_objects.specs.declared.rule.Rule.TheVariants.{KeyKind};
 ghost use Rattle.bplist_objects.specs.declared.head.Head.{Head as head_record};
 ghost use Rattle.bplist_cert.specs.Keys.{IsText, IsKey, HaveTexts, IsFirstKeyless, IsKeylessFault};
+ghost use Rattle.bplist_cert.specs.Places.{TellPlaces};
 ghost use Rattle.bplist_cert.specs.KeyPlaces.{IsPlaced, ArePlaced, AreTexts, IsFirstOther};
 
 use crate::heights::ref_place;
-use crate::key_places::{BLOCK, place_of, read_places};
+use crate::key_places::{BLOCK, read_places};
+use crate::places::{Places, place_of};
 use bplist_objects::{Fault, Frame, Head, Kind, ObjectFault, ObjectNo, Rule, head_at, ref_at};
 use bplist_octets::{ReadFault, Source};
 
@@ -73,26 +75,28 @@ fn first_other<S: Source>(
 fn search_keys<S: Source>(
     src: &mut S,
     frame: &Frame,
+    places: Places,
     head: &Head,
     done: u64,
     refs: &mut [u64],
-    places: &mut [u64],
+    found: &mut [u64],
 ) -> Result<Option<u64>, ReadFault>
     requires safe { IsSafe (length (S.means src.old).octets) frame.now }
     requires head { IsSafeHead frame.now head.now }
     requires dict { head.now.kind ≡ Dict }
     requires within { done + length refs.old ≤ head.now.count }
-    requires many { length places.old ≡ length refs.old }
+    requires many { length found.old ≡ length refs.old }
     ensures reads { OnlyReads (is_err result) (S.means src.old) (S.means src.new) }
-    ensures found { IfOk result (λ found. IsTrue (S.means src.old).honest → IsFrame (S.means src.old).octets frame.now
+    ensures first { IfOk result (λ first. IsTrue (S.means src.old).honest → IsFrame (S.means src.old).octets frame.now
+        → TellPlaces (S.means src.old).octets frame.now places.entry
         → HaveTexts (S.means src.old).octets frame.now head.now done
-        → MatchOption found (HaveTexts (S.means src.old).octets frame.now head.now (done + length refs.old))
+        → MatchOption first (HaveTexts (S.means src.old).octets frame.now head.now (done + length refs.old))
         (IsFirstKeyless (S.means src.old).octets frame.now head.now)) }
-    ensures inside { IfOk result (λ found. IfSome found (λ i. i < head.now.count)) }
+    ensures inside { IfOk result (λ first. IfSome first (λ i. i < head.now.count)) }
 {
     let _count = head.count;
-    read_places(src, frame, head, done, refs, places)?;
-    match first_other(src, frame, refs, places)? {
+    read_places(src, frame, places, head, done, refs, found)?;
+    match first_other(src, frame, refs, found)? {
         Some(i) => Ok(Some(done + i as u64)),
         None => Ok(None),
     }
@@ -102,6 +106,7 @@ fn search_keys<S: Source>(
 fn first_keyless<S: Source>(
     src: &mut S,
     frame: &Frame,
+    places: Places,
     head: &Head,
 ) -> Result<Option<u64>, ReadFault>
     requires safe { IsSafe (length (S.means src.old).octets) frame.now }
@@ -109,19 +114,20 @@ fn first_keyless<S: Source>(
     requires dict { head.now.kind ≡ Dict }
     ensures reads { OnlyReads (is_err result) (S.means src.old) (S.means src.new) }
     ensures found { IfOk result (λ found. IsTrue (S.means src.old).honest → IsFrame (S.means src.old).octets frame.now
+        → TellPlaces (S.means src.old).octets frame.now places.entry
         → MatchOption found (HaveTexts (S.means src.old).octets frame.now head.now head.now.count)
         (IsFirstKeyless (S.means src.old).octets frame.now head.now)) }
     ensures inside { IfOk result (λ found. IfSome found (λ i. i < head.now.count)) }
 {
     let count = head.count;
     let mut refs = [0u64; BLOCK];
-    let mut places = [0u64; BLOCK];
+    let mut found = [0u64; BLOCK];
     let mut done = 0u64;
     while done < count {
         let now = (count - done).min(BLOCK as u64);
         let block = &mut refs[..now as usize];
-        let at = &mut places[..now as usize];
-        if let Some(i) = search_keys(src, frame, head, done, block, at)? {
+        let at = &mut found[..now as usize];
+        if let Some(i) = search_keys(src, frame, places, head, done, block, at)? {
             return Ok(Some(i));
         }
         done += now;
@@ -133,6 +139,7 @@ fn first_keyless<S: Source>(
 pub fn check_texts<S: Source>(
     src: &mut S,
     frame: &Frame,
+    places: Places,
     n: ObjectNo,
     head: &Head,
 ) -> Result<(), ObjectFault>
@@ -141,10 +148,11 @@ pub fn check_texts<S: Source>(
     requires dict { head.now.kind ≡ Dict }
     ensures reads { OnlyReads (read_failed result) (S.means src.old) (S.means src.new) }
     ensures exact { IsTrue (S.means src.old).honest → IsFrame (S.means src.old).octets frame.now
+        → TellPlaces (S.means src.old).octets frame.now places.entry
         → Gives (λ _. HaveTexts (S.means src.old).octets frame.now head.now head.now.count)
         (IsKeylessFault (S.means src.old).octets frame.now n.0 head.now) result }
 {
-    match first_keyless(src, frame, head)? {
+    match first_keyless(src, frame, places, head)? {
         None => Ok(()),
         Some(i) => Err(ObjectFault::Fault(keyless(frame, n, head, i, src.len()))),
     }
@@ -185,7 +193,7 @@ pub(crate) fn key_head<S: Source>(
     ensures safe { IfOk result (λ key. IsTextKind key.kind × IsSafeBody (length (S.means src.old).octets) key) }
 {
     let m = ref_at(src, frame, head, i)?;
-    let place = place_of(src, frame, m)?;
+    let place = place_of(src, frame, Places::Table, m)?;
     match text_at(src, frame, m, place)? {
         Some(key) => Ok(key),
         None => Err(ObjectFault::Fault(keyless(frame, n, head, i, src.len()))),

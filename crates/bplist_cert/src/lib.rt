@@ -16,6 +16,7 @@ mod key_sorting;
 mod key_units;
 mod keys;
 mod laws;
+mod places;
 mod refusal;
 #[cfg(test)]
 mod tests;
@@ -30,4 +31,5 @@ pub use laws::{
     checked_stays, one_certificate, one_pair_fault, ordered_keys_differ, pair_fault_excludes,
     reached_objects, vouched_references, vouched_values,
 };
+pub use places::Places;
 pub use refusal::Refusal;

@@ -19,7 +19,7 @@ use Rattle.bplist_cert.specs.Heights.{ref}
 use Rattle.bplist_cert.specs.Keys.{HaveTexts, KeysDiffer}
 use Rattle.bplist_cert.proofs.Ordered.{text_once}
 use Rattle.bplist_lint.specs.Reaching.{IsMarked}
-use Rattle.bplist_lint.specs.Referring.{AreOffsets}
+use Rattle.bplist_cert.specs.Places.{AreOffsets}
 use Rattle.bplist_lint.specs.ReachRules.{KeepReachBelow}
 use Rattle.bplist_lint.specs.Fingerprints.{mix, fingerprint, HasFingerprint, AreSound, AreKnown, AreOfKeys}
 use Rattle.bplist_lint.proofs.KeySteps.{reached_kept}

@@ -6,7 +6,7 @@ use Rattle.bplist_objects.specs.declared.frame.Frame.{Frame}
 use Rattle.bplist_objects.specs.Frame.{off, IsFrame}
 use Rattle.bplist_objects.specs.FrameRules.{AreEntriesLow, IsEntryFault, IsTrailer}
 use Rattle.bplist_lint.specs.Places.{IsKept, AreKept, AreBelowTable, IsPlaceFault}
-use Rattle.bplist_lint.specs.Referring.{AreOffsets}
+use Rattle.bplist_cert.specs.Places.{AreOffsets}
 
 -- one block more was put into the table
 pub places_more : (f : List ℕ) (F : Frame) (from count : ℕ) (old new places : List ℕ) → length places ≡ count

@@ -9,7 +9,7 @@ use Rattle.bplist_objects.specs.ObjectRules.{KeepsByObject, object_rules}
 use Rattle.bplist_cert.specs.Heights.{ref}
 use Rattle.bplist_cert.specs.Keys.{IsText}
 use Rattle.bplist_lint.specs.Reaching.{IsMarked}
-use Rattle.bplist_lint.specs.Referring.{AreOffsets}
+use Rattle.bplist_cert.specs.Places.{AreOffsets}
 
 -- a fingerprint with one more unit mixed in
 abbrev pub mix : ℕ → ℕ → ℕ

@@ -1,7 +1,6 @@
 -- The references of a file's objects as a graph, and the parts of it that are in memory.
 use Rattle.std.specs.Prelude.{◌≡◌, ℕ, ◌+◌, ◌<◌, Bool, List, [], length, slice_index}
 use Rattle.bplist_objects.specs.declared.frame.Frame.{Frame}
-use Rattle.bplist_objects.specs.Frame.{off}
 use Rattle.bplist_objects.specs.Scan.{nth_number}
 use Rattle.bplist_objects.specs.Spelled.{refs_at}
 use Rattle.bplist_lint.specs.Graph.{Graph}
@@ -10,10 +9,6 @@ use Rattle.bplist_lint.specs.Reaching.{IsMarked}
 -- the objects of a file with this frame, which is read through a borrow with the first ghost name, beside one with the second
 abbrev pub graph_of : ℕ → ℕ → List ℕ → Frame → Graph
 graph_of through beside f F = record { through = through; beside = beside; size = F.objects; refs = refs_at f F }
-
--- these are the places of the objects
-abbrev pub AreOffsets : List ℕ → Frame → List ℕ → Type 0
-AreOffsets f F offsets = (n : ℕ) → n < F.objects → slice_index offsets n ≡ off f F n
 
 -- each object with a mark has no references
 abbrev pub AreBare : List ℕ → Frame → List Bool → Type 0

@@ -7,7 +7,7 @@ ghost use Rattle.bplist_objects.specs.Safe.{IsSafe};
 ghost use Rattle.bplist_objects.specs.Reach.{Reach};
 ghost use Rattle.bplist_objects.specs.Answers.{Gives, read_failed};
 ghost use Rattle.bplist_lint.specs.Reaching.{IsMarked};
-ghost use Rattle.bplist_lint.specs.Referring.{AreOffsets};
+ghost use Rattle.bplist_cert.specs.Places.{AreOffsets};
 ghost use Rattle.bplist_lint.specs.ReachRules.{IsReachFault, Tallied};
 
 use bplist_objects::{Fault, Frame, ObjectFault, ObjectNo, Rule, head_at, refs_of};

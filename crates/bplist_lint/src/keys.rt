@@ -10,7 +10,8 @@ ghost use Rattle.bplist_objects.specs.Safe.{IsSafe, IsSafeHead};
 ghost use Rattle.bplist_objects.specs.Reach.{Reach};
 ghost use Rattle.bplist_objects.specs.Rules.{KeepsAll, IsFirstFault};
 ghost use Rattle.bplist_lint.specs.Reaching.{IsMarked};
-ghost use Rattle.bplist_lint.specs.Referring.{AreOffsets, AreBare};
+ghost use Rattle.bplist_cert.specs.Places.{AreOffsets};
+ghost use Rattle.bplist_lint.specs.Referring.{AreBare};
 ghost use Rattle.bplist_lint.specs.ReachRules.{KeepReachBelow};
 ghost use Rattle.bplist_lint.specs.KeyRules.{KeepsByKeys, BreaksAtKeys, key_rules, KeepKeysBelow, IsKeysFault};
 ghost use Rattle.bplist_lint.specs.Fingerprints.{HaveRows, AreSound, AreKnown};
@@ -19,7 +20,7 @@ ghost use Rattle.bplist_objects.specs.declared.kind.Kind.TheVariants.{Dict};
 ghost use Rattle.bplist_cert.specs.Refusals.{Judges, refused_read};
 
 use crate::key_texts::KeyTexts;
-use bplist_cert::{Refusal, check_texts, check_twice};
+use bplist_cert::{Places, Refusal, check_texts, check_twice};
 use bplist_objects::{Frame, Head, Kind, ObjectNo, shape_at};
 use bplist_octets::Source;
 use std::alloc::Global;
@@ -29,6 +30,7 @@ fn check_units<S: Source>(
     alloc: Global,
     src: &mut S,
     frame: &Frame,
+    places: &[u32],
     n: ObjectNo,
     head: &Head,
 ) -> Result<(), Refusal>
@@ -37,13 +39,15 @@ fn check_units<S: Source>(
     requires dict { head.now.kind ≡ Dict }
     ensures reads { OnlyReads (refused_read result) (S.means src.old) (S.means src.new) }
     ensures exact { IsTrue (S.means src.old).honest → IsFrame (S.means src.old).octets frame.now
+        → AreOffsets (S.means src.old).octets frame.now places.now
         → HasHead (S.means src.old).octets frame.now n.0 head.now
         → Judges (λ _. KeepsAll (KeepsByKeys (S.means src.old).octets frame.now n.0) key_rules)
         (IsFirstFault (KeepsByKeys (S.means src.old).octets frame.now n.0)
         (BreaksAtKeys (S.means src.old).octets frame.now n.0) key_rules) result }
 {
-    check_texts(src, frame, n, head)?;
-    check_twice(alloc, src, frame, n, head)?;
+    let places = Places::Kept(places);
+    check_texts(src, frame, places, n, head)?;
+    check_twice(alloc, src, frame, places, n, head)?;
     Ok(())
 }
 
@@ -81,7 +85,7 @@ fn check_dict<S: Source>(
     if texts.differ(src, frame, places, marks, head)? {
         return Ok(());
     }
-    check_units(alloc, src, frame, n, head)
+    check_units(alloc, src, frame, places, n, head)
 }
 
 /// Looks at the keys of marked object `n`, where it is a dictionary.

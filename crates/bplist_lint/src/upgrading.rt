@@ -2,41 +2,43 @@
 
 ghost use Rattle.std.specs.Prelude.{◌≡◌, ◌+◌, ◌≤◌, ◌<◌, ℕ, List, set, length, IsTrue, IfOk, vec_len};
 ghost use Rattle.bplist_octets.specs.Meaning.{OnlyReads};
-ghost use Rattle.bplist_objects.specs.Frame.{off, IsFrame};
+ghost use Rattle.bplist_objects.specs.Frame.{IsFrame};
 ghost use Rattle.bplist_objects.specs.Safe.{IsSafe};
 ghost use Rattle.bplist_cert.specs.Valid.{IsVouchedBy, IsValid};
-ghost use Rattle.bplist_lint.specs.Referring.{AreOffsets};
+ghost use Rattle.bplist_cert.specs.Places.{AreOffsets};
 ghost use Rattle.bplist_lint.specs.Upgraded.{Listed, IsUpgraded};
 ghost use Rattle.bplist_lint.specs.Upgrades.{Upgrades, upgrade_failed};
 
 use crate::places::places_of;
 use crate::upgrade_fault::UpgradeFault;
-use bplist_cert::{Certificate, Checked, KeyLists, list_keys};
+use bplist_cert::{Certificate, Checked, KeyLists, Places, list_keys};
 use bplist_objects::{Frame, Kind, ObjectNo, shape_at};
 use bplist_octets::Source;
 use std::alloc::Global;
 
-/// Puts the key list of vouched object `n`, which stands at `place`, behind the positions, where it is a dictionary. The
-/// start of the list, 0 for any other object.
+/// Puts the key list of vouched object `n` behind the positions, where it is a dictionary. The start of the list, 0 for any
+/// other object.
 fn list_object<S: Source>(
     alloc: Global,
     src: &mut S,
     frame: &Frame,
+    places: &[u32],
     n: u32,
-    place: u64,
     positions: &mut Vec<u32>,
 ) -> Result<u32, UpgradeFault>
     requires safe { IsSafe (length (S.means src.old).octets) frame.now }
+    requires places { length places.now ≡ frame.now.objects }
     requires within { n < frame.now.objects }
     requires few { vec_len positions.old ≤ 4294967295 }
     ensures reads { OnlyReads (upgrade_failed result) (S.means src.old) (S.means src.new) }
     ensures few { IfOk result (λ _. vec_len positions.new ≤ 4294967295) }
     ensures exact { IsTrue (S.means src.old).honest → IsFrame (S.means src.old).octets frame.now
-        → place ≡ off (S.means src.old).octets frame.now n → (heights starts : List ℕ)
+        → AreOffsets (S.means src.old).octets frame.now places.now → (heights starts : List ℕ)
         → IsValid (S.means src.old).octets frame.now heights → IsVouchedBy heights n → n < length starts
         → Listed (S.means src.old).octets frame.now heights n starts positions.old.items
         → Upgrades (λ start. Listed (S.means src.old).octets frame.now heights (n + 1) (set starts n start) positions.new.items) result }
 {
+    let place = places[n as usize] as u64;
     let n = ObjectNo(n);
     let head = shape_at(src, frame, n, place)?;
     match head.kind {
@@ -45,7 +47,8 @@ fn list_object<S: Source>(
             if head.count > (u32::MAX - start) as u64 {
                 return Err(UpgradeFault::Changed);
             }
-            list_keys(alloc, src, frame, n, &head, positions)?;
+            let places = Places::Kept(places);
+            list_keys(alloc, src, frame, places, n, &head, positions)?;
             Ok(start)
         }
         _ => Ok(0),
@@ -73,8 +76,7 @@ fn list_all<S: Source>(
     let mut positions = Vec::new(alloc);
     for n in 0..frame.objects {
         if heights[n as usize] > 0 {
-            let place = places[n as usize] as u64;
-            starts[n as usize] = list_object(alloc, src, frame, n, place, &mut positions)?;
+            starts[n as usize] = list_object(alloc, src, frame, places, n, &mut positions)?;
         }
     }
     Ok(KeyLists { starts, positions })

@@ -4,9 +4,9 @@ use Rattle.bplist_cert.specs.KeyUnits.{AreParts, IsKeyWith}
 use Rattle.bplist_cert.proofs.key_equality.read_keys.Goals as goal
 
 pub returns-in_err-push_keys-clause-exact : goal.returns-in_err-push_keys-clause-exact
-returns-in_err-push_keys-clause-exact g c = λ honest framed texts.
+returns-in_err-push_keys-clause-exact g c = λ honest framed told texts.
     let p = err_from_is_err_and c.from_residual-in_err-push_keys.result c.from_residual-in_err-push_keys.ensures.1 in
-    rw (p.1, p.2) ((rw c.loop-done.invariant.same at c.in_err-push_keys.ensures.exact) honest framed texts (c.loop-done.invariant.so_far honest framed texts))
+    rw (p.1, p.2) ((rw c.loop-done.invariant.same at c.in_err-push_keys.ensures.exact) honest framed told texts (c.loop-done.invariant.so_far honest framed told texts))
 
 pub loop-done-preserved : goal.loop-done-preserved
 loop-done-preserved g c =
@@ -15,12 +15,12 @@ loop-done-preserved g c =
       same = c.in_ok-push_keys.ensures.reads ∙ c.loop-done.invariant.same;
       reached = omega (arith, c.min-now.ensures, c.loop-done-test.true);
       bounds = rw next at c.in_ok-push_keys.ensures.bounds;
-      so_far = λ honest framed texts.
-          let all = (rw c.loop-done.invariant.same at c.in_ok-push_keys.ensures.exact) honest framed texts (c.loop-done.invariant.so_far honest framed texts) in
+      so_far = λ honest framed told texts.
+          let all = (rw c.loop-done.invariant.same at c.in_ok-push_keys.ensures.exact) honest framed told texts (c.loop-done.invariant.so_far honest framed told texts) in
           rw next at all;
     }
 
 pub returns-clause-exact : goal.returns-clause-exact
-returns-clause-exact g c = λ honest framed texts.
+returns-clause-exact g c = λ honest framed told texts.
     let e : c.loop-done.done ≡ c.args.count = omega (arith, c.loop-done.invariant.reached, c.loop-done-test.false) in
-    subst (AreParts (IsKeyWith (g.S.Source.means c.args.src.now).octets c.args.frame.now c.args.head.now) c.loop-done.keys.units.items c.loop-done.keys.bounds.items) e (c.loop-done.invariant.so_far honest framed texts)
+    subst (AreParts (IsKeyWith (g.S.Source.means c.args.src.now).octets c.args.frame.now c.args.head.now) c.loop-done.keys.units.items c.loop-done.keys.bounds.items) e (c.loop-done.invariant.so_far honest framed told texts)

@@ -2,15 +2,15 @@ use Rattle.std.proofs.Common.{◌∙◌, arith, length-take}
 use Rattle.bplist_cert.proofs.keys.first_keyless.Goals as goal
 
 pub returns-in-Some-clause-found : goal.returns-in-Some-clause-found
-returns-in-Some-clause-found g c = λ honest framed.
-    (rw (c.loop-done.invariant.same, c.in-Some.is) at c.in_ok-i.ensures.found) honest framed (c.loop-done.invariant.texts honest framed)
+returns-in-Some-clause-found g c = λ honest framed told.
+    (rw (c.loop-done.invariant.same, c.in-Some.is) at c.in_ok-i.ensures.first) honest framed told (c.loop-done.invariant.texts honest framed told)
 
 pub loop-done-preserved : goal.loop-done-preserved
 loop-done-preserved g c =
     let inside = c.min-now.array_long in record {
       same = c.in_ok-i.ensures.reads ∙ c.loop-done.invariant.same;
       reached = omega (arith, c.min-now.ensures, c.loop-done-test.true);
-      texts = λ honest framed.
-          let all = (rw (c.loop-done.invariant.same, c.in_default.is) at c.in_ok-i.ensures.found) honest framed (c.loop-done.invariant.texts honest framed) in
+      texts = λ honest framed told.
+          let all = (rw (c.loop-done.invariant.same, c.in_default.is) at c.in_ok-i.ensures.first) honest framed told (c.loop-done.invariant.texts honest framed told) in
           λ k lt. all k (omega (arith, c.min-now.array_long, length-take c.min-now.result c.loop-done.refs));
     }

@@ -1,5 +1,6 @@
 use Rattle.std.proofs.Common.{◌≡◌, ◌≤◌, ◌-◌, IsTrue}
 use Rattle.bplist_objects.specs.Frame.{IsFrame}
+use Rattle.bplist_cert.specs.Places.{TellPlaces}
 use Rattle.bplist_cert.specs.Keys.{HaveTexts}
 use Rattle.bplist_cert.proofs.keys.first_keyless.Given as goal
 
@@ -10,7 +11,8 @@ invariant-loop-done g l =
     record {
       same : means l.src ≡ means l.fn.src;
       reached : l.done ≤ l.count;
-      texts : IsTrue (means l.fn.src).honest → IsFrame (means l.fn.src).octets l.frame → HaveTexts (means l.fn.src).octets l.frame l.head l.done;
+      texts : IsTrue (means l.fn.src).honest → IsFrame (means l.fn.src).octets l.frame → TellPlaces (means l.fn.src).octets l.frame l.places
+          → HaveTexts (means l.fn.src).octets l.frame l.head l.done;
     }
 
 abbrev pub decreases-loop-done : goal.decreases-loop-done

@@ -2,14 +2,14 @@ use Rattle.std.proofs.Common.{length, arith}
 use Rattle.bplist_cert.proofs.Placing.{keys_more, keyless_there}
 use Rattle.bplist_cert.proofs.keys.search_keys.Goals as goal
 
-pub returns-in-Some-clause-found : goal.returns-in-Some-clause-found
-returns-in-Some-clause-found g c = λ honest framed texts.
-    let first = (rw (c.in_ok-read_places.ensures.reads, c.in-Some.is) at c.in_ok-i.ensures.found) honest framed (c.in_ok-read_places.ensures.places honest) in
+pub returns-in-Some-clause-first : goal.returns-in-Some-clause-first
+returns-in-Some-clause-first g c = λ honest framed told texts.
+    let first = (rw (c.in_ok-read_places.ensures.reads, c.in-Some.is) at c.in_ok-i.ensures.found) honest framed (c.in_ok-read_places.ensures.found honest told) in
     keyless_there (g.S.Source.means c.args.src.now).octets c.args.frame.now c.args.head.now c.args.done c.read_places.new.refs
     (c.in_ok-read_places.ensures.refs honest) texts (omega arith) c.in-Some.i first
 
-pub returns-in-None-clause-found : goal.returns-in-None-clause-found
-returns-in-None-clause-found g c = λ honest framed texts.
-    let all = (rw (c.in_ok-read_places.ensures.reads, c.in-None.is) at c.in_ok-i.ensures.found) honest framed (c.in_ok-read_places.ensures.places honest) in
+pub returns-in-None-clause-first : goal.returns-in-None-clause-first
+returns-in-None-clause-first g c = λ honest framed told texts.
+    let all = (rw (c.in_ok-read_places.ensures.reads, c.in-None.is) at c.in_ok-i.ensures.found) honest framed (c.in_ok-read_places.ensures.found honest told) in
     keys_more (g.S.Source.means c.args.src.now).octets c.args.frame.now c.args.head.now c.args.done c.read_places.new.refs
     (c.in_ok-read_places.ensures.refs honest) texts (length c.args.refs.now) (omega arith) (λ k lt. all k (omega arith))

@@ -2,7 +2,7 @@ use Rattle.std.proofs.Common.{◌≡◌, ◌↔◌, ℕ, ◌+◌, ◌≤◌, IsT
 use Rattle.bplist_objects.specs.Frame.{IsFrame}
 use Rattle.bplist_objects.specs.Reach.{Reach}
 use Rattle.bplist_lint.specs.Reaching.{IsMarked}
-use Rattle.bplist_lint.specs.Referring.{AreOffsets}
+use Rattle.bplist_cert.specs.Places.{AreOffsets}
 use Rattle.bplist_lint.specs.ReachRules.{Tallied}
 use Rattle.bplist_lint.proofs.faults.check_reached.Given as goal
 

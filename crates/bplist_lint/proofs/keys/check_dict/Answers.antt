@@ -13,4 +13,4 @@ returns-then-branch-clause-exact g c = λ honest sound known has.
     kept_keys (g.S.Source.means c.args.src.now).octets c.args.frame.now c.args.n.0 c.args.head.now has keys.0 keys.1
 
 pub returns-clause-exact : goal.returns-clause-exact
-returns-clause-exact g c = λ honest sound known has. (rw c.in_ok-differ.ensures.reads at c.check_units.ensures.exact) honest sound.framed has
+returns-clause-exact g c = λ honest sound known has. (rw c.in_ok-differ.ensures.reads at c.check_units.ensures.exact) honest sound.framed sound.placed has

@@ -2,7 +2,8 @@ use Rattle.std.proofs.Common.{◌≡◌, ◌↔◌, ℕ, IsTrue}
 use Rattle.bplist_objects.specs.Frame.{IsFrame}
 use Rattle.bplist_objects.specs.Reach.{Reach}
 use Rattle.bplist_lint.specs.Reaching.{IsMarked}
-use Rattle.bplist_lint.specs.Referring.{AreOffsets, AreBare}
+use Rattle.bplist_cert.specs.Places.{AreOffsets}
+use Rattle.bplist_lint.specs.Referring.{AreBare}
 use Rattle.bplist_lint.specs.ReachRules.{KeepReachBelow}
 use Rattle.bplist_lint.specs.KeyRules.{KeepKeysBelow}
 use Rattle.bplist_lint.specs.Fingerprints.{HaveRows, AreSound, AreKnown}

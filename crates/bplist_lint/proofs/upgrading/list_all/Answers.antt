@@ -25,7 +25,7 @@ loop-n-preserved g c =
         few = rw w.positions-is w.in_ok-starts-2.ensures.few;
         exact = λ honest placed valid.
             let room : c.loop-n.n < length c.loop-n.starts.items = omega (arith, v.all, c.loop-n.starts.ok.0, c.loop-n-test.true) in
-            rw (w.starts-is, w.positions-is) ((rw v.reads at w.in_ok-starts-2.ensures.exact) honest valid.frame (placed c.loop-n.n c.loop-n-test.true) c.args.heights.now c.loop-n.starts.items valid (omega (arith, w.if-heights-n-gt0.true)) room (v.exact honest placed valid));
+            rw (w.starts-is, w.positions-is) ((rw v.reads at w.in_ok-starts-2.ensures.exact) honest valid.frame placed c.args.heights.now c.loop-n.starts.items valid (omega (arith, w.if-heights-n-gt0.true)) room (v.exact honest placed valid));
       }
       | else-heights-n-gt0 w ↦ record {
         reads = rw w.src-is v.reads;

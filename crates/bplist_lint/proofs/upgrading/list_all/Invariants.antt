@@ -1,6 +1,6 @@
 use Rattle.std.proofs.Common.{◌≡◌, ◌≤◌, IsTrue, vec_len}
 use Rattle.bplist_cert.specs.Valid.{IsValid}
-use Rattle.bplist_lint.specs.Referring.{AreOffsets}
+use Rattle.bplist_cert.specs.Places.{AreOffsets}
 use Rattle.bplist_lint.specs.Upgraded.{Listed}
 use Rattle.bplist_lint.proofs.upgrading.list_all.Given as goal
 

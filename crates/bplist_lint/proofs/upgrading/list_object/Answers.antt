@@ -6,20 +6,20 @@ use Rattle.bplist_lint.proofs.UpgradeSteps.{object_no_change, check_no_change}
 use Rattle.bplist_lint.proofs.upgrading.list_object.Goals as goal
 
 pub returns-in_err-head-clause-exact : goal.returns-in_err-head-clause-exact
-returns-in_err-head-clause-exact g c = λ honest framed is heights starts valid v room l.
+returns-in_err-head-clause-exact g c = λ honest framed placed heights starts valid v room l.
     let f = (g.S.Source.means c.args.src.now).octets in
     let F = c.args.frame.now in
     let p = err_from_is_err_and c.from_residual.result c.from_residual.ensures.1 in
     let s = (valid.vouched c.args.n v).spells in
-    rw (p.1, p.2) (object_no_change _ c.in_err-head.field-0.0 (λ fault h. no_shape f F c.args.n fault s.shape h s.has) (c.in_err-head.ensures.rules honest framed is))
+    rw (p.1, p.2) (object_no_change _ c.in_err-head.field-0.0 (λ fault h. no_shape f F c.args.n fault s.shape h s.has) (c.in_err-head.ensures.rules honest framed (placed c.args.n c.requires.within)))
 
 pub returns-then-head-start-clause-exact : goal.returns-then-head-start-clause-exact
-returns-then-head-start-clause-exact g c = λ honest framed is heights starts valid v room l.
+returns-then-head-start-clause-exact g c = λ honest framed placed heights starts valid v room l.
     let f = (g.S.Source.means c.args.src.now).octets in
     let F = c.args.frame.now in
     let n = c.args.n in
     let head = c.in_ok-head.head in
-    let has = (c.in_ok-head.ensures.rules honest framed is).0 in
+    let has = (c.in_ok-head.ensures.rules honest framed (placed c.args.n c.requires.within)).0 in
     let shape = vouched_shape f F heights valid n v head has in
     let o = valid.vouched n v in
     let begin : c.len-start.result ≡ length c.args.positions.now.items = omega (arith, c.args.positions.now.ok.0, c.len-start.ensures) in
@@ -27,38 +27,38 @@ returns-then-head-start-clause-exact g c = λ honest framed is heights starts va
     omega (arith, fits, begin, framed.table_late, framed.large, c.if-head-start.true)
 
 pub returns-in_err-list_keys-in-Dict-clause-exact : goal.returns-in_err-list_keys-in-Dict-clause-exact
-returns-in_err-list_keys-in-Dict-clause-exact g c = λ honest framed is heights starts valid v room l.
+returns-in_err-list_keys-in-Dict-clause-exact g c = λ honest framed placed heights starts valid v room l.
     let f = (g.S.Source.means c.args.src.now).octets in
     let F = c.args.frame.now in
-    let has = (c.in_ok-head.ensures.rules honest framed is).0 in
+    let has = (c.in_ok-head.ensures.rules honest framed (placed c.args.n c.requires.within)).0 in
     let keys = vouched_keys f F heights valid c.args.n v c.in_ok-head.head has c.in-Dict.is in
     let p = err_from_is_err_and c.from_residual-in_err-list_keys-in-Dict.result c.from_residual-in_err-list_keys-in-Dict.ensures.1 in
-    rw (p.1, p.2) (check_no_change c.in_err-list_keys-in-Dict.field-0.0 ((rw c.in_ok-head.ensures.reads at c.in_err-list_keys-in-Dict.ensures.exact) honest framed keys.0 keys.1))
+    rw (p.1, p.2) (check_no_change c.in_err-list_keys-in-Dict.field-0.0 ((rw c.in_ok-head.ensures.reads at c.in_err-list_keys-in-Dict.ensures.exact) honest framed placed keys.0 keys.1))
 
 pub returns-in_ok-list_keys-in-Dict-clause-exact : goal.returns-in_ok-list_keys-in-Dict-clause-exact
-returns-in_ok-list_keys-in-Dict-clause-exact g c = λ honest framed is heights starts valid v room l.
+returns-in_ok-list_keys-in-Dict-clause-exact g c = λ honest framed placed heights starts valid v room l.
     let f = (g.S.Source.means c.args.src.now).octets in
     let F = c.args.frame.now in
     let n = c.args.n in
     let head = c.in_ok-head.head in
-    let has = (c.in_ok-head.ensures.rules honest framed is).0 in
+    let has = (c.in_ok-head.ensures.rules honest framed (placed c.args.n c.requires.within)).0 in
     let keys = vouched_keys f F heights valid n v head has c.in-Dict.is in
     let shape = vouched_shape f F heights valid n v head has in
     let o = valid.vouched n v in
     let begin : c.len-start.result ≡ length c.args.positions.now.items = omega (arith, c.args.positions.now.ok.0, c.len-start.ensures) in
-    let listed = (rw c.in_ok-head.ensures.reads at c.in_ok-list_keys-in-Dict.ensures.exact) honest framed keys.0 keys.1 in
+    let listed = (rw c.in_ok-head.ensures.reads at c.in_ok-list_keys-in-Dict.ensures.exact) honest framed placed keys.0 keys.1 in
     rw begin (listed_dict f F heights n starts c.args.positions.now.items l v room head shape o.content o.spells c.in-Dict.is c.requires.safe.ref_low c.list_keys.new.positions.items listed)
 
 pub returns-in_default : goal.returns-in_default
 returns-in_default g c = record {
   reads = c.in_ok-head.ensures.reads;
   few = c.requires.few;
-  exact = λ honest framed is heights starts valid v room l.
+  exact = λ honest framed placed heights starts valid v room l.
       let f = (g.S.Source.means c.args.src.now).octets in
       let F = c.args.frame.now in
       let n = c.args.n in
       let head = c.in_ok-head.head in
-      let has = (c.in_ok-head.ensures.rules honest framed is).0 in
+      let has = (c.in_ok-head.ensures.rules honest framed (placed c.args.n c.requires.within)).0 in
       let shape = vouched_shape f F heights valid n v head has in
       let o = valid.vouched n v in
       listed_other f F heights n starts c.args.positions.now.items l v room head shape o.content o.spells c.in_default.not-Dict;
