@@ -9,7 +9,7 @@ mod output;
 
 use args::Line;
 use bplint_engine::{RunFault, Said, run_on, run_over};
-use bplist_octets::{FileSource, Window};
+use bplist_octets::{FileSource, Window, Windows};
 use clap::Error;
 use clap::error::ErrorKind;
 use output::OutFile;
@@ -35,9 +35,11 @@ fn run<R: Files<File = File> + Input + Print>(
         return run_over(alloc, &line.command, &file, &cert, &mut out);
     }
     let source = FileSource::open(rt, line.file).map_err(|_| RunFault::Open)?;
+    let mut file = Window::new(source);
     let cert = input::read_certificate(rt, alloc, line)?;
     let mut out = OutFile::new(rt, line.out);
-    run_on(alloc, &line.command, Window::new(source), &cert, &mut out).0
+    // Look-ups go to and fro between the offset table, a dictionary and its keys.
+    run_on(alloc, &line.command, Windows::new(&mut file), &cert, &mut out).0
 }
 
 /// Prints a fault's line, and gives the exit status.

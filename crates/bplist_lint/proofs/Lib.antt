@@ -2,7 +2,6 @@ pub mod LookSteps
 pub mod ReachSteps
 pub mod VisitSteps
 pub mod WalkSteps
-pub mod WindowSteps
 pub mod TrailSteps
 pub mod Opening
 pub mod Referring

@@ -2,7 +2,6 @@ pub mod Graph
 pub mod Answers
 pub mod Reaching
 pub mod Visits
-pub mod Windows
 pub mod Trail
 pub mod Referring
 pub mod Places

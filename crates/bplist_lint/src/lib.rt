@@ -20,7 +20,6 @@ mod refusal;
 mod tests;
 mod upgrade_fault;
 mod upgrading;
-mod windows;
 
 pub use answer::Lint;
 pub use laws::{

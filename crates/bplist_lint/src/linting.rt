@@ -30,10 +30,9 @@ use crate::places::{check_places, places_of};
 use crate::reaching::reached;
 use crate::references::WalkFault;
 use crate::refusal::LintRefusal;
-use crate::windows::Windows;
 use bplist_cert::Certificate;
 use bplist_objects::{Frame, ObjectNo, trailer_of};
-use bplist_octets::Source;
+use bplist_octets::{Source, Windows};
 use std::alloc::Global;
 
 /// Marks on the objects of a file, one for each.

@@ -2,3 +2,4 @@ pub mod Spelled
 pub mod Groups
 pub mod Parts
 pub mod Sources
+pub mod WindowSteps

@@ -1,3 +1,4 @@
 pub mod Octets
 pub mod Meaning
 pub mod Sources
+pub mod Windows

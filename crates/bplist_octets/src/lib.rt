@@ -3,7 +3,8 @@
 //!
 //! - `source`: what a source is, and why a read fails.
 //! - `slice`, `file`: a source over memory and one over a file.
-//! - `window`: a source over a source, which reads it in larger parts.
+//! - `window`, `windows`: sources over a source, which read it in larger parts: one window that is its own, or several
+//!   over a source that is lent.
 //! - `faulty`, `shifting`: sources for tests, one with a read that fails and one that changes.
 //! - `numbers`, `lanes`: the numbers that bytes spell, and the first byte of 80 (hexadecimal) or more.
 #![tactic(auto)]
@@ -16,6 +17,7 @@ mod shifting;
 mod slice;
 mod source;
 mod window;
+mod windows;
 
 pub use faulty::FaultySource;
 pub use file::{FileSource, OpenFault};
@@ -25,3 +27,4 @@ pub use shifting::ShiftingSource;
 pub use slice::SliceSource;
 pub use source::{ReadFault, Source};
 pub use window::Window;
+pub use windows::Windows;

@@ -2,7 +2,7 @@
 use Rattle.std.specs.Prelude.{◌≡◌, ℕ, ◌+◌, ◌≤◌, ◌∷◌, [], Bool, List, length, take, IsTrue}
 use Rattle.bplist_octets.specs.Octets.{part}
 use Rattle.bplist_octets.specs.Meaning.{Meaning}
-use Rattle.bplist_lint.specs.declared.windows.Pane.{Pane}
+use Rattle.bplist_octets.specs.declared.windows.Pane.{Pane}
 
 -- a window of these bytes: it lies inside them, and holds them where reads of them are honest
 pub record IsPane (f : List ℕ) (honest : Bool) (pane : Pane) : Type 0 where

@@ -1,14 +1,14 @@
-//! A source over a source, with several windows of bytes that were read.
+//! A source over a borrowed source, with several windows of bytes that were read.
 //!
-//! The walks go to and fro between a few places: an object, the one that refers to it, and its keys. Over a file that
-//! is read through one window each turn would be a read of the file.
+//! Who goes to and fro between a few places, as between an object, the one that refers to it, and its keys, would with
+//! one window read the file at each turn.
 
 ghost use Rattle.std.specs.Prelude.{◌≡◌, ℕ, ◌+◌, ◌≤◌, All, length, IfSome, OnOk, is_err};
 ghost use Rattle.bplist_octets.specs.Octets.{part};
 ghost use Rattle.bplist_octets.specs.Meaning.{OnlyReads};
-ghost use Rattle.bplist_lint.specs.Windows.{IsPane, borrowed};
+ghost use Rattle.bplist_octets.specs.Windows.{IsPane, borrowed};
 
-use bplist_octets::{ReadFault, Source};
+use crate::source::{ReadFault, Source};
 
 /// How many windows there are.
 const PANES: usize = 32;
@@ -70,11 +70,15 @@ fn refill<S: Source>(source: &mut S, pane: &mut Pane, at: u64) -> Result<(), Rea
     Ok(())
 }
 
-/// A source over a borrowed source, with several windows. The place of a request says which window serves it, and that
-/// window is read again where it lacks what is asked for. A request that is too long goes straight to the source.
+/// A source over a borrowed source, with 32 windows of 1,536 bytes. It has the bytes, the honesty and the count of
+/// failures of that source.
+///
+/// The place of a request says which window serves it, and that window is read again where it lacks what is asked for. A
+/// request of more than 512 bytes goes straight to the source. After a failed read that window is empty.
 #[derive(Drop)]
 pub struct Windows<'a, S: Source> {
-    source: &'a mut S,
+    /// The source that is read.
+    pub source: &'a mut S,
     panes: [Pane; PANES],
     ghost panes_hold: { All (IsPane (S.means source.now).octets (S.means source.now).honest) panes },
 }
@@ -116,5 +120,81 @@ impl<S: Source> Source for Windows<'_, S> {
         refill(self.source, pane, at)?;
         copy_part(pane, (at - pane.start) as usize, into);
         Ok(())
+    }
+}
+
+#[cfg(test)]
+mod tests {
+    use super::*;
+    use crate::faulty::FaultySource;
+    use crate::slice::SliceSource;
+
+    /// Bytes that tell their place.
+    fn numbered() -> [u8; 70_000] {
+        let mut bytes = [0; 70_000];
+        for (i, byte) in bytes.iter_mut().enumerate() {
+            *byte = (i % 251) as u8;
+        }
+        bytes
+    }
+
+    #[test]
+    fn reads_of_all_lengths(rt: HostRuntime) {
+        let bytes = numbered();
+        let mut source = SliceSource::new(&bytes);
+        let mut windows = Windows::new(&mut source);
+        let mut into = [0; 2_000];
+        for (at, count) in [
+            (0, 1),
+            (1_023, 512),
+            (1_024, 512),
+            (33_000, 512),
+            (232, 3),
+            (33_000, 513),
+            (69_999, 1),
+            (69_000, 1_000),
+            (70_000, 0),
+        ] {
+            let part = &mut into[..count];
+            assert!(rt; at + count as u64 <= windows.len());
+            assert_eq!(rt; windows.read_at(at, part), Ok(()));
+            for (i, byte) in part.iter().enumerate() {
+                let place = at.wrapping_add(i as u64);
+                assert_eq!(rt; u64::from(*byte), place % 251, "at {place}");
+            }
+        }
+    }
+
+    #[test]
+    fn to_and_fro_between_two_places(rt: HostRuntime) {
+        let bytes = numbered();
+        // The third read of the source would fail.
+        let mut source = FaultySource::new(&bytes, 2);
+        let mut windows = Windows::new(&mut source);
+        let mut into = [0; 100];
+        for at in [0, 50_000, 1_000, 50_100, 5, 0] {
+            assert!(rt; at + 100 <= windows.len());
+            assert_eq!(rt; windows.read_at(at, &mut into), Ok(()), "at {at}");
+            assert_eq!(rt; u64::from(into[0]), at % 251, "at {at}");
+        }
+    }
+
+    #[test]
+    fn empty_after_a_failed_read(rt: HostRuntime) {
+        let bytes = numbered();
+        let mut source = FaultySource::new(&bytes, 1);
+        let mut windows = Windows::new(&mut source);
+        let mut into = [0; 2];
+        // Both places are served by the first window.
+        for (at, want) in [
+            (1, Ok(())),
+            (32_769, Err(ReadFault::Device)),
+            (1, Ok(())),
+            (32_769, Ok(())),
+        ] {
+            assert!(rt; at + 2 <= windows.len());
+            assert_eq!(rt; windows.read_at(at, &mut into), want, "at {at}");
+        }
+        assert!(rt; into == [(32_769 % 251) as u8, (32_770 % 251) as u8]);
     }
 }
