@@ -22,10 +22,6 @@ use Rattle.bplist_ascii.proofs.WriteSteps.{adds_more}
 use Rattle.bplist_ascii.specs.declared.walk.Opened.{Opened}
 use Rattle.bplist_ascii.specs.Walks.{NextMember, NextPair, after_first, AreSafe, AreObjects, ArrayLeft, DictLeft, LeftBy, OpenedLeft, StackLeft, GoesOn}
 
-pub text_kind : (kind : Kind) → (kind ≡ kinds.Ascii) ⊎ (kind ≡ kinds.Wide) → IsTextKind kind
-text_kind kind (inl e) = rw e tt
-text_kind kind (inr e) = rw e tt
-
 -- a kind that is none of texts
 pub no_text : (kind : Kind) → (kind ≡ kinds.Ascii → ⊥) → (kind ≡ kinds.Wide → ⊥) → IsTextKind kind → ⊥
 no_text kinds.Ascii a w t = a refl

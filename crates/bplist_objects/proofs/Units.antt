@@ -1,5 +1,5 @@
 -- The units of a text by index: unit k is the number k of those that stand in the body.
-use Rattle.std.proofs.Common.{◌≡◌, ℕ, ◌+◌, ◌*◌, ◌<◌, ◌≤◌, List, length, get_or, slice_index, drop, sym, ap, ◌∙◌, arith, inl, inr}
+use Rattle.std.proofs.Common.{◌≡◌, ℕ, ◌+◌, ◌*◌, ◌<◌, ◌≤◌, List, length, get_or, slice_index, drop, sym, ap, ◌∙◌, arith, inl, inr, ◌⊎◌}
 use Rattle.std.proofs.lemmas.List.{ext_get_or, get_or_past, length-take, length-take-le, length-drop}
 use Rattle.std.proofs.lemmas.Bool.{cases_lt}
 use Rattle.bplist_octets.specs.Octets.{part}
@@ -12,6 +12,11 @@ use Rattle.bplist_objects.specs.Units.{IsTextKind, units_at}
 use Rattle.bplist_objects.proofs.Parts.{num-part_one, get_or-part}
 use Rattle.bplist_objects.proofs.ScanLaws.{nth_number-behind}
 use Rattle.bplist_objects.proofs.References.{length-nums_at, nth-nums_at}
+
+-- the two kinds of texts
+pub text_kind : (kind : Kind) → (kind ≡ kinds.Ascii) ⊎ (kind ≡ kinds.Wide) → IsTextKind kind
+text_kind kind (inl e) = rw e tt
+text_kind kind (inr e) = rw e tt
 
 -- the length of a part that lies within
 pub length-part : (xs : List ℕ) (place n : ℕ) → place + n ≤ length xs → length (part xs place n) ≡ n

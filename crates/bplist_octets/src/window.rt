@@ -14,7 +14,8 @@ const WINDOW: usize = 4096;
 ///
 /// A read of bytes that lie in the window asks the source for nothing. Any other read moves the window
 /// to its place; the last window of a file may be shorter. A request longer than the window goes
-/// straight to the source. After a failed read the window is empty.
+/// straight to the source. After a failed read the window is empty. Who goes to and fro between a few places takes
+/// `Windows`.
 #[derive(Drop)]
 pub struct Window<S: Source> {
     source: S,
@@ -25,6 +26,17 @@ pub struct Window<S: Source> {
     ghost inside: { start + filled ≤ length (S.means source).octets },
     ghost holds: { IsTrue (S.means source).honest →
         take filled octets ≡ part (S.means source).octets start filled },
+}
+
+/// Where a window that has `filled` bytes from place `start` on has `count` bytes from place `at` on.
+pub(crate) fn offset_in(start: u64, filled: usize, at: u64, count: usize) -> Option<usize>
+    ensures { IfSome result (λ from. (start + from ≡ at) × (from + count ≤ filled)) }
+{
+    let from = at.checked_sub(start)?;
+    if from > filled as u64 || count > filled - from as usize {
+        return None;
+    }
+    Some(from as usize)
 }
 
 /// Reads `count` bytes from place `at` on to the front of `into`.
@@ -54,18 +66,6 @@ impl<S: Source> Window<S> {
             filled: 0,
             octets: [0; WINDOW],
         }
-    }
-
-    /// Where the window has `count` bytes from place `at` on.
-    fn offset_of(&self, at: u64, count: usize) -> Option<usize>
-        ensures { IfSome result (λ from.
-            (self.now.start + from ≡ at) × (from + count ≤ self.now.filled)) }
-    {
-        let from = at.checked_sub(self.start)?;
-        if from > self.filled as u64 || count > self.filled - from as usize {
-            return None;
-        }
-        Some(from as usize)
     }
 
     /// Gives the window's bytes from its byte `from` on.
@@ -121,7 +121,7 @@ impl<S: Source> Source for Window<S> {
         if into.len() > WINDOW {
             return self.read_past(at, into);
         }
-        if let Some(from) = self.offset_of(at, into.len()) {
+        if let Some(from) = offset_in(self.start, self.filled, at, into.len()) {
             self.copy_part(from, into);
             return Ok(());
         }

@@ -3,12 +3,13 @@
 //! Who goes to and fro between a few places, as between an object, the one that refers to it, and its keys, would with
 //! one window read the file at each turn.
 
-ghost use Rattle.std.specs.Prelude.{◌≡◌, ℕ, ◌+◌, ◌≤◌, All, length, IfSome, OnOk, is_err};
+ghost use Rattle.std.specs.Prelude.{◌≡◌, ℕ, ◌+◌, ◌≤◌, All, length, OnOk, is_err};
 ghost use Rattle.bplist_octets.specs.Octets.{part};
 ghost use Rattle.bplist_octets.specs.Meaning.{OnlyReads};
 ghost use Rattle.bplist_octets.specs.Windows.{IsPane, borrowed};
 
 use crate::source::{ReadFault, Source};
+use crate::window::offset_in;
 
 /// How many windows there are.
 const PANES: usize = 32;
@@ -28,19 +29,6 @@ struct Pane {
     start: u64,
     filled: usize,
     octets: [u8; PANE],
-}
-
-impl Pane {
-    /// Where the window has `count` bytes from place `at` on.
-    fn offset_of(&self, at: u64, count: usize) -> Option<usize>
-        ensures { IfSome result (λ from. (self.now.start + from ≡ at) × (from + count ≤ self.now.filled)) }
-    {
-        let from = at.checked_sub(self.start)?;
-        if from > self.filled as u64 || count > self.filled - from as usize {
-            return None;
-        }
-        Some(from as usize)
-    }
 }
 
 /// Gives the window's bytes from its byte `from` on.
@@ -113,7 +101,7 @@ impl<S: Source> Source for Windows<'_, S> {
         }
         let k = (at / STEP) as usize % PANES;
         let pane = &mut self.panes[k];
-        if let Some(from) = pane.offset_of(at, into.len()) {
+        if let Some(from) = offset_in(pane.start, pane.filled, at, into.len()) {
             copy_part(pane, from, into);
             return Ok(());
         }

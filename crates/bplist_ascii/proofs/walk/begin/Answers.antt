@@ -3,11 +3,12 @@ use Rattle.bplist_octets.specs.Octets.{part}
 use Rattle.bplist_objects.specs.Heads.{content_of}
 use Rattle.bplist_objects.specs.Units.{units_of}
 use Rattle.bplist_objects.proofs.Leaves.{text_content}
+use Rattle.bplist_objects.proofs.Units.{text_kind}
 use Rattle.bplist_cursor.specs.Texts.{text_of_units, text_of_bytes}
 use Rattle.bplist_cursor.specs.OldStyle.{plain}
 use Rattle.bplist_cursor.proofs.Taking.{content_of_value}
 use Rattle.bplist_ascii.proofs.WriteSteps.{adds_some, read_fails, fails_under, fails_same, text_adds, adds_nothing, adds_fit, adds_fail}
-use Rattle.bplist_ascii.proofs.WalkSteps.{text_kind, text_of_value, data_of_value, array_begun, dict_begun, no_form, stack_push, safe_push}
+use Rattle.bplist_ascii.proofs.WalkSteps.{text_of_value, data_of_value, array_begun, dict_begun, no_form, stack_push, safe_push}
 use Rattle.bplist_ascii.specs.declared.print_fault.PrintFault.TheVariants.{Memory}
 use Rattle.bplist_ascii.proofs.walk.begin.Goals as goal
 
