@@ -1,6 +1,6 @@
 //! A source over a source, with one window of bytes that were read.
 
-ghost use Rattle.std.specs.Prelude.{◌≡◌, ℕ, ◌+◌, ◌-◌, ◌≤◌, length, take, min, IsTrue, IfSome, OnOk, OnErr, is_err};
+ghost use Rattle.std.specs.Prelude.{◌≡◌, ℕ, ◌+◌, ◌-◌, ◌≤◌, length, take, min, IsTrue, MatchOption, OnOk, OnErr, is_err};
 ghost use Rattle.bplist_octets.specs.Octets.{part};
 ghost use Rattle.bplist_octets.specs.Meaning.{OnlyReads};
 
@@ -28,9 +28,10 @@ pub struct Window<S: Source> {
         take filled octets ≡ part (S.means source).octets start filled },
 }
 
-/// Where a window that has `filled` bytes from place `start` on has `count` bytes from place `at` on.
+/// Where a window that has `filled` bytes from place `start` on has `count` bytes from place `at` on, if it has them all.
 pub(crate) fn offset_in(start: u64, filled: usize, at: u64, count: usize) -> Option<usize>
-    ensures { IfSome result (λ from. (start + from ≡ at) × (from + count ≤ filled)) }
+    ensures { MatchOption result (start ≤ at → at + count ≤ start + filled → ⊥)
+        (λ from. (start + from ≡ at) × (from + count ≤ filled)) }
 {
     let from = at.checked_sub(start)?;
     if from > filled as u64 || count > filled - from as usize {
