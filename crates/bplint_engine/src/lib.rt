@@ -16,8 +16,6 @@ mod printing;
 mod running;
 mod said;
 mod sending;
-#[cfg(test)]
-mod tests;
 mod top;
 mod vouching;
 

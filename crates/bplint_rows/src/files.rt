@@ -4,10 +4,14 @@ use std::alloc::{AllocError, Global};
 use std::test::Fail;
 
 /// The header, `bplist00`.
-pub const HEADER: &[u8; 8] = b"bplist00";
+pub(crate) const HEADER: &[u8; 8] = b"bplist00";
+
+/// The smallest file, as hexadecimal text.
+pub const SMALLEST: &str =
+    "62706c697374303009080000000000000101000000000000000100000000000000000000000000000009";
 
 /// Adds the bytes that hexadecimal text spells, so many times.
-pub fn add(alloc: Global, file: &mut Vec<u8>, text: &str, times: usize) -> Result<(), Fail> {
+pub(crate) fn add(alloc: Global, file: &mut Vec<u8>, text: &str, times: usize) -> Result<(), Fail> {
     let bytes = hex::decode(alloc, text)?;
     for _ in 0..times {
         file.extend_from_slice(&bytes)?;
@@ -16,7 +20,7 @@ pub fn add(alloc: Global, file: &mut Vec<u8>, text: &str, times: usize) -> Resul
 }
 
 /// The bytes of these hexadecimal texts, each so many times.
-pub fn file_of(alloc: Global, parts: &[(&str, usize)]) -> Result<Vec<u8>, Fail> {
+pub(crate) fn file_of(alloc: Global, parts: &[(&str, usize)]) -> Result<Vec<u8>, Fail> {
     let mut file = Vec::new(alloc);
     for (text, times) in parts {
         add(alloc, &mut file, text, *times)?;
@@ -25,7 +29,7 @@ pub fn file_of(alloc: Global, parts: &[(&str, usize)]) -> Result<Vec<u8>, Fail> 
 }
 
 /// The file whose only object is spelled by this text, with a table of one byte.
-pub fn top_only(alloc: Global, object: &[(&str, usize)]) -> Result<Vec<u8>, Fail> {
+pub(crate) fn top_only(alloc: Global, object: &[(&str, usize)]) -> Result<Vec<u8>, Fail> {
     let mut file = HEADER.to_vec(alloc)?;
     for (text, times) in object {
         add(alloc, &mut file, text, *times)?;

@@ -2,15 +2,13 @@
 
 ghost use Rattle.bplint_engine.specs.Commands.{PrintsOnePath};
 
+use crate::files::SMALLEST;
 use crate::runs::{answers, get, lints, plain, print, told, told_over};
+use crate::writers::Short;
 use bplint_engine::{Command, RunFault, Said, Verb, run_on, run_over};
 use bplist_octets::ShiftingSource;
 use std::alloc::Global;
-use std::io::{self, ErrorKind, Write};
 use std::test::Fail;
-
-const SMALLEST: &str =
-    "62706c697374303009080000000000000101000000000000000100000000000000000000000000000009";
 
 const TWO_TRUES: &str =
     "62706c6973743030a2010109080b000000000000010100000000000000020000000000000000000000000000000c";
@@ -26,29 +24,6 @@ const UNPRINTABLE_DICT: &str =
 
 const A_TO_ONE: &str =
     "62706c6973743030d1010251611001080b0d000000000000010100000000000000030000000000000000000000000000000f";
-
-/// A writer that takes so many bytes in all and then fails.
-#[derive(Drop)]
-struct Short {
-    room: usize,
-    held: Vec<u8>,
-}
-
-impl Write for Short {
-    fn write(&mut self, buf: &[u8]) -> io::Result<usize> {
-        if self.room == 0 {
-            return Err(io::Error::from(ErrorKind::Other));
-        }
-        let count = buf.len().min(self.room);
-        self.held.extend_from_slice(&buf[..count])?;
-        self.room -= count;
-        Ok(count)
-    }
-
-    fn flush(&mut self) -> io::Result<()> {
-        Ok(())
-    }
-}
 
 fn answer_of(
     alloc: Global,
@@ -253,10 +228,7 @@ fn told_with_room(
     let Some(cert) = certificate_of(alloc, &file)? else {
         return Err(Fail::from("no certificate"));
     };
-    let mut out = Short {
-        room,
-        held: Vec::new(alloc),
-    };
+    let mut out = Short::new(alloc, 0, room, room);
     let answer = run_over(alloc, command, &file, &cert, &mut out);
     Ok((told(alloc, answer, b"")?, out.held))
 }

@@ -6,6 +6,8 @@
 #[cfg(test)]
 mod answers;
 #[cfg(test)]
+mod fault_lines;
+#[cfg(test)]
 mod files;
 #[cfg(test)]
 mod hostile;
@@ -13,3 +15,7 @@ mod hostile;
 mod leaves;
 #[cfg(test)]
 mod runs;
+#[cfg(test)]
+mod writers;
+#[cfg(test)]
+mod writing;

@@ -10,7 +10,7 @@ use std::process::Abort;
 use std::test::Fail;
 
 /// The command of a verb that has no operands of its own.
-pub fn plain(alloc: Global, verb: Verb) -> Command
+pub(crate) fn plain(alloc: Global, verb: Verb) -> Command
     requires { verb ≢ Verb.Print }
     ensures { PrintsOnePath result }
 {
@@ -23,8 +23,21 @@ pub fn plain(alloc: Global, verb: Verb) -> Command
     }
 }
 
+/// The command `lint` of a file in hexadecimal text.
+pub fn lint_hex(alloc: Global) -> Command
+    ensures { PrintsOnePath result }
+{
+    Command {
+        verb: Verb::Lint,
+        paths: Vec::new(alloc),
+        limit: 0,
+        hex: true,
+        sorted: false,
+    }
+}
+
 /// The command `get` of these paths.
-pub fn get(alloc: Global, texts: &[&str]) -> Result<Command, AllocError>
+pub(crate) fn get(alloc: Global, texts: &[&str]) -> Result<Command, AllocError>
     ensures { IfOk result PrintsOnePath }
 {
     let paths: Vec<String> = texts
@@ -41,7 +54,7 @@ pub fn get(alloc: Global, texts: &[&str]) -> Result<Command, AllocError>
 }
 
 /// The command `print` of a path, with its limit.
-pub fn print(alloc: Global, text: &str, limit: u64) -> Result<Command, AllocError>
+pub(crate) fn print(alloc: Global, text: &str, limit: u64) -> Result<Command, AllocError>
     ensures { IfOk result PrintsOnePath }
 {
     let path = String::from_str(alloc, text)?;
@@ -55,7 +68,11 @@ pub fn print(alloc: Global, text: &str, limit: u64) -> Result<Command, AllocErro
 }
 
 /// What was written, or the line of the fault, with its status before it.
-pub fn told(alloc: Global, answer: Result<Said, RunFault>, written: &[u8]) -> Result<String, Fail> {
+pub(crate) fn told(
+    alloc: Global,
+    answer: Result<Said, RunFault>,
+    written: &[u8],
+) -> Result<String, Fail> {
     match answer {
         Ok(Said::All) => Ok(format!(in alloc; "0 {}", String::from_utf8_lossy(alloc, written)?)?),
         Ok(Said::SomeMissing) => Ok(format!(in alloc;
@@ -71,7 +88,12 @@ pub fn told(alloc: Global, answer: Result<Said, RunFault>, written: &[u8]) -> Re
 }
 
 /// What a command says by `run_over`.
-pub fn told_over(alloc: Global, command: &Command, file: &[u8], cert: &[u8]) -> Result<String, Fail>
+pub(crate) fn told_over(
+    alloc: Global,
+    command: &Command,
+    file: &[u8],
+    cert: &[u8],
+) -> Result<String, Fail>
     requires { PrintsOnePath command.now }
 {
     let mut out = Vec::new(alloc);
@@ -80,7 +102,12 @@ pub fn told_over(alloc: Global, command: &Command, file: &[u8], cert: &[u8]) -> 
 }
 
 /// What a command says by `run_on` over a slice.
-pub fn told_on(alloc: Global, command: &Command, file: &[u8], cert: &[u8]) -> Result<String, Fail>
+pub(crate) fn told_on(
+    alloc: Global,
+    command: &Command,
+    file: &[u8],
+    cert: &[u8],
+) -> Result<String, Fail>
     requires { PrintsOnePath command.now }
 {
     let mut out = Vec::new(alloc);
@@ -89,7 +116,7 @@ pub fn told_on(alloc: Global, command: &Command, file: &[u8], cert: &[u8]) -> Re
 }
 
 /// Runs a command by `run_over` and by `run_on`, and compares both with the row's answer.
-pub fn answers(
+pub(crate) fn answers(
     rt: &impl Abort,
     alloc: Global,
     row: &str,
@@ -108,7 +135,7 @@ pub fn answers(
 }
 
 /// Lints a file.
-pub fn lints(
+pub(crate) fn lints(
     rt: &impl Abort,
     alloc: Global,
     row: &str,
@@ -119,7 +146,7 @@ pub fn lints(
 }
 
 /// Checks a certificate; file and certificate are hexadecimal texts here and below.
-pub fn checks(
+pub(crate) fn checks(
     rt: &impl Abort,
     alloc: Global,
     row: &str,
@@ -141,7 +168,7 @@ pub fn checks(
 }
 
 /// Asks for paths.
-pub fn gets(
+pub(crate) fn gets(
     rt: &impl Abort,
     alloc: Global,
     row: &str,
@@ -156,7 +183,7 @@ pub fn gets(
 }
 
 /// Prints what lies under a path.
-pub fn prints(
+pub(crate) fn prints(
     rt: &impl Abort,
     alloc: Global,
     row: &str,
@@ -193,7 +220,7 @@ fn certify(alloc: Global, sorted: bool) -> Command
 }
 
 /// Makes a certificate, and compares its hexadecimal text. `run_over` takes the file as such a text too.
-pub fn certifies(
+pub(crate) fn certifies(
     rt: &impl Abort,
     alloc: Global,
     row: &str,

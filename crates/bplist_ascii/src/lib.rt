@@ -4,13 +4,9 @@
 mod formless;
 mod leaves;
 mod print_fault;
-#[cfg(test)]
-mod print_tests;
 mod printing;
 mod sink;
 mod style;
-#[cfg(test)]
-mod tests;
 mod texts;
 mod walk;
 mod writing;

@@ -13,7 +13,7 @@ use std::fmt::Write as _;
 use std::io::Write;
 
 /// Writes the answers to these lines, each with a line feed. The first line has the file and the certificate of all.
-pub fn answer_lines<W: Write>(alloc: Global, lines: &[String], out: &mut W) -> Result<()> {
+pub(crate) fn answer_lines<W: Write>(alloc: Global, lines: &[String], out: &mut W) -> Result<()> {
     let Some(first) = lines.first() else {
         return Ok(());
     };

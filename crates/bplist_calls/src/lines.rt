@@ -5,22 +5,22 @@ use std::alloc::Global;
 
 /// A line of input, and its words.
 #[derive(Clone, Copy, Debug)]
-pub struct Line<'a> {
-    pub file: &'a str,
-    pub certificate: &'a str,
+pub(crate) struct Line<'a> {
+    pub(crate) file: &'a str,
+    pub(crate) certificate: &'a str,
     /// The call's name.
-    pub call: &'a str,
+    pub(crate) call: &'a str,
     /// What stands behind the name, with tabs between them.
-    pub operands: &'a str,
+    pub(crate) operands: &'a str,
 }
 
 /// Whether a line stands for the same file and certificate as the line before.
-pub fn has_same_file(line: &str) -> bool {
+pub(crate) fn has_same_file(line: &str) -> bool {
     line.starts_with("=\t=\t")
 }
 
 /// A line's words.
-pub fn words_of(line: &str) -> Result<Line<'_>> {
+pub(crate) fn words_of(line: &str) -> Result<Line<'_>> {
     let (file, rest) = line
         .split_once('\t')
         .context("a line without a certificate")?;
@@ -35,6 +35,6 @@ pub fn words_of(line: &str) -> Result<Line<'_>> {
 }
 
 /// The bytes that hexadecimal text spells.
-pub fn bytes_of_hex(alloc: Global, text: &str) -> Result<Vec<u8>> {
+pub(crate) fn bytes_of_hex(alloc: Global, text: &str) -> Result<Vec<u8>> {
     hex::decode(alloc, text).context("text that is not hexadecimal")
 }

@@ -8,7 +8,7 @@ use std::alloc::Global;
 
 /// One call of the library.
 #[derive(Drop)]
-pub enum Request {
+pub(crate) enum Request {
     Answer(Query),
     Nodes(ObjectNo),
     Form(ObjectNo),
@@ -18,7 +18,7 @@ pub enum Request {
 }
 
 /// The call that a line asks for.
-pub fn request_of(alloc: Global, line: Line<'_>) -> Result<Request> {
+pub(crate) fn request_of(alloc: Global, line: Line<'_>) -> Result<Request> {
     let operands = line.operands;
     match line.call {
         "size" => Ok(Request::Answer(Query::Size(path(alloc, operands)?))),

@@ -18,8 +18,6 @@ mod keys;
 mod laws;
 mod places;
 mod refusal;
-#[cfg(test)]
-mod tests;
 
 pub use certificate::{CertRefusal, Certificate, KeyLists};
 pub use checked::Checked;

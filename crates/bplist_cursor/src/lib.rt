@@ -22,8 +22,6 @@ mod reading;
 mod reply;
 mod showing;
 mod stepping;
-#[cfg(test)]
-mod tests;
 mod text_length;
 
 pub use answers::{answer, answer_all};

@@ -12,18 +12,18 @@ use std::alloc::{AllocError, Global};
 use std::fmt::Debug;
 use std::test::Fail;
 
-pub fn node(n: u32) -> Node {
+pub(crate) fn node(n: u32) -> Node {
     Node {
         object: ObjectNo(n),
     }
 }
 
 /// The value as `Debug` writes it.
-pub fn text_of<T: Debug + Drop>(alloc: Global, value: T) -> Result<String, AllocError> {
+pub(crate) fn text_of<T: Debug + Drop>(alloc: Global, value: T) -> Result<String, AllocError> {
     format!(in alloc; "{value:?}")
 }
 
-pub fn face_text<S: Source>(
+pub(crate) fn face_text<S: Source>(
     alloc: Global,
     file: &mut Checked<S>,
     n: u32,
@@ -31,7 +31,7 @@ pub fn face_text<S: Source>(
     text_of(alloc, face(alloc, file, node(n)))
 }
 
-pub fn member_of<S: Source>(
+pub(crate) fn member_of<S: Source>(
     file: &mut Checked<S>,
     n: u32,
     i: u64,
@@ -41,13 +41,13 @@ pub fn member_of<S: Source>(
 
 /// Which query is asked at a path.
 #[derive(Debug, Clone, Copy)]
-pub enum Asked {
+pub(crate) enum Asked {
     Get,
     Keys,
     Size,
 }
 
-pub fn query_of(alloc: Global, asked: Asked, path: &str) -> Result<Query, Fail> {
+pub(crate) fn query_of(alloc: Global, asked: Asked, path: &str) -> Result<Query, Fail> {
     let path = Path::parse(alloc, path)?;
     Ok(match asked {
         Asked::Get => Query::Get(path),
@@ -56,7 +56,7 @@ pub fn query_of(alloc: Global, asked: Asked, path: &str) -> Result<Query, Fail> 
     })
 }
 
-pub fn answer_text<S: Source>(
+pub(crate) fn answer_text<S: Source>(
     alloc: Global,
     file: &mut Checked<S>,
     asked: Asked,
@@ -66,7 +66,7 @@ pub fn answer_text<S: Source>(
     Ok(text_of(alloc, answer(alloc, file, &query))?)
 }
 
-pub fn answers_text<S: Source>(
+pub(crate) fn answers_text<S: Source>(
     alloc: Global,
     file: &mut Checked<S>,
     queries: &[Query],

@@ -10,7 +10,7 @@ const THREE_KEYS: &[u8] = &[
     0xd3, 1, 2, 3, 4, 5, 6, 0x53, 0x61, 0x2f, 0x62, 0x50, 0x51, 0x73, 0xa1, 7, 8, 0xc1, 7, 9,
 ];
 
-pub const THREE_KEYS_HEIGHTS: &[u32] = &[3, 1, 1, 1, 2, 1, 2, 1];
+pub(crate) const THREE_KEYS_HEIGHTS: &[u32] = &[3, 1, 1, 1, 2, 1, 2, 1];
 
 /// Adds the table, with offsets and references of this size, and the trailer, with object 0 as the top.
 fn close(file: &mut Vec<u8>, table: &[u8], size: u8, objects: u64) -> Result<(), AllocError> {
@@ -23,19 +23,19 @@ fn close(file: &mut Vec<u8>, table: &[u8], size: u8, objects: u64) -> Result<(),
 }
 
 /// The file of these objects, with offsets and references of one byte.
-pub fn file_of(alloc: Global, objects: &[u8], table: &[u8]) -> Result<Vec<u8>, AllocError> {
+pub(crate) fn file_of(alloc: Global, objects: &[u8], table: &[u8]) -> Result<Vec<u8>, AllocError> {
     let mut file = Vec::from_slice(alloc, b"bplist00")?;
     file.extend_from_slice(objects)?;
     close(&mut file, table, 1, table.len() as u64)?;
     Ok(file)
 }
 
-pub fn three_keys(alloc: Global) -> Result<Vec<u8>, AllocError> {
+pub(crate) fn three_keys(alloc: Global) -> Result<Vec<u8>, AllocError> {
     file_of(alloc, THREE_KEYS, &[8, 15, 19, 20, 22, 24, 25, 27])
 }
 
 /// 64 arrays, each with the next object twice, and at last this leaf.
-pub fn doubling(alloc: Global, leaf: &[u8]) -> Result<Vec<u8>, AllocError> {
+pub(crate) fn doubling(alloc: Global, leaf: &[u8]) -> Result<Vec<u8>, AllocError> {
     let mut objects = Vec::new(alloc);
     let mut table = Vec::new(alloc);
     for next in 1..65u8 {
@@ -48,7 +48,7 @@ pub fn doubling(alloc: Global, leaf: &[u8]) -> Result<Vec<u8>, AllocError> {
 }
 
 /// So many arrays, each with the next object once, and at last this leaf, with offsets and references of four bytes.
-pub fn chain(alloc: Global, arrays: u32, leaf: &[u8]) -> Result<Vec<u8>, AllocError> {
+pub(crate) fn chain(alloc: Global, arrays: u32, leaf: &[u8]) -> Result<Vec<u8>, AllocError> {
     let mut file = Vec::from_slice(alloc, b"bplist00")?;
     let mut table = Vec::from_slice(alloc, &8u32.to_be_bytes())?;
     for next in 1..arrays.saturating_add(1) {
@@ -62,8 +62,31 @@ pub fn chain(alloc: Global, arrays: u32, leaf: &[u8]) -> Result<Vec<u8>, AllocEr
     Ok(file)
 }
 
+/// An array of so many items, with offsets and references of four bytes: False is its last item, and True all others.
+pub(crate) fn array(alloc: Global, items: u32) -> Result<Vec<u8>, AllocError> {
+    let mut file = Vec::from_slice(alloc, b"bplist00\xaf\x12")?;
+    file.extend_from_slice(&items.to_be_bytes())?;
+    for item in 1..items.saturating_add(1) {
+        let reference = if item < items { 1u32 } else { 2 };
+        file.extend_from_slice(&reference.to_be_bytes())?;
+    }
+    file.extend_from_slice(&[9, 8])?;
+    let table = array_offsets(alloc, items)?;
+    close(&mut file, &table, 4, 3)?;
+    Ok(file)
+}
+
+/// The places of an array of so many items, and of the two objects behind it.
+fn array_offsets(alloc: Global, items: u32) -> Result<Vec<u8>, AllocError> {
+    let place = items.saturating_mul(4).saturating_add(14);
+    let mut table = Vec::from_slice(alloc, &[0, 0, 0, 8])?;
+    table.extend_from_slice(&place.to_be_bytes())?;
+    table.extend_from_slice(&place.saturating_add(1).to_be_bytes())?;
+    Ok(table)
+}
+
 /// A dictionary of the keys `0000` to `0999` and one value, with offsets and references of two bytes.
-pub fn thousand_keys(alloc: Global) -> Result<Vec<u8>, AllocError> {
+pub(crate) fn thousand_keys(alloc: Global) -> Result<Vec<u8>, AllocError> {
     let mut file = Vec::from_slice(alloc, b"bplist00\xdf\x11\x03\xe8")?;
     for key in 1..1001u16 {
         file.extend_from_slice(&key.to_be_bytes())?;
@@ -83,7 +106,7 @@ pub fn thousand_keys(alloc: Global) -> Result<Vec<u8>, AllocError> {
 }
 
 /// Heights that fall by one from object to object.
-pub fn falling(alloc: Global, objects: u32) -> Result<Vec<u32>, AllocError> {
+pub(crate) fn falling(alloc: Global, objects: u32) -> Result<Vec<u32>, AllocError> {
     let mut heights = Vec::new(alloc);
     for n in 0..objects {
         heights.push(objects - n)?;
@@ -111,7 +134,7 @@ fn certificate_of(
 }
 
 /// The source with such a certificate. None where the check says no.
-pub fn accepted<S: Source + Drop>(
+pub(crate) fn accepted<S: Source + Drop>(
     alloc: Global,
     source: S,
     heights: &[u32],
@@ -122,7 +145,7 @@ pub fn accepted<S: Source + Drop>(
 }
 
 /// The source with such a certificate, which the check has to take.
-pub fn checked<S: Source + Drop>(
+pub(crate) fn checked<S: Source + Drop>(
     alloc: Global,
     source: S,
     heights: &[u32],

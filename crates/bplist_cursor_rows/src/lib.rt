@@ -1,4 +1,4 @@
-//! The worked rows of look-ups, faces, members, answers and sizes as tests of the cursor.
+//! The worked rows of paths, look-ups, faces, members, answers and sizes as tests of the cursor.
 //!
 //! It has no code of its own. It stands apart from the cursor so that a check of the cursor need not prove its tests.
 #![tactic(auto)]
@@ -11,5 +11,7 @@ mod calls;
 mod files;
 #[cfg(test)]
 mod nodes;
+#[cfg(test)]
+mod paths;
 #[cfg(test)]
 mod sizes;

@@ -9,7 +9,7 @@ use std::fmt::Debug;
 
 /// A call on a checked file.
 #[derive(Debug, Drop)]
-pub enum Call {
+pub(crate) enum Call {
     /// The linter, which reads the checked file as a source.
     Lint,
     Upgrade,
@@ -22,7 +22,7 @@ pub enum Call {
 }
 
 /// What a call says where its read fails.
-pub const READ_FAILED: &str = "Err(Read(Device))";
+pub(crate) const READ_FAILED: &str = "Err(Read(Device))";
 
 fn text_of<T: Debug + Drop, E: Debug + Drop>(
     alloc: Global,
@@ -62,14 +62,17 @@ fn certificate_text(alloc: Global, certificate: &Certificate) -> Result<String, 
 }
 
 /// What a checked file is: its frame and its certificate.
-pub fn checked_text<S: Source>(alloc: Global, checked: &Checked<S>) -> Result<String, AllocError> {
+pub(crate) fn checked_text<S: Source>(
+    alloc: Global,
+    checked: &Checked<S>,
+) -> Result<String, AllocError> {
     let frame = checked.frame();
     let certificate = certificate_text(alloc, checked.certificate())?;
     format!(in alloc; "{frame:?} {certificate}")
 }
 
 /// What a call on a checked file says.
-pub fn told<S: Source>(
+pub(crate) fn told<S: Source>(
     alloc: Global,
     checked: &mut Checked<S>,
     call: &Call,

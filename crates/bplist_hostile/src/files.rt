@@ -8,15 +8,15 @@ use std::test::Fail;
 
 /// A file with the name of its worked row and the bytes of a certificate for it.
 #[derive(Debug, Drop)]
-pub struct Row {
-    pub name: &'static str,
-    pub octets: Vec<u8>,
-    pub certificate: Vec<u8>,
+pub(crate) struct Row {
+    pub(crate) name: &'static str,
+    pub(crate) octets: Vec<u8>,
+    pub(crate) certificate: Vec<u8>,
 }
 
 impl Row {
     /// A file with the certificate that `lint` gives it.
-    pub fn new(alloc: Global, name: &'static str, octets: Vec<u8>) -> Result<Row, Fail> {
+    pub(crate) fn new(alloc: Global, name: &'static str, octets: Vec<u8>) -> Result<Row, Fail> {
         let lint = lint(alloc, &mut SliceSource::new(&octets)).map_err(|_| Fail::new(name))?;
         let certificate = lint.certificate.to_octets(alloc)?;
         Ok(Row {
@@ -27,7 +27,7 @@ impl Row {
     }
 
     /// The same file with its certificate of version 2.
-    pub fn sorted(self, alloc: Global) -> Result<Row, Fail> {
+    pub(crate) fn sorted(self, alloc: Global) -> Result<Row, Fail> {
         let certificate = self.sorted_certificate(alloc)?;
         Ok(Row {
             name: self.name,
@@ -43,12 +43,16 @@ impl Row {
     }
 
     /// The row's certificate.
-    pub fn certificate(&self, alloc: Global) -> Result<Certificate, CertRefusal> {
+    pub(crate) fn certificate(&self, alloc: Global) -> Result<Certificate, CertRefusal> {
         Certificate::from_octets(alloc, &self.certificate)
     }
 
     /// A source of the row's bytes, checked with the row's certificate.
-    pub fn checked<S: Source + Drop>(&self, alloc: Global, source: S) -> Result<Checked<S>, Fail> {
+    pub(crate) fn checked<S: Source + Drop>(
+        &self,
+        alloc: Global,
+        source: S,
+    ) -> Result<Checked<S>, Fail> {
         match check(alloc, source, self.certificate(alloc)?) {
             Ok(checked) => Ok(checked),
             Err(_) => Err(Fail::new(self.name)),
@@ -67,7 +71,7 @@ fn close(file: &mut Vec<u8>, table: &[u8], size: u8, objects: u64) -> Result<(),
 }
 
 /// The file of these objects, with offsets and references of one byte.
-pub fn file_of(alloc: Global, objects: &[u8], table: &[u8]) -> Result<Vec<u8>, AllocError> {
+pub(crate) fn file_of(alloc: Global, objects: &[u8], table: &[u8]) -> Result<Vec<u8>, AllocError> {
     let mut file = Vec::from_slice(alloc, b"bplist00")?;
     file.extend_from_slice(objects)?;
     close(&mut file, table, 1, table.len() as u64)?;
@@ -95,7 +99,7 @@ fn three_keys(alloc: Global) -> Result<Vec<u8>, AllocError> {
 }
 
 /// The rows on which reads are made to fail.
-pub fn tested_rows(alloc: Global) -> Result<Vec<Row>, Fail> {
+pub(crate) fn tested_rows(alloc: Global) -> Result<Vec<Row>, Fail> {
     let printable = [0xd1, 1, 2, 0x51, 0x61, 0x53, 0x62, 0x20, 0x63];
     let unprintable = [0xd1, 1, 2, 0x51, 0x61, 0x10, 5];
     let a_to_one = [0xd1, 1, 2, 0x51, 0x61, 0x10, 1];
@@ -119,7 +123,7 @@ pub fn tested_rows(alloc: Global) -> Result<Vec<Row>, Fail> {
 }
 
 /// A dictionary of the keys `0000` to `0999` and one value, with offsets and references of two bytes.
-pub fn thousand_keys(alloc: Global) -> Result<Row, Fail> {
+pub(crate) fn thousand_keys(alloc: Global) -> Result<Row, Fail> {
     let mut file = Vec::from_slice(alloc, b"bplist00\xdf\x11\x03\xe8")?;
     for key in 1..1001u16 {
         file.extend_from_slice(&key.to_be_bytes())?;

@@ -16,8 +16,6 @@ mod places;
 mod reaching;
 mod references;
 mod refusal;
-#[cfg(test)]
-mod tests;
 mod upgrade_fault;
 mod upgrading;
 

@@ -11,14 +11,10 @@ mod laws;
 mod leaf;
 mod leaf_laws;
 mod numbers;
-#[cfg(test)]
-mod reader_tests;
 mod refs;
 mod rule;
 mod scan;
 mod table;
-#[cfg(test)]
-mod tests;
 mod text;
 
 pub use body::{head_at, head_of};
