@@ -34,12 +34,13 @@ fn run<R: Files<File = File> + Input + Print>(
         let mut out = OutFile::new(rt, line.out);
         return run_over(alloc, &line.command, &file, &cert, &mut out);
     }
-    let source = FileSource::open(rt, line.file).map_err(|_| RunFault::Open)?;
-    let mut file = Window::new(source);
+    let file = FileSource::open(rt, line.file).map_err(|_| RunFault::Open)?;
+    let mut file = Window::new(file);
     let cert = input::read_certificate(rt, alloc, line)?;
     let mut out = OutFile::new(rt, line.out);
     // Look-ups go to and fro between the offset table, a dictionary and its keys.
-    run_on(alloc, &line.command, Windows::new(&mut file), &cert, &mut out).0
+    let source = Windows::new(&mut file);
+    run_on(alloc, &line.command, source, &cert, &mut out).0
 }
 
 /// Prints a fault's line, and gives the exit status.
