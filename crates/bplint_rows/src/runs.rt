@@ -24,7 +24,7 @@ pub(crate) fn plain(alloc: Global, verb: Verb) -> Command
 }
 
 /// The command `lint` of a file in hexadecimal text.
-pub fn lint_hex(alloc: Global) -> Command
+pub(crate) fn lint_hex(alloc: Global) -> Command
     ensures { PrintsOnePath result }
 {
     Command {

@@ -13,7 +13,7 @@ pub struct Short {
 }
 
 impl Short {
-    pub fn new(alloc: Global, interrupts: u64, step: usize, room: usize) -> Short {
+    pub(crate) fn new(alloc: Global, interrupts: u64, step: usize, room: usize) -> Short {
         Short {
             interrupts,
             step,

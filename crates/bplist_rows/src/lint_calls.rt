@@ -9,17 +9,17 @@ use std::alloc::Global;
 use std::test::Fail;
 
 /// What the linter says of a source.
-pub fn lint_over<S: Source>(alloc: Global, source: &mut S) -> Result<Lint, LintRefusal> {
+pub(crate) fn lint_over<S: Source>(alloc: Global, source: &mut S) -> Result<Lint, LintRefusal> {
     lint(alloc, source)
 }
 
 /// What the linter says of these bytes.
-pub fn lint_of(alloc: Global, file: &[u8]) -> Result<Lint, LintRefusal> {
+pub(crate) fn lint_of(alloc: Global, file: &[u8]) -> Result<Lint, LintRefusal> {
     lint_over(alloc, &mut SliceSource::new(file))
 }
 
 /// The certificate that the linter gives these bytes.
-pub fn certificate_of(alloc: Global, file: &[u8]) -> Result<Certificate, Fail> {
+pub(crate) fn certificate_of(alloc: Global, file: &[u8]) -> Result<Certificate, Fail> {
     match lint_of(alloc, file) {
         Ok(lint) => Ok(lint.certificate),
         Err(_) => Err(Fail::new("the linter refused")),
@@ -27,7 +27,7 @@ pub fn certificate_of(alloc: Global, file: &[u8]) -> Result<Certificate, Fail> {
 }
 
 /// The source with this certificate. None where the check says no.
-pub fn checked<S: Source + Drop>(
+pub(crate) fn checked<S: Source + Drop>(
     alloc: Global,
     source: S,
     certificate: Certificate,
@@ -36,12 +36,12 @@ pub fn checked<S: Source + Drop>(
 }
 
 /// Whether the check takes the certificate with these bytes.
-pub fn is_accepted(alloc: Global, file: &[u8], certificate: Certificate) -> bool {
+pub(crate) fn is_accepted(alloc: Global, file: &[u8], certificate: Certificate) -> bool {
     checked(alloc, SliceSource::new(file), certificate).is_some()
 }
 
 /// The certificate of version 2 of a checked file.
-pub fn upgraded<S: Source>(
+pub(crate) fn upgraded<S: Source>(
     alloc: Global,
     file: &mut Checked<S>,
 ) -> Result<Certificate, UpgradeFault> {

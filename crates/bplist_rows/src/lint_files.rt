@@ -30,7 +30,7 @@ fn close(file: &mut Vec<u8>, table: &[u8], size: u8, objects: u64) -> Result<(),
 }
 
 /// The file of these objects, with offsets and references of one byte.
-pub fn small(alloc: Global, objects: &[u8], table: &[u8]) -> Result<Vec<u8>, AllocError> {
+pub(crate) fn small(alloc: Global, objects: &[u8], table: &[u8]) -> Result<Vec<u8>, AllocError> {
     let mut file = Vec::from_slice(alloc, b"bplist00")?;
     file.extend_from_slice(objects)?;
     close(&mut file, table, 1, table.len() as u64)?;
@@ -39,7 +39,7 @@ pub fn small(alloc: Global, objects: &[u8], table: &[u8]) -> Result<Vec<u8>, All
 
 /// So many arrays, each with the next object as its member, and at last this leaf, with offsets and references of four
 /// bytes.
-pub fn chain(alloc: Global, arrays: u32, leaf: &[u8]) -> Result<Vec<u8>, AllocError> {
+pub(crate) fn chain(alloc: Global, arrays: u32, leaf: &[u8]) -> Result<Vec<u8>, AllocError> {
     let mut file = Vec::from_slice(alloc, b"bplist00")?;
     let mut table = Vec::from_slice(alloc, &8u32.to_be_bytes())?;
     for next in 1..arrays.saturating_add(1) {
@@ -54,7 +54,7 @@ pub fn chain(alloc: Global, arrays: u32, leaf: &[u8]) -> Result<Vec<u8>, AllocEr
 }
 
 /// 64 arrays, each with the next object as its member twice, and at last this leaf.
-pub fn doubling(alloc: Global, leaf: &[u8]) -> Result<Vec<u8>, AllocError> {
+pub(crate) fn doubling(alloc: Global, leaf: &[u8]) -> Result<Vec<u8>, AllocError> {
     let mut objects = Vec::new(alloc);
     let mut table = Vec::new(alloc);
     for next in 1..65u8 {
@@ -67,7 +67,7 @@ pub fn doubling(alloc: Global, leaf: &[u8]) -> Result<Vec<u8>, AllocError> {
 }
 
 /// An array with a True as its member so many times, the last of these references being the number given.
-pub fn wide(alloc: Global, members: u8, last: u8) -> Result<Vec<u8>, AllocError> {
+pub(crate) fn wide(alloc: Global, members: u8, last: u8) -> Result<Vec<u8>, AllocError> {
     let mut objects = Vec::from_slice(alloc, &[0xaf, 0x10, members])?;
     for _ in 1..members {
         objects.push(1)?;
@@ -77,7 +77,7 @@ pub fn wide(alloc: Global, members: u8, last: u8) -> Result<Vec<u8>, AllocError>
 }
 
 /// A dictionary with two keys of 70 units, of which the first ones are given.
-pub fn long_keys(alloc: Global, first: u8, second: u8) -> Result<Vec<u8>, AllocError> {
+pub(crate) fn long_keys(alloc: Global, first: u8, second: u8) -> Result<Vec<u8>, AllocError> {
     let mut objects = Vec::from_slice(alloc, &[0xd2, 1, 2, 3, 3])?;
     for start in [first, second] {
         objects.extend_from_slice(&[0x5f, 0x10, 70, start])?;

@@ -22,7 +22,7 @@ pub enum Last {
 
 impl Short {
     /// Takes `room` bytes, as many as it can at a write, and then fails.
-    pub fn with_room(alloc: Global, room: usize) -> Short {
+    pub(crate) fn with_room(alloc: Global, room: usize) -> Short {
         Short {
             interrupts: 0,
             step: room,
