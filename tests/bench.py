@@ -5,7 +5,7 @@ Times PROGRAM on large property lists and prints ratios: how many times as long 
 nothing), each the best of three runs in one go, and the peak memory of a run. Where gcc and libplist's headers are there,
 libplist's parse of the same file is timed beside it. With words, only the files whose name has one of them are timed.
 
-FILE is read through Window<FileSource>; `-` (standard input) is read whole, so that the run is over a slice.
+FILE is read through the program's windows; `-` (standard input) is read whole, so that the run is over a slice.
 """
 import os
 import pathlib
