@@ -1,12 +1,12 @@
 //! The frame of a file: the five numbers of its trailer.
 
-ghost use Rattle.std.specs.Prelude.{◌≡◌, ℕ, ◌+◌, ◌*◌, ◌^◌, ◌≤◌, ◌<◌, List, length, IsTrue, IfOk, MatchResult};
+ghost use Rattle.std.specs.Prelude.{◌≡◌, ℕ, ◌^◌, ◌≤◌, ◌<◌, List, length, IsTrue, IfOk, MatchResult};
 ghost use Rattle.bplist_octets.specs.Octets.{part, num};
 ghost use Rattle.bplist_octets.specs.Meaning.{OnlyReads};
 ghost use Rattle.bplist_objects.specs.Frame.{trailer as spelled, IsFrame};
 ghost use Rattle.bplist_objects.specs.Rules.{KeepsAll, IsFirstFault};
 ghost use Rattle.bplist_objects.specs.FrameRules.{Keeps, Breaks, IsTrailer, IsTrailerFault, IsFrameFault, number_rules};
-ghost use Rattle.bplist_objects.specs.Safe.{IsSafe, IsSafeFrame};
+ghost use Rattle.bplist_objects.specs.Safe.{IsSafeFrame};
 ghost use Rattle.bplist_objects.specs.Trailer.{told};
 ghost use Rattle.bplist_objects.specs.declared.rule.Rule.TheVariants.{Magic};
 ghost use Rattle.bplist_objects.specs.declared.frame.Frame.{Frame as frame};

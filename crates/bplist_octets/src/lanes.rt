@@ -1,6 +1,6 @@
 //! The first byte of 80 (hexadecimal) or more, by lanes.
 
-ghost use Rattle.std.specs.Prelude.{ℕ, ◌+◌, ◌<◌, ◌≤◌, length, slice_index, take, IsTrue, MatchOption};
+ghost use Rattle.std.specs.Prelude.{ℕ, ◌+◌, ◌<◌, ◌≤◌, length, slice_index, IsTrue, MatchOption};
 ghost use Rattle.bplist_octets.specs.Octets.{AreLow, IsFirstHigh};
 
 use std::simd::prelude::*;
