@@ -23,6 +23,7 @@ use bplist_octets::Source;
 /// What the marker and the count of an object say.
 #[derive(Clone, Copy, Debug, PartialEq, Eq, Drop)]
 pub struct Head {
+    /// The kind that the marker says.
     pub kind: Kind,
     /// Bytes for Int, Real, Date, Bytes, Ascii and Uid; units for Wide; members for Array and Set;
     /// pairs for Dict; 0 for Null, False and True.
