@@ -17,7 +17,7 @@ use crate::frame::{Frame, ObjectNo};
 use crate::kind::{Kind, kind_of, unit_of};
 use crate::numbers::octet_in;
 use crate::rule::Rule;
-use crate::table::{entry_place, offset_of};
+use crate::table::{entry_place, high_entry, offset_of};
 use bplist_octets::Source;
 
 /// What the marker and the count of an object say.
@@ -60,11 +60,7 @@ fn shape_by_rules<S: Source>(
         }));
     }
     if place >= frame.table {
-        return Err(ObjectFault::Fault(Fault {
-            rule: Rule::OffsetHigh,
-            object: Some(n),
-            place: entry_place(frame, n.0, src.len()),
-        }));
+        return Err(high_entry(frame, n, src.len()).into());
     }
     let marker = octet_in(src, place)?;
     let Some(kind) = kind_of(marker) else {
