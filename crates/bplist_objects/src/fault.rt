@@ -1,6 +1,6 @@
 //! Broken rules, and why a call gave no answer.
 
-ghost use Rattle.std.specs.Prelude.{◌≡◌};
+ghost use Rattle.std.specs.Prelude.{◌≡◌, Some};
 ghost use Rattle.bplist_objects.specs.declared.fault.ObjectFault.TheVariants.{Read, Fault as is_fault};
 
 use crate::frame::ObjectNo;
@@ -26,6 +26,17 @@ pub enum ObjectFault {
     Fault(Fault),
     /// A read of the source failed. Nothing is said of the file.
     Read(ReadFault),
+}
+
+/// The answer that object `n` breaks a rule at a place.
+pub(crate) fn broken(rule: Rule, n: ObjectNo, place: u64) -> ObjectFault
+    ensures { result ≡ is_fault (record { rule = rule; object = Some n; place = place }) }
+{
+    ObjectFault::Fault(Fault {
+        rule,
+        object: Some(n),
+        place,
+    })
 }
 
 impl From<ReadFault> for ObjectFault {
