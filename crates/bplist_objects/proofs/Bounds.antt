@@ -71,10 +71,3 @@ refs_within len F head frame short safe =
     let c = count_fits F head safe frame.ref_low in
     let t = frame.room in
     (omega (arith, r, t, short), omega (arith, c, t, short))
-
--- where the table begins within the first 2^32 bytes there are fewer than 2^62 of each
-pub refs_small : (F : Frame) (head : Head) → 1 ≤ F.ref_size → F.table ≤ 2 ^ 32 → IsSafeHead F head → (ref_count head.kind head.count < 2 ^ 62) × (head.count < 2 ^ 62)
-refs_small F head low table safe =
-    let r = refs_below F head safe low in
-    let c = count_fits F head safe low in
-    (omega (arith, r, table), omega (arith, c, table))

@@ -1,5 +1,5 @@
 -- Each rule is kept or broken, and so either all rules are kept or there is a first fault.
-use Rattle.std.proofs.Common.{◌≡◌, ℕ, zero, suc, ◌<◌, ◌≤◌, ◌+◌, ◌-◌, ◌*◌, ◌^◌, ◌⊎◌, inl, inr, true, false, IsTrue, List, [], ◌∷◌, length, slice_index, Option, Some, None, refl, sym, ap, ◌∙◌, subst, arith}
+use Rattle.std.proofs.Common.{◌≡◌, ℕ, ◌<◌, ◌≤◌, ◌+◌, ◌-◌, ◌*◌, ◌^◌, ◌⊎◌, inl, inr, true, false, IsTrue, List, [], ◌∷◌, length, slice_index, Option, Some, None, refl, sym, ap, ◌∙◌, subst, arith}
 use Rattle.std.proofs.lemmas.Bool.{cases_lt, cases_eq, cases_Bool}
 use Rattle.bplist_objects.specs.declared.rule.Rule.{Rule}
 use Rattle.bplist_objects.specs.declared.rule.Rule.TheVariants as rules
@@ -18,18 +18,10 @@ use Rattle.bplist_objects.specs.Announced.{Marks, IsMarker, is_counted, least_ma
 use Rattle.bplist_objects.specs.ObjectRules.{KeepsByObject, BreaksByObject, BreaksAt, IsObjectFault}
 use Rattle.bplist_objects.specs.Safe.{ref_count}
 use Rattle.bplist_objects.specs.Spelled.{kind_at, head_found}
-use Rattle.bplist_objects.proofs.Spelling.{kind_marked, found_head, head_is_found}
+use Rattle.bplist_objects.proofs.Spelling.{found_head, head_is_found}
+use Rattle.bplist_objects.proofs.Lists.{Either, all_or_first}
+use Rattle.bplist_objects.proofs.HeadLaws.{kind_marked}
 use Rattle.bplist_objects.proofs.BodyLaws.{HasHead-unique}
-
--- it is, or it is not
-abbrev Either : Type 0 → Type 0
-Either P = P ⊎ (P → ⊥)
-
-not_less : (a b : ℕ) → (a < b → ⊥) → b ≤ a
-not_less a b h = elim (cases_lt a b) [
-  | inl l ↦ absurd (h l)
-  | inr le ↦ le
-]
 
 low_or_high : (a b : ℕ) → (a ≤ b) ⊎ (b < a)
 low_or_high a b = elim (cases_lt b a) [
@@ -46,37 +38,13 @@ between a low high = elim (cases_lt a low) [
   ]
 ]
 
--- ---- the first of some numbers
--- P holds of each number below a bound, or there is a first one that it does not hold of
-abbrev AllOrFirst : (ℕ → Type 0) → ℕ → Type 0
-AllOrFirst P bound = ((k : ℕ) → k < bound → P k) ⊎ ((i : ℕ) × (i < bound) × (P i → ⊥) × ((k : ℕ) → k < i → P k))
-
-all_or_first : (P : ℕ → Type 0) → ((k : ℕ) → Either (P k)) → (bound : ℕ) → AllOrFirst P bound
-all_or_first P each zero = inl (λ k l. absurd (omega (arith, l)))
-all_or_first P each (suc bound) = go (all_or_first P each bound) (each bound)
-  where
-    last_too : ((k : ℕ) → k < bound → P k) → P bound → (k : ℕ) → k < suc bound → (k < bound) ⊎ (bound ≤ k) → P k
-    last_too all p k l (inl b) = all k b
-    last_too all p k l (inr b) = let e : bound ≡ k = omega (arith, l, b) in subst P e p
-
-    go : AllOrFirst P bound → Either (P bound) → AllOrFirst P (suc bound)
-    go (inr (i, l, not, before)) e = inr (i, omega (arith, l), not, before)
-    go (inl all) (inl p) = inl (λ k l. last_too all p k l (cases_lt k bound))
-    go (inl all) (inr not) = inr (bound, omega arith, not, all)
-
-lt_or_not : (a b : ℕ) → Either (a < b)
-lt_or_not a b = elim (cases_lt a b) [
-  | inl l ↦ inl l
-  | inr h ↦ inr (λ l. omega (arith, l, h))
-]
-
 -- numbers are below a bound, or there is a first one that is not
 below_or_first : (f : List ℕ) (place size count bound : ℕ) → AreBelow f place size count bound ⊎ ((i : ℕ) × IsFirstNotBelow f place size count bound i)
-below_or_first f place size count bound = go (all_or_first (λ k. nth_number f place size k < bound) (λ k. lt_or_not (nth_number f place size k) bound) count)
-  where
-    go : AllOrFirst (λ k. nth_number f place size k < bound) count → AreBelow f place size count bound ⊎ ((i : ℕ) × IsFirstNotBelow f place size count bound i)
-    go (inl all) = inl all
-    go (inr (i, l, not, before)) = inr (i, record { within = l; high = not_less (nth_number f place size i) bound not; before = before })
+below_or_first f place size count bound =
+    elim (all_or_first (λ k. nth_number f place size k < bound) (λ k. bound ≤ nth_number f place size k) (λ k. cases_lt (nth_number f place size k) bound) count) [
+      | inl all ↦ inl all
+      | inr first ↦ inr (first.0, record { within = first.1; high = first.2; before = first.3 })
+    ]
 
 -- ---- each rule of a list
 abbrev Decided : (Rule → Type 0) → (Rule → Option ObjectNo → ℕ → Type 0) → Type 0
@@ -127,7 +95,7 @@ module _ (f : List ℕ) (long : 41 ≤ length f) where
     | inr h ↦ inl h
   ]
   frame_rule_decided rules.TooShort = inl long
-  frame_rule_decided rules.Magic = elim (all_or_first (λ k. slice_index f k ≡ slice_index header k) (λ k. cases_eq (slice_index f k) (slice_index header k)) 8) [
+  frame_rule_decided rules.Magic = elim (all_or_first (λ k. slice_index f k ≡ slice_index header k) (λ k. slice_index f k ≡ slice_index header k → ⊥) (λ k. cases_eq (slice_index f k) (slice_index header k)) 8) [
     | inl all ↦ inl all
     | inr first ↦ inr (None, first.0, (record { within = first.1; wrong = first.2; before = first.3 }, refl))
   ]
@@ -167,14 +135,13 @@ module _ (f : List ℕ) (long : 41 ≤ length f) where
     | inl k ↦ inl k
     | inr b ↦ inr (None, length f - 26, (b.0, b.1, refl, from_end 26 (omega arith)))
   ]
-  frame_rule_decided rules.OffsetHigh = elim (all_or_first (λ n. off f F n < F.table) (λ n. lt_or_not (off f F n) F.table) F.objects) [
+  frame_rule_decided rules.OffsetHigh = elim (all_or_first (λ n. off f F n < F.table) (λ n. F.table ≤ off f F n) (λ n. cases_lt (off f F n) F.table) F.objects) [
     | inl all ↦ inl all
     | inr first ↦
-        let high : F.table ≤ off f F first.0 = not_less (off f F first.0) F.table first.2 in
         inr (
           Some (record { 0 = first.0 }),
           F.table + first.0 * F.offset_size,
-          (first.0, record { within = first.1; high = high; before = first.3 }, refl, refl),
+          (first.0, record { within = first.1; high = first.2; before = first.3 }, refl, refl),
         )
   ]
   frame_rule_decided _ = inl tt

@@ -1,10 +1,11 @@
 -- Laws of heads: at one place there is at most one, and what the rules of marker and count come to.
-use Rattle.std.proofs.Common.{◌≡◌, ◌⊎◌, ℕ, ◌+◌, ◌*◌, ◌/◌, ◌%◌, ◌^◌, ◌<◌, ◌≤◌, List, slice_index, sym, ap, ◌∙◌, arith, refl, inl, inr, cond, ltb, subst}
+use Rattle.std.proofs.Common.{◌≡◌, ◌⊎◌, ℕ, ◌+◌, ◌*◌, ◌/◌, ◌%◌, ◌^◌, ◌<◌, ◌≤◌, List, slice_index, sym, ap, ◌∙◌, arith, refl, inl, inr, subst}
 use Rattle.std.proofs.lemmas.Bool.Decides.{nat_tests}
 use Rattle.bplist_objects.specs.declared.kind.Kind.{Kind}
 use Rattle.bplist_objects.specs.declared.kind.Kind.TheVariants as kinds
 use Rattle.bplist_objects.specs.Numbers.{num_at}
 use Rattle.bplist_objects.specs.Announced.{Marks, least_marker, IsLong, HasLongCount, HasCount, Announces}
+use Rattle.bplist_objects.specs.Spelled.{kind_at}
 
 -- the upper half of a counted kind's least marker
 half : Kind → ℕ
@@ -64,30 +65,26 @@ long-Announces f place kinds.Array count body l a = long-HasCount f place kinds.
 long-Announces f place kinds.Set count body l a = long-HasCount f place kinds.Set count body (IsLong-bounds _ l).0 a
 long-Announces f place kinds.Dict count body l a = long-HasCount f place kinds.Dict count body (IsLong-bounds _ l).0 a
 
--- the kind that a marker is of, if it is one
-kind_at : ℕ → Kind
-kind_at m =
-    cond (ltb m 8) kinds.Null (cond (ltb m 9) kinds.False (cond (ltb m 16) kinds.True (cond (ltb m 32) kinds.Int (cond (ltb m 48) kinds.Real (cond (ltb m 64) kinds.Date (cond (ltb m 80) kinds.Bytes (cond (ltb m 96) kinds.Ascii (cond (ltb m 112) kinds.Wide (cond (ltb m 144) kinds.Uid (cond (ltb m 176) kinds.Array (cond (ltb m 208) kinds.Set (kinds.Dict))))))))))))
-
-kind_at-marks : (m : ℕ) (kind : Kind) → Marks m kind → kind_at m ≡ kind
+-- a marker is of the kind that is found
+pub kind_marked : (m : ℕ) (kind : Kind) → Marks m kind → kind_at m ≡ kind
 unfolding kind_at
-kind_at-marks m kinds.Null h = grind (arith, nat_tests)
-kind_at-marks m kinds.False h = grind (arith, nat_tests)
-kind_at-marks m kinds.True h = grind (arith, nat_tests)
-kind_at-marks m kinds.Int h = grind (arith, nat_tests)
-kind_at-marks m kinds.Real h = grind (arith, nat_tests)
-kind_at-marks m kinds.Date h = grind (arith, nat_tests)
-kind_at-marks m kinds.Bytes h = grind (arith, nat_tests)
-kind_at-marks m kinds.Ascii h = grind (arith, nat_tests)
-kind_at-marks m kinds.Wide h = grind (arith, nat_tests)
-kind_at-marks m kinds.Uid h = grind (arith, nat_tests)
-kind_at-marks m kinds.Array h = grind (arith, nat_tests)
-kind_at-marks m kinds.Set h = grind (arith, nat_tests)
-kind_at-marks m kinds.Dict h = grind (arith, nat_tests)
+kind_marked m kinds.Null h = grind (arith, nat_tests)
+kind_marked m kinds.False h = grind (arith, nat_tests)
+kind_marked m kinds.True h = grind (arith, nat_tests)
+kind_marked m kinds.Int h = grind (arith, nat_tests)
+kind_marked m kinds.Real h = grind (arith, nat_tests)
+kind_marked m kinds.Date h = grind (arith, nat_tests)
+kind_marked m kinds.Bytes h = grind (arith, nat_tests)
+kind_marked m kinds.Ascii h = grind (arith, nat_tests)
+kind_marked m kinds.Wide h = grind (arith, nat_tests)
+kind_marked m kinds.Uid h = grind (arith, nat_tests)
+kind_marked m kinds.Array h = grind (arith, nat_tests)
+kind_marked m kinds.Set h = grind (arith, nat_tests)
+kind_marked m kinds.Dict h = grind (arith, nat_tests)
 
 -- a marker is of one kind
 pub Marks-unique : (m : ℕ) (kind other : Kind) → Marks m kind → Marks m other → kind ≡ other
-Marks-unique m kind other h k = sym (kind_at-marks m kind h) ∙ kind_at-marks m other k
+Marks-unique m kind other h k = sym (kind_marked m kind h) ∙ kind_marked m other k
 
 marks-HasCount : (f : List ℕ) (place : ℕ) (kind : Kind) (count body : ℕ) → HasCount f place kind count body → (least_marker kind ≤ slice_index f place) × (slice_index f place ≤ least_marker kind + 15)
 marks-HasCount f place kind count body (inl h) = (omega arith, omega arith)

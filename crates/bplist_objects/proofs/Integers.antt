@@ -1,7 +1,7 @@
 -- Integers in two's complement, as bytes spell them and as the machine reads them.
 use Rattle.std.proofs.Common.{◌≡◌, ℕ, zero, suc, ◌*◌, ◌^◌, ◌<◌, ◌≤◌, ◌⊎◌, inl, inr, List, [], ◌∷◌, length, get_or, refl, ap, subst, arith, pos, ◌-ℤ◌}
 use Rattle.std.proofs.Math.Nat.{mul-le-mul_right, pow-succ'}
-use Rattle.std.proofs.lemmas.Bool.{cases_lt, lt-ltb, le-ltb, le-leb, lt-leb}
+use Rattle.std.proofs.lemmas.Bool.{cases_lt, lt-ltb, le-ltb, lt-leb}
 use Rattle.std.proofs.lemmas.Int.{ints}
 use Rattle.std.specs.Int.{cast_signed, w64, w128}
 use Rattle.bplist_octets.specs.Octets.{num}
@@ -68,9 +68,6 @@ signed_16 l e h =
       | inl c ↦ rw (c.1) (omega (arith, ints, c.0))
       | inr c ↦ rw (c.1, le-ltb (num l) (2 ^ 127) c.0) (omega (arith, ints, c.0, most, full))
     ]
-
-pub integer_short : (l : List ℕ) → length l ≤ 4 → integer l ≡ pos (num l)
-integer_short l h = rw (le-leb (length l) 4 h) refl
 
 pub integer_long : (l : List ℕ) → 4 < length l → integer l ≡ signed l
 integer_long l h = rw (lt-leb (length l) 4 h) refl

@@ -1,11 +1,11 @@
 -- What the body of a leaf means, by the kind of its head: so the calls that read leaves read the value that the definitions give.
-use Rattle.std.proofs.Common.{◌≡◌, ℕ, ◌≤◌, ◌⊎◌, inl, inr, List, Bool, true, false, ℤ, refl, arith}
+use Rattle.std.proofs.Common.{◌≡◌, ℕ, ◌≤◌, List, ℤ, refl, arith}
 use Rattle.bplist_octets.specs.Octets.{part}
 use Rattle.bplist_objects.specs.declared.frame.Frame.{Frame}
 use Rattle.bplist_objects.specs.declared.kind.Kind.{Kind}
 use Rattle.bplist_objects.specs.declared.kind.Kind.TheVariants as kinds
 use Rattle.bplist_objects.specs.Numbers.{integer, num_at}
-use Rattle.bplist_objects.specs.Value.{Leaf, null, boolean, int, real, date, bytes, text, uid}
+use Rattle.bplist_objects.specs.Value.{Leaf, int, real, date, bytes, text, uid}
 use Rattle.bplist_objects.specs.Heads.{Content, content_of, IsProperLeaf, Spells}
 use Rattle.bplist_objects.specs.Kinds.{IsLeafKind}
 use Rattle.bplist_objects.specs.Units.{IsTextKind, units_at}
@@ -16,16 +16,6 @@ module _ (f : List ℕ) (F : Frame) where
   leaf_kind kinds.Set count body l e = cc e
   leaf_kind kinds.Dict count body l e = cc e
   leaf_kind _ count body l e = tt
-
-  pub null_kind : (kind : Kind) (count body : ℕ) → Content.leaf null ≡ content_of f F kind count body → kind ≡ kinds.Null
-  null_kind kinds.Null count body e = refl
-  null_kind _ count body e = cc e
-
-  pub boolean_kind : (kind : Kind) (count body : ℕ) (b : Bool) → Content.leaf (boolean b) ≡ content_of f F kind count body
-      → ((kind ≡ kinds.False) × (b ≡ false)) ⊎ ((kind ≡ kinds.True) × (b ≡ true))
-  boolean_kind kinds.False count body b e = inl (refl, cc e)
-  boolean_kind kinds.True count body b e = inr (refl, cc e)
-  boolean_kind _ count body b e = cc e
 
   pub int_value : (kind : Kind) (count body : ℕ) (i : ℤ) → Content.leaf (int i) ≡ content_of f F kind count body
       → (kind ≡ kinds.Int) × (i ≡ integer (part f body count))

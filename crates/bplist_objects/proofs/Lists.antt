@@ -1,6 +1,7 @@
--- What holds of each member of a list.
-use Rattle.std.proofs.Common.{ℕ, suc, List, [], ◌∷◌, ◌++◌, refl, arith, Contains}
+-- What holds of each member of a list, and of each number below a bound.
+use Rattle.std.proofs.Common.{◌≡◌, ℕ, zero, suc, ◌<◌, ◌⊎◌, inl, inr, List, [], ◌∷◌, ◌++◌, refl, subst, arith, Contains}
 use Rattle.std.specs.List.{AllByRecursion}
+use Rattle.std.proofs.lemmas.Bool.{cases_lt}
 use Rattle.std.proofs.lemmas.List.Elements.{All-from_recursion, All-contains}
 
 pub all_weaker : {X : Type 0} (P Q : X → Type 0) → ((x : X) → P x → Q x) → (xs : List X) → AllByRecursion P xs → AllByRecursion Q xs
@@ -30,3 +31,28 @@ all_from P (x ∷ xs) h = (h x (0, omega arith, refl), all_from P xs (λ y c. h 
 -- the empty list contains nothing
 pub none_in : {X : Type 0} (x : X) → Contains [] x → ⊥
 none_in x c = omega (arith, c.1)
+
+-- it is, or it is not
+abbrev pub Either : Type 0 → Type 0
+Either P = P ⊎ (P → ⊥)
+
+-- P holds of each number below a bound, or there is a first one that B holds of
+abbrev pub AllOrFirst : (ℕ → Type 0) → (ℕ → Type 0) → ℕ → Type 0
+AllOrFirst P B bound = ((k : ℕ) → k < bound → P k) ⊎ ((i : ℕ) × (i < bound) × B i × ((k : ℕ) → k < i → P k))
+
+-- what holds of each number below a bound and of the bound holds of each number up to it
+pub last_too : (P : ℕ → Type 0) (bound : ℕ) → ((k : ℕ) → k < bound → P k) → P bound → (k : ℕ) → k < suc bound → P k
+last_too P bound all p k l = elim (cases_lt k bound) [
+  | inl b ↦ all k b
+  | inr b ↦ let e : bound ≡ k = omega (arith, l, b) in subst P e p
+]
+
+-- where it is known of each number which of the two holds, it is known of all
+pub all_or_first : (P B : ℕ → Type 0) → ((k : ℕ) → P k ⊎ B k) → (bound : ℕ) → AllOrFirst P B bound
+all_or_first P B each zero = inl (λ k l. absurd (omega (arith, l)))
+all_or_first P B each (suc bound) = go (all_or_first P B each bound) (each bound)
+  where
+    go : AllOrFirst P B bound → P bound ⊎ B bound → AllOrFirst P B (suc bound)
+    go (inr (i, l, b, before)) e = inr (i, omega (arith, l), b, before)
+    go (inl all) (inl p) = inl (last_too P bound all p)
+    go (inl all) (inr b) = inr (bound, omega arith, b, all)

@@ -36,32 +36,15 @@ module _ (f : List ℕ) (F : Frame) where
   reach_within t n top = t
   reach_within t n (next {n = k} r e) = refs_within k n e
 
-  -- a chain leads on among what is reached
-  pub reach_chain : (n m : ℕ) → Reach f F n → Chain f F n m → Reach f F m
-  reach_chain n m r (last e) = next r e
-  reach_chain n m r (more {m = k} e c) = reach_chain k m (next r e) c
-
   -- chains one behind the other
   pub chain_append : (n m k : ℕ) → Chain f F n m → Chain f F m k → Chain f F n k
   chain_append n m k (last e) d = more e d
   chain_append n m k (more {m = j} e c) d = more e (chain_append j m k c d)
 
   -- ---- what is founded
-  -- a founded object spells a content
-  pub founded_spells : (n : ℕ) → Founded f F n → (c : Content) × Spells f F n c
-  founded_spells n (founded c s each) = (c, s)
-
   -- what a founded object refers to is founded
   pub founded_refs : (n m : ℕ) → Founded f F n → Refs f F n m → Founded f F m
   founded_refs n m (founded c s each) r = each m (subst (λ d. Contains (refs d) m) (one_head f F n r.0 c r.1 s) r.2)
-
-  pub founded_chain : (n m : ℕ) → Founded f F n → Chain f F n m → Founded f F m
-  founded_chain n m w (last e) = founded_refs n m w e
-  founded_chain n m w (more {m = k} e c) = founded_chain k m (founded_refs n k w e) c
-
-  -- what refers to founded objects alone is founded
-  pub founded_from : (n : ℕ) (c : Content) → Spells f F n c → ((m : ℕ) → Contains (refs c) m → Founded f F m) → Founded f F n
-  founded_from n c s each = founded c s each
 
   -- no founded object is on a circle
   pub founded_no_circle : (n : ℕ) → Founded f F n → Chain f F n n → ⊥

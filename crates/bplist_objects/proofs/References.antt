@@ -1,11 +1,10 @@
 -- The references of an object by index: reference i is the number i of those that stand in the body.
-use Rattle.std.proofs.Common.{◌≡◌, ℕ, zero, suc, ◌<◌, ◌≤◌, ◌+◌, ◌-◌, ◌*◌, ◌⊎◌, inl, inr, List, length, slice_index, refl, sym, ap, ◌∙◌, subst, arith, Contains, length-append}
+use Rattle.std.proofs.Common.{◌≡◌, ℕ, zero, suc, ◌<◌, ◌≤◌, ◌+◌, ◌-◌, ◌*◌, ◌⊎◌, inl, inr, List, length, slice_index, refl, sym, ap, ◌∙◌, subst, arith, length-append}
 use Rattle.std.specs.List.{AllByRecursion}
 use Rattle.std.proofs.Math.Nat.{add-mul}
 use Rattle.std.proofs.lemmas.Bool.{cases_lt}
 use Rattle.std.proofs.lemmas.List.{get_or_append_left, get_or-append_right}
-use Rattle.std.proofs.lemmas.List.Elements.{recursion_from_All, All-from_get_or, All-from_recursion, All-get_or, Contains-get_or}
-use Rattle.std.proofs.lemmas.Grind.{get_or_default_zero}
+use Rattle.std.proofs.lemmas.List.Elements.{recursion_from_All, All-from_get_or, All-from_recursion, All-get_or}
 use Rattle.bplist_objects.specs.declared.frame.Frame.{Frame}
 use Rattle.bplist_objects.specs.declared.kind.Kind.{Kind}
 use Rattle.bplist_objects.specs.declared.kind.Kind.TheVariants as kinds
@@ -77,19 +76,6 @@ module _ (f : List ℕ) (F : Frame) where
         let len = length-refs kind count body in
         subst P (nth-refs kind count body i l) (All-get_or P _ i 0 (omega (arith, l, len)) (All-from_recursion P _ a))
 
-  -- a number of the body is among the references
-  pub among_refs : (kind : Kind) (count body i : ℕ) → i < ref_count kind count → Contains (refs (content_of f F kind count body)) (nth_number f body F.ref_size i)
-  among_refs kind count body i l =
-      let len = length-refs kind count body in
-      subst (Contains (refs (content_of f F kind count body))) (nth-refs kind count body i l) (Contains-get_or _ i 0 (omega (arith, l, len)))
-
-  -- what is among the references is a number of the body
-  pub number_of_ref : (kind : Kind) (count body m : ℕ) → Contains (refs (content_of f F kind count body)) m → (i : ℕ) × (i < ref_count kind count) × (m ≡ nth_number f body F.ref_size i)
-  number_of_ref kind count body m (i, l, e) =
-      let len = length-refs kind count body in
-      let i1 : i < ref_count kind count = omega (arith, l, len) in
-      (i, i1, sym e ∙ get_or_default_zero _ i m l ∙ nth-refs kind count body i i1)
-
   -- ---- a dictionary: the references of its keys, and then as many of its values
   -- a content that is a dictionary is that of a dictionary's body
   pub dict_parts : (kind : Kind) (count body : ℕ) (ks ms : List ℕ) → Content.dict ks ms ≡ content_of f F kind count body
@@ -102,16 +88,3 @@ module _ (f : List ℕ) (F : Frame) where
   as_many kind count body ks ms e =
       let parts = dict_parts kind count body ks ms e in
       (ap length parts.1 ∙ length-nums_at f body F.ref_size count, ap length parts.2 ∙ length-nums_at f (body + count * F.ref_size) F.ref_size count)
-
-  -- value i is number count + i of the body
-  pub nth-values : (body count i : ℕ) → i < count → slice_index (nums_at f (body + count * F.ref_size) F.ref_size count) i ≡ nth_number f body F.ref_size (count + i)
-  nth-values body count i l =
-      let e : body + count * F.ref_size + i * F.ref_size ≡ body + (count + i) * F.ref_size = omega (arith, add-mul count i F.ref_size) in
-      nth-nums_at f (body + count * F.ref_size) F.ref_size count i l ∙ ap (λ p. num_at f p F.ref_size) e
-
-  -- key i and value i of a dictionary by index
-  pub nth-pair : (kind : Kind) (count body : ℕ) (ks ms : List ℕ) → Content.dict ks ms ≡ content_of f F kind count body → (i : ℕ) → i < count
-      → (slice_index ks i ≡ nth_number f body F.ref_size i) × (slice_index ms i ≡ nth_number f body F.ref_size (count + i))
-  nth-pair kind count body ks ms e i l =
-      let parts = dict_parts kind count body ks ms e in
-      (ap (λ xs. slice_index xs i) parts.1 ∙ nth-nums_at f body F.ref_size count i l, ap (λ xs. slice_index xs i) parts.2 ∙ nth-values body count i l)

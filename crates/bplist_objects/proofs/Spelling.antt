@@ -12,29 +12,12 @@ use Rattle.bplist_objects.specs.Numbers.{num_at}
 use Rattle.bplist_objects.specs.Frame.{off}
 use Rattle.bplist_octets.specs.Octets.{part}
 use Rattle.bplist_objects.specs.Heads.{Content, refs, content_at, IsProperLeaf, Spells}
-use Rattle.bplist_objects.specs.Announced.{Marks, least_marker, HasCount, Announces, HasHead}
+use Rattle.bplist_objects.specs.Announced.{least_marker, HasCount, Announces, HasHead}
 use Rattle.bplist_objects.specs.Spelled.{kind_at, is_counted_marker, is_marked, count_at, body_at, head_like, head_found, is_proper, is_spelled, content_found, spelled_at}
-use Rattle.bplist_objects.proofs.HeadLaws.{marks-Announces}
+use Rattle.bplist_objects.proofs.HeadLaws.{kind_marked, marks-Announces}
 use Rattle.bplist_objects.proofs.BodyLaws.{HasHead-unique}
 use Rattle.bplist_objects.proofs.Announcing.{fronted, announced_long}
 use Rattle.bplist_objects.proofs.Ties.{shape_announced}
-
--- a marker is of the kind that is found
-pub kind_marked : (m : ℕ) (kind : Kind) → Marks m kind → kind_at m ≡ kind
-unfolding kind_at
-kind_marked m kinds.Null h = grind (arith, nat_tests)
-kind_marked m kinds.False h = grind (arith, nat_tests)
-kind_marked m kinds.True h = grind (arith, nat_tests)
-kind_marked m kinds.Int h = grind (arith, nat_tests)
-kind_marked m kinds.Real h = grind (arith, nat_tests)
-kind_marked m kinds.Date h = grind (arith, nat_tests)
-kind_marked m kinds.Bytes h = grind (arith, nat_tests)
-kind_marked m kinds.Ascii h = grind (arith, nat_tests)
-kind_marked m kinds.Wide h = grind (arith, nat_tests)
-kind_marked m kinds.Uid h = grind (arith, nat_tests)
-kind_marked m kinds.Array h = grind (arith, nat_tests)
-kind_marked m kinds.Set h = grind (arith, nat_tests)
-kind_marked m kinds.Dict h = grind (arith, nat_tests)
 
 -- a test of two numbers
 le_decides : (a b : ℕ) → Decides (nat_le a b) (a ≤ b)

@@ -3,7 +3,7 @@ use Rattle.std.specs.Prelude.{◌≡◌, ◌⊎◌, ℕ, ◌+◌, ◌-◌, ◌*�
 use Rattle.bplist_objects.specs.declared.frame.Frame.{Frame}
 use Rattle.bplist_objects.specs.Numbers.{num_at}
 
--- `bplist00`
+-- the eight bytes of `bplist00`
 abbrev pub header : List ℕ
 header = 98 ∷ 112 ∷ 108 ∷ 105 ∷ 115 ∷ 116 ∷ 48 ∷ 48 ∷ []
 
@@ -21,7 +21,7 @@ trailer f = record {
 abbrev pub off : List ℕ → Frame → ℕ → ℕ
 off f F n = num_at f (F.table + n * F.offset_size) F.offset_size
 
--- F is the frame of f: none of rules 1 to 13 is broken
+-- F is the trailer's five numbers, and none of rules 1 to 13 is broken; one field a rule
 pub record IsFrame (f : List ℕ) (F : Frame) : Type 0 where
   pub large : length f ≤ 4294967295
   pub short : 41 ≤ length f

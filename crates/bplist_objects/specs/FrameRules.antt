@@ -1,6 +1,6 @@
 -- The rules 1 to 13 of a file as a whole: how each is kept, and how it is broken and where. Source: the format comment of
 -- CFBinaryPList.c; the limits of rules 1, 8 and 9, all words, places and the order are profile.
-use Rattle.std.specs.Prelude.{◌≡◌, ◌≢◌, ◌⊎◌, ℕ, ◌+◌, ◌-◌, ◌*◌, ◌^◌, ◌<◌, ◌≤◌, List, [], ◌∷◌, length, slice_index, Option, Some, None}
+use Rattle.std.specs.Prelude.{◌≡◌, ◌≢◌, ◌⊎◌, ℕ, ◌+◌, ◌-◌, ◌*◌, ◌^◌, ◌<◌, ◌≤◌, List, [], ◌∷◌, ◌++◌, length, slice_index, Option, Some, None}
 use Rattle.bplist_objects.specs.declared.rule.Rule.{Rule}
 use Rattle.bplist_objects.specs.declared.rule.Rule.TheVariants.{TooLarge, TooShort, Magic, NoObjects, Top, TableEarly, TableLate, OffsetSize, RefSize, Length, RefNarrow, OffsetNarrow, OffsetHigh}
 use Rattle.bplist_objects.specs.declared.fault.Fault.{Fault}
@@ -30,22 +30,18 @@ pub record IsFirstWrong (f : List ℕ) (place : ℕ) : Type 0 where
   pub wrong : slice_index f place ≢ slice_index header place
   pub before : (i : ℕ) → i < place → slice_index f i ≡ slice_index header i
 
--- the rules of a file as a whole, in their order
-abbrev pub frame_rules : List Rule
-frame_rules =
-    TooLarge ∷ TooShort ∷ Magic ∷ NoObjects ∷ Top ∷ TableEarly ∷ TableLate ∷ OffsetSize ∷ RefSize ∷ Length ∷ RefNarrow
-    ∷ OffsetNarrow ∷ OffsetHigh ∷ []
-
--- those of them for which no entry of the offset table is read
-abbrev pub trailer_rules : List Rule
-trailer_rules =
-    TooLarge ∷ TooShort ∷ Magic ∷ NoObjects ∷ Top ∷ TableEarly ∷ TableLate ∷ OffsetSize ∷ RefSize ∷ Length ∷ RefNarrow
-    ∷ OffsetNarrow ∷ []
-
--- those of them that speak of the trailer's numbers and the length alone
+-- the rules that speak of the trailer's numbers and the length alone, in their order
 abbrev pub number_rules : List Rule
 number_rules =
     NoObjects ∷ Top ∷ TableEarly ∷ TableLate ∷ OffsetSize ∷ RefSize ∷ Length ∷ RefNarrow ∷ OffsetNarrow ∷ []
+
+-- the rules of a file as a whole for which no entry of the offset table is read, in their order
+abbrev pub trailer_rules : List Rule
+trailer_rules = TooLarge ∷ TooShort ∷ Magic ∷ number_rules
+
+-- the rules of a file as a whole, in their order
+abbrev pub frame_rules : List Rule
+frame_rules = trailer_rules ++ OffsetHigh ∷ []
 
 -- a file keeps a rule of the file as a whole
 abbrev pub Keeps : List ℕ → Rule → Type 0

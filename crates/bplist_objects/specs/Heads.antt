@@ -16,7 +16,7 @@ IsCount high count front =
     ((count < 15) × (front ≡ (16 * high + count) ∷ []))
     ⊎ ((w : ℕ) × (l : List ℕ) × (w ≤ 4) × (length l ≡ 2 ^ w) × (num l ≡ count) × (front ≡ (16 * high + 15) ∷ (16 + w) ∷ l))
 
--- what stands before the body: the marker, and the count where the marker does not hold it
+-- what stands before the body of an object of a kind: the marker, and the count where the marker does not hold it
 abbrev pub IsFront : Kind → ℕ → List ℕ → Type 0
 IsFront kinds.Null count front = (count ≡ 0) × (front ≡ 0 ∷ [])
 IsFront kinds.False count front = (count ≡ 0) × (front ≡ 8 ∷ [])
@@ -40,14 +40,14 @@ unit ref_size kinds.Set = ref_size
 unit ref_size kinds.Dict = 2 * ref_size
 unit ref_size _ = 1
 
--- what an object spells: a leaf, or a container with its references
+-- what an object spells: a leaf, or a container with the numbers of the objects that it refers to
 pub data Content : Type 0 where
   leaf : Leaf → Content
   array : List ℕ → Content
   set : List ℕ → Content
   dict : (keys values : List ℕ) → Content
 
--- the references of an object, in the order in which they are written
+-- these numbers in written order; of a dictionary the keys' first, then the values'
 abbrev pub refs : Content → List ℕ
 refs (leaf l) = []
 refs (array ms) = ms
@@ -55,7 +55,7 @@ refs (set ms) = ms
 refs (dict ks ms) = ks ++ ms
 
 module _ (f : List ℕ) (F : Frame) where
-  -- marker and count of object n say this head, and all of it lies before the table: none of rules 14 to 17 is broken
+  -- marker and count of object n say this head, and all of it lies from place 8 on and before the table: rules 14 to 17
   pub record HasShape (n : ℕ) (head : Head) : Type 0 where
     pub front : List ℕ
     pub rest : List ℕ
@@ -92,7 +92,8 @@ module _ (f : List ℕ) (F : Frame) where
   IsProperLeaf kinds.Uid count body = num_at f body count ≤ 4294967295
   IsProperLeaf _ count body = ⊤
 
-  -- object n spells this content: none of rules 14 to 20 is broken
+  -- object n spells this content: it has a head, its leaf is proper, the content is what the body means, and each reference
+  -- names an object: rules 14 to 20
   pub record Spells (n : ℕ) (content : Content) : Type 0 where
     pub shape : Head
     pub has : HasShape n shape

@@ -5,13 +5,14 @@ use Rattle.bplist_objects.specs.declared.frame.Frame.{Frame}
 use Rattle.bplist_objects.specs.Value.{Value, leaf, array, set, dict, Values, no_values, value, Pairs, no_pairs, pair, keys, text}
 use Rattle.bplist_objects.specs.Heads.{Content, Spells}
 
--- no two are the same
+-- no two keys have the same units
 abbrev pub AreDistinct : List (List ℕ) → Type 0
 AreDistinct xs = AllPairs (λ x y. x ≢ y) xs
 
 module _ (f : List ℕ) (F : Frame) where
   abbrev mutual
-    -- object n holds this value
+    -- object n holds this value, by induction on the value: a leaf is spelled, members are held by the objects that are
+    -- referred to, keys are texts and differ
     pub Holds : ℕ → Value → Type 0
     Holds n (leaf l) = Spells f F n (Content.leaf l)
     Holds n (array vs) = (ms : List ℕ) × Spells f F n (Content.array ms) × HoldEach ms vs

@@ -2,11 +2,11 @@
 use Rattle.std.specs.Prelude.{ℕ, zero, suc, ◌+◌, ◌^◌, List, [], ◌∷◌, length, slice_index, nat_lt, nat_le, if◌then◌else◌, ℤ, pos, ◌-ℤ◌}
 use Rattle.bplist_octets.specs.Octets.{part, num}
 
--- the number in two's complement
+-- the number that bytes spell in two's complement
 abbrev pub signed : List ℕ → ℤ
 signed l = if nat_lt (slice_index l 0) 128 then pos (num l) else pos (num l) -ℤ pos (256 ^ length l)
 
--- the integer of 1, 2 or 4 bytes, which is unsigned, or of 8 or 16 bytes, which is not
+-- the number of an integer object: 1, 2 and 4 bytes without a sign, 8 and 16 in two's complement
 abbrev pub integer : List ℕ → ℤ
 integer l = if nat_le (length l) 4 then pos (num l) else signed l
 

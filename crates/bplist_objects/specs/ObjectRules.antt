@@ -1,6 +1,6 @@
 -- The rules 14 to 20 of an object by itself: how each is kept, and how it is broken and where. Source: the format comment of
 -- CFBinaryPList.c; all words, places and the order are profile.
-use Rattle.std.specs.Prelude.{◌≡◌, ◌⊎◌, ℕ, ◌+◌, ◌*◌, ◌<◌, ◌≤◌, List, [], ◌∷◌, slice_index, Option, Some}
+use Rattle.std.specs.Prelude.{◌≡◌, ◌⊎◌, ℕ, ◌+◌, ◌*◌, ◌<◌, ◌≤◌, List, [], ◌∷◌, ◌++◌, slice_index, Option, Some}
 use Rattle.bplist_objects.specs.declared.rule.Rule.{Rule}
 use Rattle.bplist_objects.specs.declared.rule.Rule.TheVariants.{OffsetLow, Marker, Count, Extent, NotAscii, UidLarge, RefHigh}
 use Rattle.bplist_objects.specs.declared.fault.Fault.{Fault}
@@ -25,7 +25,7 @@ body_rules = NotAscii ∷ UidLarge ∷ RefHigh ∷ []
 
 -- the rules of an object by itself, in their order
 abbrev pub object_rules : List Rule
-object_rules = OffsetLow ∷ Marker ∷ Count ∷ Extent ∷ NotAscii ∷ UidLarge ∷ RefHigh ∷ []
+object_rules = shape_rules ++ body_rules
 
 -- object n keeps a rule
 abbrev pub KeepsByObject : List ℕ → Frame → ℕ → Rule → Type 0

@@ -13,7 +13,7 @@ ghost use Rattle.bplist_objects.specs.Heads.{Content, content_at, Spells, IsHead
 ghost use Rattle.bplist_objects.specs.ObjectRules.{KeepsByObject, IsObjectFault, body_rules, object_rules};
 ghost use Rattle.bplist_objects.specs.Bodies.{IsAsciiFault, IsUidFault, IsRefFault};
 
-use crate::fault::{Fault, ObjectFault};
+use crate::fault::{ObjectFault, broken};
 use crate::frame::{Frame, ObjectNo};
 use crate::head::{Head, shape_at};
 use crate::kind::Kind;
@@ -35,11 +35,7 @@ fn check_ascii<S: Source>(src: &mut S, n: ObjectNo, head: &Head) -> Result<(), O
     let _len = src.len();
     match first_high_in(src, head.body, head.count)? {
         None => Ok(()),
-        Some(i) => Err(ObjectFault::Fault(Fault {
-            rule: Rule::NotAscii,
-            object: Some(n),
-            place: head.body + i,
-        })),
+        Some(i) => Err(broken(Rule::NotAscii, n, head.body + i)),
     }
 }
 
@@ -61,11 +57,7 @@ fn check_uid<S: Source>(
     if wide_in(src, head.body, head.count as u8)? <= 4294967295 {
         Ok(())
     } else {
-        Err(ObjectFault::Fault(Fault {
-            rule: Rule::UidLarge,
-            object: Some(n),
-            place,
-        }))
+        Err(broken(Rule::UidLarge, n, place))
     }
 }
 
@@ -91,11 +83,7 @@ fn check_refs<S: Source>(
     let refs = refs_of(head);
     match first_not_below(src, head.body, frame.ref_size, refs, frame.objects as u64)? {
         None => Ok(()),
-        Some(i) => Err(ObjectFault::Fault(Fault {
-            rule: Rule::RefHigh,
-            object: Some(n),
-            place: head.body + i * frame.ref_size as u64,
-        })),
+        Some(i) => Err(broken(Rule::RefHigh, n, head.body + i * frame.ref_size as u64)),
     }
 }
 

@@ -7,7 +7,7 @@ ghost use Rattle.bplist_objects.specs.Announced.{Marks, is_counted, HasLongCount
 ghost use Rattle.bplist_objects.specs.Safe.{MayCount};
 ghost use Rattle.bplist_objects.specs.Counts.{IsLongCountFault, IsCountFault};
 
-use crate::fault::{Fault, ObjectFault};
+use crate::fault::{ObjectFault, broken};
 use crate::frame::ObjectNo;
 use crate::kind::Kind;
 use crate::numbers::{octet_in, wide_in};
@@ -46,27 +46,15 @@ fn long_count<S: Source>(
     ensures safe { IfOk result (λ found. (place < found.1) × (found.1 ≤ table)) }
 {
     if table - place <= 1 {
-        return Err(ObjectFault::Fault(Fault {
-            rule: Rule::Extent,
-            object: Some(n),
-            place,
-        }));
+        return Err(broken(Rule::Extent, n, place));
     }
     let form = octet_in(src, place + 1)?;
     if form < 0x10 || form > 0x14 {
-        return Err(ObjectFault::Fault(Fault {
-            rule: Rule::Count,
-            object: Some(n),
-            place: place + 1,
-        }));
+        return Err(broken(Rule::Count, n, place + 1));
     }
     let size = power_of_2(form - 0x10);
     if table - place - 2 < size as u64 {
-        return Err(ObjectFault::Fault(Fault {
-            rule: Rule::Extent,
-            object: Some(n),
-            place,
-        }));
+        return Err(broken(Rule::Extent, n, place));
     }
     let count = wide_in(src, place + 2, size)?;
     Ok((count, place + 2 + size as u64))

@@ -1,12 +1,12 @@
 //! The frame of a file: the five numbers of its trailer.
 
-ghost use Rattle.std.specs.Prelude.{◌≡◌, ℕ, ◌+◌, ◌*◌, ◌^◌, ◌≤◌, ◌<◌, List, length, IsTrue, IfOk, MatchResult};
+ghost use Rattle.std.specs.Prelude.{◌≡◌, ℕ, ◌^◌, ◌≤◌, ◌<◌, List, length, IsTrue, IfOk, MatchResult};
 ghost use Rattle.bplist_octets.specs.Octets.{part, num};
 ghost use Rattle.bplist_octets.specs.Meaning.{OnlyReads};
 ghost use Rattle.bplist_objects.specs.Frame.{trailer as spelled, IsFrame};
 ghost use Rattle.bplist_objects.specs.Rules.{KeepsAll, IsFirstFault};
 ghost use Rattle.bplist_objects.specs.FrameRules.{Keeps, Breaks, IsTrailer, IsTrailerFault, IsFrameFault, number_rules};
-ghost use Rattle.bplist_objects.specs.Safe.{IsSafe, IsSafeFrame};
+ghost use Rattle.bplist_objects.specs.Safe.{IsSafeFrame};
 ghost use Rattle.bplist_objects.specs.Trailer.{told};
 ghost use Rattle.bplist_objects.specs.declared.rule.Rule.TheVariants.{Magic};
 ghost use Rattle.bplist_objects.specs.declared.frame.Frame.{Frame as frame};
@@ -113,48 +113,41 @@ fn frame_by(trailer: &Trailer, len: u64) -> Result<Frame, Fault>
         (IsFirstFault (Keeps f) (Breaks f) number_rules) }
     ensures safe { IfOk result (IsSafeFrame len) }
 {
-    let Trailer {
-        offset_size,
-        ref_size,
-        objects,
-        top,
-        table,
-    } = *trailer;
-    if objects < 1 {
+    if trailer.objects < 1 {
         return Err(fault_at(Rule::NoObjects, len - 24));
     }
-    if objects <= top {
+    if trailer.objects <= trailer.top {
         return Err(fault_at(Rule::Top, len - 16));
     }
-    if table < 9 {
+    if trailer.table < 9 {
         return Err(fault_at(Rule::TableEarly, len - 8));
     }
-    if len - 32 <= table {
+    if len - 32 <= trailer.table {
         return Err(fault_at(Rule::TableLate, len - 8));
     }
-    if offset_size < 1 || offset_size > 8 {
+    if trailer.offset_size < 1 || trailer.offset_size > 8 {
         return Err(fault_at(Rule::OffsetSize, len - 26));
     }
-    if ref_size < 1 || ref_size > 8 {
+    if trailer.ref_size < 1 || trailer.ref_size > 8 {
         return Err(fault_at(Rule::RefSize, len - 25));
     }
-    let room = len - 32 - table;
+    let room = len - 32 - trailer.table;
     // Each entry has a byte at least. With no more objects than bytes the product is far below 2^64.
-    if objects > room || objects * offset_size as u64 != room {
+    if trailer.objects > room || trailer.objects * trailer.offset_size as u64 != room {
         return Err(fault_at(Rule::Length, len - 32));
     }
-    if ref_size < 8 && power_of_256(ref_size) <= objects {
+    if trailer.ref_size < 8 && power_of_256(trailer.ref_size) <= trailer.objects {
         return Err(fault_at(Rule::RefNarrow, len - 25));
     }
-    if offset_size < 8 && power_of_256(offset_size) <= table {
+    if trailer.offset_size < 8 && power_of_256(trailer.offset_size) <= trailer.table {
         return Err(fault_at(Rule::OffsetNarrow, len - 26));
     }
     Ok(Frame {
-        offset_size,
-        ref_size,
-        objects: objects as u32,
-        top: ObjectNo(top as u32),
-        table,
+        offset_size: trailer.offset_size,
+        ref_size: trailer.ref_size,
+        objects: trailer.objects as u32,
+        top: ObjectNo(trailer.top as u32),
+        table: trailer.table,
     })
 }
 

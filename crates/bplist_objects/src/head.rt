@@ -1,6 +1,6 @@
 //! The heads of objects: what marker and count say.
 
-ghost use Rattle.std.specs.Prelude.{◌≡◌, ℕ, ◌+◌, ◌*◌, ◌≤◌, ◌<◌, IsTrue, IfOk, length};
+ghost use Rattle.std.specs.Prelude.{◌≡◌, ◌<◌, IsTrue, IfOk, length};
 ghost use Rattle.bplist_octets.specs.Meaning.{OnlyReads};
 ghost use Rattle.bplist_objects.specs.Frame.{off, IsFrame};
 ghost use Rattle.bplist_objects.specs.Safe.{IsSafe, IsSafeHead};
@@ -12,17 +12,18 @@ ghost use Rattle.bplist_objects.specs.declared.head.Head.{Head as head};
 ghost use Rattle.bplist_objects.specs.ObjectRules.{KeepsByObject, IsObjectFault, shape_rules};
 
 use crate::count::count_of;
-use crate::fault::{Fault, ObjectFault};
+use crate::fault::{ObjectFault, broken};
 use crate::frame::{Frame, ObjectNo};
 use crate::kind::{Kind, kind_of, unit_of};
 use crate::numbers::octet_in;
 use crate::rule::Rule;
-use crate::table::{entry_place, offset_of};
+use crate::table::{entry_place, high_entry, offset_of};
 use bplist_octets::Source;
 
 /// What the marker and the count of an object say.
 #[derive(Clone, Copy, Debug, PartialEq, Eq, Drop)]
 pub struct Head {
+    /// The kind that the marker says.
     pub kind: Kind,
     /// Bytes for Int, Real, Date, Bytes, Ascii and Uid; units for Wide; members for Array and Set;
     /// pairs for Dict; 0 for Null, False and True.
@@ -52,37 +53,21 @@ fn shape_by_rules<S: Source>(
     ensures behind { IfOk result (λ head. place < head.body) }
 {
     if place < 8 {
-        return Err(ObjectFault::Fault(Fault {
-            rule: Rule::OffsetLow,
-            object: Some(n),
-            place: entry_place(frame, n.0, src.len()),
-        }));
+        return Err(broken(Rule::OffsetLow, n, entry_place(frame, n.0, src.len())));
     }
     if place >= frame.table {
-        return Err(ObjectFault::Fault(Fault {
-            rule: Rule::OffsetHigh,
-            object: Some(n),
-            place: entry_place(frame, n.0, src.len()),
-        }));
+        return Err(high_entry(frame, n, src.len()).into());
     }
     let marker = octet_in(src, place)?;
     let Some(kind) = kind_of(marker) else {
-        return Err(ObjectFault::Fault(Fault {
-            rule: Rule::Marker,
-            object: Some(n),
-            place,
-        }));
+        return Err(broken(Rule::Marker, n, place));
     };
     let (count, body) = count_of(src, frame.table, place, n, kind, marker)?;
     let unit = unit_of(kind, frame.ref_size);
     let room = (frame.table - body) as u128;
     // A count of up to 16 bytes is compared before it is multiplied, so that the product is exact.
     if count > room || count * unit as u128 > room {
-        return Err(ObjectFault::Fault(Fault {
-            rule: Rule::Extent,
-            object: Some(n),
-            place,
-        }));
+        return Err(broken(Rule::Extent, n, place));
     }
     let count = count as u64;
     Ok(Head {

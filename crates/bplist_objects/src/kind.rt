@@ -7,18 +7,31 @@ ghost use Rattle.bplist_objects.specs.Heads.{unit};
 /// The kind of an object.
 #[derive(Clone, Copy, Debug, PartialEq, Eq, Drop)]
 pub enum Kind {
+    /// No value.
     Null,
+    /// The truth value false.
     False,
+    /// The truth value true.
     True,
+    /// An integer of 1, 2, 4, 8 or 16 bytes.
     Int,
+    /// A floating-point number of 4 or 8 bytes.
     Real,
+    /// A date: a floating-point number of 8 bytes.
     Date,
+    /// Data: bytes as they are.
     Bytes,
+    /// A text of units of one byte each; by rule 18 all are below 128.
     Ascii,
+    /// A text of UTF-16 units of two bytes each.
     Wide,
+    /// A UID: a number of 1 to 16 bytes; by rule 19 it is at most 4294967295.
     Uid,
+    /// An array: references to its members.
     Array,
+    /// A set: references to its members.
     Set,
+    /// A dictionary: references to its keys, and then as many to its values.
     Dict,
 }
 

@@ -1,6 +1,6 @@
 //! Laws of leaves and of the order of units: each is the contract of a function that does nothing.
 
-ghost use Rattle.std.specs.Prelude.{◌≡◌, ◌↔◌, ◌⊎◌, ℕ, ◌≤◌, List, ℤ, length};
+ghost use Rattle.std.specs.Prelude.{◌≡◌, ◌↔◌, ℕ, ◌≤◌, List, ℤ};
 ghost use Rattle.std.specs.declared.cmp.Ordering.TheVariants.{Less, Equal};
 ghost use Rattle.std.specs.Ordering.{ordering_reverse};
 ghost use Rattle.bplist_octets.specs.Octets.{part};

@@ -1,6 +1,6 @@
 //! The references of arrays, sets and dictionaries.
 
-ghost use Rattle.std.specs.Prelude.{◌≡◌, ℕ, ◌+◌, ◌*◌, ◌≤◌, ◌<◌, IsTrue, IfOk, OnOk, is_err, length, slice_index};
+ghost use Rattle.std.specs.Prelude.{◌≡◌, ℕ, ◌+◌, ◌≤◌, ◌<◌, IsTrue, IfOk, OnOk, is_err, length, slice_index};
 ghost use Rattle.bplist_octets.specs.Meaning.{OnlyReads};
 ghost use Rattle.bplist_objects.specs.Safe.{IsSafe, IsSafeHead, ref_count};
 ghost use Rattle.bplist_objects.specs.Scan.{nth_number};

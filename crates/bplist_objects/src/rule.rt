@@ -3,12 +3,12 @@
 ghost use Rattle.std.specs.Prelude.{◌≡◌};
 ghost use Rattle.bplist_objects.specs.Words.{word_of};
 
-/// A rule of a file, a certificate or a path text, in the order of their numbers. Each line has the
-/// number, and says when the rule is broken.
+/// A rule of a file, a certificate or a path text. A variant's number is the rule's, and its line has the
+/// number too, and says when the rule is broken.
 #[derive(Clone, Copy, Debug, PartialEq, Eq, Drop)]
 pub enum Rule {
     /// 1: the file has more than 4294967295 bytes.
-    TooLarge,
+    TooLarge = 1,
     /// 2: the file has fewer than 41 bytes.
     TooShort,
     /// 3: the first 8 bytes are not `bplist00`.

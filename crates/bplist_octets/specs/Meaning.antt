@@ -21,7 +21,7 @@ pub record ReadFailed (old new : Meaning) : Type 0 where
   pub rises : old.failures ≤ new.failures
   pub stays_only_at_last : new.failures ≡ old.failures → old.failures ≡ last_count
 
--- a call that only reads: where it says that a read has failed, one has, and else all is as it was
+-- a call that only reads: where it says that a read failed, one did, and else all is as it was
 abbrev pub OnlyReads : Bool → Meaning → Meaning → Type 0
 OnlyReads false old new = new ≡ old
 OnlyReads true old new = ReadFailed old new

@@ -47,7 +47,7 @@ shown s = elim s.left [ zero ↦ s.second | suc n ↦ s.first ]
 abbrev pub shifting_meaning : Shifting → Meaning
 shifting_meaning s = record { octets = s.first; honest = false; failures = 0; beside = [] }
 
--- what an error of the reading loop says of a reader whose bytes are known: with Ended none is left
+-- what an error of the reading loop says of its reader: with `Ended` no byte is left
 abbrev pub FillFailed : Option (List ℕ) → ReadFault → Type 0
 FillFailed known Ended = IsAtEnd known
 FillFailed known Device = Unit {0}

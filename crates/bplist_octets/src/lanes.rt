@@ -1,6 +1,6 @@
-//! The first byte of 80 (hexadecimal) or more, by lanes.
+//! The first byte of 0x80 or more, by lanes.
 
-ghost use Rattle.std.specs.Prelude.{ℕ, ◌+◌, ◌<◌, ◌≤◌, length, slice_index, take, IsTrue, MatchOption};
+ghost use Rattle.std.specs.Prelude.{ℕ, ◌+◌, ◌<◌, ◌≤◌, length, slice_index, IsTrue, MatchOption};
 ghost use Rattle.bplist_octets.specs.Octets.{AreLow, IsFirstHigh};
 
 use std::simd::prelude::*;
@@ -8,7 +8,7 @@ use std::simd::prelude::*;
 /// How many bytes are looked at together.
 const GROUP: usize = 64;
 
-/// Whether each byte of the group at place `at` is below 80.
+/// Whether each byte of the group at place `at` is below 0x80.
 fn is_group_low(l: &[u8], at: usize) -> bool
     requires { at + 64 ≤ length l.now }
     ensures { IsTrue result → (k : ℕ) → at ≤ k → k < at + 64 → slice_index l.now k < 128 }
@@ -17,7 +17,7 @@ fn is_group_low(l: &[u8], at: usize) -> bool
     lanes.simd_gt(u8x64::splat(127)).to_bitmask() == 0
 }
 
-/// How many bytes at the front are known to be below 80, by whole groups.
+/// How many bytes at the front are known to be below 0x80, by whole groups.
 fn low_front(l: &[u8]) -> usize
     ensures inside { result ≤ length l.now }
     ensures low { (k : ℕ) → k < result → slice_index l.now k < 128 }
@@ -29,7 +29,7 @@ fn low_front(l: &[u8]) -> usize
     at
 }
 
-/// The least place of a byte of 80 (hexadecimal) or more, or None where all bytes are below.
+/// The least place of a byte of 0x80 or more, or None where all bytes are below.
 pub fn first_high(l: &[u8]) -> Option<usize>
     ensures { MatchOption result (AreLow l.now) (IsFirstHigh l.now) }
 {

@@ -8,4 +8,4 @@ returns-then-table-place-clause-exact g c = λ honest.
     let w = c.in_ok-form.form - 16 in
     let same = c.in_ok-form.ensures.value honest in
     let form : slice_index f (c.args.place + 1) ≡ 16 + w = omega arith in
-    (refl, inr (refl, refl, inr (num_at f (c.args.place + 2) (2 ^ w), c.args.place + 2 + 2 ^ w, (w, omega arith, form, refl, refl), omega arith)))
+    rw c.broken-then-table-place.ensures (refl, inr (refl, refl, inr (num_at f (c.args.place + 2) (2 ^ w), c.args.place + 2 + 2 ^ w, (w, omega arith, form, refl, refl), omega arith)))
