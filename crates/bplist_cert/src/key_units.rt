@@ -58,20 +58,18 @@ pub(crate) fn keys_in<'a>(
     units: &'a [u16],
     bounds: &[usize],
     count: u64,
-) -> Result<Vec<Key<'a>>, AllocError>
+) -> Result<Vec<Key<&'a [u16]>>, AllocError>
     requires { AreBounds units.now bounds.now count }
     ensures numbered { IfOk result (λ keys. IsNumbered keys.items) }
     ensures count { IfOk result (λ keys. length (units_in keys.items) ≡ count) }
     ensures units { IfOk result (λ keys. (k : ℕ) → k < count → slice_index_or (units_in keys.items) k [] ≡ slice_of units.now bounds.now k) }
 {
-    let mut keys = Vec::new(alloc);
-    let mut i = 0usize;
-    while (i as u64) < count {
+    let mut keys = Vec::with_capacity(alloc, count as usize)?;
+    for i in 0..count {
         keys.push(Key {
-            units: part_of(units, bounds, i),
-            position: i as u64,
+            key: part_of(units, bounds, i as usize),
+            position: i,
         })?;
-        i += 1;
     }
     Ok(keys)
 }
