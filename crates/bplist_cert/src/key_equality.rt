@@ -141,7 +141,8 @@ pub(crate) fn read_keys<S: Source>(
         → Judges (λ keys. AreParts (IsKeyWith (S.means src.old).octets frame.now head.now) keys.units.items keys.bounds.items count)
         Never result }
 {
-    let mut keys = KeyUnits::without_parts(alloc)?;
+    let _len = src.len();
+    let mut keys = KeyUnits::without_parts(alloc, count)?;
     let mut refs = [0u64; BLOCK];
     let mut found = [0u64; BLOCK];
     let mut done = 0u64;

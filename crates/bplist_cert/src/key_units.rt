@@ -1,6 +1,6 @@
 //! Parts of a list of units: the units of keys, one behind the other.
 
-ghost use Rattle.std.specs.Prelude.{◌≡◌, ◌≤◌, ◌<◌, ℕ, suc, length, slice_index, slice_index_or, [], IfOk};
+ghost use Rattle.std.specs.Prelude.{◌≡◌, ◌^◌, ◌≤◌, ◌<◌, ℕ, suc, length, slice_index, slice_index_or, [], IfOk};
 ghost use Rattle.bplist_cert.specs.KeyUnits.{AreBounds, slice_of, IsRepeatedPart};
 ghost use Rattle.bplist_cert.specs.Repeats.{IsNumbered, IsLeastOrNone, units_in};
 
@@ -16,11 +16,12 @@ pub(crate) struct KeyUnits {
 }
 
 impl KeyUnits {
-    /// No parts.
-    pub(crate) fn without_parts(alloc: Global) -> Result<KeyUnits, AllocError>
+    /// No parts yet, with memory for the bounds of `count`.
+    pub(crate) fn without_parts(alloc: Global, count: u64) -> Result<KeyUnits, AllocError>
+        requires { count < 2 ^ 63 }
         ensures { IfOk result (λ keys. AreBounds keys.units.items keys.bounds.items 0) }
     {
-        let mut bounds = Vec::new(alloc);
+        let mut bounds = Vec::with_capacity(alloc, count as usize + 1)?;
         bounds.push(0)?;
         Ok(KeyUnits {
             units: Vec::new(alloc),
