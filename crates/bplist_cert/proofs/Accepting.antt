@@ -34,7 +34,8 @@ use Rattle.bplist_cert.specs.Heights.{ref}
 use Rattle.bplist_cert.specs.Keys.{HaveTexts, KeysDiffer, AreInOrder}
 use Rattle.bplist_cert.specs.CheckRules.{KeepsByCheck, BreaksByCheck, BreaksAtCheck, HasOrder, BreaksOrder, KeepsLast, check_rules, vouched_rules, last_rule, list_of}
 use Rattle.bplist_cert.specs.PairFault.{IsKept, IsCertFault, IsPairFault}
-use Rattle.bplist_cert.proofs.Walking.{keeps_append, last_kept}
+use Rattle.bplist_objects.proofs.RuleLaws.{kept_all_after}
+use Rattle.bplist_cert.proofs.Walking.{last_kept}
 use Rattle.bplist_cert.proofs.TextKeys.{key_refs, texts_are, have_texts, units_at_key, distinct, differ, ordered_differ}
 
 keeps_front : (keeps : Rule → Type 0) (xs ys : List Rule) → KeepsAll keeps (xs ++ ys) → KeepsAll keeps xs
@@ -244,7 +245,7 @@ keeps_all f F certificate a n v =
     let o = valid.vouched n v in
     let head = o.spells.shape in
     let has = shape_announced f F n head o.spells.has in
-    keeps_append (KeepsByCheck f F certificate n) object_rules (vouched_rules keys) (spells_keeps f F n valid.frame lt o.content o.spells) (
+    kept_all_after (KeepsByCheck f F certificate n) object_rules (vouched_rules keys) (spells_keeps f F n valid.frame lt o.content o.spells) (
       not_overfull f F heights valid n v,
       (
         λ other h i l. (lower_at f F heights valid n v other h i l).0,

@@ -1,23 +1,25 @@
 -- The units of keys, one key behind the other.
-use Rattle.std.proofs.Common.{◌≡◌, ℕ, zero, suc, ◌+◌, ◌-◌, ◌<◌, ◌≤◌, ◌⊎◌, inl, inr, List, [], ◌∷◌, ◌++◌, length, take, drop, slice_index, slice_index_or, Option, Some, None, MatchOption, IfSome, refl, sym, ap, ◌∙◌, subst, arith}
-use Rattle.std.proofs.lemmas.Bool.{cases_lt}
-use Rattle.std.proofs.lemmas.List.{length-append, length-drop, length_push, get_or_append_left, get_or_push, drop-append-le, take-append-le, drop_at, take_all}
+use Rattle.std.proofs.Common.{◌≡◌, ℕ, suc, ◌+◌, ◌-◌, ◌<◌, ◌≤◌, ◌⊎◌, inl, inr, List, [], ◌∷◌, ◌++◌, length, take, drop, slice_index, slice_index_or, Option, Some, None, MatchOption, IfSome, refl, sym, ap, ◌∙◌, subst, arith, Bool, nat_eq}
+use Rattle.std.proofs.lemmas.Bool.{cases_lt, eqb-true, eq-eqb}
+use Rattle.std.proofs.lemmas.List.{get_or-map, length-map, length-append, length-drop, length_push, get_or_append_left, get_or_push, drop-append-le, take-append-le, drop_at, take_all}
 use Rattle.bplist_octets.specs.Octets.{part}
+use Rattle.std.proofs.lemmas.Option.{slice_get_within}
+use Rattle.std.specs.Borrow.{Bor}
+use Rattle.std.specs.Option.{option_or}
+use Rattle.std.specs.Cmp.Lexicographic.{pointwise, bytes_decides}
+use Rattle.bplist_cert.specs.declared.key_sorting.Key.{Key}
 use Rattle.bplist_objects.specs.declared.frame.Frame.{Frame}
 use Rattle.bplist_objects.specs.declared.head.Head.{Head}
 use Rattle.bplist_cert.specs.Keys.{IsText, HaveTexts, KeysDiffer, IsFirstTwice}
 use Rattle.bplist_cert.specs.Heights.{ref}
-use Rattle.bplist_cert.specs.KeyUnits.{AreBounds, slice_of, AreParts, IsKeyWith, digits, IsRepeatedPart, IsShared}
-use Rattle.bplist_cert.specs.Repeats.{IsRepeated, IsLeastOrNone}
+use Rattle.bplist_cert.specs.KeyUnits.{AreBounds, slice_of, AreParts, IsKeyWith, IsRepeatedPart, IsShared}
+use Rattle.bplist_cert.specs.Repeats.{keys_of, units_in, IsRepeated, IsLeastOrNone}
 use Rattle.bplist_cert.proofs.Leasts.{least_same}
+use Rattle.bplist_cert.proofs.SortedKeys.{no_key, are_same, known_same, key_of}
 
--- no part
-pub bounds_none : AreBounds [] (0 ∷ []) 0
-bounds_none = record { all = refl; last = refl; up = λ k l. absurd (omega arith); within = within }
-  where
-    within : (k : ℕ) → k ≤ 0 → slice_index (0 ∷ []) k ≤ 0
-    within zero l = omega arith
-    within (suc k) l = absurd (omega arith)
+-- two keys have the same units
+abbrev pub same_units : Bor (List ℕ) → Bor (List ℕ) → Bool
+same_units a b = pointwise nat_eq a.now b.now
 
 module _ (units bounds : List ℕ) (i : ℕ) (are : AreBounds units bounds i) (longer : List ℕ) (grown : length units ≤ length longer) where
   abbrev next : List ℕ
@@ -87,57 +89,80 @@ module _ (units bounds : List ℕ) (i : ℕ) (are : AreBounds units bounds i) (l
             subst (P k) (sym (ap (slice_of longer next) (sym e) ∙ new_part)) (subst (λ j. P j u) e here)
 
 -- parts that keys have are repeated where the keys are
-pub repeated_parts : (units bounds : List ℕ) (count : ℕ) (us : List (List ℕ)) → length us ≡ count → ((k : ℕ) → k < count → slice_index_or us k [] ≡ slice_of units bounds k)
-    → (found : Option ℕ) → IsLeastOrNone (IsRepeated us) found → IsLeastOrNone (IsRepeatedPart units bounds count) found
-repeated_parts units bounds count us all are =
-    least_same (IsRepeated us) (IsRepeatedPart units bounds count)
-    (λ p (i, lt, high, same). (i, lt, omega (arith, high, all), sym (are i (omega (arith, lt, high, all))) ∙ same ∙ are p (omega (arith, high, all))))
-    (λ p (i, lt, high, same). (i, lt, omega (arith, high, all), are i (omega (arith, lt, high)) ∙ same ∙ sym (are p high)))
+pub repeated_parts : (units bounds : List ℕ) (count : ℕ) (keys : List (Key (Bor (List ℕ)))) → length (units_in keys) ≡ count
+    → ((k : ℕ) → k < count → slice_index_or (units_in keys) k [] ≡ slice_of units bounds k)
+    → (found : Option ℕ) → IsLeastOrNone (IsRepeated same_units (keys_of keys)) found → IsLeastOrNone (IsRepeatedPart units bounds count) found
+repeated_parts units bounds count keys all are =
+    least_same (IsRepeated same_units (keys_of keys)) (IsRepeatedPart units bounds count)
+    (λ p (i, lt, twins).
+    let (low, high, same) = known_same (λ key. key.key) same_units keys i p no_key no_key twins in
+    let below : p < count = omega (arith, high, many) in
+    (i, lt, below, sym (are i (omega (arith, lt, below))) ∙ at i low ∙ (bytes_decides _ _).0 same ∙ sym (at p high) ∙ are p below))
+    (λ p (i, lt, high, same).
+    let low : i < length keys = omega (arith, lt, high, many) in
+    let below : p < length keys = omega (arith, high, many) in (
+      i,
+      lt,
+      are_same (λ key. key.key) same_units keys i p no_key no_key low below
+          ((bytes_decides _ _).1 (sym (at i low) ∙ are i (omega (arith, lt, high)) ∙ same ∙ sym (are p high) ∙ at p below)),
+    ))
+  where
+    many : length keys ≡ count
+    many = sym (length-map keys (λ (key : Key (Bor (List ℕ))). key.key.now)) ∙ all
 
--- a number is that of its digits
-digits-once : (m n : ℕ) → digits m ≡ digits n → m ≡ n
-digits-once m n e =
-    let a = ap (λ xs. slice_index xs 0) e in
-    let b = ap (λ xs. slice_index xs 1) e in
-    let c = ap (λ xs. slice_index xs 2) e in
-    let d = ap (λ xs. slice_index xs 3) e in
-    omega (arith, a, b, c, d)
+    at : (k : ℕ) → k < length keys → slice_index_or (units_in keys) k [] ≡ (slice_index_or keys k no_key).key.now
+    at k low = get_or-map (λ (key : Key (Bor (List ℕ))). key.key.now) keys k no_key [] low
 
-module _ (f : List ℕ) (F : Frame) (head : Head) (units bounds : List ℕ) (count : ℕ) (few : count ≤ head.count) where
-  -- numbers of references are repeated where the parts of their digits are
-  pub shared_found : head.count ≡ count → AreParts (λ k us. us ≡ digits (ref f F head k)) units bounds count → (found : Option ℕ)
-      → IsLeastOrNone (IsRepeatedPart units bounds count) found → IsLeastOrNone (IsShared f F head) found
-  shared_found e are =
-      least_same (IsRepeatedPart units bounds count) (IsShared f F head)
-      (λ p (i, lt, high, same). (i, lt, omega (arith, high, e), digits-once (ref f F head i) (ref f F head p) (sym (are i (omega (arith, lt, high))) ∙ same ∙ are p high)))
-      (λ p (i, lt, high, same).
-      let low : p < count = omega (arith, high, e) in
-      (i, lt, low, are i (omega (arith, lt, low)) ∙ ap digits same ∙ sym (are p low)))
+-- references that name one object are those whose numbers are repeated
+pub shared_found : (f : List ℕ) (F : Frame) (head : Head) (keys : List (Key ℕ)) → length keys ≡ head.count
+    → ((k : ℕ) → k < head.count → slice_index (keys_of keys) k ≡ ref f F head k)
+    → (found : Option ℕ) → IsLeastOrNone (IsRepeated nat_eq (keys_of keys)) found → IsLeastOrNone (IsShared f F head) found
+shared_found f F head keys all are =
+    least_same (IsRepeated nat_eq (keys_of keys)) (IsShared f F head)
+    (λ p (i, lt, twins).
+    let (low, high, same) = known_same (λ key. key.key) nat_eq keys i p no_reference no_reference twins in
+    (i, lt, omega (arith, high, all), sym (at i low) ∙ eqb-true _ _ same ∙ at p high))
+    (λ p (i, lt, high, same).
+    let low : i < length keys = omega (arith, lt, high, all) in
+    let below : p < length keys = omega (arith, high, all) in
+    (i, lt, are_same (λ key. key.key) nat_eq keys i p no_reference no_reference low below (eq-eqb _ _ (at i low ∙ same ∙ sym (at p below)))))
+  where
+    no_reference : Key ℕ
+    no_reference = record { key = 0; position = 0 }
 
-  module _ (texts : HaveTexts f F head head.count) (are : AreParts (IsKeyWith f F head) units bounds count) where
-    -- keys that differ are those that no later one repeats
-    differ_below : (n : ℕ) → n ≤ count → ((q : ℕ) → q < n → IsRepeatedPart units bounds count q → ⊥) → KeysDiffer f F head n
-    differ_below n low none i j lt below a b x y same =
-        none j below (i, lt, omega (arith, below, low), are i (omega (arith, lt, below, low)) a x ∙ same ∙ sym (are j (omega (arith, below, low)) b y))
+    at : (k : ℕ) → k < length keys → (slice_index_or keys k no_reference).key ≡ ref f F head k
+    at k low = sym (key_of keys k no_reference 0 low) ∙ are k (omega (arith, low, all))
 
-    -- the least repeated part is that of the first key twice
-    pub twice_found : (found : Option ℕ) → IsLeastOrNone (IsRepeatedPart units bounds count) found → MatchOption found (KeysDiffer f F head count) (IsFirstTwice f F head)
-    twice_found None none = differ_below count (omega arith) (λ q l r. none q r)
-    twice_found (Some p) ((i, lt, high, same), least) =
-        let low : p < head.count = omega (arith, high, few) in
-        let a = texts i (omega (arith, lt, low)) in
-        let b = texts p low in
-        record {
-          within = low;
-          earlier = i;
-          order = lt;
-          first = a.0;
-          second = b.0;
-          is_first = a.1;
-          is_second = b.1;
-          same = sym (are i (omega (arith, lt, high)) a.0 a.1) ∙ same ∙ are p high b.0 b.1;
-          before = differ_below p (omega (arith, high)) least;
-        }
+-- a repeated key is one of them
+pub repeated_inside : {K : Type 0} (same : K → K → Bool) (keys : List K) (found : Option ℕ) → IsLeastOrNone (IsRepeated same keys) found → IfSome found (λ p. p < length keys)
+repeated_inside same keys None none = tt
+repeated_inside same keys (Some p) ((i, lt, (a, b, at_a, at_b, is)), least) = slice_get_within keys p b at_b
+
+module _ (f : List ℕ) (F : Frame) (head : Head) (units bounds : List ℕ) (count : ℕ) (few : count ≤ head.count)
+    (texts : HaveTexts f F head head.count) (are : AreParts (IsKeyWith f F head) units bounds count) where
+  -- keys that differ are those that no later one repeats
+  differ_below : (n : ℕ) → n ≤ count → ((q : ℕ) → q < n → IsRepeatedPart units bounds count q → ⊥) → KeysDiffer f F head n
+  differ_below n low none i j lt below a b x y same =
+      none j below (i, lt, omega (arith, below, low), are i (omega (arith, lt, below, low)) a x ∙ same ∙ sym (are j (omega (arith, below, low)) b y))
+
+  -- the least repeated part is that of the first key twice
+  pub twice_found : (found : Option ℕ) → IsLeastOrNone (IsRepeatedPart units bounds count) found → MatchOption found (KeysDiffer f F head count) (IsFirstTwice f F head)
+  twice_found None none = differ_below count (omega arith) (λ q l r. none q r)
+  twice_found (Some p) ((i, lt, high, same), least) =
+      let low : p < head.count = omega (arith, high, few) in
+      let a = texts i (omega (arith, lt, low)) in
+      let b = texts p low in
+      record {
+        within = low;
+        earlier = i;
+        order = lt;
+        first = a.0;
+        second = b.0;
+        is_first = a.1;
+        is_second = b.1;
+        same = sym (are i (omega (arith, lt, high)) a.0 a.1) ∙ same ∙ are p high b.0 b.1;
+        before = differ_below p (omega (arith, high)) least;
+      }
 
 -- keys that name one object are the same, and the keys before them differ
 pub shared_twice : (f : List ℕ) (F : Frame) (head : Head) (j : ℕ) → HaveTexts f F head head.count → IsShared f F head j → KeysDiffer f F head j → IsFirstTwice f F head j
@@ -154,6 +179,13 @@ shared_twice f F head j texts (i, lt, high, same) differ =
       same = refl;
       before = differ;
     }
+
+-- a key before that one which is the same as an earlier one, or else that one
+pub shared_or_equal : (f : List ℕ) (F : Frame) (head : Head) (j : ℕ) → HaveTexts f F head head.count → IsShared f F head j
+    → (found : Option ℕ) → MatchOption found (KeysDiffer f F head j) (IsFirstTwice f F head)
+    → MatchOption (option_or found (Some j)) (KeysDiffer f F head head.count) (IsFirstTwice f F head)
+shared_or_equal f F head j texts shared None differ = shared_twice f F head j texts shared differ
+shared_or_equal f F head j texts shared (Some p) first = first
 
 -- a repeated part is one of them
 pub repeated_within : (units bounds : List ℕ) (count : ℕ) (found : Option ℕ) → IsLeastOrNone (IsRepeatedPart units bounds count) found → IfSome found (λ p. p < count)

@@ -81,14 +81,6 @@ count_of_words octets numbers place count fits e =
     let s = ap length e in
     omega (arith, l, w, s)
 
--- the key lists of version 2 behind the heights
-pub keys_behind : (octets starts positions : List ℕ) (count : ℕ) → part octets (16 + 4 * count) (4 * count) ≡ words starts → drop (16 + 8 * count) octets ≡ words positions
-    → drop (16 + 4 * count) octets ≡ words starts ++ words positions
-keys_behind octets starts positions count v u =
-    let place : 16 + 4 * count + 4 * count ≡ 16 + 8 * count = omega arith in
-    drop-part octets (16 + 4 * count) (4 * count) ∙ ap (λ ys. ys ++ drop (16 + 4 * count + 4 * count) octets) v
-    ∙ ap (λ p. words starts ++ drop p octets) place ∙ ap (λ ys. words starts ++ ys) u
-
 pub starts_fit : (heights : List ℕ) (keys : Option Keyed) (count : ℕ) → length heights ≡ count → HasCount keys count → HasStarts heights keys
 starts_fit heights None count n h = tt
 starts_fit heights (Some k) count n h = h ∙ sym n

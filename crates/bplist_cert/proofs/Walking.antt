@@ -1,5 +1,5 @@
 -- One vouched object after the other.
-use Rattle.std.proofs.Common.{◌≡◌, ℕ, suc, ◌<◌, ◌≤◌, ◌+◌, ◌-◌, ◌⊎◌, inl, inr, List, [], ◌∷◌, ◌++◌, length, slice_index, Result, Ok, Err, Option, Some, None, refl, sym, ◌∙◌, subst, arith}
+use Rattle.std.proofs.Common.{◌≡◌, ℕ, suc, ◌<◌, ◌≤◌, ◌+◌, ◌-◌, ◌⊎◌, inl, inr, List, [], ◌∷◌, length, slice_index, Result, Ok, Err, Option, Some, None, refl, sym, ◌∙◌, subst, arith}
 use Rattle.std.proofs.lemmas.Bool.{cases_lt}
 use Rattle.bplist_objects.specs.declared.rule.Rule.{Rule}
 use Rattle.bplist_objects.specs.declared.rule.Rule.TheVariants as rules
@@ -15,12 +15,12 @@ use Rattle.bplist_objects.specs.Safe.{ref_count}
 use Rattle.bplist_objects.specs.Answers.{GivesFault, Never}
 use Rattle.bplist_objects.specs.Announced.{HasHead}
 use Rattle.bplist_objects.specs.FrameRules.{IsFrameFault}
-use Rattle.bplist_objects.specs.Rules.{KeepsAll, IsFirstFault}
+use Rattle.bplist_objects.specs.Rules.{KeepsAll}
 use Rattle.bplist_objects.specs.ObjectRules.{KeepsByObject, IsObjectFault, object_rules}
 use Rattle.bplist_objects.specs.Extents.{HasExtent, IsOverfull}
 use Rattle.bplist_objects.proofs.Lists.{all_weaker, all_at}
 use Rattle.bplist_objects.proofs.Filling.{most_none, most_more, most_same}
-use Rattle.bplist_objects.proofs.RuleLaws.{first_fault_after}
+use Rattle.bplist_objects.proofs.RuleLaws.{first_fault_after, first_fault_among, kept_all_after}
 use Rattle.bplist_objects.proofs.BodyLaws.{HasHead-unique}
 use Rattle.bplist_objects.proofs.Ties.{kept_spells}
 use Rattle.bplist_cert.specs.declared.heights.Wanted.TheVariants.{Vouched, Below}
@@ -33,15 +33,6 @@ use Rattle.bplist_cert.specs.Keys.{HaveTexts, KeysDiffer}
 use Rattle.bplist_cert.specs.CheckRules.{KeepsByCheck, BreaksAtCheck, IsCheckFault, check_rules, vouched_rules, last_rule, HasOrder, KeepsLast, IsLastFault, IsKeysFault}
 use Rattle.bplist_cert.specs.PairFault.{Sums, IsHeld, Running, KeepBelow, IsVouchedFault, IsPairFault}
 use Rattle.bplist_cert.specs.Refusals.{GivesRefusal, Judges, refusal_of}
-
-pub keeps_append : (keeps : Rule → Type 0) (xs ys : List Rule) → KeepsAll keeps xs → KeepsAll keeps ys → KeepsAll keeps (xs ++ ys)
-keeps_append keeps [] ys k l = l
-keeps_append keeps (x ∷ xs) ys k l = (k.0, keeps_append keeps xs ys k.1 l)
-
-in_front : (keeps : Rule → Type 0) (breaks : Rule → Option ObjectNo → ℕ → Type 0) (xs ys : List Rule) (fault : Fault) → IsFirstFault keeps breaks xs fault → IsFirstFault keeps breaks (xs ++ ys) fault
-in_front keeps breaks [] ys fault h = absurd h
-in_front keeps breaks (x ∷ xs) ys fault (inl h) = inl h
-in_front keeps breaks (x ∷ xs) ys fault (inr h) = inr (h.0, in_front keeps breaks xs ys fault h.1)
 
 -- the rule of keys beside rule 21, by the head
 pub last_kept : (f : List ℕ) (F : Frame) (heights : List ℕ) (keys : Option Keyed) (n : ℕ) (head : Head) → HasHead f F n head → (head.kind ≡ kinds.Dict → KeepsLast f F keys n head)
@@ -80,7 +71,7 @@ module _ (f : List ℕ) (F : Frame) (heights : List ℕ) (keys : Option Keyed) (
 
   -- a fault of the object by itself
   pub object_fault : (e : ObjectFault) → GivesFault (IsObjectFault f F n object_rules) e → GivesRefusal Broken (refusal_of e)
-  object_fault (errors.Fault fault) h = in_front Keeps Breaks object_rules (vouched_rules keys) fault h
+  object_fault (errors.Fault fault) h = first_fault_among Keeps Breaks object_rules (vouched_rules keys) fault h
   object_fault (errors.Read r) h = tt
 
   module _ (frame : IsFrame f F) (lt : n < F.objects) (head : Head) (has : HasHead f F n head) (kept : KeepsAll (KeepsByObject f F n) object_rules) (vouched : IsVouchedBy heights n) (t : ℕ) (sums : Sums f F heights n t) where
@@ -150,7 +141,7 @@ module _ (f : List ℕ) (F : Frame) (heights : List ℕ) (keys : Option Keyed) (
         held last = record {
           sums = more;
           room = room;
-          kept = keeps_append Keeps object_rules (vouched_rules keys) kept (not_overfull, (vouched_any met, (lower_any low, (texts_any (λ kind. (last kind).0), (last_kept f F heights keys n head has (λ kind. (last kind).1), tt)))));
+          kept = kept_all_after Keeps object_rules (vouched_rules keys) kept (not_overfull, (vouched_any met, (lower_any low, (texts_any (λ kind. (last kind).0), (last_kept f F heights keys n head has (λ kind. (last kind).1), tt)))));
         }
 
   none_more : (IsVouchedBy heights n → ⊥) → (t : ℕ) → Sums f F heights n t → Sums f F heights (suc n) t

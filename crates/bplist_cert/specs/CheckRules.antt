@@ -20,10 +20,6 @@ use Rattle.bplist_cert.specs.Valid.{IsVouchedBy}
 use Rattle.bplist_cert.specs.Heights.{AreMet, IsFirstUnmet}
 use Rattle.bplist_cert.specs.Keys.{HaveTexts, IsFirstKeyless, KeysDiffer, IsFirstTwice, AreInOrder, IsFirstUnordered, IsKeylessFault, IsTwiceFault}
 
--- the rules of heights, in their order
-abbrev pub height_rules : List Rule
-height_rules = rules.ChildNotVouched ∷ rules.HeightNotLess ∷ []
-
 -- the rule of keys beside rule 21: they differ, or in version 2 they stand in order in the key list
 abbrev pub last_rule : Option Keyed → Rule
 last_rule None = rules.KeyTwice

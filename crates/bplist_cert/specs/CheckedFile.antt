@@ -21,10 +21,12 @@ pub record IsChecked (checked : CheckedFile) : Type 0 where
   pub large : IsTrue checked.source.honest → length checked.source.octets ≤ 4294967295
   pub accepted : IsTrue checked.source.honest → ∥ IsAccepted checked.source.octets checked.frame checked.certificate ∥₁
 
+-- the starts, none in version 1
 abbrev pub starts_in : Option Keyed → List ℕ
 starts_in None = []
 starts_in (Some keyed) = keyed.starts
 
+-- the positions, none in version 1
 abbrev pub positions_in : Option Keyed → List ℕ
 positions_in None = []
 positions_in (Some keyed) = keyed.positions

@@ -50,10 +50,12 @@ HasLength octets =
     ((take 8 octets ≡ plain_magic) × (length octets ≡ 16 + 4 * told octets))
     ⊎ ((take 8 octets ≡ keyed_magic) × (16 + 8 * told octets ≤ length octets) × (length octets % 4 ≡ 0))
 
+-- the fault of rule 24, at place 0
 abbrev pub IsMagicFault : List ℕ → Fault → Type 0
 IsMagicFault octets fault =
     (HasMagic octets → ⊥) × (fault ≡ record { rule = rules.CertMagic; object = None; place = 0 })
 
+-- rule 24 is kept; the fault of rule 25, at the place that is the number of bytes
 abbrev pub IsLengthFault : List ℕ → Fault → Type 0
 IsLengthFault octets fault =
     HasMagic octets × (HasLength octets → ⊥) × (fault ≡ record { rule = rules.CertLength; object = None; place = length octets })

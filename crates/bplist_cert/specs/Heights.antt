@@ -33,6 +33,7 @@ pub record IsFirstUnmet (f : List ℕ) (F : Frame) (heights : List ℕ) (head : 
 abbrev pub AreMetBy : List ℕ → Wanted → List ℕ → ℕ → Type 0
 AreMetBy heights wanted refs count = (k : ℕ) → k < count → Meets wanted (slice_index heights (slice_index refs k))
 
+-- reference i of such a list is the first whose height is not as it is wanted
 pub record IsFirstUnmetBy (heights : List ℕ) (wanted : Wanted) (refs : List ℕ) (i : ℕ) : Type 0 where
   pub within : i < length refs
   pub unmet : Meets wanted (slice_index heights (slice_index refs i)) → ⊥

@@ -1,5 +1,5 @@
 -- The units of the keys of a dictionary, one key behind the other. Source: profile.
-use Rattle.std.specs.Prelude.{◌≡◌, ℕ, suc, ◌-◌, ◌/◌, ◌%◌, ◌<◌, ◌≤◌, List, [], ◌∷◌, length, slice_index}
+use Rattle.std.specs.Prelude.{◌≡◌, ℕ, suc, ◌-◌, ◌<◌, ◌≤◌, List, length, slice_index}
 use Rattle.bplist_octets.specs.Octets.{part}
 use Rattle.bplist_objects.specs.declared.frame.Frame.{Frame}
 use Rattle.bplist_objects.specs.declared.head.Head.{Head}
@@ -25,10 +25,6 @@ AreParts P units bounds count = (k : ℕ) → k < count → P k (slice_of units 
 -- these are the units of key k
 abbrev pub IsKeyWith : List ℕ → Frame → Head → ℕ → List ℕ → Type 0
 IsKeyWith f F head k units = (key : Head) → IsKey f F head k key → units ≡ units_of f key
-
--- a number as four units, the highest 16 bits first
-abbrev pub digits : ℕ → List ℕ
-digits n = n / 65536 / 65536 / 65536 ∷ n / 65536 / 65536 % 65536 ∷ n / 65536 % 65536 ∷ n % 65536 ∷ []
 
 -- part j is the same as an earlier one
 abbrev pub IsRepeatedPart : List ℕ → List ℕ → ℕ → ℕ → Type 0

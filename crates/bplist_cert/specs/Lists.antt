@@ -11,6 +11,7 @@ pub record Lists : Type 0 where
   pub heights : List ℕ
   pub keys : Option Keyed
 
+-- heights and key lists as one record
 abbrev pub lists : List ℕ → Option Keyed → Lists
 lists heights keys = record { heights = heights; keys = keys }
 
@@ -28,6 +29,7 @@ HasCount (Some keyed) count = length keyed.starts ≡ count
 abbrev pub AreWords : List ℕ → Type 0
 AreWords xs = (k : ℕ) → slice_index xs k < 2 ^ 32
 
+-- starts and positions are numbers of 32 bits
 abbrev pub AreKeyed : Option Keyed → Type 0
 AreKeyed None = ⊤
 AreKeyed (Some keyed) = AreWords keyed.starts × AreWords keyed.positions

@@ -46,10 +46,12 @@ impl Model for Certificate {
     ghost invariant = { λ c. HasStarts c.heights.items c.keys };
 }
 
-/// Why bytes are no certificate: a broken rule, 24 or 25, or a growth that was refused.
+/// Why bytes give no certificate.
 #[derive(Clone, Copy, Debug, PartialEq, Eq, Drop)]
 pub enum CertRefusal {
+    /// Rule 24 or 25 is broken. The place counts from the certificate's first byte.
     Fault(Fault),
+    /// A growth was refused, so the bytes may be those of a certificate.
     Memory,
 }
 

@@ -1,11 +1,11 @@
 //! The check of a certificate against a file.
 
-ghost use Rattle.std.specs.Prelude.{◌≡◌, ◌+◌, ◌*◌, ◌≤◌, ◌<◌, ℕ, suc, length, slice_index, IsTrue, IfOk, IfErr, MatchResult, ◌⊎◌};
+ghost use Rattle.std.specs.Prelude.{◌≡◌, ◌+◌, ◌≤◌, ◌<◌, ℕ, suc, length, slice_index, IsTrue, IfOk, IfErr, MatchResult, ◌⊎◌};
 ghost use Rattle.bplist_octets.specs.Meaning.{OnlyReads};
 ghost use Rattle.bplist_objects.specs.Frame.{off, IsFrame};
 ghost use Rattle.bplist_objects.specs.Safe.{IsSafe, IsSafeHead, IsSafeFrame};
 ghost use Rattle.bplist_objects.specs.declared.kind.Kind.TheVariants.{Dict};
-ghost use Rattle.bplist_cert.specs.Lists.{Lists, lists, HasCount, HasStarts};
+ghost use Rattle.bplist_cert.specs.Lists.{lists, HasCount, HasStarts};
 ghost use Rattle.bplist_cert.specs.Valid.{IsVouchedBy, HoldsOneValue};
 ghost use Rattle.bplist_cert.specs.Keys.{HaveTexts};
 ghost use Rattle.bplist_cert.specs.CheckRules.{IsCheckFault, KeepsLast, IsLastFault, IsKeysFault, check_rules};
@@ -240,36 +240,18 @@ fn check_count(frame: &Frame, heights: &[u32]) -> Result<(), Fault>
     Ok(())
 }
 
-/// The frame of the file, where its certificate is accepted.
-fn check_lists<S: Source>(
-    alloc: Global,
-    src: &mut S,
-    heights: &[u32],
-    keys: &Option<KeyLists>,
-) -> Result<Frame, Refusal>
-    requires starts { HasStarts heights.now keys.now }
-    ensures reads { OnlyReads (refused_read result) (S.means src.old) (S.means src.new) }
-    ensures memory { IfErr result (MayRefuse keys.now) }
-    ensures exact { IsTrue (S.means src.old).honest
-        → Judges (λ frame. IsKept (S.means src.old).octets frame (lists heights.now keys.now))
-        (IsPairFault (S.means src.old).octets (lists heights.now keys.now)) result }
-    ensures safe { IfOk result (λ frame. IsSafeFrame (length (S.means src.old).octets) frame × (length heights.now ≡ frame.objects)) }
-{
-    let frame = frame_of(src)?;
-    check_count(&frame, heights)?;
-    check_objects(alloc, src, &frame, heights, keys)?;
-    Ok(frame)
-}
-
 /// The frame of the file, where the certificate is accepted.
-fn check_with<S: Source>(alloc: Global, src: &mut S, cert: &Certificate) -> Result<Frame, Refusal>
+fn check_lists<S: Source>(alloc: Global, src: &mut S, cert: &Certificate) -> Result<Frame, Refusal>
     ensures reads { OnlyReads (refused_read result) (S.means src.old) (S.means src.new) }
     ensures memory { IfErr result (MayRefuse cert.now.keys) }
     ensures exact { IsTrue (S.means src.old).honest
         → Judges (λ frame. IsKept (S.means src.old).octets frame cert.now) (IsPairFault (S.means src.old).octets cert.now) result }
     ensures safe { IfOk result (λ frame. IsSafeFrame (length (S.means src.old).octets) frame × (length cert.now.heights ≡ frame.objects)) }
 {
-    check_lists(alloc, src, &cert.heights, &cert.keys)
+    let frame = frame_of(src)?;
+    check_count(&frame, &cert.heights)?;
+    check_objects(alloc, src, &frame, &cert.heights, &cert.keys)?;
+    Ok(frame)
 }
 
 /// Checks a certificate of unknown origin against a file. It says yes exactly where the file has a frame
@@ -306,7 +288,7 @@ pub fn check<S: Source>(
         → Reach (S.means src).octets checked.frame n → Chain (S.means src).octets checked.frame n n → ⊥) }
 {
     let mut src = src;
-    match check_with(alloc, &mut src, &cert) {
+    match check_lists(alloc, &mut src, &cert) {
         Ok(frame) => Ok(Checked::new(src, frame, cert)),
         Err(refusal) => Err((refusal, src, cert)),
     }

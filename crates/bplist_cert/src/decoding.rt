@@ -1,8 +1,8 @@
 //! Certificates from bytes.
 
-ghost use Rattle.std.specs.Prelude.{◌≡◌, ◌+◌, ◌*◌, ◌^◌, ◌<◌, ◌≤◌, length, take, drop, IfOk, MatchResult, ◌↔◌, ◌%◌, IsTrue, ⊤};
+ghost use Rattle.std.specs.Prelude.{◌≡◌, ◌+◌, ◌*◌, ◌≤◌, length, take, drop, IfOk, MatchResult, ◌↔◌, ◌%◌, IsTrue, ⊤};
 ghost use Rattle.bplist_cert.specs.declared.certificate.CertRefusal.TheVariants.{Memory};
-ghost use Rattle.bplist_octets.specs.Octets.{part, num};
+ghost use Rattle.bplist_octets.specs.Octets.{part};
 ghost use Rattle.bplist_cert.specs.Lists.{Lists, IsCertificate, AreWords, AreKeyed, HasCount};
 ghost use Rattle.bplist_cert.specs.Encoding.{octets_of, magic, words, key_words, told, IsMagicFault, IsLengthFault, IsCertRefusal};
 ghost use Rattle.bplist_cert.specs.Versions.{magic_of, FitsVersion};
@@ -23,7 +23,8 @@ pub(crate) enum Version {
 }
 
 impl Certificate {
-    /// The certificate whose bytes these are, or else rule 24 at place 0 or rule 25 at their number.
+    /// The certificate whose bytes these are. Else the fault is that of rule 24, at place 0, where they begin with no
+    /// magic, and otherwise that of rule 25, at the place that is their number. `Memory` where a growth was refused.
     pub fn from_octets(alloc: Global, octets: &[u8]) -> Result<Certificate, CertRefusal>
         ensures yes { IfOk result (λ certificate. IsCertificate certificate × (octets.now ≡ octets_of certificate)) }
         ensures exact { (certificate : Lists) → IsCertificate certificate → octets.now ≡ octets_of certificate
@@ -76,7 +77,7 @@ fn count_of(octets: &[u8], version: Version) -> Result<usize, Fault>
     })
 }
 
-/// So many bytes are what a certificate of this version and so many heights takes.
+/// Whether a certificate of this version with `count` heights can have `len` bytes.
 fn fits(version: Version, count: u64, len: usize) -> bool
     ensures { IsTrue result ↔ FitsVersion version count len }
 {

@@ -33,7 +33,7 @@ impl Wanted {
         }
     }
 
-    /// The rule that a height breaks which is not.
+    /// The rule that is broken by a height which does not meet this.
     fn rule(self) -> Rule
         ensures { result ≡ rule_of self }
     {

@@ -1,6 +1,6 @@
 //! Keys with the same units: rule 22.
 
-ghost use Rattle.std.specs.Prelude.{◌≡◌, ◌+◌, ◌*◌, ◌<◌, ◌≤◌, ℕ, suc, length, slice_index, slice_index_or, [], ◌++◌, IsTrue, IfOk, IfSome, OnOk, MatchOption, ⊤};
+ghost use Rattle.std.specs.Prelude.{◌≡◌, ◌+◌, ◌<◌, ◌≤◌, ℕ, length, slice_index, ◌++◌, IsTrue, IfOk, IfSome, OnOk, MatchOption, ⊤};
 ghost use Rattle.bplist_octets.specs.Meaning.{OnlyReads};
 ghost use Rattle.bplist_objects.specs.Frame.{IsFrame};
 ghost use Rattle.bplist_objects.specs.Safe.{IsSafe, IsSafeHead, IsSafeBody};
@@ -9,13 +9,14 @@ ghost use Rattle.bplist_objects.specs.declared.kind.Kind.TheVariants.{Dict};
 ghost use Rattle.bplist_cert.specs.Keys.{HaveTexts, KeysDiffer, IsFirstTwice, IsTwiceFault};
 ghost use Rattle.bplist_cert.specs.Heights.{ref};
 ghost use Rattle.bplist_cert.specs.Places.{TellPlaces};
-ghost use Rattle.bplist_cert.specs.KeyUnits.{AreBounds, AreParts, IsKeyWith, IsShared, digits};
-ghost use Rattle.bplist_cert.specs.Repeats.{IsLeastOrNone};
+ghost use Rattle.bplist_cert.specs.KeyUnits.{AreBounds, AreParts, IsKeyWith, IsShared};
+ghost use Rattle.bplist_cert.specs.Repeats.{keys_of, IsNumbered, IsLeastOrNone};
 ghost use Rattle.bplist_cert.specs.Refusals.{Judges, refused_read};
 ghost use Rattle.bplist_objects.specs.Answers.{Never};
 
 use crate::heights::ref_place;
 use crate::key_places::{BLOCK, read_places};
+use crate::key_sorting::{Key, first_repeated};
 use crate::key_units::KeyUnits;
 use crate::keys::{keyless, text_at};
 use crate::places::Places;
@@ -49,48 +50,33 @@ fn push_units<S: Source>(src: &mut S, key: &Head, units: &mut Vec<u16>) -> Resul
     Ok(())
 }
 
-/// A number as four units, the highest 16 bits first.
-fn digits_of(number: u64) -> [u16; 4]
-    ensures { result ≡ digits number }
-{
-    let high = number / 65536;
-    let higher = high / 65536;
-    [
-        (higher / 65536) as u16,
-        (higher % 65536) as u16,
-        (high % 65536) as u16,
-        (number % 65536) as u16,
-    ]
-}
-
-/// The numbers of the key references of a dictionary, each as four units.
+/// The numbers of the key references of a dictionary, in written order.
 fn read_references<S: Source>(
     alloc: Global,
     src: &mut S,
     frame: &Frame,
     head: &Head,
-) -> Result<KeyUnits, Refusal>
+) -> Result<Vec<Key<u64>>, Refusal>
     requires safe { IsSafe (length (S.means src.old).octets) frame.now }
     requires head { IsSafeHead frame.now head.now }
     requires dict { head.now.kind ≡ Dict }
     ensures reads { OnlyReads (refused_read result) (S.means src.old) (S.means src.new) }
-    ensures bounds { IfOk result (λ keys. AreBounds keys.units.items keys.bounds.items head.now.count) }
+    ensures numbered { IfOk result (λ keys. IsNumbered keys.items) }
+    ensures count { IfOk result (λ keys. length keys.items ≡ head.now.count) }
     ensures exact { IsTrue (S.means src.old).honest
-        → Judges (λ keys. AreParts (λ k us. us ≡ digits (ref (S.means src.old).octets frame.now head.now k))
-        keys.units.items keys.bounds.items head.now.count) Never result }
+        → Judges (λ keys. (k : ℕ) → k < head.now.count
+        → slice_index (keys_of keys.items) k ≡ ref (S.means src.old).octets frame.now head.now k) Never result }
 {
-    let mut units = Vec::new(alloc);
-    let mut bounds = Vec::new(alloc);
-    bounds.push(0)?;
     let count = head.count;
-    let mut i = 0u64;
-    while i < count {
+    let mut keys = Vec::with_capacity(alloc, count as usize)?;
+    for i in 0..count {
         let m = ref_at(src, frame, head, i)?;
-        units.extend_from_slice(&digits_of(m))?;
-        bounds.push(units.len())?;
-        i += 1;
+        keys.push(Key {
+            key: m,
+            position: i,
+        })?;
     }
-    Ok(KeyUnits { units, bounds })
+    Ok(keys)
 }
 
 /// Puts the units of a block of keys of dictionary `n`, whose keys are texts, behind those before it. Where
@@ -155,7 +141,8 @@ pub(crate) fn read_keys<S: Source>(
         → Judges (λ keys. AreParts (IsKeyWith (S.means src.old).octets frame.now head.now) keys.units.items keys.bounds.items count)
         Never result }
 {
-    let mut keys = KeyUnits::without_parts(alloc)?;
+    let _len = src.len();
+    let mut keys = KeyUnits::without_parts(alloc, count)?;
     let mut refs = [0u64; BLOCK];
     let mut found = [0u64; BLOCK];
     let mut done = 0u64;
@@ -184,8 +171,8 @@ fn first_shared<S: Source>(
         → Judges (IsLeastOrNone (IsShared (S.means src.old).octets frame.now head.now)) Never result }
     ensures inside { IfOk result (λ found. IfSome found (λ i. i < head.now.count)) }
 {
-    let references = read_references(alloc, src, frame, head)?;
-    Ok(references.first_repeated(alloc, head.count)?)
+    let mut keys = read_references(alloc, src, frame, head)?;
+    Ok(first_repeated(&mut keys))
 }
 
 /// The first of the first `count` keys of dictionary `n`, whose keys are texts, that has the units of an
@@ -216,7 +203,8 @@ fn first_equal<S: Source>(
 }
 
 /// The first key of dictionary `n`, whose keys are texts, that has the units of an earlier one. Keys that
-/// name one object are found by its number, so that a text which many keys share is read once.
+/// name one object are found by its number, so that a text which many keys share is read once. Of fewer than
+/// two keys none is read.
 fn first_twice<S: Source>(
     alloc: Global,
     src: &mut S,
@@ -236,16 +224,21 @@ fn first_twice<S: Source>(
         (IsFirstTwice (S.means src.old).octets frame.now head.now)) Never result }
     ensures inside { IfOk result (λ found. IfSome found (λ i. i < head.now.count)) }
 {
+    if head.count < 2 {
+        return Ok(None);
+    }
     match first_shared(alloc, src, frame, head)? {
         None => first_equal(alloc, src, frame, places, n, head, head.count),
-        Some(shared) => match first_equal(alloc, src, frame, places, n, head, shared)? {
-            None => Ok(Some(shared)),
-            Some(equal) => Ok(Some(equal)),
-        },
+        Some(shared) => Ok(first_equal(alloc, src, frame, places, n, head, shared)?.or(Some(
+            shared,
+        ))),
     }
 }
 
-/// Looks for a key of dictionary `n`, whose keys are texts, that has the units of an earlier one.
+/// Looks for a key of dictionary `n`, whose head this is and whose keys are texts, that has the units of an earlier
+/// one: rule 22. The fault is that of the first such key, at its reference, counted from the file's first byte. `Read`
+/// where a read failed, `Memory` where a growth was refused, which never happens with fewer than two keys. Over a source
+/// that gives other bytes than before it may also be the fault of a key that is no text, rule 21.
 pub fn check_twice<S: Source>(
     alloc: Global,
     src: &mut S,

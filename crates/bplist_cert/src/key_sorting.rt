@@ -1,31 +1,31 @@
-//! The keys of one dictionary in memory, by the order of their units.
+//! The keys of one dictionary in memory, by their order.
 
-ghost use Rattle.std.specs.Prelude.{◌≡◌, ℕ, ◌<◌, ◌≤◌, List, length, slice_index, MatchOption, min};
-ghost use Rattle.bplist_cert.specs.Repeats.{units_in, positions_in, IsNumbered, IsRepeated, IsLeastOrNone, IsMarked};
+ghost use Rattle.std.specs.Prelude.{◌≡◌, length, MatchOption, min};
+ghost use Rattle.bplist_cert.specs.Repeats.{keys_of, positions_in, IsNumbered, IsRepeated, IsLeastOrNone, IsMarked};
 
-/// A key of a dictionary, and its number among the keys in written order.
+/// A key of a dictionary, as what it is compared by, and its number among the keys in written order.
 #[derive(Clone, Copy, Debug, PartialEq, Eq, PartialOrd, Ord)]
-pub(crate) struct Key<'a> {
-    pub units: &'a [u16],
+pub(crate) struct Key<K> {
+    pub key: K,
     pub position: u64,
 }
 
-/// The least position whose key has the units of an earlier key. The keys are sorted by their units.
-pub(crate) fn first_repeated(keys: &mut [Key]) -> Option<u64>
+/// The least position whose key is the same as an earlier one. The keys are sorted.
+pub(crate) fn first_repeated<K: Ord>(keys: &mut [Key<K>]) -> Option<u64>
     requires { IsNumbered keys.old }
-    ensures { IsLeastOrNone (IsRepeated (units_in keys.old)) result }
+    ensures { IsLeastOrNone (IsRepeated K.eq (keys_of keys.old)) result }
 {
     keys.sort_unstable();
     least_repeated(keys)
 }
 
-/// The least position of a key that stands behind one with the same units.
-fn least_repeated(keys: &[Key]) -> Option<u64>
-    ensures { IsLeastOrNone (IsMarked (units_in keys.now) (positions_in keys.now) (length keys.now)) result }
+/// The least position of a key that stands behind one that is the same.
+fn least_repeated<K: Ord>(keys: &[Key<K>]) -> Option<u64>
+    ensures { IsLeastOrNone (IsMarked K.eq (keys_of keys.now) (positions_in keys.now) (length keys.now)) result }
 {
     let mut least: Option<u64> = None;
     for k in 1..keys.len() {
-        if keys[k].units == keys[k - 1].units {
+        if keys[k - 1].key == keys[k].key {
             least = Some(lesser(least, keys[k].position));
         }
     }

@@ -1,6 +1,6 @@
 //! Parts of a list of units: the units of keys, one behind the other.
 
-ghost use Rattle.std.specs.Prelude.{◌≡◌, ◌≤◌, ◌<◌, ℕ, suc, length, slice_index, slice_index_or, [], IfOk};
+ghost use Rattle.std.specs.Prelude.{◌≡◌, ◌^◌, ◌≤◌, ◌<◌, ℕ, suc, length, slice_index, slice_index_or, [], IfOk};
 ghost use Rattle.bplist_cert.specs.KeyUnits.{AreBounds, slice_of, IsRepeatedPart};
 ghost use Rattle.bplist_cert.specs.Repeats.{IsNumbered, IsLeastOrNone, units_in};
 
@@ -16,11 +16,12 @@ pub(crate) struct KeyUnits {
 }
 
 impl KeyUnits {
-    /// No parts.
-    pub(crate) fn without_parts(alloc: Global) -> Result<KeyUnits, AllocError>
+    /// No parts yet, with memory for the bounds of `count`.
+    pub(crate) fn without_parts(alloc: Global, count: u64) -> Result<KeyUnits, AllocError>
+        requires { count < 2 ^ 63 }
         ensures { IfOk result (λ keys. AreBounds keys.units.items keys.bounds.items 0) }
     {
-        let mut bounds = Vec::new(alloc);
+        let mut bounds = Vec::with_capacity(alloc, count as usize + 1)?;
         bounds.push(0)?;
         Ok(KeyUnits {
             units: Vec::new(alloc),
@@ -58,20 +59,18 @@ pub(crate) fn keys_in<'a>(
     units: &'a [u16],
     bounds: &[usize],
     count: u64,
-) -> Result<Vec<Key<'a>>, AllocError>
+) -> Result<Vec<Key<&'a [u16]>>, AllocError>
     requires { AreBounds units.now bounds.now count }
     ensures numbered { IfOk result (λ keys. IsNumbered keys.items) }
     ensures count { IfOk result (λ keys. length (units_in keys.items) ≡ count) }
     ensures units { IfOk result (λ keys. (k : ℕ) → k < count → slice_index_or (units_in keys.items) k [] ≡ slice_of units.now bounds.now k) }
 {
-    let mut keys = Vec::new(alloc);
-    let mut i = 0usize;
-    while (i as u64) < count {
+    let mut keys = Vec::with_capacity(alloc, count as usize)?;
+    for i in 0..count {
         keys.push(Key {
-            units: part_of(units, bounds, i),
-            position: i as u64,
+            key: part_of(units, bounds, i as usize),
+            position: i,
         })?;
-        i += 1;
     }
     Ok(keys)
 }

@@ -135,7 +135,8 @@ fn first_keyless<S: Source>(
     Ok(None)
 }
 
-/// Looks for a key of dictionary `n` that is no text.
+/// Looks for a key of dictionary `n`, whose head this is, that is no text: rule 21. The fault is that of the first such
+/// key, at its reference, counted from the file's first byte. `Read` where a read failed.
 pub fn check_texts<S: Source>(
     src: &mut S,
     frame: &Frame,

@@ -1,19 +1,21 @@
 //! Why a certificate is refused.
 
-ghost use Rattle.std.specs.Prelude.{◌≡◌, MatchResult};
-ghost use Rattle.bplist_objects.specs.declared.fault.ObjectFault.{ObjectFault as object_fault};
-ghost use Rattle.bplist_objects.specs.declared.fault.ObjectFault.TheVariants.{Fault as object_broken, Read as object_read};
+ghost use Rattle.std.specs.Prelude.{◌≡◌};
 ghost use Rattle.bplist_cert.specs.declared.refusal.Refusal.TheVariants.{Memory, Read, Fault as is_fault};
 
 use bplist_objects::{Fault, ObjectFault};
 use bplist_octets::ReadFault;
 use std::alloc::{AllocError, AllocFailed};
 
-/// Why a certificate is refused: a broken rule, a failed read, or a growth that was refused.
+/// Why a call that checks gave no yes, or a call that makes certificates none.
 #[derive(Clone, Copy, Debug, PartialEq, Eq, Drop)]
 pub enum Refusal {
+    /// A rule is broken. The place counts from the file's first byte, and for rules 26, 27 and 32 from the
+    /// certificate's.
     Fault(Fault),
+    /// A read of the source failed, so nothing is said of the rules.
     Read(ReadFault),
+    /// A growth was refused, so nothing is said of the rules.
     Memory,
 }
 

@@ -1,14 +1,17 @@
-use Rattle.std.proofs.Common.{refl, arith}
-use Rattle.bplist_cert.proofs.Bounding.{shared_found, repeated_within}
+use Rattle.std.proofs.Common.{◌∙◌, IfSome, ◌<◌, subst}
+use Rattle.std.proofs.lemmas.List.{length-map}
+use Rattle.bplist_cert.specs.Repeats.{keys_of}
+use Rattle.bplist_cert.proofs.Bounding.{shared_found, repeated_inside}
 use Rattle.bplist_cert.proofs.key_equality.first_shared.Goals as goal
 
 pub returns-clause-exact : goal.returns-clause-exact
 returns-clause-exact g c = λ honest.
-    let keys = c.in_ok-references.references in
-    shared_found (g.S.Source.means c.args.src.now).octets c.args.frame.now c.args.head.now keys.units.items keys.bounds.items c.args.head.now.count (omega arith) refl
-    (c.in_ok-references.ensures.exact honest) c.in_ok-first_repeated.field-0 c.in_ok-first_repeated.ensures
+    let keys = c.in_ok-keys.keys.items in
+    shared_found (g.S.Source.means c.args.src.now).octets c.args.frame.now c.args.head.now keys c.in_ok-keys.ensures.count
+    (c.in_ok-keys.ensures.exact honest) c.first_repeated.result (rw c.deref_mut.ensures.value at c.first_repeated.ensures)
 
 pub returns-clause-inside : goal.returns-clause-inside
 returns-clause-inside g c =
-    let keys = c.in_ok-references.references in
-    repeated_within keys.units.items keys.bounds.items c.args.head.now.count c.in_ok-first_repeated.field-0 c.in_ok-first_repeated.ensures
+    let keys = c.in_ok-keys.keys.items in
+    subst (λ n. IfSome c.first_repeated.result (λ p. p < n)) (length-map keys (λ key. key.key) ∙ c.in_ok-keys.ensures.count)
+    (repeated_inside _ (keys_of keys) c.first_repeated.result (rw c.deref_mut.ensures.value at c.first_repeated.ensures))

@@ -1,5 +1,5 @@
 use Rattle.std.proofs.lemmas.Result.{err_from_is_err_and}
-use Rattle.bplist_cert.proofs.Bounding.{shared_twice}
+use Rattle.bplist_cert.proofs.Bounding.{shared_or_equal}
 use Rattle.bplist_cert.proofs.key_equality.first_twice.Goals as goal
 
 pub returns-in-None-clause-exact : goal.returns-in-None-clause-exact
@@ -11,12 +11,8 @@ returns-in_err-first_equal-in-Some-clause-exact g c = λ honest framed told text
     let p = err_from_is_err_and c.from_residual-in_err-first_equal-in-Some.result c.from_residual-in_err-first_equal-in-Some.ensures.1 in
     rw (p.1, p.2) ((rw c.in_ok-first_shared.ensures.reads at c.in_err-first_equal-in-Some.ensures.exact) honest framed told texts)
 
-pub returns-in-None-2-clause-exact : goal.returns-in-None-2-clause-exact
-returns-in-None-2-clause-exact g c = λ honest framed told texts.
+pub returns-in_ok-first_equal-in-Some-clause-exact : goal.returns-in_ok-first_equal-in-Some-clause-exact
+returns-in_ok-first_equal-in-Some-clause-exact g c = λ honest framed told texts.
     let shared = rw c.in-Some.is at (c.in_ok-first_shared.ensures.exact honest) in
-    let differ = rw c.in-None-2.is at ((rw c.in_ok-first_shared.ensures.reads at c.in_ok-first_equal-in-Some.ensures.exact) honest framed told texts) in
-    shared_twice (g.S.Source.means c.args.src.now).octets c.args.frame.now c.args.head.now c.in-Some.shared texts shared.0 differ
-
-pub returns-in-Some-2-clause-exact : goal.returns-in-Some-2-clause-exact
-returns-in-Some-2-clause-exact g c = λ honest framed told texts.
-    rw c.in-Some-2.is at ((rw c.in_ok-first_shared.ensures.reads at c.in_ok-first_equal-in-Some.ensures.exact) honest framed told texts)
+    let equal = (rw c.in_ok-first_shared.ensures.reads at c.in_ok-first_equal-in-Some.ensures.exact) honest framed told texts in
+    rw c.or.ensures (shared_or_equal (g.S.Source.means c.args.src.now).octets c.args.frame.now c.args.head.now c.in-Some.shared texts shared.0 c.in_ok-first_equal-in-Some.field-0 equal)

@@ -1,7 +1,13 @@
 use Rattle.std.proofs.Common.{◌≡◌, ◌+◌, ◌∙◌, length, take, subst, arith, length-take}
 use Rattle.std.proofs.lemmas.Result.{err_from_is_err_and}
+use Rattle.bplist_objects.proofs.BodyLaws.{refs_fit}
 use Rattle.bplist_cert.specs.KeyUnits.{AreParts, IsKeyWith}
 use Rattle.bplist_cert.proofs.key_equality.read_keys.Goals as goal
+
+pub without_parts-requires : goal.without_parts-requires
+without_parts-requires g c =
+    let fit = rw c.requires.dict at (refs_fit c.args.frame.now.ref_size c.args.head.now.count c.args.head.now.kind c.requires.safe.ref_low) in
+    omega (arith, fit.1, rw c.requires.dict at c.requires.head.body, c.requires.head.table, c.requires.safe.room, c.requires.within, c.len-len.ensures)
 
 pub returns-in_err-push_keys-clause-exact : goal.returns-in_err-push_keys-clause-exact
 returns-in_err-push_keys-clause-exact g c = λ honest framed told texts.
