@@ -1,15 +1,19 @@
 -- Objects that are texts, and keys.
-use Rattle.std.proofs.Common.{ℕ, ◌<◌, List, subst}
+use Rattle.std.proofs.Common.{ℕ, ◌<◌, List, Result, Ok, Err, subst}
 use Rattle.bplist_objects.specs.declared.fault.Fault.{Fault}
+use Rattle.bplist_objects.specs.declared.fault.ObjectFault.{ObjectFault}
+use Rattle.bplist_objects.specs.declared.fault.ObjectFault.TheVariants as object_faults
 use Rattle.bplist_objects.specs.declared.frame.Frame.{Frame}
 use Rattle.bplist_objects.specs.declared.head.Head.{Head}
 use Rattle.bplist_objects.specs.Frame.{IsFrame}
 use Rattle.bplist_objects.specs.Heads.{content_at}
 use Rattle.bplist_objects.specs.Units.{IsTextKind}
 use Rattle.bplist_objects.specs.Announced.{HasHead}
+use Rattle.bplist_objects.specs.Answers.{Gives}
 use Rattle.bplist_objects.specs.Rules.{KeepsAll}
-use Rattle.bplist_objects.specs.ObjectRules.{KeepsByObject, IsObjectFault, object_rules}
+use Rattle.bplist_objects.specs.ObjectRules.{KeepsByObject, IsObjectFault, shape_rules, object_rules}
 use Rattle.bplist_objects.proofs.BodyLaws.{HasHead-unique}
+use Rattle.bplist_objects.proofs.Broken.{no_object_fault}
 use Rattle.bplist_objects.proofs.Ties.{kept_spells, shape_announced}
 use Rattle.bplist_objects.proofs.Refusing.{no_content}
 use Rattle.bplist_cert.specs.Keys.{IsText}
@@ -28,3 +32,15 @@ module _ (f : List ℕ) (F : Frame) (m : ℕ) where
   other_kind head has never key text =
       let same = HasHead-unique f F m key head (shape_announced f F m key text.is.0) has in
       never (subst (λ (x : Head). IsTextKind x.kind) same text.kind)
+
+  -- an object that keeps rules 14 to 20 has no fault by rules 14 to 17
+  pub shape_kept : (fault : Fault) → KeepsAll (KeepsByObject f F m) object_rules → IsObjectFault f F m shape_rules fault → ⊥
+  shape_kept fault kept h = no_object_fault f F m shape_rules fault (kept.0, (kept.1.0, (kept.1.1.0, (kept.1.1.1.0, tt)))) h
+
+  -- what marker and count say of such an object is all
+  pub known_shape : (r : Result Head ObjectFault) → KeepsAll (KeepsByObject f F m) object_rules
+      → Gives (λ head. HasHead f F m head × KeepsAll (KeepsByObject f F m) shape_rules) (IsObjectFault f F m shape_rules) r
+      → Gives (λ head. HasHead f F m head × KeepsAll (KeepsByObject f F m) object_rules) (IsObjectFault f F m object_rules) r
+  known_shape (Ok head) kept h = (h.0, kept)
+  known_shape (Err (object_faults.Fault fault)) kept h = absurd (shape_kept fault kept h)
+  known_shape (Err (object_faults.Read _)) kept h = tt

@@ -8,9 +8,15 @@ ghost use Rattle.bplist_objects.specs.Units.{IsTextKind, units_of};
 ghost use Rattle.bplist_objects.specs.declared.kind.Kind.TheVariants.{Dict};
 ghost use Rattle.bplist_cert.specs.Keys.{HaveTexts, KeysDiffer, IsFirstTwice, IsTwiceFault};
 ghost use Rattle.bplist_cert.specs.Heights.{ref};
+<<<<<<< HEAD
 ghost use Rattle.bplist_cert.specs.Places.{TellPlaces};
 ghost use Rattle.bplist_cert.specs.KeyUnits.{AreBounds, AreParts, IsKeyWith, IsShared};
 ghost use Rattle.bplist_cert.specs.Repeats.{keys_of, IsNumbered, IsLeastOrNone};
+=======
+ghost use Rattle.bplist_cert.specs.Places.{TellKeys};
+ghost use Rattle.bplist_cert.specs.KeyUnits.{AreBounds, AreParts, IsKeyWith, IsShared, digits};
+ghost use Rattle.bplist_cert.specs.Repeats.{IsLeastOrNone};
+>>>>>>> texts
 ghost use Rattle.bplist_cert.specs.Refusals.{Judges, refused_read};
 ghost use Rattle.bplist_objects.specs.Answers.{Never};
 
@@ -101,7 +107,7 @@ fn push_keys<S: Source>(
     ensures reads { OnlyReads (refused_read result) (S.means src.old) (S.means src.new) }
     ensures bounds { OnOk result (AreBounds keys.new.units.items keys.new.bounds.items (done + length refs.old)) }
     ensures exact { IsTrue (S.means src.old).honest → IsFrame (S.means src.old).octets frame.now
-        → TellPlaces (S.means src.old).octets frame.now places.entry
+        → TellKeys (S.means src.old).octets frame.now head.now places.entry
         → HaveTexts (S.means src.old).octets frame.now head.now head.now.count
         → AreParts (IsKeyWith (S.means src.old).octets frame.now head.now) keys.old.units.items keys.old.bounds.items done
         → Judges (λ _. AreParts (IsKeyWith (S.means src.old).octets frame.now head.now) keys.new.units.items keys.new.bounds.items
@@ -110,7 +116,7 @@ fn push_keys<S: Source>(
     read_places(src, frame, places, head, done, refs, found)?;
     let count = refs.len();
     for k in 0..count {
-        let Some(key) = text_at(src, frame, refs[k], found[k])? else {
+        let Some(key) = text_at(src, frame, places, refs[k], found[k])? else {
             return Err(Refusal::Fault(keyless(frame, n, head, done + k as u64, src.len())));
         };
         push_units(src, &key, &mut keys.units)?;
@@ -136,7 +142,7 @@ pub(crate) fn read_keys<S: Source>(
     ensures reads { OnlyReads (refused_read result) (S.means src.old) (S.means src.new) }
     ensures bounds { IfOk result (λ keys. AreBounds keys.units.items keys.bounds.items count) }
     ensures exact { IsTrue (S.means src.old).honest → IsFrame (S.means src.old).octets frame.now
-        → TellPlaces (S.means src.old).octets frame.now places.entry
+        → TellKeys (S.means src.old).octets frame.now head.now places.entry
         → HaveTexts (S.means src.old).octets frame.now head.now head.now.count
         → Judges (λ keys. AreParts (IsKeyWith (S.means src.old).octets frame.now head.now) keys.units.items keys.bounds.items count)
         Never result }
@@ -192,7 +198,7 @@ fn first_equal<S: Source>(
     requires within { count ≤ head.now.count }
     ensures reads { OnlyReads (refused_read result) (S.means src.old) (S.means src.new) }
     ensures exact { IsTrue (S.means src.old).honest → IsFrame (S.means src.old).octets frame.now
-        → TellPlaces (S.means src.old).octets frame.now places.entry
+        → TellKeys (S.means src.old).octets frame.now head.now places.entry
         → HaveTexts (S.means src.old).octets frame.now head.now head.now.count
         → Judges (λ found. MatchOption found (KeysDiffer (S.means src.old).octets frame.now head.now count)
         (IsFirstTwice (S.means src.old).octets frame.now head.now)) Never result }
@@ -218,7 +224,7 @@ fn first_twice<S: Source>(
     requires dict { head.now.kind ≡ Dict }
     ensures reads { OnlyReads (refused_read result) (S.means src.old) (S.means src.new) }
     ensures exact { IsTrue (S.means src.old).honest → IsFrame (S.means src.old).octets frame.now
-        → TellPlaces (S.means src.old).octets frame.now places.entry
+        → TellKeys (S.means src.old).octets frame.now head.now places.entry
         → HaveTexts (S.means src.old).octets frame.now head.now head.now.count
         → Judges (λ found. MatchOption found (KeysDiffer (S.means src.old).octets frame.now head.now head.now.count)
         (IsFirstTwice (S.means src.old).octets frame.now head.now)) Never result }
@@ -252,7 +258,7 @@ pub fn check_twice<S: Source>(
     requires dict { head.now.kind ≡ Dict }
     ensures reads { OnlyReads (refused_read result) (S.means src.old) (S.means src.new) }
     ensures exact { IsTrue (S.means src.old).honest → IsFrame (S.means src.old).octets frame.now
-        → TellPlaces (S.means src.old).octets frame.now places.entry
+        → TellKeys (S.means src.old).octets frame.now head.now places.entry
         → HaveTexts (S.means src.old).octets frame.now head.now head.now.count
         → Judges (λ _. KeysDiffer (S.means src.old).octets frame.now head.now head.now.count)
         (IsTwiceFault (S.means src.old).octets frame.now n.0 head.now) result }

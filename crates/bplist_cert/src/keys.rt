@@ -2,27 +2,58 @@
 
 ghost use Rattle.std.specs.Prelude.{◌≡◌, ◌+◌, ◌*◌, ◌≤◌, ◌<◌, length, IsTrue, IfOk, IfSome, MatchOption, Some, is_err};
 ghost use Rattle.bplist_octets.specs.Meaning.{OnlyReads};
-ghost use Rattle.bplist_objects.specs.Frame.{IsFrame};
+ghost use Rattle.bplist_objects.specs.Frame.{off, IsFrame};
 ghost use Rattle.bplist_objects.specs.Safe.{IsSafe, IsSafeHead, IsSafeBody};
 ghost use Rattle.bplist_objects.specs.Units.{IsTextKind};
+ghost use Rattle.bplist_objects.specs.Announced.{HasHead};
+ghost use Rattle.bplist_objects.specs.Rules.{KeepsAll};
+ghost use Rattle.bplist_objects.specs.ObjectRules.{KeepsByObject, IsObjectFault, object_rules};
 ghost use Rattle.bplist_objects.specs.Answers.{Gives, Never, read_failed};
 ghost use Rattle.bplist_objects.specs.declared.kind.Kind.TheVariants.{Dict};
 ghost use Rattle.bplist_objects.specs.declared.rule.Rule.TheVariants.{KeyKind};
 ghost use Rattle.bplist_objects.specs.declared.head.Head.{Head as head_record};
 ghost use Rattle.bplist_cert.specs.Keys.{IsText, IsKey, HaveTexts, IsFirstKeyless, IsKeylessFault};
-ghost use Rattle.bplist_cert.specs.Places.{TellPlaces};
+ghost use Rattle.bplist_cert.specs.Places.{TellSound, TellAllSound, TellKeys};
 ghost use Rattle.bplist_cert.specs.KeyPlaces.{IsPlaced, ArePlaced, AreTexts, IsFirstOther};
 
 use crate::heights::ref_place;
 use crate::key_places::{BLOCK, read_places};
 use crate::places::{Places, place_of};
-use bplist_objects::{Fault, Frame, Head, Kind, ObjectFault, ObjectNo, Rule, head_at, ref_at};
+use bplist_objects::{
+    Fault, Frame, Head, Kind, ObjectFault, ObjectNo, Rule, head_at, ref_at, shape_at,
+};
 use bplist_octets::{ReadFault, Source};
+
+/// The head of object `m`, which stands at `place`. Where the object is known to keep rules 14 to 20, its body is not read.
+fn key_shape<S: Source>(
+    src: &mut S,
+    frame: &Frame,
+    places: Places,
+    m: ObjectNo,
+    place: u64,
+) -> Result<Head, ObjectFault>
+    requires safe { IsSafe (length (S.means src.old).octets) frame.now }
+    requires within { m.0 < frame.now.objects }
+    ensures reads { OnlyReads (read_failed result) (S.means src.old) (S.means src.new) }
+    ensures rules { IsTrue (S.means src.old).honest → IsFrame (S.means src.old).octets frame.now
+        → place ≡ off (S.means src.old).octets frame.now m.0
+        → TellSound (S.means src.old).octets frame.now places.entry m.0
+        → Gives (λ head. HasHead (S.means src.old).octets frame.now m.0 head
+        × KeepsAll (KeepsByObject (S.means src.old).octets frame.now m.0) object_rules)
+        (IsObjectFault (S.means src.old).octets frame.now m.0 object_rules) result }
+    ensures safe { IfOk result (IsSafeHead frame.now) }
+{
+    match places {
+        Places::Table => head_at(src, frame, m, place),
+        Places::Kept(_) => shape_at(src, frame, m, place),
+    }
+}
 
 /// The head of object number `m`, which stands at `place`, where it spells a text.
 pub(crate) fn text_at<S: Source>(
     src: &mut S,
     frame: &Frame,
+    places: Places,
     m: u64,
     place: u64,
 ) -> Result<Option<Head>, ReadFault>
@@ -30,6 +61,7 @@ pub(crate) fn text_at<S: Source>(
     ensures reads { OnlyReads (is_err result) (S.means src.old) (S.means src.new) }
     ensures found { IfOk result (λ found. IsTrue (S.means src.old).honest → IsFrame (S.means src.old).octets frame.now
         → IsPlaced (S.means src.old).octets frame.now m place
+        → TellSound (S.means src.old).octets frame.now places.entry m
         → MatchOption found ((key : head_record) → IsText (S.means src.old).octets frame.now m key → ⊥)
         (IsText (S.means src.old).octets frame.now m)) }
     ensures safe { IfOk result (λ found. IfSome found (λ key. IsTextKind key.kind × IsSafeBody (length (S.means src.old).octets) key)) }
@@ -37,7 +69,7 @@ pub(crate) fn text_at<S: Source>(
     if m >= frame.objects as u64 {
         return Ok(None);
     }
-    match head_at(src, frame, ObjectNo(m as u32), place) {
+    match key_shape(src, frame, places, ObjectNo(m as u32), place) {
         Ok(head) => match head.kind {
             Kind::Ascii | Kind::Wide => Ok(Some(head)),
             _ => Ok(None),
@@ -51,22 +83,24 @@ pub(crate) fn text_at<S: Source>(
 fn first_other<S: Source>(
     src: &mut S,
     frame: &Frame,
+    places: Places,
     refs: &[u64],
-    places: &[u64],
+    offsets: &[u64],
 ) -> Result<Option<usize>, ReadFault>
     requires safe { IsSafe (length (S.means src.old).octets) frame.now }
-    requires many { length places.now ≡ length refs.now }
+    requires many { length offsets.now ≡ length refs.now }
     ensures reads { OnlyReads (is_err result) (S.means src.old) (S.means src.new) }
     ensures found { IfOk result (λ found. IsTrue (S.means src.old).honest → IsFrame (S.means src.old).octets frame.now
-        → ArePlaced (S.means src.old).octets frame.now refs.now places.now (length refs.now)
+        → ArePlaced (S.means src.old).octets frame.now refs.now offsets.now (length refs.now)
+        → TellAllSound (S.means src.old).octets frame.now places.entry refs.now
         → MatchOption found (AreTexts (S.means src.old).octets frame.now refs.now (length refs.now))
         (IsFirstOther (S.means src.old).octets frame.now refs.now)) }
     ensures inside { IfOk result (λ found. IfSome found (λ i. i < length refs.now)) }
 {
     for i in 0..refs.len() {
-        let Some(_) = text_at(src, frame, refs[i], places[i])? else {
+        if text_at(src, frame, places, refs[i], offsets[i])?.is_none() {
             return Ok(Some(i));
-        };
+        }
     }
     Ok(None)
 }
@@ -88,7 +122,7 @@ fn search_keys<S: Source>(
     requires many { length found.old ≡ length refs.old }
     ensures reads { OnlyReads (is_err result) (S.means src.old) (S.means src.new) }
     ensures first { IfOk result (λ first. IsTrue (S.means src.old).honest → IsFrame (S.means src.old).octets frame.now
-        → TellPlaces (S.means src.old).octets frame.now places.entry
+        → TellKeys (S.means src.old).octets frame.now head.now places.entry
         → HaveTexts (S.means src.old).octets frame.now head.now done
         → MatchOption first (HaveTexts (S.means src.old).octets frame.now head.now (done + length refs.old))
         (IsFirstKeyless (S.means src.old).octets frame.now head.now)) }
@@ -96,7 +130,7 @@ fn search_keys<S: Source>(
 {
     let _count = head.count;
     read_places(src, frame, places, head, done, refs, found)?;
-    match first_other(src, frame, refs, found)? {
+    match first_other(src, frame, places, refs, found)? {
         Some(i) => Ok(Some(done + i as u64)),
         None => Ok(None),
     }
@@ -114,7 +148,7 @@ fn first_keyless<S: Source>(
     requires dict { head.now.kind ≡ Dict }
     ensures reads { OnlyReads (is_err result) (S.means src.old) (S.means src.new) }
     ensures found { IfOk result (λ found. IsTrue (S.means src.old).honest → IsFrame (S.means src.old).octets frame.now
-        → TellPlaces (S.means src.old).octets frame.now places.entry
+        → TellKeys (S.means src.old).octets frame.now head.now places.entry
         → MatchOption found (HaveTexts (S.means src.old).octets frame.now head.now head.now.count)
         (IsFirstKeyless (S.means src.old).octets frame.now head.now)) }
     ensures inside { IfOk result (λ found. IfSome found (λ i. i < head.now.count)) }
@@ -149,7 +183,7 @@ pub fn check_texts<S: Source>(
     requires dict { head.now.kind ≡ Dict }
     ensures reads { OnlyReads (read_failed result) (S.means src.old) (S.means src.new) }
     ensures exact { IsTrue (S.means src.old).honest → IsFrame (S.means src.old).octets frame.now
-        → TellPlaces (S.means src.old).octets frame.now places.entry
+        → TellKeys (S.means src.old).octets frame.now head.now places.entry
         → Gives (λ _. HaveTexts (S.means src.old).octets frame.now head.now head.now.count)
         (IsKeylessFault (S.means src.old).octets frame.now n.0 head.now) result }
 {
@@ -195,7 +229,7 @@ pub(crate) fn key_head<S: Source>(
 {
     let m = ref_at(src, frame, head, i)?;
     let place = place_of(src, frame, Places::Table, m)?;
-    match text_at(src, frame, m, place)? {
+    match text_at(src, frame, Places::Table, m, place)? {
         Some(key) => Ok(key),
         None => Err(ObjectFault::Fault(keyless(frame, n, head, i, src.len()))),
     }

@@ -1,7 +1,8 @@
-//! Where the places of objects are looked up.
+//! Where the places of objects are looked up, and what is known of them.
 //!
-//! The checker takes no memory by object, and reads an entry of the offset table wherever it needs one. Who keeps the
-//! table has its keys looked at by what is kept, so that no entry is read again.
+//! The checker takes no memory by object, and reads an entry of the offset table wherever it needs one. It knows nothing of
+//! an object before it comes to it. Who keeps the table has its keys looked at by what is kept, so that no entry is read
+//! again. It has looked at the objects by then, so that no body of a key is scanned again for rule 18.
 
 ghost use Rattle.std.specs.Prelude.{◌≡◌, ◌<◌, length, IsTrue, IfOk, is_err};
 ghost use Rattle.bplist_octets.specs.Meaning.{OnlyReads};
@@ -12,12 +13,13 @@ ghost use Rattle.bplist_cert.specs.Places.{TellPlaces};
 use bplist_objects::{Frame, ObjectNo, offset_of};
 use bplist_octets::{ReadFault, Source};
 
-/// Where the places of a file's objects are looked up.
+/// Where the places of a file's objects are looked up, and what is known of the objects that keys name.
 #[derive(Clone, Copy, Debug)]
 pub enum Places<'a> {
-    /// In the offset table of the file, entry by entry.
+    /// In the offset table of the file, entry by entry. Nothing is known of the objects.
     Table,
-    /// In memory: the places of all objects, each counted from the file's first byte, in the order of their numbers.
+    /// In memory: the places of all objects, each counted from the file's first byte, in the order of their numbers. The
+    /// objects that the keys name are known to keep rules 14 to 20.
     Kept(&'a [u32]),
 }
 

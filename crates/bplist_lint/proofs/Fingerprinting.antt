@@ -1,5 +1,5 @@
 -- Fingerprints of texts, which are known, and what they say of the keys of a dictionary.
-use Rattle.std.proofs.Common.{◌≡◌, ◌≢◌, ℕ, ◌+◌, ◌-◌, ◌%◌, ◌^◌, ◌<◌, Bool, true, false, inl, inr, List, [], ◌∷◌, ◌++◌, length, drop, fold, set, slice_index, nat_eq, min, refl, sym, ap, ◌∙◌, subst, arith}
+use Rattle.std.proofs.Common.{◌≡◌, ◌≢◌, ℕ, ◌+◌, ◌-◌, ◌%◌, ◌^◌, ◌<◌, ◌↔◌, Bool, true, false, inl, inr, List, [], ◌∷◌, ◌++◌, length, drop, fold, set, slice_index, nat_eq, min, refl, sym, ap, ◌∙◌, subst, arith, Contains}
 use Rattle.std.proofs.lemmas.Bool.{cases_eq, cases_lt, false≢true, eq-eqb}
 use Rattle.std.proofs.lemmas.Bool.Decides.{nat_tests}
 use Rattle.std.proofs.lemmas.Cmp.{nat_eq_equiv}
@@ -13,16 +13,22 @@ use Rattle.bplist_octets.specs.Octets.{part}
 use Rattle.bplist_objects.specs.declared.frame.Frame.{Frame}
 use Rattle.bplist_objects.specs.declared.head.Head.{Head}
 use Rattle.bplist_objects.specs.Frame.{IsFrame}
-use Rattle.bplist_objects.specs.Reach.{Reach}
+use Rattle.bplist_objects.specs.declared.kind.Kind.TheVariants.{Dict}
+use Rattle.bplist_objects.specs.Announced.{HasHead}
+use Rattle.bplist_objects.specs.Heads.{content_at, refs}
+use Rattle.bplist_objects.specs.Reach.{Reach, next}
 use Rattle.bplist_objects.specs.Units.{units_of}
+use Rattle.bplist_objects.proofs.Lists.{all_from}
+use Rattle.bplist_objects.proofs.Ties.{head_tie}
 use Rattle.bplist_cert.specs.Heights.{ref}
 use Rattle.bplist_cert.specs.Keys.{HaveTexts, KeysDiffer}
 use Rattle.bplist_cert.proofs.Ordered.{text_once}
 use Rattle.bplist_lint.specs.Reaching.{IsMarked}
-use Rattle.bplist_cert.specs.Places.{AreOffsets}
+use Rattle.bplist_cert.specs.Places.{AreOffsets, KeysAreSound}
 use Rattle.bplist_lint.specs.ReachRules.{KeepReachBelow}
 use Rattle.bplist_lint.specs.Fingerprints.{mix, fingerprint, HasFingerprint, AreSound, AreKnown, AreOfKeys}
 use Rattle.bplist_lint.proofs.KeySteps.{reached_kept}
+use Rattle.bplist_lint.proofs.KeyTies.{each_key}
 
 -- the last units alone are read
 pub fingerprint_by : (us units : List ℕ) (count from n : ℕ) → length us ≡ count → n ≡ min count 64 → from + n ≡ count → units ≡ part us from n
@@ -64,13 +70,23 @@ marked_within marks m marked = elim (cases_lt m (length marks)) [
 
 module _ (f : List ℕ) (F : Frame) where
   -- where exactly the reached objects are marked, and keep the rules
-  pub reached_sound : (places : List ℕ) (marks : List Bool) → length marks ≡ F.objects → IsFrame f F → AreOffsets f F places → ((m : ℕ) → IsMarked marks m → Reach f F m)
+  pub reached_sound : (places : List ℕ) (marks : List Bool) → length marks ≡ F.objects → IsFrame f F → AreOffsets f F places → ((m : ℕ) → IsMarked marks m ↔ Reach f F m)
       → KeepReachBelow f F F.objects → AreSound f F places marks
   reached_sound places marks many framed placed reached kept = record {
     framed = framed;
     placed = placed;
-    kept = λ m marked. reached_kept f F m (subst (λ n. m < n) many (marked_within marks m marked)) (reached m marked) kept;
+    kept = λ m marked. reached_kept f F m (subst (λ n. m < n) many (marked_within marks m marked)) ((reached m).0 marked) kept;
+    closed = λ n m marked r. (reached m).1 (next ((reached n).0 marked) r);
   }
+
+  -- the keys of a marked dictionary keep rules 14 to 20
+  pub sound_keys : (places : List ℕ) (marks : List Bool) → AreSound f F places marks → (n : ℕ) → n < F.objects → IsMarked marks n → (head : Head) → HasHead f F n head → head.kind ≡ Dict
+      → KeysAreSound f F head
+  sound_keys places marks sound n within marked head has dict k low inside =
+      let c = content_at f F head in
+      let spells = ((head_tie f F n sound.framed within head).0 (has, sound.kept n marked)).1 in
+      let among = each_key f F (Contains (refs c)) head dict (all_from (Contains (refs c)) (refs c) (λ m in_refs. in_refs)) k low in
+      sound.kept (ref f F head k) (sound.closed n (ref f F head k) marked (c, spells, among))
 
   -- one more text is known
   pub known_more : (read : List Bool) (fingerprints : List ℕ) (m x : ℕ) → m < length fingerprints → AreKnown f F read fingerprints → HasFingerprint f F m x

@@ -11,7 +11,7 @@ use Rattle.bplist_objects.specs.declared.kind.Kind.TheVariants.{Dict}
 use Rattle.bplist_objects.specs.Announced.{HasHead}
 use Rattle.bplist_objects.specs.Answers.{GivesFault}
 use Rattle.bplist_objects.specs.Rules.{KeepsAll, IsFirstFault}
-use Rattle.bplist_objects.specs.ObjectRules.{KeepsByObject, IsObjectFault, shape_rules, object_rules}
+use Rattle.bplist_objects.specs.ObjectRules.{KeepsByObject, object_rules}
 use Rattle.bplist_objects.specs.Reach.{Reach}
 use Rattle.bplist_objects.specs.Frame.{IsFrame}
 use Rattle.bplist_objects.specs.Safe.{ref_count}
@@ -20,7 +20,6 @@ use Rattle.bplist_objects.proofs.Ties.{head_tie}
 use Rattle.bplist_objects.proofs.References.{length-refs}
 use Rattle.bplist_objects.proofs.Reaching.{refs_spelled}
 use Rattle.bplist_objects.proofs.BodyLaws.{HasHead-unique}
-use Rattle.bplist_objects.proofs.Broken.{no_object_fault}
 use Rattle.bplist_cert.specs.declared.refusal.Refusal.{Refusal}
 use Rattle.bplist_cert.specs.declared.refusal.Refusal.TheVariants as cert_refusals
 use Rattle.bplist_cert.specs.Refusals.{GivesRefusal, refusal_of}
@@ -40,10 +39,6 @@ refusals_mean P Q cert_refusals.Memory same h = tt
 
 module _ (f : List ℕ) (F : Frame) where
   module _ (n : ℕ) where
-    -- an object that keeps rules 14 to 20 has no fault by rules 14 to 17
-    pub shape_kept : (fault : Fault) → KeepsAll (KeepsByObject f F n) object_rules → IsObjectFault f F n shape_rules fault → ⊥
-    shape_kept fault kept h = no_object_fault f F n shape_rules fault (kept.0, (kept.1.0, (kept.1.1.0, (kept.1.1.1.0, tt)))) h
-
     module _ (head : Head) (has : HasHead f F n head) where
       -- all heads there are this one
       same_head : (P : Head → Type 0) → P head → (other : Head) → HasHead f F n other → P other

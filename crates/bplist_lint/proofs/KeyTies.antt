@@ -19,6 +19,12 @@ module _ (f : List ℕ) (F : Frame) where
   abbrev pub HaveKeys : Head → Type 0
   HaveKeys head = HaveTexts f F head head.count × KeysDiffer f F head head.count
 
+  -- what holds of all references of a dictionary holds of each key
+  pub each_key : (P : ℕ → Type 0) (head : Head) → head.kind ≡ kinds.Dict → AllByRecursion P (refs (content_at f F head)) → (k : ℕ) → k < head.count → P (ref f F head k)
+  each_key P head dict all k low =
+      let each = subst (λ kind. (i : ℕ) → i < ref_count kind head.count → P (ref f F head i)) dict (each_ref f F P head.kind head.count head.body all) in
+      each k (omega (arith, low))
+
   keys_of_kind : (head : Head) → (head.kind ≡ kinds.Dict → HaveKeys head) → (kind : Kind) → head.kind ≡ kind → HasKeys f F (content_of f F kind head.count head.body)
   keys_of_kind head h kinds.Dict e =
       let k = h e in
@@ -53,7 +59,4 @@ module _ (f : List ℕ) (F : Frame) where
         us = subst (λ kind. HasKeys f F (content_of f F kind head.count head.body)) e (subst (HasKeys f F) body k)
 
         low : (k : ℕ) → k < head.count → ref f F head k < F.objects
-        low k lt =
-            let all = subst (λ kind. (i : ℕ) → i < ref_count kind head.count → ref f F head i < F.objects) e
-            (each_ref f F (λ m. m < F.objects) head.kind head.count head.body (subst (λ x. AllByRecursion (λ m. m < F.objects) (refs x)) body s.refs)) in
-            all k (omega (arith, lt))
+        low k lt = each_key (λ m. m < F.objects) head e (subst (λ x. AllByRecursion (λ m. m < F.objects) (refs x)) body s.refs) k lt

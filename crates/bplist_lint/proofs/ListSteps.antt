@@ -1,5 +1,6 @@
 -- Steps of the making of key lists one behind the other.
 use Rattle.std.proofs.Common.{◌≡◌, ◌≢◌, inl, inr, ℕ, zero, suc, ◌+◌, ◌-◌, ◌*◌, ◌<◌, ◌≤◌, rules, true, false, List, [], ◌++◌, length, take, drop, set, slice_index, Some, None, refl, sym, ◌∙◌, ap, subst, arith, lt-ltb}
+use Rattle.std.specs.List.{AllByRecursion}
 use Rattle.std.proofs.Math.Seq.{drop-append_seam, take-length}
 use Rattle.std.proofs.lemmas.Bool.{cases_eq}
 use Rattle.std.proofs.lemmas.List.{get_or-set_same, get_or-set_other, length-append, length-drop, drop-append-le, take-append-le}
@@ -9,25 +10,27 @@ use Rattle.bplist_objects.specs.declared.kind.Kind.{Kind}
 use Rattle.bplist_objects.specs.declared.kind.Kind.TheVariants as kinds
 use Rattle.bplist_objects.specs.declared.head.Head.{Head}
 use Rattle.bplist_objects.specs.Frame.{off}
-use Rattle.bplist_objects.specs.Heads.{Content, HasShape, Spells, unit, content_of, content_at}
+use Rattle.bplist_objects.specs.Heads.{Content, HasShape, Spells, unit, content_of, content_at, refs}
 use Rattle.bplist_objects.specs.Announced.{HasHead}
 use Rattle.bplist_objects.specs.Extents.{HaveRoom}
 use Rattle.bplist_objects.specs.Spelled.{spelled_at}
 use Rattle.bplist_objects.proofs.Lists.{all_weaker}
 use Rattle.bplist_objects.proofs.Filling.{shape_extent}
 use Rattle.bplist_objects.proofs.BodyLaws.{HasHead-unique}
-use Rattle.bplist_objects.proofs.Ties.{shape_announced, spells_body}
+use Rattle.bplist_objects.proofs.Ties.{shape_announced, spells_body, spells_keeps}
 use Rattle.bplist_objects.proofs.Spelling.{spells_iff}
 use Rattle.bplist_objects.proofs.References.{length-nums_at}
 use Rattle.bplist_cert.specs.Lists.{Keyed}
 use Rattle.bplist_cert.specs.Valid.{IsVouchedBy, IsValid}
 use Rattle.bplist_cert.specs.Keys.{HaveTexts, KeysDiffer, AreInOrder}
+use Rattle.bplist_cert.specs.Heights.{ref}
+use Rattle.bplist_cert.specs.Places.{KeysAreSound}
 use Rattle.bplist_cert.specs.Listing.{IsListed}
 use Rattle.bplist_cert.proofs.Accepting.{accepted, keeps_all}
 use Rattle.bplist_lint.specs.Linted.{is_vouched}
 use Rattle.bplist_lint.specs.Upgraded.{is_dict, pairs_of, pairs, start, Listed, IsUpgraded}
 use Rattle.bplist_lint.proofs.Tallying.{sums_none, sums_more, sums_same, next_is}
-use Rattle.bplist_lint.proofs.KeyTies.{rules_from_keys}
+use Rattle.bplist_lint.proofs.KeyTies.{each_key, rules_from_keys}
 
 -- ---- parts of lists
 -- a part of the front
@@ -183,6 +186,16 @@ module _ (f : List ℕ) (F : Frame) (heights : List ℕ) where
 
     pub vouched_keys : head.kind ≡ kinds.Dict → HaveTexts f F head head.count × KeysDiffer f F head head.count
     vouched_keys dict = let o = valid.vouched n vouched in rules_from_keys f F n head vouched_shape o.content o.spells o.keys dict
+
+    -- which keep rules 14 to 20
+    pub vouched_sound : head.kind ≡ kinds.Dict → KeysAreSound f F head
+    vouched_sound dict k low inside =
+        let o = valid.vouched n vouched in
+        let body = spells_body f F n head o.content vouched_shape o.spells in
+        let lower = subst (λ c. AllByRecursion (λ m. IsVouchedBy heights m × (slice_index heights m < slice_index heights n)) (refs c)) body o.lower in
+        let key = each_key f F (λ m. IsVouchedBy heights m × (slice_index heights m < slice_index heights n)) head dict lower k low in
+        let of_key = valid.vouched (ref f F head k) key.0 in
+        spells_keeps f F (ref f F head k) valid.frame inside of_key.content of_key.spells
 
   -- all are listed
   module _ (valid : IsValid f F heights) (keyed : Keyed) (count : length keyed.starts ≡ F.objects) (l : Listed f F heights F.objects keyed.starts keyed.positions) where

@@ -3,6 +3,7 @@ use Rattle.std.specs.Prelude.{◌≡◌, ℕ, ◌+◌, ◌-◌, ◌*◌, ◌^◌
 use Rattle.bplist_objects.specs.declared.frame.Frame.{Frame}
 use Rattle.bplist_objects.specs.declared.head.Head.{Head}
 use Rattle.bplist_objects.specs.Frame.{IsFrame}
+use Rattle.bplist_objects.specs.Reach.{Refs}
 use Rattle.bplist_objects.specs.Units.{units_of}
 use Rattle.bplist_objects.specs.Rules.{KeepsAll}
 use Rattle.bplist_objects.specs.ObjectRules.{KeepsByObject, object_rules}
@@ -28,11 +29,12 @@ module _ (f : List ℕ) (F : Frame) where
   abbrev pub HasFingerprint : ℕ → ℕ → Type 0
   HasFingerprint m x = (key : Head) × IsText f F m key × (x ≡ fingerprint (units_of f key))
 
-  -- F is the frame of f, these are the places of the objects, and those that are marked keep rules 14 to 20
+  -- F is the frame of f, these are the places of the objects, and those that are marked keep rules 14 to 20 and refer to marked ones alone
   pub record AreSound (places : List ℕ) (marks : List Bool) : Type 0 where
     pub framed : IsFrame f F
     pub placed : AreOffsets f F places
     pub kept : (m : ℕ) → IsMarked marks m → KeepsAll (KeepsByObject f F m) object_rules
+    pub closed : (n m : ℕ) → IsMarked marks n → Refs f F n m → IsMarked marks m
 
   -- each object that was read is a text with its fingerprint
   abbrev pub AreKnown : List Bool → List ℕ → Type 0

@@ -1,7 +1,8 @@
--- What one step of the walk that marks the reached objects does to the marks and the stack.
+-- What one step of the walk that marks the reached objects does to the marks and the stack. Source: profile.
 use Rattle.std.specs.Prelude.{◌≡◌, ℕ, ◌<◌, ◌≤◌, ◌⊎◌, Bool, true, false, List, length, slice_index_or, slice_index, Contains}
 use Rattle.bplist_lint.specs.Graph.{Reaches}
 
+-- object n is marked
 abbrev pub IsMarked : List Bool → ℕ → Type 0
 IsMarked marks n = slice_index_or marks n false ≡ true
 

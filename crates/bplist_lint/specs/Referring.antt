@@ -1,4 +1,4 @@
--- The references of a file's objects as a graph, and the parts of it that are in memory.
+-- The references of a file's objects as a graph, and the parts of it that are in memory. Source: profile.
 use Rattle.std.specs.Prelude.{◌≡◌, ℕ, ◌+◌, ◌<◌, Bool, List, [], length, slice_index}
 use Rattle.bplist_objects.specs.declared.frame.Frame.{Frame}
 use Rattle.bplist_objects.specs.Scan.{nth_number}

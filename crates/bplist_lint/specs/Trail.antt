@@ -1,4 +1,4 @@
--- The trail of the walk to the circle.
+-- The trail of the walk to the circle. Source: profile.
 use Rattle.std.specs.Prelude.{◌≡◌, ◌≢◌, ℕ, suc, ◌<◌, Bool, List, [], ◌∷◌, ◌++◌, length, slice_index, Contains}
 use Rattle.bplist_objects.specs.declared.frame.ObjectNo.{ObjectNo}
 use Rattle.bplist_lint.specs.Graph.{Reaches, Ends, IsNext}

@@ -13,7 +13,7 @@ use Rattle.bplist_cert.specs.CheckRules.{HasOrder}
 use Rattle.bplist_lint.specs.ReachRules.{Sums, sum_below}
 use Rattle.bplist_lint.specs.Linted.{is_vouched}
 
--- whether a dictionary is spelled, and how many pairs it has
+-- whether a dictionary is spelled
 abbrev pub is_dict : Option Content → Bool
 is_dict (Some (dict ks ms)) = true
 is_dict (Some (leaf l)) = false
@@ -21,6 +21,7 @@ is_dict (Some (array ms)) = false
 is_dict (Some (set ms)) = false
 is_dict None = false
 
+-- how many pairs what is spelled has, 0 for what is no dictionary
 abbrev pub pairs_of : Option Content → ℕ
 pairs_of (Some (dict ks ms)) = length ks
 pairs_of (Some (leaf l)) = 0

@@ -1,4 +1,4 @@
--- The marks, the heights and the stack of the walk that finds the least heights, and what it keeps true of them.
+-- The marks, the heights and the stack of the walk that finds the least heights, and what it keeps true of them. Source: profile.
 use Rattle.std.specs.Prelude.{◌≡◌, ◌≢◌, ◌⊎◌, ℕ, suc, ◌+◌, ◌*◌, ◌-◌, ◌^◌, ◌<◌, ◌≤◌, Bool, true, false, not, nat_lt, List, length, slice_index_or, slice_index, count_by, sum_by, Contains}
 use Rattle.bplist_lint.specs.Graph.{Reaches, Ends, Least, greatest}
 use Rattle.bplist_lint.specs.Reaching.{IsMarked, HasMarks}
@@ -8,12 +8,15 @@ use Rattle.bplist_lint.specs.declared.heights.Visit.{Visit}
 abbrev pub is_height : ℕ → Bool
 is_height h = nat_lt 0 h
 
+-- what stands for a visit outside the stack
 abbrev pub no_visit : Visit
 no_visit = record { object = 0; next = 0; count = 0; best = 0; sound = true }
 
+-- visit number k of the stack
 abbrev pub visit_at : List Visit → ℕ → Visit
 visit_at stack k = slice_index_or stack k no_visit
 
+-- P holds of each visit on the stack, by its number
 abbrev pub EachVisit : (ℕ → Visit → Type 0) → List Visit → Type 0
 EachVisit P stack = (k : ℕ) → k < length stack → P k (visit_at stack k)
 

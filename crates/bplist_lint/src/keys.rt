@@ -10,7 +10,7 @@ ghost use Rattle.bplist_objects.specs.Safe.{IsSafe, IsSafeHead};
 ghost use Rattle.bplist_objects.specs.Reach.{Reach};
 ghost use Rattle.bplist_objects.specs.Rules.{KeepsAll, IsFirstFault};
 ghost use Rattle.bplist_lint.specs.Reaching.{IsMarked};
-ghost use Rattle.bplist_cert.specs.Places.{AreOffsets};
+ghost use Rattle.bplist_cert.specs.Places.{AreOffsets, KeysAreSound};
 ghost use Rattle.bplist_lint.specs.Referring.{AreBare};
 ghost use Rattle.bplist_lint.specs.ReachRules.{KeepReachBelow};
 ghost use Rattle.bplist_lint.specs.KeyRules.{KeepsByKeys, BreaksAtKeys, key_rules, KeepKeysBelow, IsKeysFault};
@@ -25,7 +25,7 @@ use bplist_objects::{Frame, Head, Kind, ObjectNo, shape_at};
 use bplist_octets::Source;
 use std::alloc::Global;
 
-/// Looks at the keys of dictionary `n`, which has this head, by their units.
+/// Looks at the keys of dictionary `n`, which has this head, by their units. The keys are known to keep rules 14 to 20.
 fn check_units<S: Source>(
     alloc: Global,
     src: &mut S,
@@ -40,6 +40,7 @@ fn check_units<S: Source>(
     ensures reads { OnlyReads (refused_read result) (S.means src.old) (S.means src.new) }
     ensures exact { IsTrue (S.means src.old).honest → IsFrame (S.means src.old).octets frame.now
         → AreOffsets (S.means src.old).octets frame.now places.now
+        → KeysAreSound (S.means src.old).octets frame.now head.now
         → HasHead (S.means src.old).octets frame.now n.0 head.now
         → Judges (λ _. KeepsAll (KeepsByKeys (S.means src.old).octets frame.now n.0) key_rules)
         (IsFirstFault (KeepsByKeys (S.means src.old).octets frame.now n.0)
@@ -77,6 +78,7 @@ fn check_dict<S: Source>(
     ensures exact { IsTrue (S.means src.old).honest
         → AreSound (S.means src.old).octets frame.now places.now marks.now
         → AreKnown (S.means src.old).octets frame.now texts.old.read.items texts.old.fingerprints.items
+        → KeysAreSound (S.means src.old).octets frame.now head.now
         → HasHead (S.means src.old).octets frame.now n.0 head.now
         → Judges (λ _. KeepsAll (KeepsByKeys (S.means src.old).octets frame.now n.0) key_rules)
         (IsFirstFault (KeepsByKeys (S.means src.old).octets frame.now n.0)

@@ -8,10 +8,12 @@ ghost use Rattle.bplist_lint.specs.declared.references.WalkFault.TheVariants.{Re
 use bplist_octets::ReadFault;
 use std::alloc::{AllocError, AllocFailed};
 
-/// What a walk can meet besides its answer.
+/// Why a walk ended without its answer.
 #[derive(Clone, Copy, Debug, PartialEq, Eq, Drop)]
 pub enum WalkFault {
+    /// A read of what the references are read from failed.
     Read(ReadFault),
+    /// Memory was refused.
     Memory,
 }
 

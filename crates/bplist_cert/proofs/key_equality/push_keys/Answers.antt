@@ -2,9 +2,11 @@ use Rattle.std.proofs.Common.{◌≡◌, ◌+◌, ◌≤◌, ◌++◌, ◌∙◌
 use Rattle.bplist_objects.specs.Units.{units_of}
 use Rattle.bplist_cert.specs.Heights.{ref}
 use Rattle.bplist_cert.specs.Keys.{IsText}
+use Rattle.bplist_cert.specs.Places.{TellSound}
 use Rattle.bplist_cert.specs.KeyUnits.{IsKeyWith}
 use Rattle.bplist_cert.proofs.Ordered.{text_once}
 use Rattle.bplist_cert.proofs.Bounding.{bounds_more, parts_more}
+use Rattle.bplist_cert.proofs.Placing.{places_told, sound_told}
 use Rattle.bplist_cert.proofs.key_equality.push_keys.Goals as goal
 
 pub loop-k-init : goal.loop-k-init
@@ -19,7 +21,7 @@ pub returns-in_default-clause-exact : goal.returns-in_default-clause-exact
 returns-in_default-clause-exact g c = λ honest framed told texts before.
     let f = (g.S.Source.means c.args.src.now).octets in
     let is : slice_index c.read_places.new.refs c.loop-k.k ≡ ref f c.args.frame.now c.args.head.now (c.args.done + c.loop-k.k) = c.in_ok-read_places.ensures.refs honest c.loop-k.k (omega (arith, c.loop-k-test.true)) in
-    let none = (rw (c.loop-k.invariant.same, c.in_default.is) at c.in_ok-key.ensures.found) honest framed (c.in_ok-read_places.ensures.found honest told c.loop-k.k (omega (arith, c.loop-k-test.true))) in
+    let none = (rw (c.loop-k.invariant.same, c.in_default.is) at c.in_ok-key.ensures.found) honest framed (c.in_ok-read_places.ensures.found honest (places_told f c.args.frame.now c.args.head.now c.args.places told) c.loop-k.k (omega (arith, c.loop-k-test.true))) (subst (TellSound f c.args.frame.now c.args.places) (sym is) (sound_told f c.args.frame.now c.args.head.now c.args.places told (c.args.done + c.loop-k.k) (omega (arith, c.loop-k-test.true, c.requires.within)))) in
     let text = texts (c.args.done + c.loop-k.k) (omega (arith, c.loop-k-test.true, c.requires.within)) in
     absurd (none text.0 (subst (λ m. IsText f c.args.frame.now m text.0) (sym is) text.1))
 
@@ -36,7 +38,7 @@ loop-k-preserved g c =
       so_far = λ honest framed told texts before.
           let f = (g.S.Source.means c.args.src.now).octets in
           let is : slice_index c.read_places.new.refs c.loop-k.k ≡ ref f c.args.frame.now c.args.head.now i = c.in_ok-read_places.ensures.refs honest c.loop-k.k (omega (arith, c.loop-k-test.true)) in
-          let found = (rw (c.loop-k.invariant.same, c.in-Some.is) at c.in_ok-key.ensures.found) honest framed (c.in_ok-read_places.ensures.found honest told c.loop-k.k (omega (arith, c.loop-k-test.true))) in
+          let found = (rw (c.loop-k.invariant.same, c.in-Some.is) at c.in_ok-key.ensures.found) honest framed (c.in_ok-read_places.ensures.found honest (places_told f c.args.frame.now c.args.head.now c.args.places told) c.loop-k.k (omega (arith, c.loop-k-test.true))) (subst (TellSound f c.args.frame.now c.args.places) (sym is) (sound_told f c.args.frame.now c.args.head.now c.args.places told (c.args.done + c.loop-k.k) (omega (arith, c.loop-k-test.true, c.requires.within)))) in
           let key = subst (λ m. IsText f c.args.frame.now m c.in-Some.key) is found in
           let behind = (rw (c.in_ok-key.ensures.reads, c.loop-k.invariant.same) at c.in_ok-push_units.ensures.units) honest in
           rw (items, next) (parts_more c.loop-k.keys.units.items c.loop-k.keys.bounds.items i c.loop-k.invariant.bounds c.push_units.new.units.items grown (units_of f c.in-Some.key) behind

@@ -1,6 +1,6 @@
 use Rattle.std.proofs.Common.{◌≡◌, ◌+◌, IsTrue}
 use Rattle.bplist_objects.specs.Frame.{IsFrame}
-use Rattle.bplist_cert.specs.Places.{TellPlaces}
+use Rattle.bplist_cert.specs.Places.{TellKeys}
 use Rattle.bplist_cert.specs.Keys.{HaveTexts}
 use Rattle.bplist_cert.specs.KeyUnits.{AreBounds, AreParts, IsKeyWith}
 use Rattle.bplist_cert.proofs.key_equality.push_keys.Given as goal
@@ -12,7 +12,7 @@ invariant-loop-k g l =
     record {
       same : means l.src ≡ means l.fn.src;
       bounds : AreBounds l.keys.units.items l.keys.bounds.items (l.done + l.k);
-      so_far : IsTrue (means l.fn.src).honest → IsFrame (means l.fn.src).octets l.frame → TellPlaces (means l.fn.src).octets l.frame l.places
+      so_far : IsTrue (means l.fn.src).honest → IsFrame (means l.fn.src).octets l.frame → TellKeys (means l.fn.src).octets l.frame l.head l.places
           → HaveTexts (means l.fn.src).octets l.frame l.head l.head.count
           → AreParts (IsKeyWith (means l.fn.src).octets l.frame l.head) l.fn.keys.units.items l.fn.keys.bounds.items l.done
           → AreParts (IsKeyWith (means l.fn.src).octets l.frame l.head) l.keys.units.items l.keys.bounds.items (l.done + l.k);

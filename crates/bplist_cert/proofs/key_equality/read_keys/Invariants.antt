@@ -1,6 +1,6 @@
 use Rattle.std.proofs.Common.{◌≡◌, ◌≤◌, ◌-◌, IsTrue}
 use Rattle.bplist_objects.specs.Frame.{IsFrame}
-use Rattle.bplist_cert.specs.Places.{TellPlaces}
+use Rattle.bplist_cert.specs.Places.{TellKeys}
 use Rattle.bplist_cert.specs.Keys.{HaveTexts}
 use Rattle.bplist_cert.specs.KeyUnits.{AreBounds, AreParts, IsKeyWith}
 use Rattle.bplist_cert.proofs.key_equality.read_keys.Given as goal
@@ -13,7 +13,7 @@ invariant-loop-done g l =
       same : means l.src ≡ means l.fn.src;
       reached : l.done ≤ l.count;
       bounds : AreBounds l.keys.units.items l.keys.bounds.items l.done;
-      so_far : IsTrue (means l.fn.src).honest → IsFrame (means l.fn.src).octets l.frame → TellPlaces (means l.fn.src).octets l.frame l.places
+      so_far : IsTrue (means l.fn.src).honest → IsFrame (means l.fn.src).octets l.frame → TellKeys (means l.fn.src).octets l.frame l.head l.places
           → HaveTexts (means l.fn.src).octets l.frame l.head l.head.count
           → AreParts (IsKeyWith (means l.fn.src).octets l.frame l.head) l.keys.units.items l.keys.bounds.items l.done;
     }

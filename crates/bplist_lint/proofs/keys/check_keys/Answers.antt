@@ -12,7 +12,7 @@ returns-in_err-check_object-clause-exact g c = λ honest framed placed marks kep
     let v = c.loop-n.invariant in
     let p = err_from_is_err_and c.from_residual-in_err-check_object.result c.from_residual-in_err-check_object.ensures.1 in
     let reached = (marks _).0 c.if-marks-n.true in
-    let sound = reached_sound f c.args.frame.now c.args.places.now c.args.marks.now c.requires.marks framed placed (λ m marked. (marks m).0 marked) kept in
+    let sound = reached_sound f c.args.frame.now c.args.places.now c.args.marks.now c.requires.marks framed placed marks kept in
     let here = (rw v.reads at c.in_err-check_object.ensures.exact) honest sound (v.known honest sound) in
     rw (p.1, p.2) (refusals_mean _ _ c.in_err-check_object.field-0.0 (λ fault h. keys_fault f c.args.frame.now c.loop-n.n fault reached (v.exact honest framed placed marks kept bare) h) here)
 
@@ -26,7 +26,7 @@ loop-n-preserved g c =
         rows = rw w.texts-is w.in_ok-check_object.ensures.rows;
         known = λ honest sound. rw w.texts-is ((rw v.reads at w.in_ok-check_object.ensures.known) honest sound (v.known honest sound));
         exact = λ honest framed placed marks kept bare.
-            let sound = reached_sound f c.args.frame.now c.args.places.now c.args.marks.now c.requires.marks framed placed (λ m marked. (marks m).0 marked) kept in
+            let sound = reached_sound f c.args.frame.now c.args.places.now c.args.marks.now c.requires.marks framed placed marks kept in
             keys_more f c.args.frame.now c.loop-n.n ((rw v.reads at w.in_ok-check_object.ensures.exact) honest sound (v.known honest sound)) (v.exact honest framed placed marks kept bare);
       }
       | else-marks-n w ↦ record {
@@ -34,7 +34,7 @@ loop-n-preserved g c =
         rows = rw w.texts-is v.rows;
         known = λ honest sound. rw w.texts-is (v.known honest sound);
         exact = λ honest framed placed marks kept bare.
-            let sound = reached_sound f c.args.frame.now c.args.places.now c.args.marks.now c.requires.marks framed placed (λ m marked. (marks m).0 marked) kept in
+            let sound = reached_sound f c.args.frame.now c.args.places.now c.args.marks.now c.requires.marks framed placed marks kept in
             let before = v.exact honest framed placed marks kept bare in
             elim w.else-marks-n.branch [
               | else-marks-n-via-then-marks-n+else-not-bare-n w' ↦ keys_more f c.args.frame.now c.loop-n.n (bare_keys f c.args.frame.now c.loop-n.n framed (omega (arith, c.loop-n-test.true)) (sound.kept _ w'.if-marks-n.true) (bare _ w'.if-not-bare-n.false)) before

@@ -1,5 +1,7 @@
 use Rattle.std.proofs.lemmas.Result.{err_from_is_err_and}
-use Rattle.bplist_lint.proofs.KeySteps.{object_refused, shape_kept, kept_other}
+use Rattle.bplist_cert.proofs.Texts.{shape_kept}
+use Rattle.bplist_lint.proofs.Fingerprinting.{sound_keys}
+use Rattle.bplist_lint.proofs.KeySteps.{object_refused, kept_other}
 use Rattle.bplist_lint.proofs.keys.check_object.Goals as goal
 
 pub returns-in_err-head-clause-exact : goal.returns-in_err-head-clause-exact
@@ -11,7 +13,9 @@ returns-in_err-head-clause-exact g c = λ honest sound known.
 
 pub returns-in-Dict-clause-exact : goal.returns-in-Dict-clause-exact
 returns-in-Dict-clause-exact g c = λ honest sound known.
-    (rw c.in_ok-head.ensures.reads at c.check_dict.ensures.exact) honest sound known (c.in_ok-head.ensures.rules honest sound.framed (sound.placed c.args.n c.requires.within)).0
+    let has = (c.in_ok-head.ensures.rules honest sound.framed (sound.placed c.args.n c.requires.within)).0 in
+    let keys = sound_keys (g.S.Source.means c.args.src.now).octets c.args.frame.now c.args.places.now c.args.marks.now sound c.args.n c.requires.within c.requires.marked c.in_ok-head.head has c.in-Dict.is in
+    (rw c.in_ok-head.ensures.reads at c.check_dict.ensures.exact) honest sound known keys has
 
 pub returns-in-Dict-clause-known : goal.returns-in-Dict-clause-known
 returns-in-Dict-clause-known g c = rw c.in_ok-head.ensures.reads at c.check_dict.ensures.known

@@ -1,7 +1,7 @@
 use Rattle.std.proofs.Common.{◌≡◌, length, arith}
 use Rattle.std.proofs.lemmas.Result.{err_from_is_err_and}
 use Rattle.bplist_objects.proofs.Refusing.{no_shape}
-use Rattle.bplist_lint.proofs.ListSteps.{listed_other, listed_dict, listed_room, vouched_shape, vouched_keys}
+use Rattle.bplist_lint.proofs.ListSteps.{listed_other, listed_dict, listed_room, vouched_shape, vouched_keys, vouched_sound}
 use Rattle.bplist_lint.proofs.UpgradeSteps.{object_no_change, check_no_change}
 use Rattle.bplist_lint.proofs.upgrading.list_object.Goals as goal
 
@@ -32,8 +32,9 @@ returns-in_err-list_keys-in-Dict-clause-exact g c = λ honest framed placed heig
     let F = c.args.frame.now in
     let has = (c.in_ok-head.ensures.rules honest framed (placed c.args.n c.requires.within)).0 in
     let keys = vouched_keys f F heights valid c.args.n v c.in_ok-head.head has c.in-Dict.is in
+    let sound = vouched_sound f F heights valid c.args.n v c.in_ok-head.head has c.in-Dict.is in
     let p = err_from_is_err_and c.from_residual-in_err-list_keys-in-Dict.result c.from_residual-in_err-list_keys-in-Dict.ensures.1 in
-    rw (p.1, p.2) (check_no_change c.in_err-list_keys-in-Dict.field-0.0 ((rw c.in_ok-head.ensures.reads at c.in_err-list_keys-in-Dict.ensures.exact) honest framed placed keys.0 keys.1))
+    rw (p.1, p.2) (check_no_change c.in_err-list_keys-in-Dict.field-0.0 ((rw c.in_ok-head.ensures.reads at c.in_err-list_keys-in-Dict.ensures.exact) honest framed (placed, sound) keys.0 keys.1))
 
 pub returns-in_ok-list_keys-in-Dict-clause-exact : goal.returns-in_ok-list_keys-in-Dict-clause-exact
 returns-in_ok-list_keys-in-Dict-clause-exact g c = λ honest framed placed heights starts valid v room l.
@@ -45,8 +46,9 @@ returns-in_ok-list_keys-in-Dict-clause-exact g c = λ honest framed placed heigh
     let keys = vouched_keys f F heights valid n v head has c.in-Dict.is in
     let shape = vouched_shape f F heights valid n v head has in
     let o = valid.vouched n v in
+    let sound = vouched_sound f F heights valid n v head has c.in-Dict.is in
     let begin : c.len-start.result ≡ length c.args.positions.now.items = omega (arith, c.args.positions.now.ok.0, c.len-start.ensures) in
-    let listed = (rw c.in_ok-head.ensures.reads at c.in_ok-list_keys-in-Dict.ensures.exact) honest framed placed keys.0 keys.1 in
+    let listed = (rw c.in_ok-head.ensures.reads at c.in_ok-list_keys-in-Dict.ensures.exact) honest framed (placed, sound) keys.0 keys.1 in
     rw begin (listed_dict f F heights n starts c.args.positions.now.items l v room head shape o.content o.spells c.in-Dict.is c.requires.safe.ref_low c.list_keys.new.positions.items listed)
 
 pub returns-in_default : goal.returns-in_default
