@@ -11,24 +11,6 @@ use Rattle.bplist_ascii.specs.Sending.{Sending, SendsSome, Takes, TakesPart, IsO
 pub takes_nothing : (now : Option (List ℕ)) (s : Sending) → Takes now now s s []
 takes_nothing now s = record { gone = []; appended = Appends-nil now; counted = omega arith; all = append-nil s.held }
 
--- bytes were held back
-pub takes_held : (now : Option (List ℕ)) (s s' : Sending) (bytes : List ℕ) → s' ≡ record { sent = s.sent; held = s.held ++ bytes } → Takes now now s s' bytes
-takes_held now s s' bytes is = record {
-  gone = [];
-  appended = Appends-nil now;
-  counted = let e : s'.sent ≡ s.sent = ap (λ r. r.sent) is in omega (arith, e);
-  all = ap (λ r. r.held) (sym is);
-}
-
--- bytes went out past an empty buffer
-pub takes_sent : (old new : Option (List ℕ)) (s s' : Sending) (bytes : List ℕ) → s.held ++ bytes ≡ bytes → s'.held ≡ [] → s'.sent ≡ s.sent + length bytes → Appends old new bytes → Takes old new s s' bytes
-takes_sent old new s s' bytes empty empty' counted appended = record {
-  gone = bytes;
-  appended = appended;
-  counted = counted;
-  all = empty ∙ sym (append-nil bytes) ∙ ap (λ l. bytes ++ l) (sym empty');
-}
-
 -- what was put in first, and then more
 pub takes_more : {old mid new : Option (List ℕ)} {s t u : Sending} {xs ys : List ℕ} → Takes old mid s t xs → Takes mid new t u ys → Takes old new s u (xs ++ ys)
 takes_more {old} {mid} {new} {s} {t} {u} {xs} {ys} p q = record {
@@ -128,9 +110,6 @@ out_long {start} {now} {s} {written} o =
     let a = o.counted in
     let long = ap length o.all in
     omega (arith, a, long, length-append o.gone s.held)
-
-pub out_bounded : {start now : Option (List ℕ)} {s : Sending} {written : List ℕ} (n : ℕ) → s.sent ≤ n → IsOut start now s written → AtMost start now n
-out_bounded {start} {now} {s} {written} n low o = let a = o.counted in (o.gone, omega (arith, a, low), o.appended)
 
 pub cut_bounded : (start now : Option (List ℕ)) (text : List ℕ) (n k : ℕ) → length text ≤ n → IsCut start now text k → AtMost start now n
 cut_bounded start now text n k low p =

@@ -19,6 +19,7 @@ use Rattle.bplist_objects.specs.Answers.{GivesFault, Never}
 use Rattle.bplist_ascii.specs.Writing.{IsReadFault, print_fault_of, styled, fits, is_bare_text, Adds, AddsText, AddFails, StaysWithin}
 use Rattle.bplist_ascii.specs.declared.print_fault.PrintFault.{PrintFault}
 use Rattle.bplist_ascii.specs.declared.print_fault.PrintFault.TheVariants.{NoAsciiForm, TooLong, Write, Read, Changed, Memory}
+use Rattle.bplist_cursor.proofs.Looking.{not_true}
 use Rattle.bplist_ascii.proofs.SinkSteps.{takes_nothing, takes_more, takes_then_part, takes_then_some, some_of_takes, part_of_more}
 
 pub adds_nothing : (now : Option (List ℕ)) (s : Sending) (room : ℕ) → Adds now now s s room room []
@@ -71,10 +72,6 @@ adds_fail old mid new {s} {t} {r} {r'} {xs} ys zs whole e p q is low =
     go Changed part = part
     go TooLong part = part
     go (NoAsciiForm n) part = part
-
--- some bytes are a text where no premise is wanted
-pub text_of_adds : {old new : Option (List ℕ)} {s t : Sending} {r r' : ℕ} {P : Type 0} (xs ys : List ℕ) → Adds old new s t r r' xs → (P → xs ≡ ys) → AddsText old new s t r r' P ys
-text_of_adds xs ys p is = record { bytes = xs; adds = p; is = is }
 
 -- a text, and then more
 pub text_more : {old mid new : Option (List ℕ)} {s t u : Sending} {r r' r'' : ℕ} {P : Type 0} {xs : List ℕ} (ys zs : List ℕ) → AddsText old mid s t r r' P xs → Adds mid new t u r' r'' ys
@@ -154,17 +151,9 @@ bare_all : (us : List ℕ) → is_bare_text us ≡ true → list_all is_plain us
 bare_all [] h = refl
 bare_all (u ∷ us) h = h
 
-not_true : (b : Bool) → (b ≡ true → ⊥) → b ≡ false
-not_true true h = absurd (h refl)
-not_true false h = refl
-
 -- a part that is not plain
 pub part_not_bare : (us : List ℕ) (a n : ℕ) → list_all is_plain (part us a n) ≡ false → false ≡ is_bare_text us
 part_not_bare us a n h = sym (not_true (is_bare_text us) (λ bare. let k = all_in_part is_plain us a n (bare_all us bare) in cc (h, k)))
-
-pub none_is_bare : (us : List ℕ) → length us ≡ 0 → false ≡ is_bare_text us
-none_is_bare [] h = refl
-none_is_bare (u ∷ us) h = absurd (omega (arith, h))
 
 pub bare_text : (us : List ℕ) → is_bare_text us ≡ true → (text_of_units us ≡ us) × (list_all (fits Bare) us ≡ true)
 bare_text [] h = absurd (cc h)

@@ -1,5 +1,5 @@
 -- What printing the value of an object answers, and what it leaves. Source: profile.
-use Rattle.std.specs.Prelude.{◌≡◌, ◌⊎◌, ℕ, ◌<◌, ◌≤◌, List, [], ◌++◌, length, Option, Some, None, Result, Ok, Err, ⊤}
+use Rattle.std.specs.Prelude.{◌≡◌, ◌⊎◌, ℕ, ◌<◌, ◌≤◌, List, [], ◌++◌, length, Option, Some, None, Result, Ok, Err}
 use Rattle.std.specs.Io.KnownBytes.{Keeps, Appends}
 use Rattle.bplist_objects.specs.declared.frame.Frame.{Frame}
 use Rattle.bplist_objects.specs.Value.{Value}
@@ -55,9 +55,3 @@ abbrev pub IsPrinted : Option (List ℕ) → Option (List ℕ) → List ℕ → 
 IsPrinted old new f F n v limit (Ok _) =
     (t : List ℕ) × (value_text v ≡ Some t) × FitsLimit limit t × Appends old new t
 IsPrinted old new f F n v limit (Err fault) = WriteFails old new f F n v limit fault
-
--- a fault that is found before anything is written
-abbrev pub IsEarly : PrintFault → Type 0
-IsEarly (NoAsciiForm m) = ⊤
-IsEarly TooLong = ⊤
-IsEarly _ = ⊥

@@ -1,4 +1,4 @@
-//! The texts of texts and of data, written from parts of their bodies.
+//! The old-style form of texts and data, written from parts of their bodies.
 
 ghost use Rattle.std.specs.Prelude.{◌≡◌, ◌+◌, ◌<◌, ◌≤◌, true, length, flat_map, IfOk, OnOk, IfErr, OnErr, IsTrue};
 ghost use Rattle.std.specs.List.{list_all};
@@ -14,8 +14,8 @@ ghost use Rattle.bplist_ascii.specs.declared.style.Style.TheVariants.{Bare};
 use crate::print_fault::PrintFault;
 use crate::sink::Sink;
 use crate::style::Style;
-use crate::texts::are_plain;
 use crate::writing::{write, write_digits, write_units};
+use bplist_cursor::are_plain;
 use bplist_objects::{Head, octets_at, read_units};
 use bplist_octets::Source;
 use std::io::Write;

@@ -16,8 +16,11 @@ pub enum PrintFault {
     NoAsciiForm(ObjectNo),
     /// The text is longer than the limit, or has 18446744073709551615 bytes or more.
     TooLong,
-    /// A write failed. The first `sent` bytes of the text went out, fewer than all.
-    Write { sent: u64 },
+    /// A write failed. The first bytes of the text went out, fewer than all.
+    Write {
+        /// How many bytes went out. For `print_into`: of all that was put into the sink.
+        sent: u64,
+    },
     /// A read of the source failed.
     Read(ReadFault),
     /// The node is none of this file that the certificate vouches for, or the source gives other bytes than

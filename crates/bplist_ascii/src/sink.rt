@@ -16,13 +16,16 @@ const RETRIES: u32 = 64;
 /// A write failed. The first `sent` bytes of all that was put into the sink went out, and nothing else.
 #[derive(Clone, Copy, Debug, PartialEq, Eq)]
 pub struct WriteFault {
+    /// How many bytes went out, counted from the first that was put into the sink.
     pub sent: u64,
 }
 
 /// How many bytes went out, and how many interrupted writes were tried again.
 #[derive(Drop)]
 struct Tally {
+    /// The bytes that the writer took.
     sent: u64,
+    /// The interrupted writes that were tried again, `RETRIES` at most.
     interrupts: u32,
 }
 
@@ -70,8 +73,11 @@ impl Tally {
 /// Contracts see the number of bytes that went out and the bytes that are held back.
 #[derive(Drop)]
 pub struct Sink {
+    /// Its first `used` bytes are held back.
     buffer: [u8; BUFFERED],
+    /// How many bytes are held back.
     used: usize,
+    /// What went out.
     tally: Tally,
 }
 

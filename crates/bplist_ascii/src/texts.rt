@@ -1,9 +1,10 @@
-//! The old-style texts of texts and of data.
+//! The old-style form of texts and data.
 
-ghost use Rattle.std.specs.Prelude.{◌≡◌, ◌≤◌, ◌++◌, ℕ, List, length, take, IfOk, OnOk};
+ghost use Rattle.std.specs.Prelude.{◌≡◌, ◌≤◌, ◌++◌, ℕ, List, true, length, take, IfOk, OnOk};
 ghost use Rattle.std.specs.List.{list_all};
 ghost use Rattle.bplist_cursor.specs.Texts as spec;
 
+use bplist_cursor::are_plain;
 use std::alloc::{AllocError, Global};
 use std::marker::Model;
 
@@ -14,18 +15,27 @@ use std::marker::Model;
 pub fn text_of_units(alloc: Global, units: &[u16]) -> Result<Vec<u8>, AllocError>
     ensures { IfOk result (λ text. text.items ≡ spec.text_of_units units.now) }
 {
-    let mut text = Vec::new(alloc);
     if !units.is_empty() && are_plain(units) {
-        for unit in units {
-            text.push(*unit as u8)?;
-        }
-        return Ok(text);
+        return bare_text(alloc, units);
     }
+    let mut text = Vec::new(alloc);
     text.push(b'"')?;
     for unit in units {
         add_quoted(*unit, &mut text)?;
     }
     text.push(b'"')?;
+    Ok(text)
+}
+
+/// The units themselves, a byte for each.
+fn bare_text(alloc: Global, units: &[u16]) -> Result<Vec<u8>, AllocError>
+    requires { list_all spec.is_plain units.now ≡ true }
+    ensures { IfOk result (λ text. text.items ≡ units.now) }
+{
+    let mut text = Vec::new(alloc);
+    for unit in units {
+        text.push(*unit as u8)?;
+    }
     Ok(text)
 }
 
@@ -42,19 +52,6 @@ pub fn text_of_bytes(alloc: Global, bytes: &[u8]) -> Result<Vec<u8>, AllocError>
     }
     text.push(b'>')?;
     Ok(text)
-}
-
-pub(crate) fn are_plain(units: &[u16]) -> bool
-    ensures { result ≡ list_all spec.is_plain units.now }
-{
-    units.iter().all(|unit| is_plain(*unit))
-}
-
-/// Whether a unit is one of A-Z, a-z and 0-9.
-pub(crate) fn is_plain(unit: u16) -> bool
-    ensures { result ≡ spec.is_plain unit }
-{
-    matches!(unit, 0x30..=0x39 | 0x41..=0x5A | 0x61..=0x7A)
 }
 
 /// Adds a unit as it stands between quotes.

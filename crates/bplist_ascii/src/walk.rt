@@ -1,6 +1,6 @@
 //! The walk that writes a value's text: containers that are half written wait on a stack.
 
-ghost use Rattle.std.specs.Prelude.{◌≡◌, ◌≤◌, ◌<◌, ◌++◌, [], ◌∷◌, List, ℕ, length, slice_index, IfOk, OnOk, IfErr, OnErr, IsTrue, false};
+ghost use Rattle.std.specs.Prelude.{◌≡◌, ◌≤◌, ◌<◌, ◌++◌, [], ◌∷◌, List, ℕ, length, slice_index, IfOk, OnOk, IfErr, OnErr, false};
 ghost use Rattle.bplist_octets.specs.Meaning.{OnlyReads};
 ghost use Rattle.bplist_objects.specs.Value.{Value, leaf, text};
 ghost use Rattle.bplist_objects.specs.Heads.{Content, Spells, content_at, refs};

@@ -1,14 +1,15 @@
 //! Bytes that are put into a sink where there is room for so many.
 
-ghost use Rattle.std.specs.Prelude.{◌≡◌, ◌+◌, ◌<◌, ◌≤◌, false, true, length, flat_map, IfOk, OnOk, IfErr, OnErr, IsTrue, [], ◌∷◌};
+ghost use Rattle.std.specs.Prelude.{◌≡◌, ◌<◌, ◌≤◌, false, true, length, flat_map, OnOk, IfErr, OnErr};
 ghost use Rattle.std.specs.List.{list_all};
-ghost use Rattle.bplist_cursor.specs.Texts.{quoted_unit, hex_digits};
+ghost use Rattle.bplist_cursor.specs.Texts.{hex_digits};
 ghost use Rattle.bplist_ascii.specs.Writing.{print_read, Adds, AddFails, StaysWithin, styled, fits};
 
 use crate::print_fault::PrintFault;
 use crate::sink::Sink;
 use crate::style::Style;
-use crate::texts::{QuotedUnit, digits_of, is_plain};
+use crate::texts::{QuotedUnit, digits_of};
+use bplist_cursor::is_plain;
 use std::io::Write;
 
 /// Puts bytes in. What goes past the room is answered `Changed`, since the text was measured.

@@ -11,7 +11,7 @@ pub unread_never : (e : ObjectFault) → GivesFault Never e → IsUnread (unread
 unread_never (errors.Fault x) h = h
 unread_never (errors.Read x) h = tt
 
--- and so the call's answer is not that the file has changed
-pub excused : (e : Unread) → IsUnread e → IsExcused (cursor_fault_of e)
-excused (unread.Read x) h = tt
-excused unread.Changed h = h
+-- what is not Changed to an inner call is not Changed to a caller
+pub unread_excused : (e : Unread) → IsUnread e → IsExcused (cursor_fault_of e)
+unread_excused (unread.Read x) h = tt
+unread_excused unread.Changed h = h

@@ -74,7 +74,7 @@ written_not_loose cs place tokens f is =
 
 -- the escape of one character says which it is
 
-same_first : (c d : ℕ) (xs ys : List ℕ) → c ∷ xs ≡ d ∷ ys → c ≡ d
+pub same_first : (c d : ℕ) (xs ys : List ℕ) → c ∷ xs ≡ d ∷ ys → c ≡ d
 same_first c d xs ys e = cc
 
 same_rest : (c d : ℕ) (xs ys : List ℕ) → c ∷ xs ≡ d ∷ ys → xs ≡ ys
@@ -110,7 +110,7 @@ not_slash_by true b c xs ys n e = not_same 0x7E 0x2F _ ys (λ h. omega (arith, h
 not_slash_by false true c xs ys n e = not_same 0x7E 0x2F _ ys (λ h. omega (arith, h)) e
 not_slash_by false false c xs ys n e = n refl (same_first c 0x2F xs ys e)
 
-not_empty : (c : ℕ) (xs : List ℕ) → c ∷ xs ≡ [] → ⊥
+pub not_empty : (c : ℕ) (xs : List ℕ) → c ∷ xs ≡ [] → ⊥
 not_empty c xs e = cc
 
 not_empty_by : (a b : Bool) (c : ℕ) (xs : List ℕ) → cond a (0x7E ∷ 0x30 ∷ []) (cond b (0x7E ∷ 0x31 ∷ []) (c ∷ [])) ++ xs ≡ [] → ⊥

@@ -15,7 +15,7 @@ use Rattle.bplist_cursor.specs.Leads.{IsTaken, Leads}
 use Rattle.bplist_objects.proofs.Holding.{OneHead}
 
 -- a test that is not true is false
-not_true : (b : Bool) → (b ≡ true → ⊥) → b ≡ false
+pub not_true : (b : Bool) → (b ≡ true → ⊥) → b ≡ false
 not_true true h = absurd (h refl)
 not_true false h = refl
 

@@ -18,11 +18,9 @@ use Rattle.bplist_cert.specs.Valid.{IsVouchedBy, IsValid}
 use Rattle.bplist_cert.proofs.Vouching.{object_holds, references_lower}
 use Rattle.bplist_cursor.specs.declared.measures.Size.{Size}
 use Rattle.bplist_cursor.specs.Sizes.{Table, size_of, size_in, IsSized, AreMeasures}
-use Rattle.bplist_cursor.specs.declared.faults.Unread.{Unread}
-use Rattle.bplist_cursor.specs.declared.faults.Unread.TheVariants as unread
 use Rattle.bplist_cursor.specs.declared.faults.CursorFault.{CursorFault}
 use Rattle.bplist_cursor.specs.declared.faults.CursorFault.TheVariants as fault
-use Rattle.bplist_cursor.specs.Causes.{IsUnread, IsExcused, cursor_fault_of}
+use Rattle.bplist_cursor.specs.Causes.{IsExcused}
 use Rattle.bplist_cursor.specs.ObjectSizes.{AreVouched, IsOrder, IsEmpty, AreSet}
 
 -- a place of a member
@@ -127,10 +125,6 @@ module _ (f : List ℕ) (F : Frame) (heights order : List ℕ) (valid : IsValid 
           let place = place_in order n (is.all n vo) in
           ap (size_in sizes) (sym place.2) ∙ set.done place.0 place.1 v (subst (λ m. Holds f F m v) (sym place.2) h)
 
--- before the first object nothing has a size
-pub set_nothing : (f : List ℕ) (F : Frame) (heights order : List ℕ) (sizes : Table) → IsEmpty sizes → AreSet f F heights order 0 sizes
-set_nothing f F heights order sizes empty = record { done = λ j l. absurd (omega (arith, l)); none = λ n not. empty n }
-
 pub are_measures_prop : (f : List ℕ) (F : Frame) (heights : List ℕ) (sizes : Table) → IsProp (AreMeasures f F heights sizes)
 are_measures_prop f F heights sizes = Prim.hlevel props
 
@@ -143,11 +137,6 @@ empty_table sizes n is k = ap (λ t. size_in t k) is ∙ elim (cases_lt k n) [
   | inl l ↦ get_or-replicate n k nowhere None l
   | inr past ↦ get_or_past (replicate n nowhere) k None (omega (arith, past, length-replicate n nowhere))
 ]
-
--- a failed read is an excuse
-pub read_excuses : (e : Unread) → IsUnread e → IsExcused (cursor_fault_of e)
-read_excuses (unread.Read e) h = tt
-read_excuses unread.Changed h = h
 
 pub excused_prop : (e : CursorFault) → IsProp (IsExcused e)
 excused_prop (fault.Read e) = Prim.hlevel props

@@ -66,11 +66,6 @@ module _ (f : List ℕ) (F : Frame) where
       let n = length-nums_at f head.body F.ref_size head.count in
       subst (λ x. ((m : ℕ) → IsTaken f F x s m → ⊥) × (why.NoIndex ≡ why_of x)) (array_is h head d e) (λ m q. none q.0 (omega (arith, n, q.1)) q.2, refl)
 
-  pub no_step : (h : H.Content) (kind : Kind) (c at : ℕ) (s : List ℕ) → (kind ≡ kinds.Array → ⊥) → (kind ≡ kinds.Dict → ⊥) → h ≡ H.content_of f F kind c at → IsPlace f F h s (place.Nowhere why.NotSteppable)
-  no_step h kinds.Array c at s a d e = absurd (a refl)
-  no_step h kinds.Dict c at s a d e = absurd (d refl)
-  no_step h _ c at s a d e = subst (λ x. ((m : ℕ) → IsTaken f F x s m → ⊥) × (why.NotSteppable ≡ why_of x)) (sym e) (λ m q. q, refl)
-
   -- a dictionary has as many keys as pairs
   pub pair_count : (ps : Pairs) (ks ms : List ℕ) → HoldPairs f F ks ms ps → length ks ≡ length (keys ps)
   pair_count no_pairs [] [] h = refl

@@ -24,10 +24,6 @@ asked q xs qs k x d l e h =
     let z : suc k ≡ k + 1 = omega arith in
     ap (λ l. l ++ x ∷ []) e ∙ ap (λ y. map q (take k qs) ++ y ∷ []) h ∙ sym (map_more q qs k d l) ∙ ap (λ j. map q (take j qs)) z
 
-pub asked_all : {A B : Type 0} (q : A → B) (qs : List A) → map q (take (length qs) qs) ≡ map q qs
-asked_all q [] = refl
-asked_all q (x ∷ xs) = ap (λ l. q x ∷ l) (asked_all q xs)
-
 pub take_whole : {A : Type 0} (xs : List A) → take (length xs) xs ≡ xs
 take_whole [] = refl
 take_whole (x ∷ xs) = ap (λ l. x ∷ l) (take_whole xs)

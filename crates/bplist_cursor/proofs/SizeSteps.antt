@@ -6,6 +6,7 @@ use Rattle.std.proofs.lemmas.List.{length-append}
 use Rattle.bplist_objects.specs.declared.frame.Frame.{Frame}
 use Rattle.bplist_objects.specs.Value.{text, leaf, array, set, dict, Values, no_values, value, Pairs, no_pairs, pair, keys}
 use Rattle.bplist_objects.specs.Holds.{HoldEach, HoldPairs}
+use Rattle.bplist_objects.proofs.Lists.{all_front, all_behind}
 use Rattle.bplist_cursor.specs.declared.form.Form.{Form}
 use Rattle.bplist_cursor.specs.declared.form.Form.TheVariants.{NoForm, Length}
 use Rattle.bplist_cursor.specs.declared.measures.Size.{Size}
@@ -103,14 +104,6 @@ module _ (f : List ℕ) (F : Frame) (sizes : List (Option Size)) where
       ap (λ o. option_and_then (λ s. added sizes (both total s) ms) o) (all.0 v h.1)
       ∙ added_values ps ks ms (both total (size_of v)) (both_fits total (size_of v)) all.1 h.2
       ∙ ap Some (both-assoc total (size_of v) (size_of_values ps))
-
-  all_front : (P : ℕ → Type 0) (xs ys : List ℕ) → AllByRecursion P (xs ++ ys) → AllByRecursion P xs
-  all_front P [] ys a = tt
-  all_front P (x ∷ xs) ys a = (a.0, all_front P xs ys a.1)
-
-  all_behind : (P : ℕ → Type 0) (xs ys : List ℕ) → AllByRecursion P (xs ++ ys) → AllByRecursion P ys
-  all_behind P [] ys a = a
-  all_behind P (x ∷ xs) ys a = all_behind P xs ys a.1
 
   -- the sizes of keys and values
   pub added_pairs : (ps : Pairs) (ks ms : List ℕ) (total : Size) → IsFit total → AllByRecursion (IsSized f F sizes) (ks ++ ms) → HoldPairs f F ks ms ps

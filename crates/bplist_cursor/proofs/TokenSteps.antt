@@ -13,7 +13,7 @@ use Rattle.bplist_cursor.specs.Tokens.{IsReadable, Reads, IsClosed, MeetsLoose, 
 use Rattle.bplist_cursor.specs.PathFaults.{OnText}
 use Rattle.bplist_cursor.specs.declared.path.PathFault.{PathFault}
 use Rattle.bplist_cursor.specs.declared.path.PathFault.TheVariants.{Text, Memory}
-use Rattle.bplist_cursor.proofs.Escapes.{closed-nil, closed-append, closed_written, closed-cons, first_loose, written_not_loose}
+use Rattle.bplist_cursor.proofs.Escapes.{closed-nil, closed-append, closed_written, closed-cons, first_loose, written_not_loose, same_first}
 
 -- one character was read
 pub reads_char : (s t : CharIndices) (c : ℕ) → IsReadable s → char_indices_rest s ≡ encode_utf8 c ++ char_indices_rest t
@@ -163,12 +163,9 @@ parsing_ends text s steps p = (
 pub empty_text : (text : List ℕ) (s : CharIndices) → char_indices_rest s ≡ text → length (char_indices_rest s) ≡ 0 → IsPathOf text []
 empty_text text s is none = ([], ap chars (sym is) ∙ left_none s none, refl)
 
-first_is : (x y : ℕ) (xs ys : List ℕ) → x ∷ xs ≡ y ∷ ys → x ≡ y
-first_is x y xs ys e = cc
-
 not_begun_written : (c : ℕ) (cs : List ℕ) (tokens : List (List ℕ)) → c ≢ 0x2F → c ∷ cs ≡ written tokens → ⊥
 not_begun_written c cs [] other e = cc
-not_begun_written c cs (t ∷ ts) other e = other (first_is _ _ _ _ e)
+not_begun_written c cs (t ∷ ts) other e = other (same_first _ _ _ _ e)
 
 -- a path text is empty or begins with `/`
 pub not_begun : (text : List ℕ) (c : ℕ) (cs : List ℕ) → chars text ≡ c ∷ cs → c ≢ 0x2F → IsNoPath text 0

@@ -9,9 +9,7 @@ use Rattle.bplist_cert.specs.CheckedFile.{CheckedFile, IsChecked}
 use Rattle.bplist_cert.specs.Valid.{IsVouchedBy}
 use Rattle.bplist_cursor.specs.declared.faults.CursorFault.{CursorFault}
 use Rattle.bplist_cursor.specs.declared.faults.CursorFault.TheVariants as faults
-use Rattle.bplist_cursor.specs.declared.faults.Unread.{Unread}
-use Rattle.bplist_cursor.specs.declared.faults.Unread.TheVariants as unread
-use Rattle.bplist_cursor.specs.Causes.{GivesCursor, IsExcused, IsUnread, cursor_fault_of}
+use Rattle.bplist_cursor.specs.Causes.{GivesCursor, IsExcused}
 use Rattle.bplist_cursor.proofs.CheckedFrames.{stable_le}
 
 excused : (e : CursorFault) → ((IsExcused e → ⊥) → ⊥) → IsExcused e
@@ -22,11 +20,6 @@ excused faults.Memory h = tt
 pub gives_weaker : {X : Type 0} (P Q : X → Type 0) (r : Result X CursorFault) → ((x : X) → P x → Q x) → GivesCursor P r → GivesCursor Q r
 gives_weaker P Q (Ok x) on h = on x h
 gives_weaker P Q (Err e) on h = h
-
--- what is not Changed to an inner call is not Changed to a caller
-pub unread_excused : (e : Unread) → IsUnread e → IsExcused (cursor_fault_of e)
-unread_excused (unread.Read x) h = tt
-unread_excused unread.Changed h = h
 
 module _ (checked : CheckedFile) (is : IsChecked checked) (honest : IsTrue checked.source.honest) (n : ℕ) (vouched : IsVouchedBy checked.certificate.heights n) where
   -- it spells something, so what is not Changed for each content is not Changed

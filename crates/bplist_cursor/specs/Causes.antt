@@ -17,6 +17,7 @@ abbrev pub cursor_fault_of : Unread → CursorFault
 cursor_fault_of (unread.Read e) = faults.Read e
 cursor_fault_of unread.Changed = faults.Changed
 
+-- the cause is a failed read
 abbrev pub is_unread : Unread → Bool
 is_unread (unread.Read _) = true
 is_unread unread.Changed = false
@@ -26,6 +27,7 @@ abbrev pub read_failed : {X : Type 0} → Result X Unread → Bool
 read_failed (Ok x) = false
 read_failed (Err e) = is_unread e
 
+-- the fault says that a read has failed
 abbrev pub is_read : CursorFault → Bool
 is_read (faults.Read _) = true
 is_read faults.Changed = false

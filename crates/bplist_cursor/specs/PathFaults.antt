@@ -1,4 +1,4 @@
--- What a fault of a path text says.
+-- What a fault of a path text says. Source: profile.
 use Rattle.std.specs.Prelude.{ℕ, ⊤}
 use Rattle.bplist_cursor.specs.declared.path.PathFault.{PathFault}
 use Rattle.bplist_cursor.specs.declared.path.PathFault.TheVariants.{Text, Memory}

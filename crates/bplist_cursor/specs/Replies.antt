@@ -10,7 +10,7 @@ use Rattle.bplist_cursor.specs.declared.reply.Reply.TheVariants as replies
 use Rattle.bplist_cursor.specs.Look.{Missing, look}
 use Rattle.bplist_cursor.specs.Nodes.{cap, nodes}
 
--- how many there are
+-- how many members an array or a set has
 abbrev pub count : Values → ℕ
 count no_values = 0
 count (value v vs) = 1 + count vs

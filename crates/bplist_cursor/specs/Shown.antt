@@ -12,7 +12,7 @@ content_face (array ms) = faces.Array (length ms)
 content_face (set ms) = faces.Set (length ms)
 content_face (dict ks ms) = faces.Dict (length ks)
 
--- each reference that the face counts takes one of so many bytes at least, and not all of them
+-- the references that the face counts are fewer than so many bytes
 abbrev pub HasRoom : ℕ → Face → Type 0
 HasRoom len (faces.Array count) = count < len
 HasRoom len (faces.Set count) = count < len

@@ -1,4 +1,4 @@
--- What is read of a path text, from call to call.
+-- What is read of a path text, from call to call. Source: profile.
 use Rattle.std.specs.Prelude.{◌≡◌, ◌<◌, ℕ, ◌+◌, ◌^◌, Bool, true, false, List, [], ◌∷◌, ◌++◌, length, drop, encode_utf8_all}
 use Rattle.std.specs.Str.{IsUtf8, chars}
 use Rattle.std.specs.Str.Iter.{char_indices_rest, char_indices_offset}

@@ -1,6 +1,6 @@
 //! Replies to queries.
 
-ghost use Rattle.std.specs.Prelude.{⊤, ◌≡◌, ◌<◌, ◌≤◌, ℕ, List as list, map, length, IsTrue, IfSome};
+ghost use Rattle.std.specs.Prelude.{⊤, ◌≡◌, ◌<◌, map, IsTrue, IfSome};
 ghost use Rattle.bplist_objects.specs.Value.{Value};
 ghost use Rattle.bplist_objects.specs.Holds.{Holds};
 ghost use Rattle.bplist_cursor.specs.Causes.{GivesCursor, cursor_read};
@@ -166,7 +166,7 @@ pub fn answer_all<S: Source>(
 {
     let _frame = checked.frame();
     let mut measures = None;
-    let mut replies = Vec::new(alloc);
+    let mut replies = Vec::with_capacity(alloc, queries.len())?;
     for k in 0..queries.len() {
         let told = answer_by(alloc, checked, &queries[k], &mut measures)?;
         replies.push(told)?;

@@ -1,6 +1,6 @@
 //! Bodies lent from the caller's own slice.
 
-ghost use Rattle.std.specs.Prelude.{◌≡◌, ℕ, List, MatchOption};
+ghost use Rattle.std.specs.Prelude.{ℕ, List, MatchOption};
 ghost use Rattle.bplist_cert.specs.Valid.{IsVouchedBy};
 ghost use Rattle.bplist_cursor.specs.Lent.{SpellsBytes};
 

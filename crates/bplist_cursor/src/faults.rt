@@ -24,7 +24,10 @@ pub enum CursorFault {
 /// Why an object could not be read, where nothing grows.
 #[derive(Clone, Copy, Debug, PartialEq, Eq, Drop)]
 pub(crate) enum Unread {
+    /// A read of the source failed.
     Read(ReadFault),
+    /// The node is none of this file that the certificate vouches for, or the source gives other bytes than
+    /// those that were checked.
     Changed,
 }
 

@@ -5,6 +5,7 @@ use bplist_objects::ObjectNo;
 /// One object of a checked file.
 #[derive(Clone, Copy, Debug, PartialEq, Eq)]
 pub struct Node {
+    /// The number of the object, counted from 0 in the order of the offset table.
     pub object: ObjectNo,
 }
 
@@ -22,7 +23,13 @@ pub enum Why {
 /// Where a path leads to.
 #[derive(Clone, Copy, Debug, PartialEq, Eq)]
 pub enum Found {
+    /// To the value that this node holds.
     At(Node),
-    /// Step number `step`, counted from 0, is the first that can't be taken.
-    Missing { step: u64, why: Why },
+    /// To no value.
+    Missing {
+        /// The number of the first step that can't be taken, counted from 0.
+        step: u64,
+        /// Why it can't.
+        why: Why,
+    },
 }

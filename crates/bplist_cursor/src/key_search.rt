@@ -1,6 +1,6 @@
 //! Looking up a key of a dictionary: by its sorted key list where the certificate has one, else one by one.
 
-ghost use Rattle.std.specs.Prelude.{◌≡◌, ℕ, ◌+◌, ◌^◌, ◌<◌, ◌≤◌, List, length, slice_index, IsTrue, IfOk, IfSome, MatchOption, MatchResult, OnOk, Option, Some, None, ⊤};
+ghost use Rattle.std.specs.Prelude.{◌≡◌, ℕ, ◌+◌, ◌^◌, ◌<◌, ◌≤◌, List, length, slice_index, IsTrue, IfOk, IfSome, MatchResult, Option, Some, None};
 ghost use Rattle.bplist_octets.specs.Octets.{part};
 ghost use Rattle.bplist_objects.specs.Value.{text};
 ghost use Rattle.bplist_objects.specs.Heads.{Spells, leaf, dict, content_at};

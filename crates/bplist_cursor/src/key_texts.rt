@@ -1,6 +1,6 @@
 //! The keys of a dictionary.
 
-ghost use Rattle.std.specs.Prelude.{◌≡◌, ◌<◌, ◌≤◌, ℕ, List as list, length, IsTrue};
+ghost use Rattle.std.specs.Prelude.{◌≡◌, ◌<◌, ℕ, List as list, IsTrue};
 ghost use Rattle.std.specs.List.{AllZip};
 ghost use Rattle.bplist_objects.specs.Value.{text};
 ghost use Rattle.bplist_objects.specs.Heads.{Spells, leaf, dict, content_at};
@@ -53,7 +53,7 @@ pub(crate) fn key_texts<S: Source>(
         → (us : list (list ℕ)) → AllZip (SpellsText checked.old.source.octets checked.old.frame) ks us
         → GivesCursor (λ keys. keys ≡ us) result }
 {
-    let mut keys = Vec::new(alloc);
+    let mut keys = Vec::with_capacity(alloc, head.count as usize)?;
     for i in 0..head.count {
         let k = reference_in(checked, head, i)?;
         let key = key_text(alloc, checked, k)?;

@@ -42,4 +42,4 @@ pub use object_sizes::measure;
 pub use path::{Path, PathFault};
 pub use reply::{Query, Reply};
 pub use showing::face;
-pub use text_length::are_plain;
+pub use text_length::{are_plain, is_plain};

@@ -1,10 +1,8 @@
 //! Where a path leads.
 
-ghost use Rattle.std.specs.Prelude.{⊤, ◌≡◌, ◌<◌, ◌≤◌, ◌+◌, ℕ, List, map, length, IsTrue, IsOk, IfOk, OnOk, Vec};
+ghost use Rattle.std.specs.Prelude.{⊤, ◌≡◌, ◌<◌, IsTrue, IsOk, IfOk, OnOk, Vec};
 ghost use Rattle.bplist_objects.specs.Value.{Value};
 ghost use Rattle.bplist_objects.specs.Holds.{Holds};
-ghost use Rattle.bplist_cert.specs.Lists.{Keyed};
-ghost use Rattle.bplist_cert.specs.CheckedFile.{IsChecked};
 ghost use Rattle.bplist_cursor.specs.Causes.{GivesRead, GivesCursor, TakesNoMemory, read_failed, cursor_read};
 ghost use Rattle.bplist_cursor.specs.Kept.{Keeps};
 ghost use Rattle.bplist_cursor.specs.KeySearch.{halvings, RisesAtMost};

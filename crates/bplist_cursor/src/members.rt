@@ -4,7 +4,7 @@ ghost use Rattle.std.specs.Prelude.{◌≡◌, ℕ, ◌+◌, ◌*◌, ◌^◌, �
 ghost use Rattle.bplist_objects.specs.Value.{Value};
 ghost use Rattle.bplist_objects.specs.Heads.{Content, Spells, array, set, dict, refs};
 ghost use Rattle.bplist_objects.specs.Holds.{Holds};
-ghost use Rattle.bplist_objects.specs.Safe.{IsSafeHead, ref_count};
+ghost use Rattle.bplist_objects.specs.Safe.{ref_count};
 ghost use Rattle.bplist_cert.specs.Valid.{IsVouchedBy};
 ghost use Rattle.bplist_cursor.specs.Causes.{GivesCursor, IsExcused, TakesNoMemory, cursor_read};
 ghost use Rattle.bplist_cursor.specs.Kept.{Keeps};

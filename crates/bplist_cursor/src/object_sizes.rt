@@ -106,7 +106,7 @@ fn add_refs<S: Source>(
     Ok(total)
 }
 
-/// How long what stands round and between the parts of a container is, where it has a text.
+/// The length of a container's brackets and separators, where it has a text.
 fn punctuation(head: &Head) -> Form
     ensures { result ≡ punctuation_of head.now.kind head.now.count }
 {

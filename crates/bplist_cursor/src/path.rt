@@ -1,6 +1,6 @@
 //! Path texts, and the steps that they spell.
 
-ghost use Rattle.std.specs.Prelude.{◌≡◌, ◌≢◌, ◌⊎◌, ◌++◌, [], ◌∷◌, List, ℕ, map, flat_map, IfOk, IfErr, MatchOption, IsTrue, OnOk};
+ghost use Rattle.std.specs.Prelude.{◌≡◌, ◌≢◌, ◌⊎◌, ◌++◌, [], ◌∷◌, List, ℕ, map, flat_map, IfOk, IfErr, MatchOption, IsTrue};
 ghost use Rattle.bplist_cursor.specs.Path.{IsPathOf, IsNoPath, IsLoose, escaped, units};
 ghost use Rattle.bplist_cursor.specs.Tokens.{IsReadable, Reads, MeetsLoose, left, slash};
 ghost use Rattle.bplist_cursor.specs.PathFaults.{OnText};
@@ -26,8 +26,11 @@ impl Model for Path {
 /// Why a path text gave no path.
 #[derive(Clone, Copy, Debug, PartialEq, Eq)]
 pub enum PathFault {
-    /// The text is wrong at this byte.
-    Text { place: usize },
+    /// The text spells no path.
+    Text {
+        /// The byte at which the text is wrong, counted from the text's first.
+        place: usize,
+    },
     /// A growth was refused.
     Memory,
 }
@@ -36,8 +39,9 @@ impl Path {
     /// The path that a text spells by RFC 6901. The empty text has no steps; any other begins with `/`, and each `/`
     /// begins a step. In a step `~0` stands for `~`, and `~1` for `/`.
     ///
-    /// A text that is not empty and does not begin with `/` is wrong at byte 0. Any other is wrong at its first `~`
-    /// that neither `0` nor `1` follows.
+    /// `Text` is answered for a text that spells no path. One that is not empty and does not begin with `/` is wrong at
+    /// byte 0. Any other is wrong at its first `~` that neither `0` nor `1` follows. `Memory` is answered where a growth
+    /// of the steps was refused.
     pub fn parse(alloc: Global, text: &str) -> Result<Path, PathFault>
         ensures steps { IfOk result (IsPathOf text.now) }
         ensures wrong { IfErr result (OnText (IsNoPath text.now)) }

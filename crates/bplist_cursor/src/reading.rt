@@ -1,6 +1,6 @@
 //! Objects of a checked file: their heads and references.
 
-ghost use Rattle.std.specs.Prelude.{◌≡◌, ℕ, ◌<◌, ◌≤◌, IsTrue, IfOk, length, slice_index};
+ghost use Rattle.std.specs.Prelude.{◌≡◌, ℕ, ◌<◌, IsTrue, IfOk, length, slice_index};
 ghost use Rattle.bplist_objects.specs.Heads.{Content, Spells, content_at, refs};
 ghost use Rattle.bplist_objects.specs.Safe.{IsSafeHead, IsSafeBody, ref_count};
 ghost use Rattle.bplist_cursor.specs.Causes.{GivesRead, read_failed};

@@ -19,12 +19,19 @@ pub enum Query {
 /// The reply to a query.
 #[derive(Debug, Drop)]
 pub enum Reply {
+    /// The face of the value, to `Get`.
     Face(Face),
+    /// The units of each key of the dictionary, in written order, to `Keys`.
     Keys(List<List<u16>>),
-    /// The keys of a value that is no dictionary.
+    /// The value is no dictionary and so has no keys, to `Keys`.
     NoKeys,
-    /// The number of nodes, or 18446744073709551615 where it is greater.
+    /// The number of nodes of the value's tree, or 18446744073709551615 where it is greater, to `Size`.
     Size(u64),
-    /// Step number `step`, counted from 0, can't be taken.
-    Missing { step: u64, why: Why },
+    /// The path leads to no value, to each query.
+    Missing {
+        /// The number of the first step that can't be taken, counted from 0.
+        step: u64,
+        /// Why it can't.
+        why: Why,
+    },
 }

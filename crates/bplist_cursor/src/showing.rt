@@ -111,9 +111,11 @@ fn face_of_node<S: Source>(
 /// The face of the value that a node's object holds: the leaf itself, or the kind of the container with its count.
 ///
 /// The body of a leaf is read into one Vec of its count, which is asked for by one request. Over any source each
-/// reference that the face counts takes a byte of the source. `Changed`: the certificate does not vouch for the object,
-/// or the source gives other bytes than those that were checked. A refusal leaves the `Checked` as it was, save the
-/// count of failures of its source.
+/// reference that the face counts takes a byte of the source.
+///
+/// `Changed`: the certificate does not vouch for the object, or the source gives other bytes than those that were checked.
+/// `Read`: a read of the source failed. `Memory`: the one request was refused. A refusal leaves the `Checked` as it was,
+/// save the count of failures of its source.
 pub fn face<S: Source>(
     alloc: Global,
     checked: &mut Checked<S>,

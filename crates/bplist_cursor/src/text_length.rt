@@ -1,4 +1,4 @@
-//! How long the old-style text of a text is.
+//! The length of a text's old-style form.
 
 ghost use Rattle.std.specs.Prelude.{◌≡◌, ◌≤◌, length, flat_map, IsTrue, IfOk, is_err};
 ghost use Rattle.std.specs.List.{list_all};
@@ -22,8 +22,8 @@ pub fn are_plain(units: &[u16]) -> bool
     units.iter().all(|unit| is_plain(*unit))
 }
 
-/// Whether a unit is one of A-Z, a-z and 0-9.
-fn is_plain(unit: u16) -> bool
+/// Whether this 16-bit unit is a letter or a digit of ASCII: one of A-Z, a-z and 0-9.
+pub fn is_plain(unit: u16) -> bool
     ensures { result ≡ texts.is_plain unit }
 {
     matches!(unit, 0x30..=0x39 | 0x41..=0x5A | 0x61..=0x7A)
@@ -52,7 +52,7 @@ fn quoted_length(units: &[u16]) -> u64
     sum
 }
 
-/// How long the text of the text with this head is, or 18446744073709551615 where it is longer.
+/// The length of the old-style form of the text with this head, or 18446744073709551615 where it is longer.
 pub(crate) fn text_length<S: Source>(src: &mut S, head: &Head) -> Result<u64, ReadFault>
     requires kind { IsTextKind head.now.kind }
     requires head { IsSafeBody (length (S.means src.old).octets) head.now }

@@ -8,14 +8,14 @@ use Rattle.bplist_cursor.proofs.answers.answer_all.Goals as goal
 pub returns-in_err-told-clause-exact : goal.returns-in_err-told-clause-exact
 returns-in_err-told-clause-exact g c = λ honest v h.
     let before = c.loop-k.invariant.asked honest v h in
-    let p = err_from_is_err_and c.from_residual.result c.from_residual.ensures.1 in
+    let p = err_from_is_err_and c.from_residual-in_err-told.result c.from_residual-in_err-told.ensures.1 in
     rw (p.1, p.2) ((rw c.loop-k.invariant.same at c.in_err-told.ensures.exact) honest before.0 v h)
 
 pub returns-in_err-told-clause-unchanged : goal.returns-in_err-told-clause-unchanged
 returns-in_err-told-clause-unchanged g c = λ honest.
     let checked = c.args.checked.now in
     let is = c.frame-frame.ensures.checked in
-    let p = err_from_is_err_and c.from_residual.result c.from_residual.ensures.1 in
+    let p = err_from_is_err_and c.from_residual-in_err-told.result c.from_residual-in_err-told.ensures.1 in
     rw (p.1, p.2) (excused_for checked is honest checked.frame.top.0 (top_vouched checked is honest) c.in_err-told.field-0.0 (λ v h.
     let before = c.loop-k.invariant.asked honest v h in
     (rw c.loop-k.invariant.same at c.in_err-told.ensures.exact) honest before.0 v h))

@@ -3,7 +3,8 @@ use Rattle.std.proofs.lemmas.Result.{err_from_is_err_and}
 use Rattle.bplist_objects.specs.Value.{text}
 use Rattle.bplist_objects.specs.Heads.{leaf}
 use Rattle.bplist_objects.proofs.Leaves.{text_value}
-use Rattle.bplist_cursor.proofs.Vouching.{gives_weaker, unread_excused}
+use Rattle.bplist_cursor.proofs.Causes.{unread_excused}
+use Rattle.bplist_cursor.proofs.Vouching.{gives_weaker}
 use Rattle.bplist_cursor.proofs.Keys.{text_kinds}
 use Rattle.bplist_cursor.proofs.key_texts.key_text.Goals as goal
 

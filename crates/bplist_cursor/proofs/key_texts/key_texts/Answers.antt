@@ -2,7 +2,7 @@ use Rattle.std.proofs.Common.{arith, ◌≡◌, ◌<◌, ◌++◌, ◌∷◌, []
 use Rattle.std.proofs.lemmas.Result.{err_from_is_err_and}
 use Rattle.bplist_objects.specs.Heads.{dict}
 use Rattle.bplist_cert.specs.Valid.{SpellsText}
-use Rattle.bplist_cursor.proofs.Vouching.{unread_excused}
+use Rattle.bplist_cursor.proofs.Causes.{unread_excused}
 use Rattle.bplist_cursor.proofs.Keys.{dict_counts, key_ref}
 use Rattle.bplist_cursor.proofs.KeyLists.{text_there}
 use Rattle.bplist_cursor.proofs.Pushing.{pushed, take_whole, zip_long}
@@ -10,7 +10,7 @@ use Rattle.bplist_cursor.proofs.key_texts.key_texts.Goals as goal
 
 pub returns-in_err-k-clause-exact : goal.returns-in_err-k-clause-exact
 returns-in_err-k-clause-exact g c = λ honest n ks ms s e us z.
-    let p = err_from_is_err_and c.from_residual.result c.from_residual.ensures.1 in
+    let p = err_from_is_err_and c.from_residual-in_err-k.result c.from_residual-in_err-k.ensures.1 in
     rw (p.1, p.2) (unread_excused c.in_err-k.field-0.0 ((rw c.loop-i.invariant.same at c.in_err-k.ensures.exact) honest n (dict ks ms) s e))
 
 pub returns-in_err-key-clause-exact : goal.returns-in_err-key-clause-exact

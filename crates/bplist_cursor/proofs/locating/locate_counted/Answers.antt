@@ -1,5 +1,5 @@
 use Rattle.std.proofs.lemmas.Result.{err_from_is_err_and}
-use Rattle.bplist_cursor.proofs.Vouching.{unread_excused}
+use Rattle.bplist_cursor.proofs.Causes.{unread_excused}
 use Rattle.bplist_cursor.proofs.FoundSteps.{unread_for, top_vouched, never_read}
 use Rattle.bplist_cursor.proofs.locating.locate_counted.Goals as goal
 

@@ -1,14 +1,15 @@
 use Rattle.std.proofs.Common.{rules, arith, ◌≡◌, replicate, None, length, drop}
 use Rattle.std.proofs.lemmas.List.{take_at}
 use Rattle.std.proofs.lemmas.Result.{err_from_is_err_and}
-use Rattle.bplist_cursor.proofs.OrderSteps.{empty_table, read_excuses}
+use Rattle.bplist_cursor.proofs.Causes.{unread_excused}
+use Rattle.bplist_cursor.proofs.OrderSteps.{empty_table}
 use Rattle.bplist_cursor.proofs.object_sizes.sizes_in_order.Goals as goal
 
 pub returns-in_err-measure_in_order-clause-exact : goal.returns-in_err-measure_in_order-clause-exact
 returns-in_err-measure_in_order-clause-exact g c = λ honest heights valid is.
     let p = err_from_is_err_and c.from_residual-in_err-measure_in_order.result c.from_residual-in_err-measure_in_order.ensures.1 in
     let nothing : c.deref_mut.result.now ≡ replicate c.args.frame.now.objects None = search rules in
-    rw (p.1, p.2) (read_excuses c.in_err-measure_in_order.field-0.0 (c.in_err-measure_in_order.ensures.exact honest heights valid is (empty_table c.deref_mut.result.now c.args.frame.now.objects nothing)))
+    rw (p.1, p.2) (unread_excused c.in_err-measure_in_order.field-0.0 (c.in_err-measure_in_order.ensures.exact honest heights valid is (empty_table c.deref_mut.result.now c.args.frame.now.objects nothing)))
 
 pub returns-clause-exact : goal.returns-clause-exact
 returns-clause-exact g c = λ honest heights valid is.

@@ -2,7 +2,7 @@ use Rattle.std.proofs.Common.{ap, ◌∙◌, sym, subst}
 use Rattle.std.proofs.lemmas.Result.{err_from_is_err_and}
 use Rattle.bplist_objects.specs.Heads.{Spells}
 use Rattle.bplist_cursor.specs.Shown.{content_face}
-use Rattle.bplist_cursor.proofs.Vouching.{unread_excused}
+use Rattle.bplist_cursor.proofs.Causes.{unread_excused}
 use Rattle.bplist_cursor.proofs.Vouching.{gives_weaker}
 use Rattle.bplist_cursor.proofs.showing.face_of_node.Goals as goal
 
