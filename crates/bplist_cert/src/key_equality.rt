@@ -8,15 +8,9 @@ ghost use Rattle.bplist_objects.specs.Units.{IsTextKind, units_of};
 ghost use Rattle.bplist_objects.specs.declared.kind.Kind.TheVariants.{Dict};
 ghost use Rattle.bplist_cert.specs.Keys.{HaveTexts, KeysDiffer, IsFirstTwice, IsTwiceFault};
 ghost use Rattle.bplist_cert.specs.Heights.{ref};
-<<<<<<< HEAD
-ghost use Rattle.bplist_cert.specs.Places.{TellPlaces};
+ghost use Rattle.bplist_cert.specs.Places.{TellKeys};
 ghost use Rattle.bplist_cert.specs.KeyUnits.{AreBounds, AreParts, IsKeyWith, IsShared};
 ghost use Rattle.bplist_cert.specs.Repeats.{keys_of, IsNumbered, IsLeastOrNone};
-=======
-ghost use Rattle.bplist_cert.specs.Places.{TellKeys};
-ghost use Rattle.bplist_cert.specs.KeyUnits.{AreBounds, AreParts, IsKeyWith, IsShared, digits};
-ghost use Rattle.bplist_cert.specs.Repeats.{IsLeastOrNone};
->>>>>>> texts
 ghost use Rattle.bplist_cert.specs.Refusals.{Judges, refused_read};
 ghost use Rattle.bplist_objects.specs.Answers.{Never};
 
