@@ -74,6 +74,9 @@ pub enum Rule {
     KeyOrder,
 }
 
+// From 1 on each variant has the next number, so the last tells that none is missing.
+const _: () = prove!(Rule::KeyOrder as u8 == 32);
+
 /// The word of a rule, as faults are printed: the name of its variant.
 pub fn rule_name(rule: Rule) -> &'static str
     ensures { result.now ≡ word_of rule }
