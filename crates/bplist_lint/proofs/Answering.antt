@@ -13,10 +13,10 @@ use Rattle.bplist_objects.proofs.Filling.{room_weaker}
 use Rattle.bplist_objects.proofs.Fronts.{one_head}
 use Rattle.bplist_cert.specs.Valid.{IsVouchedBy, IsValid, HasKeys}
 use Rattle.bplist_cert.proofs.Vouching.{reached_vouched}
-use Rattle.bplist_lint.specs.Graph.{AreLeast, IsCircleOf}
+use Rattle.bplist_lint.specs.Graph.{AreLeast}
 use Rattle.bplist_lint.specs.ReachRules.{KeepReachBelow}
 use Rattle.bplist_lint.specs.KeyRules.{KeepKeysBelow}
-use Rattle.bplist_lint.specs.FileFault.{IsFileFault, IsFramedCircle, IsFileCircle}
+use Rattle.bplist_lint.specs.FileFault.{IsFileFault, IsFileCircle}
 use Rattle.bplist_lint.specs.Least.{StandLeast, AreLeastHeights}
 use Rattle.bplist_lint.specs.WellFormed.{IsWellFormed}
 use Rattle.bplist_lint.proofs.Founding.{vouched_founded, least_under, same_least, least_valid}
@@ -24,7 +24,8 @@ use Rattle.bplist_lint.proofs.Forming.{holds_formed}
 use Rattle.bplist_lint.proofs.Making.{valid_there}
 use Rattle.bplist_lint.proofs.Faulting.{fault_not_formed, circle_not_formed}
 use Rattle.bplist_lint.proofs.Keeping.{kept_spells, kept_formed, formed_reach, formed_keys}
-use Rattle.bplist_lint.proofs.Graphing.{least_ends, founded_iff, reach_founded, circle_iff, are_least_heights}
+use Rattle.bplist_lint.proofs.TrailSteps.{Ends-from_least}
+use Rattle.bplist_lint.proofs.Graphing.{founded_iff, reach_founded, are_least_heights}
 
 module _ (f : List ℕ) where
   pub fault_not_held : (a : Fault) (v : Value) → IsFileFault f a → FileHolds f v → ⊥
@@ -97,7 +98,7 @@ module _ (f : List ℕ) (F : Frame) where
     -- where the top has a least height it is founded
     pub height_founded : (heights : List ℕ) → AreLeast (refs_at f F) F.top.0 heights → 0 < slice_index heights F.top.0 → Founded f F F.top.0
     height_founded heights least has =
-        (founded_iff f F (kept_spells f F frame reach) F.top.0 top).0 (least_ends (refs_at f F) F.top.0 (slice_index heights F.top.0) (least.vouched F.top.0 has).1)
+        (founded_iff f F (kept_spells f F frame reach) F.top.0 top).0 (Ends-from_least (refs_at f F) F.top.0 (slice_index heights F.top.0) (least.vouched F.top.0 has).1)
 
     module _ (keys : KeepKeysBelow f F F.objects) where
       -- then the file is well formed, and the heights are the least, and valid
@@ -108,7 +109,3 @@ module _ (f : List ℕ) (F : Frame) where
           let w = kept_formed f F frame reach keys ends in
           let l = are_least_heights f F (kept_spells f F frame reach) heights least ends count in
           (w, l, least_heights_valid heights w l)
-
-      -- a circle of the references is the file's first fault
-      pub lint_circle : (circle : List ℕ) → IsCircleOf (refs_at f F) F.top.0 circle → IsFramedCircle f F circle
-      lint_circle circle c = (reach, keys, (circle_iff f F (kept_spells f F frame reach) circle).0 c)

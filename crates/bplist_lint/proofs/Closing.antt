@@ -10,7 +10,7 @@ use Rattle.bplist_lint.specs.Graph.{Reaches, Ends, IsNext, IsCircleOf}
 use Rattle.bplist_lint.specs.Graph.Reaches.{start, onward}
 use Rattle.bplist_lint.specs.Graph.Ends.{ends}
 use Rattle.bplist_lint.specs.Reaching.{IsMarked}
-use Rattle.bplist_lint.proofs.VisitSteps.{at_set, count-set, none_seen}
+use Rattle.bplist_lint.proofs.VisitSteps.{at_set, count-set, unwritten}
 
 -- it is, or it is not
 abbrev pub Either : Type 0 → Type 0
@@ -137,7 +137,7 @@ module _ (graph : ℕ → List ℕ) (size : ℕ) (inside : (n m : ℕ) → Conta
     begun_right : (n : ℕ) → IsMarked begun n → Reaches graph top n
     begun_right n is = elim (at_set no_marks top true false n (omega (arith, lt_top, length-replicate size false))) [
       | inl same ↦ subst (Reaches graph top) (sym same.0) start
-      | inr other ↦ absurd (false≢true (sym (none_seen size n) ∙ sym other.1 ∙ is))
+      | inr other ↦ absurd (false≢true (sym (unwritten size n false) ∙ sym other.1 ∙ is))
     ]
 
     reached_marks : (marks : List Bool) × IsClosed (Reaches graph top) size Refers begun marks
@@ -186,7 +186,7 @@ module _ (graph : ℕ → List ℕ) (size : ℕ) (inside : (n m : ℕ) → Conta
   founded_marks : (marks : List Bool) × IsClosed (Ends graph) size AllMarked no_marks marks
   founded_marks =
       close (Ends graph) size AllMarked all_marked_decided (λ marks right n lt all. ends n (λ m c. subst (Ends graph) (sym (get_or_default (graph n) c.0 m 0 c.1) ∙ c.2) (right (get_or (graph n) c.0 0) (all c.0 c.1))))
-      (count_by not no_marks) no_marks (length-replicate size false) (λ n is. absurd (false≢true (sym (none_seen size n) ∙ is))) (omega arith)
+      (count_by not no_marks) no_marks (length-replicate size false) (λ n is. absurd (false≢true (sym (unwritten size n false) ∙ is))) (omega arith)
 
   abbrev IsFound : ℕ → Type 0
   IsFound n = IsMarked founded_marks.0 n

@@ -22,7 +22,7 @@ use Rattle.bplist_objects.proofs.Deciding.{frame_kept_or_fault, object_kept_or_f
 use Rattle.bplist_objects.proofs.Filling.{shape_extent}
 use Rattle.bplist_objects.proofs.FrameTies.{trailer_is_frame}
 use Rattle.bplist_objects.proofs.Reaching.{refs_iff, refs_within}
-use Rattle.bplist_objects.proofs.RuleLaws.{first_fault_after}
+use Rattle.bplist_objects.proofs.RuleLaws.{first_fault_after, first_fault_among, kept_all_after}
 use Rattle.bplist_objects.proofs.Ties.{keeps_iff, shape_announced, spells_head}
 use Rattle.bplist_objects.proofs.UnitOrder.{compare_units-cases, compare_units-not_less}
 use Rattle.bplist_cert.specs.Heights.{ref}
@@ -37,7 +37,7 @@ use Rattle.bplist_lint.proofs.Closing.{Either, all_or_first, some_or_none, reach
 use Rattle.bplist_lint.proofs.Forming.{formed_holds}
 use Rattle.bplist_lint.proofs.Graphing.{reach_iff, founded_iff, circle_iff}
 use Rattle.bplist_lint.proofs.Keeping.{kept_spells, kept_formed}
-use Rattle.bplist_lint.proofs.Tallying.{first_fault_more, keeps_append, sums_none, sums_more, sums_same, not_overfull, overfull}
+use Rattle.bplist_lint.proofs.Tallying.{sums_none, sums_more, sums_same, not_overfull, overfull}
 
 dict_decided : (kind : Kind) → Either (kind ≡ kinds.Dict)
 dict_decided kinds.Dict = inl refl
@@ -110,7 +110,7 @@ module _ (f : List ℕ) (F : Frame) (frame : IsFrame f F) where
           | inr room ↦ inl (
             u,
             record {
-              kept = keep_more n p.kept (λ on. keeps_append (KeepsByReach f F n) object_rules (rules.Overfull ∷ []) kept (not_overfull f F (Reach f F) n u sums room, tt));
+              kept = keep_more n p.kept (λ on. kept_all_after (KeepsByReach f F n) object_rules (rules.Overfull ∷ []) kept (not_overfull f F (Reach f F) n u sums room, tt));
               sums = sums;
               room = room;
             },
@@ -120,7 +120,7 @@ module _ (f : List ℕ) (F : Frame) (frame : IsFrame f F) where
     pass_reached : ((u : ℕ) × IsPassed (suc n) u) ⊎ ((fault : Fault) × IsReachFault f F fault)
     pass_reached = elim (object_kept_or_fault f F n object_rules) [
       | inl kept ↦ pass_kept kept
-      | inr broken ↦ inr (broken.0, own_fault broken.0 (first_fault_more (KeepsByReach f F n) (BreaksAtReach f F n) object_rules (rules.Overfull ∷ []) broken.0 broken.1))
+      | inr broken ↦ inr (broken.0, own_fault broken.0 (first_fault_among (KeepsByReach f F n) (BreaksAtReach f F n) object_rules (rules.Overfull ∷ []) broken.0 broken.1))
     ]
 
   pass : (n : ℕ) → n ≤ F.objects → ((t : ℕ) × IsPassed n t) ⊎ ((fault : Fault) × IsReachFault f F fault)

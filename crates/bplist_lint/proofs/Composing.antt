@@ -18,8 +18,6 @@ use Rattle.bplist_cert.specs.declared.refusal.Refusal.TheVariants as cert_refusa
 use Rattle.bplist_cert.specs.Refusals.{GivesRefusal}
 use Rattle.bplist_cert.specs.Valid.{IsVouchedBy}
 use Rattle.bplist_cert.proofs.Vouching.{reached_vouched}
-use Rattle.bplist_lint.specs.declared.references.WalkFault.{WalkFault}
-use Rattle.bplist_lint.specs.declared.references.WalkFault.TheVariants as walk_faults
 use Rattle.bplist_lint.specs.declared.refusal.LintRefusal.{LintRefusal}
 use Rattle.bplist_lint.specs.declared.refusal.LintRefusal.TheVariants as refusals
 use Rattle.bplist_lint.specs.declared.answer.Lint.{Lint}
@@ -29,7 +27,7 @@ use Rattle.bplist_lint.specs.Reaching.{IsMarked}
 use Rattle.bplist_lint.specs.ReachRules.{Tallied, sum_below, number_below, references_below, is_marked}
 use Rattle.bplist_lint.specs.KeyRules.{KeepKeysBelow}
 use Rattle.bplist_lint.specs.FileFault.{IsFileFault, IsFileCircle, IsObjectsFault, IsFramedCircle}
-use Rattle.bplist_lint.specs.Refusals.{of_object, of_walk, of_check, Refuses, Lints, no_circle}
+use Rattle.bplist_lint.specs.Refusals.{of_object, of_check, Refuses, Lints, no_circle}
 use Rattle.bplist_lint.specs.Places.{AreKept, AreBelowTable, IsPlaceFault}
 use Rattle.bplist_lint.specs.Least.{AreLeastHeights}
 use Rattle.bplist_lint.specs.Linted.{is_vouched, IsSifted, IsLintedBy, IsLinted, HasNoHeights}
@@ -49,10 +47,6 @@ pub check_means : (P Q : Fault → Type 0) (R : List ℕ → Type 0) (e : Refusa
 check_means P Q R (cert_refusals.Fault fault) same h = same fault h
 check_means P Q R (cert_refusals.Read _) same h = tt
 check_means P Q R cert_refusals.Memory same h = tt
-
-pub walk_means : (Q : Fault → Type 0) (R : List ℕ → Type 0) (e : WalkFault) → Refuses Q R (of_walk e)
-walk_means Q R (walk_faults.Read _) = tt
-walk_means Q R walk_faults.Memory = tt
 
 pub refusal_means : (P Q : Fault → Type 0) (R T : List ℕ → Type 0) (e : LintRefusal) → ((x : Fault) → P x → Q x) → ((x : List ℕ) → R x → T x) → Refuses P R e → Refuses Q T e
 refusal_means P Q R T (refusals.Fault fault) faults circles h = faults fault h
@@ -88,7 +82,7 @@ vouched-lt (suc h) e = omega arith
 
 module _ (f : List ℕ) (F : Frame) where
   -- the passes over the objects
-  pub is_sifted : (sifted : Sifted) → ((n : ℕ) → IsMarked sifted.marks.items n ↔ Reach f F n) → Tallied f F sifted.marks.items F.objects sifted.tally → KeepKeysBelow f F F.objects → IsSifted f F sifted
+  pub is_sifted : (sifted : Sifted) → ((n : ℕ) → IsMarked sifted.marked.marks.items n ↔ Reach f F n) → Tallied f F sifted.marked.marks.items F.objects sifted.tally → KeepKeysBelow f F F.objects → IsSifted f F sifted
   is_sifted sifted marked t keys = record {
     marked = marked;
     kept = t.kept;
@@ -99,8 +93,8 @@ module _ (f : List ℕ) (F : Frame) where
 
   -- the marked objects are those with a height
   module _ (sifted : Sifted) (s : IsSifted f F sifted) (heights : List ℕ) (least : AreLeastHeights f F heights) (vouched : (n : ℕ) → Reach f F n → IsVouchedBy heights n) where
-    same_objects : (n : ℕ) → is_marked sifted.marks.items n ≡ is_vouched heights n
-    same_objects n = same_bools (is_marked sifted.marks.items n) (is_vouched heights n)
+    same_objects : (n : ℕ) → is_marked sifted.marked.marks.items n ≡ is_vouched heights n
+    same_objects n = same_bools (is_marked sifted.marked.marks.items n) (is_vouched heights n)
         (λ e. let v = vouched n ((s.marked n).0 e) in lt-ltb 0 (slice_index heights n) (omega arith))
         (λ e. let v = vouched-lt (slice_index heights n) e in (s.marked n).1 (least.only n (omega arith)))
 

@@ -3,7 +3,7 @@ use Rattle.std.proofs.Common.{◌≡◌, ◌≢◌, ℕ, ◌+◌, ◌-◌, ◌%�
 use Rattle.std.proofs.lemmas.Bool.{cases_eq, cases_lt, false≢true, eq-eqb}
 use Rattle.std.proofs.lemmas.Bool.Decides.{nat_tests}
 use Rattle.std.proofs.lemmas.Cmp.{nat_eq_equiv}
-use Rattle.std.proofs.lemmas.List.{get_or_default, get_or_past, get_or-set_same, get_or-set_other, get_or_append_left, get_or_push, length_push, length-drop, take_all}
+use Rattle.std.proofs.lemmas.List.{get_or_default, get_or-set_same, get_or-set_other, get_or_append_left, get_or_push, length_push, length-drop, take_all}
 use Rattle.std.proofs.lemmas.List.Sorted.{IsPermutation-sym, IsNonDecreasingBy-from_sort}
 use Rattle.std.proofs.lemmas.Map.Keys.{IsDistinct-from_apart, apart_from_distinct, IsDistinct-IsPermutation, sorted_from_strictly_increasing, below_from_sorted, IsStrictlyIncreasing-from_distinct}
 use Rattle.std.specs.List.{IsDistinct}
@@ -27,6 +27,7 @@ use Rattle.bplist_lint.specs.Reaching.{IsMarked}
 use Rattle.bplist_cert.specs.Places.{AreOffsets, KeysAreSound}
 use Rattle.bplist_lint.specs.ReachRules.{KeepReachBelow}
 use Rattle.bplist_lint.specs.Fingerprints.{mix, fingerprint, HasFingerprint, AreSound, AreKnown, AreOfKeys}
+use Rattle.bplist_lint.proofs.ReachSteps.{marked_within}
 use Rattle.bplist_lint.proofs.KeySteps.{reached_kept}
 use Rattle.bplist_lint.proofs.KeyTies.{each_key}
 
@@ -60,13 +61,6 @@ module _ (xs ys : List ℕ) (moved : IsPermutation xs ys) where
           let first = get_or_default xs i d 0 (omega (arith, low, high)) in
           let second = get_or_default xs j d 0 high in
           rw (first, second) (grind (arith, nat_tests, ne)))
-
--- what is marked has a mark
-marked_within : (marks : List Bool) (m : ℕ) → IsMarked marks m → m < length marks
-marked_within marks m marked = elim (cases_lt m (length marks)) [
-  | inl lt ↦ lt
-  | inr ge ↦ absurd (false≢true (sym (get_or_past marks m false ge) ∙ marked))
-]
 
 module _ (f : List ℕ) (F : Frame) where
   -- where exactly the reached objects are marked, and keep the rules

@@ -1,6 +1,6 @@
 -- The graph of a file's references and the definitions over what objects spell say the same.
 use Rattle.std.proofs.Common.{◌≡◌, ℕ, zero, suc, ◌<◌, ◌≤◌, ◌↔◌, List, length, map, slice_index, refl, sym, ap, ◌∙◌, subst, arith, Contains}
-use Rattle.std.proofs.lemmas.List.{ext_get_or, get_or-map, length-map, get_or_default}
+use Rattle.std.proofs.lemmas.List.{ext_get_or, get_or-map, length-map}
 use Rattle.std.proofs.lemmas.List.Elements.{Contains-get_or}
 use Rattle.bplist_objects.specs.declared.frame.Frame.{Frame}
 use Rattle.bplist_objects.specs.Heads.{Content, Spells, refs}
@@ -15,10 +15,6 @@ use Rattle.bplist_lint.specs.FileFault.{LeadsOn, IsCircle}
 use Rattle.bplist_lint.specs.Least.{StandsLeast, StandLeast, AreLeastHeights}
 
 -- ---- least heights in a graph
-pub least_ends : (graph : ℕ → List ℕ) (n h : ℕ) → Least graph n h → Ends graph n
-least_ends graph _ _ (above n hs long each) =
-    ends n (λ m c. subst (Ends graph) (sym (get_or_default (graph n) c.0 m 0 c.1) ∙ c.2) (least_ends graph (slice_index (graph n) c.0) (slice_index hs c.0) (each c.0 c.1)))
-
 -- an object has one least height
 pub least_one : (graph : ℕ → List ℕ) (n a b : ℕ) → Least graph n a → Least graph n b → a ≡ b
 least_one graph _ _ _ (above n hs long each) (above _ hs' long' each') =

@@ -1,5 +1,5 @@
 -- What the keys of a dictionary keep and break, and what a refusal says.
-use Rattle.std.proofs.Common.{◌≡◌, ℕ, ◌+◌, ◌<◌, inl, inr, List, [], length, sym, ap, ◌∙◌, subst, arith}
+use Rattle.std.proofs.Common.{◌≡◌, ℕ, ◌+◌, ◌<◌, inl, inr, List, [], Result, Ok, Err, length, sym, ap, ◌∙◌, subst, arith}
 use Rattle.std.proofs.lemmas.Bool.{cases_eq}
 use Rattle.bplist_objects.specs.declared.rule.Rule.TheVariants as rules
 use Rattle.bplist_objects.specs.declared.fault.Fault.{Fault}
@@ -22,7 +22,7 @@ use Rattle.bplist_objects.proofs.Reaching.{refs_spelled}
 use Rattle.bplist_objects.proofs.BodyLaws.{HasHead-unique}
 use Rattle.bplist_cert.specs.declared.refusal.Refusal.{Refusal}
 use Rattle.bplist_cert.specs.declared.refusal.Refusal.TheVariants as cert_refusals
-use Rattle.bplist_cert.specs.Refusals.{GivesRefusal, refusal_of}
+use Rattle.bplist_cert.specs.Refusals.{GivesRefusal, Judges, refusal_of}
 use Rattle.bplist_cert.specs.Keys.{HaveTexts, KeysDiffer, IsKeylessFault, IsTwiceFault}
 use Rattle.bplist_lint.specs.ReachRules.{KeepReachBelow}
 use Rattle.bplist_lint.specs.KeyRules.{KeepsByKeys, BreaksAtKeys, key_rules, KeepKeysBelow, IsKeysFault}
@@ -60,6 +60,12 @@ module _ (f : List ℕ) (F : Frame) where
       pub twice : (fault : Fault) → head.kind ≡ Dict → HaveTexts f F head head.count → IsTwiceFault f F n head fault → IsFirstFault (KeepsByKeys f F n) (BreaksAtKeys f F n) key_rules fault
       twice fault dict texts h = inr (kept_texts texts, inl (h.0, (h.1, (head, h.2.0, has, dict, h.2.1, h.2.2))))
 
+      -- what is judged of two keys that are the same
+      pub keys_judged : head.kind ≡ Dict → HaveTexts f F head head.count → (r : Result (Unit {0}) Refusal) → Judges (λ _. KeysDiffer f F head head.count) (IsTwiceFault f F n head) r
+          → Judges (λ _. KeepsAll (KeepsByKeys f F n) key_rules) (IsFirstFault (KeepsByKeys f F n) (BreaksAtKeys f F n) key_rules) r
+      keys_judged dict texts (Ok x) differ = kept_keys texts differ
+      keys_judged dict texts (Err e) same = refusals_mean _ _ e (λ fault k. twice fault dict texts k) same
+
   -- a reached object keeps rules 14 to 20
   pub reached_kept : (n : ℕ) → n < F.objects → Reach f F n → KeepReachBelow f F F.objects → KeepsAll (KeepsByObject f F n) object_rules
   reached_kept n within r kept = let k = kept n within r in (k.0, (k.1.0, (k.1.1.0, (k.1.1.1.0, (k.1.1.1.1.0, (k.1.1.1.1.1.0, (k.1.1.1.1.1.1.0, tt)))))))
@@ -80,9 +86,6 @@ module _ (f : List ℕ) (F : Frame) where
     | inl e ↦ absurd (unreached (rw e at r))
     | inr ne ↦ kept m (omega arith) r
   ]
-
-  pub keys_none : KeepKeysBelow f F 0
-  keys_none m low r = absurd (omega arith)
 
 -- an object without references that keeps rules 14 to 20 has no keys
 pub bare_keys : (f : List ℕ) (F : Frame) (n : ℕ) → IsFrame f F → n < F.objects → KeepsAll (KeepsByObject f F n) object_rules → refs_at f F n ≡ []

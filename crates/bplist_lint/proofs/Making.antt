@@ -12,6 +12,7 @@ use Rattle.bplist_cert.specs.Valid.{IsVouchedBy, IsValid, IsVouched, HasKeys}
 use Rattle.bplist_lint.specs.Graph.{greatest}
 use Rattle.bplist_lint.specs.Least.{StandsLeast}
 use Rattle.bplist_lint.specs.WellFormed.{IsWellFormed}
+use Rattle.bplist_lint.proofs.VisitSteps.{unwritten, nothing}
 use Rattle.bplist_lint.proofs.Founding.{map-same, le-greatest}
 use Rattle.bplist_lint.proofs.Forming.{Sound, sound, founded_sound}
 
@@ -32,11 +33,6 @@ unfolding merge
 merge_length [] ys e = refl
 merge_length (x ∷ xs) [] e = e
 merge_length (x ∷ xs) (y ∷ ys) e = ap suc (merge_length xs ys (omega arith))
-
-zeros_at : (n i : ℕ) → slice_index (replicate n 0) i ≡ 0
-zeros_at zero i = refl
-zeros_at (suc n) zero = refl
-zeros_at (suc n) (suc i) = zeros_at n i
 
 zeros_length : (n : ℕ) → length {A = ℕ} (replicate n 0) ≡ n
 zeros_length zero = refl
@@ -128,7 +124,7 @@ module _ (f : List ℕ) (F : Frame) where
   Tabled n = (H : List ℕ) × Table H × (1 ≤ slice_index H n)
 
   all_tabled : (ms : List ℕ) → AllByRecursion Tabled ms → (H : List ℕ) × Table H × AllByRecursion (λ m. 1 ≤ slice_index H m) ms
-  all_tabled [] a = (replicate F.objects 0, record { length = zeros_length F.objects; vouched = λ n v. absurd (let e = zeros_at F.objects n in omega arith); least = λ n v. absurd (let e = zeros_at F.objects n in omega arith); only = λ n v. absurd (let e = zeros_at F.objects n in omega arith) }, tt)
+  all_tabled [] a = (replicate F.objects nothing, record { length = zeros_length F.objects; vouched = λ n v. absurd (let e = unwritten F.objects n nothing in omega arith); least = λ n v. absurd (let e = unwritten F.objects n nothing in omega arith); only = λ n v. absurd (let e = unwritten F.objects n nothing in omega arith) }, tt)
   all_tabled (m ∷ ms) a =
       let r = all_tabled ms a.1 in
       let H = a.0.0 in

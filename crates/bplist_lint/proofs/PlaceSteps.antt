@@ -45,9 +45,6 @@ module _ (f : List ℕ) (F : Frame) (places : List ℕ) (kept : AreKept f F F.ob
   pub framed_offsets : IsFrame f F → AreOffsets f F places
   framed_offsets frame = let l = frame.table_late in let s = frame.large in kept_offsets (omega (arith, l, s)) frame.offsets
 
-  pub low_offsets : IsTrailer f F → AreBelowTable F places → AreOffsets f F places
-  low_offsets trailed low = kept_offsets (table_fits f F trailed) (kept_low trailed low)
-
   high : (n : ℕ) → n < F.objects → F.table < 2 ^ 32 → F.table ≤ slice_index places n → F.table ≤ off f F n
   high n within fits at = elim (cases_lt (off f F n) (2 ^ 32)) [
     | inl small ↦ let e = (kept n within).0 small in omega (arith, e)

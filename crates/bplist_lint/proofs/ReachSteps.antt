@@ -1,11 +1,12 @@
 -- What the walk that marks the reached objects keeps true.
-use Rattle.std.proofs.Common.{◌≡◌, ℕ, zero, suc, ◌+◌, ◌∙◌, ◌<◌, inl, inr, Bool, true, false, List, [], ◌∷◌, ◌++◌, length, get_or, set, replicate, Contains, refl, sym, arith}
+use Rattle.std.proofs.Common.{◌≡◌, ℕ, zero, suc, ◌+◌, ◌∙◌, ◌<◌, inl, inr, Bool, true, false, List, [], ◌∷◌, ◌++◌, length, get_or, set, replicate, Contains, sym, arith}
 use Rattle.std.proofs.lemmas.Bool.{false≢true, cases_eq}
 use Rattle.std.proofs.lemmas.List.{get_or-set_same, get_or-set_other, get_or_default, length-replicate}
 use Rattle.std.proofs.lemmas.List.Elements.{Contains-append_left, Contains-push, Contains-push_cases}
 use Rattle.bplist_lint.specs.Graph.{Reaches}
 use Rattle.bplist_lint.specs.Graph.Reaches.{start, onward}
 use Rattle.bplist_lint.specs.Reaching.{IsMarked, Looked, Marking, Emptying}
+use Rattle.bplist_lint.proofs.VisitSteps.{unwritten}
 
 none_contained : (m : ℕ) → Contains [] m → ⊥
 none_contained m c = omega (arith, c.1)
@@ -84,17 +85,12 @@ marking_end refs top marks r _ (onward p n reached c) =
       | inr all ↦ rw (← c.2) (rw (get_or_default (refs p) c.0 n 0 c.1) (all c.0 c.1))
     ]
 
-get_or-replicate_false : (size m : ℕ) → get_or (replicate size false) m false ≡ false
-get_or-replicate_false zero m = refl
-get_or-replicate_false (suc size) zero = refl
-get_or-replicate_false (suc size) (suc m) = get_or-replicate_false size m
-
 pub marking_start : (refs : ℕ → List ℕ) (top size : ℕ) → top < size → Marking refs top 0 (set (replicate size false) top true)
 marking_start refs top size in' =
     let is_top : (m : ℕ) → IsMarked (set (replicate size false) top true) m → m ≡ top =
     λ m h. elim (cases_eq m top) [
       | inl e ↦ e
-      | inr d ↦ let f = rw (get_or-set_other (replicate size false) top m true false d) at h in absurd (false≢true (sym (get_or-replicate_false size m) ∙ f))
+      | inr d ↦ let f = rw (get_or-set_other (replicate size false) top m true false d) at h in absurd (false≢true (sym (unwritten size m false) ∙ f))
     ] in
     record {
       begun = get_or-set_same (replicate size false) top true false (rw length-replicate in');

@@ -1,39 +1,27 @@
 -- Running tallies of the reached objects.
-use Rattle.std.proofs.Common.{◌≡◌, ℕ, suc, ◌+◌, ◌-◌, ◌<◌, ◌≤◌, inl, inr, Bool, false, List, [], ◌∷◌, ◌++◌, length, get_or, refl, sym, ap, subst, arith, Some, Option}
+use Rattle.std.proofs.Common.{◌≡◌, ℕ, suc, ◌+◌, ◌-◌, ◌<◌, ◌≤◌, inl, inr, Bool, false, List, [], ◌∷◌, length, get_or, refl, sym, ap, subst, arith, Some}
 use Rattle.std.proofs.lemmas.Bool.{cases_eq}
-use Rattle.bplist_objects.specs.declared.rule.Rule.{Rule}
 use Rattle.bplist_objects.specs.declared.rule.Rule.TheVariants as rules
 use Rattle.bplist_objects.specs.declared.fault.Fault.{Fault}
 use Rattle.bplist_objects.specs.declared.frame.Frame.{Frame}
-use Rattle.bplist_objects.specs.declared.frame.ObjectNo.{ObjectNo}
 use Rattle.bplist_objects.specs.declared.head.Head.{Head}
 use Rattle.bplist_objects.specs.Frame.{off, IsFrame}
 use Rattle.bplist_objects.specs.Heads.{IsHeadOf, content_at}
 use Rattle.bplist_objects.specs.Announced.{HasHead}
 use Rattle.bplist_objects.specs.Safe.{ref_count}
-use Rattle.bplist_objects.specs.Rules.{KeepsAll, IsFirstFault}
+use Rattle.bplist_objects.specs.Rules.{KeepsAll}
 use Rattle.bplist_objects.specs.ObjectRules.{KeepsByObject, object_rules, IsObjectFault}
 use Rattle.bplist_objects.specs.Reach.{Reach}
-use Rattle.bplist_objects.specs.Extents.{HasExtent, HaveRoom, IsOverfull}
+use Rattle.bplist_objects.specs.Extents.{HasExtent, IsOverfull}
 use Rattle.bplist_objects.proofs.Lists.{all_at, all_weaker}
 use Rattle.bplist_objects.proofs.Filling.{shape_extent, most_none, most_more, most_same}
-use Rattle.bplist_objects.proofs.RuleLaws.{first_fault_after}
+use Rattle.bplist_objects.proofs.RuleLaws.{first_fault_after, first_fault_among, kept_all_after}
 use Rattle.bplist_objects.proofs.Ties.{head_tie}
 use Rattle.bplist_objects.proofs.References.{length-refs}
 use Rattle.bplist_objects.proofs.Reaching.{refs_spelled}
 use Rattle.bplist_lint.specs.Reaching.{IsMarked}
 use Rattle.bplist_lint.specs.ReachRules.{KeepsByReach, BreaksAtReach, IsReachFault, Sums, Tallied}
 use Rattle.bplist_lint.specs.declared.faults.Tally.{Tally}
-
--- the first fault by some rules is the first by these and more behind
-pub first_fault_more : (keeps : Rule → Type 0) (breaks : Rule → Option ObjectNo → ℕ → Type 0) (xs ys : List Rule) (fault : Fault) → IsFirstFault keeps breaks xs fault → IsFirstFault keeps breaks (xs ++ ys) fault
-first_fault_more keeps breaks [] ys fault h = absurd h
-first_fault_more keeps breaks (x ∷ xs) ys fault (inl a) = inl a
-first_fault_more keeps breaks (x ∷ xs) ys fault (inr b) = inr (b.0, first_fault_more keeps breaks xs ys fault b.1)
-
-pub keeps_append : (keeps : Rule → Type 0) (xs ys : List Rule) → KeepsAll keeps xs → KeepsAll keeps ys → KeepsAll keeps (xs ++ ys)
-keeps_append keeps [] ys a b = b
-keeps_append keeps (x ∷ xs) ys a b = (a.0, keeps_append keeps xs ys a.1 b)
 
 pub next_is : (n : ℕ) → suc n ≡ n + 1
 next_is n = omega arith
@@ -69,11 +57,6 @@ module _ (f : List ℕ) (F : Frame) where
     pub overfull : (n t : ℕ) → Sums f F S (suc n) t → F.table < t + 8 → IsOverfull f F S n
     overfull n t s full = (s.objects, t, s.differ, all_weaker _ _ (λ m k. (k.0, let l = k.1 in omega arith)) s.objects s.inside, s.take_all, full)
 
-    pub sums_room : (n t : ℕ) → ((m : ℕ) → S m → m < n) → Sums f F S n t → t + 8 ≤ F.table → HaveRoom f F S
-    sums_room n t below s room ns r differ all take_all =
-        let most = s.most ns r differ (all_weaker _ _ (λ m k. (k, below m k)) ns all) take_all in
-        omega (arith, most, room)
-
   -- an object that is not reached, and so not marked
   pub tallied_over : (marks : List Bool) (n : ℕ) (tally : Tally) → get_or marks n false ≡ false → (Reach f F n → ⊥) → Tallied f F marks n tally → Tallied f F marks (n + 1) tally
   tallied_over marks n tally unmarked unreached t = subst (λ k. Tallied f F marks k tally) (next_is n) (record {
@@ -100,7 +83,7 @@ module _ (f : List ℕ) (F : Frame) where
     object_fault fault h = record {
       object = n;
       reached = reached;
-      first = first_fault_more (KeepsByReach f F n) (BreaksAtReach f F n) object_rules (rules.Overfull ∷ []) fault h;
+      first = first_fault_among (KeepsByReach f F n) (BreaksAtReach f F n) object_rules (rules.Overfull ∷ []) fault h;
       least = t.kept;
     }
 
@@ -125,7 +108,7 @@ module _ (f : List ℕ) (F : Frame) where
           → Tallied f F marks (n + 1) now
       tallied_more marked room now one bytes more = subst (λ k. Tallied f F marks k now) (next_is n) (record {
         kept = λ m low r. elim (cases_eq m n) [
-          | inl e ↦ rw e (keeps_append (KeepsByReach f F n) object_rules (rules.Overfull ∷ []) kept (not_overfull (Reach f F) n _ sums_with room, tt))
+          | inl e ↦ rw e (kept_all_after (KeepsByReach f F n) object_rules (rules.Overfull ∷ []) kept (not_overfull (Reach f F) n _ sums_with room, tt))
           | inr ne ↦ t.kept m (omega arith) r
         ];
         sums = subst (Sums f F (Reach f F) (suc n)) (sym bytes) sums_with;

@@ -9,7 +9,7 @@ use Rattle.bplist_lint.specs.Graph.Reaches.{start, onward}
 use Rattle.bplist_lint.specs.Graph.Ends.{ends}
 use Rattle.bplist_lint.specs.Graph.Least.{above}
 use Rattle.bplist_lint.specs.Trail.{number, object, AllHave, IsFirstWithout, IsPlaceOf, Placed, Leading}
-use Rattle.bplist_lint.proofs.VisitSteps.{push_cases, at_set, seen-set, none_seen}
+use Rattle.bplist_lint.proofs.VisitSteps.{push_cases, at_set, seen-set, unwritten}
 
 pub numbers_named : (xs : List ℕ) → map number (map object xs) ≡ xs
 numbers_named [] = refl
@@ -43,7 +43,7 @@ is_next refs top heights n m a reached f =
 pub placed_none : (size : ℕ) → Placed size (replicate size false) []
 placed_none size = record {
   all_met = length-replicate size false;
-  on_trail = λ n h. absurd (false≢true (sym (none_seen size n) ∙ h));
+  on_trail = λ n h. absurd (false≢true (sym (unwritten size n false) ∙ h));
   marked = λ k h. absurd (omega arith);
   differ = λ j k less h. absurd (omega arith);
 }

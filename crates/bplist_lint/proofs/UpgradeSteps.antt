@@ -1,5 +1,5 @@
 -- What an upgrade answers, in other words.
-use Rattle.std.proofs.Common.{◌≡◌, ℕ, Result, Ok, Err, List, length, Some}
+use Rattle.std.proofs.Common.{◌≡◌, ℕ, List, length, Some}
 use Rattle.std.proofs.Math.Logic.{∥∥₁_map}
 use Rattle.std.proofs.lemmas.Grind.{not_there}
 use Rattle.bplist_objects.specs.declared.fault.Fault.{Fault}
@@ -15,11 +15,9 @@ use Rattle.bplist_lint.proofs.ListSteps.{upgraded}
 use Rattle.bplist_cert.specs.declared.refusal.Refusal.{Refusal}
 use Rattle.bplist_cert.specs.declared.refusal.Refusal.TheVariants as cert_refusals
 use Rattle.bplist_cert.specs.Refusals.{GivesRefusal}
-use Rattle.bplist_lint.specs.declared.references.WalkFault.{WalkFault}
-use Rattle.bplist_lint.specs.declared.references.WalkFault.TheVariants as walk_faults
 use Rattle.bplist_lint.specs.declared.upgrade_fault.UpgradeFault.{UpgradeFault}
 use Rattle.bplist_lint.specs.declared.upgrade_fault.UpgradeFault.TheVariants as faults
-use Rattle.bplist_lint.specs.Upgrades.{Upgrades, IsNoChange, of_object, of_check, of_walk}
+use Rattle.bplist_lint.specs.Upgrades.{IsNoChange, of_object, of_check}
 
 pub object_no_change : (P : Fault → Type 0) (e : ObjectFault) → ((x : Fault) → P x → ⊥) → GivesFault P e → IsNoChange (of_object e)
 object_no_change P (object_faults.Fault fault) never h = never fault h
@@ -29,14 +27,6 @@ pub check_no_change : (e : Refusal) → GivesRefusal Never e → IsNoChange (of_
 check_no_change (cert_refusals.Fault fault) h = h
 check_no_change (cert_refusals.Read _) h = tt
 check_no_change cert_refusals.Memory h = tt
-
-pub walk_no_change : (e : WalkFault) → IsNoChange (of_walk e)
-walk_no_change (walk_faults.Read _) = tt
-walk_no_change walk_faults.Memory = tt
-
-pub upgrades_mean : {X : Type 0} → (P Q : X → Type 0) (r : Result X UpgradeFault) → ((x : X) → P x → Q x) → Upgrades P r → Upgrades Q r
-upgrades_mean P Q (Ok x) same h = same x h
-upgrades_mean P Q (Err e) same h = h
 
 -- what follows from something that is there for no change
 pub open_no_change : {P : Type 0} → ∥ P ∥₁ → (e : UpgradeFault) → (P → IsNoChange e) → IsNoChange e

@@ -52,18 +52,14 @@ seen-set seen x n within h = elim (at_set seen x true false n within) [
   | inr c ↦ c.1 ∙ h
 ]
 
-pub none_seen : (size n : ℕ) → get_or (replicate size false) n false ≡ false
-none_seen zero n = refl
-none_seen (suc size) zero = refl
-none_seen (suc size) (suc n) = none_seen size n
+-- what stands in a list of one value, and outside it
+pub unwritten : {X : Type 0} → (size n : ℕ) (x : X) → get_or (replicate size x) n x ≡ x
+unwritten zero n x = refl
+unwritten (suc size) zero x = refl
+unwritten (suc size) (suc n) x = unwritten size n x
 
 abbrev pub nothing : ℕ
 nothing = 0
-
-pub none_high : (size n : ℕ) → get_or (replicate size nothing) n 0 ≡ 0
-none_high zero n = refl
-none_high (suc size) zero = refl
-none_high (suc size) (suc n) = none_high size n
 
 -- an object without a height leaves room among the heights
 pub height_below : (heights : List ℕ) (n : ℕ) → n < length heights → get_or heights n 0 ≡ 0 → count_by is_height heights < length heights
@@ -174,8 +170,8 @@ standing_none size = record {
   visits = λ k h. absurd (omega arith);
   unfinished = λ k h. absurd (omega arith);
   differ = λ j k less h. absurd (omega arith);
-  low = λ n. rw (none_high size n) (omega arith);
-  known = λ n h. absurd (let z = none_high size n in omega arith);
+  low = λ n. rw (unwritten size n nothing) (omega arith);
+  known = λ n h. absurd (let z = unwritten size n nothing in omega arith);
 }
 
 -- one more reference was looked at

@@ -10,7 +10,7 @@ use Rattle.bplist_lint.specs.Graph.Least.{above}
 use Rattle.bplist_lint.specs.Reaching.{IsMarked}
 use Rattle.bplist_lint.specs.Visits.{no_visit, visit_at, Measured, IsRead, IsOnStack, Walking}
 use Rattle.bplist_lint.specs.declared.heights.Visit.{Visit}
-use Rattle.bplist_lint.proofs.VisitSteps.{push_cases, each_push, each_front, each_last, at_set, seen-set, none_seen, none_high}
+use Rattle.bplist_lint.proofs.VisitSteps.{push_cases, each_push, each_front, each_last, at_set, seen-set, unwritten, nothing}
 
 -- nothing on a circle is founded: objects j from k to last, each with the next one among its references, and the last with that at k
 pub no_circle : (refs : ℕ → List ℕ) (at : ℕ → ℕ) (k last : ℕ) → ((j : ℕ) → k ≤ j → j < last → Contains (refs (at j)) (at (suc j))) → Contains (refs (at last)) (at k) → (x : ℕ) → Ends refs x → (j : ℕ) → k ≤ j → j ≤ last → x ≡ at j → ⊥
@@ -169,11 +169,11 @@ walking_finish refs top seen heights rest v h w within whole high least =
 -- nothing is seen
 pub walking_none : (refs : ℕ → List ℕ) (top size : ℕ) → Walking refs top (replicate size false) (replicate size 0) []
 walking_none refs top size = record {
-  reached = λ n h. absurd (false≢true (sym (none_seen size n) ∙ h));
+  reached = λ n h. absurd (false≢true (sym (unwritten size n false) ∙ h));
   linked = λ k h. absurd (omega arith);
   visits = λ k h. absurd (omega arith);
-  measured = λ n h. absurd (let z = none_high size n in omega arith);
-  settled = λ n h. absurd (false≢true (sym (none_seen size n) ∙ h));
+  measured = λ n h. absurd (let z = unwritten size n nothing in omega arith);
+  settled = λ n h. absurd (false≢true (sym (unwritten size n false) ∙ h));
 }
 
 -- a walk begins at an object that is reached

@@ -42,8 +42,8 @@ HasNoHeights f = (F : Frame) (heights : List ℕ) → IsValid f F heights → �
 
 -- the reached objects keep all rules but 23, exactly they are marked, and this is their tally
 pub record IsSifted (f : List ℕ) (F : Frame) (sifted : Sifted) : Type 0 where
-  pub marked : (n : ℕ) → IsMarked sifted.marks.items n ↔ Reach f F n
+  pub marked : (n : ℕ) → IsMarked sifted.marked.marks.items n ↔ Reach f F n
   pub kept : KeepReachBelow f F F.objects
   pub keys : KeepKeysBelow f F F.objects
-  pub reached : sifted.tally.reached ≡ number_below (is_marked sifted.marks.items) F.objects
-  pub references : sifted.tally.references ≡ references_below f F (is_marked sifted.marks.items) F.objects
+  pub reached : sifted.tally.reached ≡ number_below (is_marked sifted.marked.marks.items) F.objects
+  pub references : sifted.tally.references ≡ references_below f F (is_marked sifted.marked.marks.items) F.objects

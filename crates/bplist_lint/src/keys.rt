@@ -48,8 +48,7 @@ fn check_units<S: Source>(
 {
     let places = Places::Kept(places);
     check_texts(src, frame, places, n, head)?;
-    check_twice(alloc, src, frame, places, n, head)?;
-    Ok(())
+    check_twice(alloc, src, frame, places, n, head)
 }
 
 /// Looks at the keys of dictionary `n`, which has this head.

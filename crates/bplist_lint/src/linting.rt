@@ -1,9 +1,9 @@
 //! The linter.
 
-ghost use Rattle.std.specs.Prelude.{◌≡◌, ◌↔◌, ℕ, ◌+◌, ◌^◌, ◌≤◌, ◌<◌, List, Bool, IsTrue, IfOk, length, map, slice_index, vec_len, ⊤};
+ghost use Rattle.std.specs.Prelude.{◌≡◌, ◌↔◌, ℕ, ◌+◌, ◌≤◌, ◌<◌, IsTrue, IfOk, length, map, slice_index, vec_len, ⊤};
 ghost use Rattle.bplist_octets.specs.Meaning.{OnlyReads};
 ghost use Rattle.bplist_objects.specs.Frame.{IsFrame};
-ghost use Rattle.bplist_objects.specs.Safe.{IsSafe, IsSafeFrame};
+ghost use Rattle.bplist_objects.specs.Safe.{IsSafeFrame};
 ghost use Rattle.bplist_objects.specs.Reach.{Reach};
 ghost use Rattle.bplist_objects.specs.Spelled.{refs_at};
 ghost use Rattle.bplist_objects.specs.Value.{Value};
@@ -128,10 +128,7 @@ fn find_circle<S: Source>(
 #[derive(Drop)]
 struct Sifted {
     tally: Tally,
-    /// Exactly the reached objects are marked.
-    marks: Vec<bool>,
-    /// Marked objects have no references.
-    bare: Vec<bool>,
+    marked: Marked,
 }
 
 /// Looks at the reached objects by rules 14 to 22 and 31, first each by itself and then at the keys of each.
@@ -147,18 +144,18 @@ fn sift<S: Source>(
     requires placed { IsTrue (S.means src.old).honest → AreOffsets (S.means src.old).octets frame.now places.now }
     ensures reads { OnlyReads (lint_failed result) (S.means src.old) (S.means src.new) }
     ensures room { IfOk result (λ sifted. sifted.tally.references + 8 ≤ frame.now.table) }
-    ensures all { IfOk result (λ sifted. vec_len sifted.marks ≡ frame.now.objects) }
-    ensures all_bare { IfOk result (λ sifted. vec_len sifted.bare ≡ frame.now.objects) }
+    ensures all { IfOk result (λ sifted. vec_len sifted.marked.marks ≡ frame.now.objects) }
+    ensures all_bare { IfOk result (λ sifted. vec_len sifted.marked.bare ≡ frame.now.objects) }
     ensures bare { IsTrue (S.means src.old).honest → IfOk result (λ sifted.
-        AreBare (S.means src.old).octets frame.now sifted.bare.items) }
+        AreBare (S.means src.old).octets frame.now sifted.marked.bare.items) }
     ensures exact { IsTrue (S.means src.old).honest
         → Lints (IsSifted (S.means src.old).octets frame.now) (IsObjectsFault (S.means src.old).octets frame.now)
         no_circle result }
 {
-    let Marked { marks, bare } = mark_reached(alloc, src, frame, places)?;
-    let tally = check_reached(src, frame, places, &marks)?;
-    check_keys(alloc, src, frame, places, &marks, &bare)?;
-    Ok(Sifted { tally, marks, bare })
+    let marked = mark_reached(alloc, src, frame, places)?;
+    let tally = check_reached(src, frame, places, &marked.marks)?;
+    check_keys(alloc, src, frame, places, &marked.marks, &marked.bare)?;
+    Ok(Sifted { tally, marked })
 }
 
 /// What the linter says of a file with this frame, whose objects stand at these places.
@@ -177,7 +174,10 @@ fn lint_objects<S: Source>(
         → Lints (IsLintedBy (S.means src.old).octets frame.now) (IsObjectsFault (S.means src.old).octets frame.now)
         (IsFramedCircle (S.means src.old).octets frame.now) result }
 {
-    let Sifted { tally, marks, bare } = sift(alloc, src, frame, places)?;
+    let Sifted {
+        tally,
+        marked: Marked { marks, bare },
+    } = sift(alloc, src, frame, places)?;
     let heights = find_heights(alloc, src, frame, places, &marks, bare)?;
     let height = heights[frame.top.0 as usize];
     if height == 0 {

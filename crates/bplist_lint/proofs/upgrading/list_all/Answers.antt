@@ -1,6 +1,6 @@
 use Rattle.std.proofs.Common.{◌≡◌, ◌<◌, length, replicate, arith, rules, ◌∙◌}
 use Rattle.std.proofs.lemmas.Grind.{common_steps}
-use Rattle.bplist_lint.proofs.VisitSteps.{nothing, none_high}
+use Rattle.bplist_lint.proofs.VisitSteps.{nothing, unwritten}
 use Rattle.bplist_lint.proofs.ListSteps.{listed_none, listed_over}
 use Rattle.bplist_lint.proofs.upgrading.list_all.Goals as goal
 use Rattle.bplist_lint.proofs.upgrading.list_all.Goals.{then-heights-n-gt0+in_ok-starts-2, else-heights-n-gt0}
@@ -12,7 +12,7 @@ loop-n-init g c =
       reads = cc;
       all = grind (arith, common_steps);
       few = grind (arith, common_steps);
-      exact = λ honest placed valid. rw (all_low, c.new-positions.ensures.items) (listed_none _ _ _ (replicate c.args.frame.now.objects nothing) (none_high c.args.frame.now.objects));
+      exact = λ honest placed valid. rw (all_low, c.new-positions.ensures.items) (listed_none _ _ _ (replicate c.args.frame.now.objects nothing) (λ n. unwritten c.args.frame.now.objects n nothing));
     }
 
 pub loop-n-preserved : goal.loop-n-preserved
