@@ -1,5 +1,5 @@
 -- What the program takes from a command line that clap parsed. Source: profile.
-use Rattle.std.specs.Prelude.{◌≡◌, ◌<◌, ◌^◌, ◌∷◌, if◌then◌else◌, ℕ, Bool, true, false, List, [], None, Some}
+use Rattle.std.specs.Prelude.{◌≡◌, ◌<◌, ◌^◌, ◌∷◌, if◌then◌else◌, ℕ, Bool, true, false, List, [], Option, None, Some}
 use Rattle.std.specs.Prelude.{codes, option_map, unwrap_or}
 use Rattle.std.specs.Str.{bytes_eq}
 use Rattle.std.specs.Str.Parse.{IsNumeral, digits_value, without_leading_plus}
@@ -8,14 +8,15 @@ use Rattle.clap.specs.declared.parser.matches.ArgMatches.{ArgMatches}
 use Rattle.bplint_engine.specs.declared.command.Verb.{Verb}
 use Rattle.bplint_engine.specs.declared.command.Verb.TheVariants.{Lint, Check, Get, Certify, Print}
 
--- the verb of a subcommand's name, which `print` is where no other is
-abbrev pub verb_named : List ℕ → Verb
+-- the verb of a subcommand's name, if it is one
+abbrev pub verb_named : List ℕ → Option Verb
 verb_named name =
-    if bytes_eq name (codes "lint") then Lint
-    else if bytes_eq name (codes "certify") then Certify
-    else if bytes_eq name (codes "check") then Check
-    else if bytes_eq name (codes "get") then Get
-    else Print
+    if bytes_eq name (codes "lint") then Some Lint
+    else if bytes_eq name (codes "certify") then Some Certify
+    else if bytes_eq name (codes "check") then Some Check
+    else if bytes_eq name (codes "get") then Some Get
+    else if bytes_eq name (codes "print") then Some Print
+    else None
 
 -- the text of an argument, and `default` where it was not given
 abbrev pub text_in : ArgMatches → List ℕ → List ℕ → List ℕ

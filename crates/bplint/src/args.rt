@@ -6,13 +6,16 @@ ghost use Rattle.bplint.specs.Lines.{IsFlag, IsLimit, paths_in, text_in, verb_na
 ghost use Rattle.bplint_engine.specs.Commands.{PrintsOnePath};
 
 use bplint_engine::{Command, Verb};
+use clap::error::ErrorKind;
 use clap::{Arg, ArgAction, ArgMatches, Error, value_parser};
 use std::alloc::{AllocError, Global};
 
 /// A command line that was taken.
 #[derive(Debug, Drop)]
 pub struct Line<'a> {
+    /// What the engine is asked to do.
     pub command: Command,
+    /// FILE, where `-` is standard input.
     pub file: &'a str,
     /// CERT, empty where the verb has none.
     pub cert: &'a str,
@@ -126,15 +129,23 @@ fn bplint<'a>(alloc: Global) -> Result<clap::Command<'a>, AllocError> {
         .subcommand(print(alloc)?)
 }
 
-fn verb_of(name: &str) -> Verb
+/// The error for words that name no subcommand. By `subcommand_required` clap answers it itself, so that it is never
+/// made here.
+fn no_subcommand(alloc: Global) -> Result<Error, AllocError> {
+    let mut command = bplint(alloc)?;
+    command.error(ErrorKind::MissingSubcommand, "no subcommand was given")
+}
+
+fn verb_of(name: &str) -> Option<Verb>
     ensures { result ≡ verb_named name.now }
 {
     match name {
-        "lint" => Verb::Lint,
-        "certify" => Verb::Certify,
-        "check" => Verb::Check,
-        "get" => Verb::Get,
-        _ => Verb::Print,
+        "lint" => Some(Verb::Lint),
+        "certify" => Some(Verb::Certify),
+        "check" => Some(Verb::Check),
+        "get" => Some(Verb::Get),
+        "print" => Some(Verb::Print),
+        _ => None,
     }
 }
 
@@ -196,16 +207,17 @@ pub fn read_line<'a>(alloc: Global, words: &'a [String]) -> Result<Line<'a>, Err
     ensures { IfOk result (λ line. PrintsOnePath line.command) }
 {
     let matches = bplint(alloc)?.try_get_matches_from(words)?;
-    match matches.subcommand() {
-        Some((name, below)) => Ok(line_of(alloc, verb_of(name), below)?),
-        None => Err(Error::from(AllocError)),
+    if let Some((name, below)) = matches.subcommand() {
+        if let Some(verb) = verb_of(name) {
+            return Ok(line_of(alloc, verb, below)?);
+        }
     }
+    Err(no_subcommand(alloc)?)
 }
 
 #[cfg(test)]
 mod tests {
     use super::*;
-    use clap::error::ErrorKind;
     use std::test::Fail;
 
     fn words_of(alloc: Global, line: &str) -> Result<Vec<String>, AllocError> {

@@ -38,7 +38,8 @@ fn run<R: Files<File = File> + Input + Print>(
     let mut file = Window::new(file);
     let cert = input::read_certificate(rt, alloc, line)?;
     let mut out = OutFile::new(rt, line.out);
-    // Look-ups go to and fro between the offset table, a dictionary and its keys.
+    // Look-ups go to and fro between the offset table, a dictionary and its keys. `Windows` serves requests of up to 512
+    // bytes and hands longer ones on; those of 513 to 4,096 bytes the `Window` below it serves.
     let source = Windows::new(&mut file);
     run_on(alloc, &line.command, source, &cert, &mut out).0
 }

@@ -5,6 +5,7 @@ use Rattle.std.proofs.lemmas.Bool.{false≢true}
 use Rattle.std.proofs.lemmas.Grind.{not_there}
 use Rattle.std.proofs.lemmas.Slice.Eq.{bytes_eq-Decides}
 use Rattle.bplist_objects.specs.declared.frame.ObjectNo.{ObjectNo}
+use Rattle.bplist_cursor.proofs.Escapes.{not_empty}
 use Rattle.bplist_lint.specs.Trail.{number}
 use Rattle.bplint_engine.specs.declared.said.Said.{Said}
 use Rattle.bplint_engine.specs.declared.said.Said.TheVariants.{All, SomeMissing}
@@ -15,9 +16,6 @@ same_gives s t xs ys p q = λ i. gives (p i) (q i)
 
 same_rest : (c d : ℕ) (xs ys : List ℕ) → c ∷ xs ≡ d ∷ ys → (c ≡ d) × (xs ≡ ys)
 same_rest c d xs ys e = (cc, cc)
-
-not_empty : (c : ℕ) (xs : List ℕ) → c ∷ xs ≡ [] → ⊥
-not_empty c xs e = cc
 
 pub same_numbers : (ns ms : List ObjectNo) → map number ns ≡ map number ms → ns ≡ ms
 same_numbers [] [] e = refl

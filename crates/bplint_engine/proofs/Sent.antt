@@ -16,9 +16,3 @@ all_sent old mid new s t u bytes (Ok _) start takes empty flushed _ =
 all_sent old mid new s t u bytes (Err fault) start takes _ _ part =
     let held = out_takes (out_start old s (ap (λ x. x.sent) start) (ap (λ x. x.held) start)) takes in
     subst (λ l. IsCut old new l fault.sent) (append-nil bytes) (out_part old mid new t bytes [] fault.sent held part)
-
--- a text was cut while a sink took it
-pub cut_in_put : (old new : Option (List ℕ)) (s : Sending) (bytes : List ℕ) (sent : ℕ) → s ≡ record { sent = 0; held = [] } → TakesPart old new s bytes sent
-    → IsCut old new bytes sent
-cut_in_put old new s bytes sent start part =
-    out_part old old new s [] bytes sent (out_start old s (ap (λ x. x.sent) start) (ap (λ x. x.held) start)) part

@@ -54,12 +54,6 @@ cursor_fault (cursor_faults.Read fault) = faults.Read fault
 cursor_fault cursor_faults.Changed = faults.Changed
 cursor_fault cursor_faults.Memory = faults.Memory
 
--- the certificate of a file that holds a value is refused
-abbrev pub recheck_fault : Refusal → RunFault
-recheck_fault (refusals.Fault fault) = faults.Changed
-recheck_fault (refusals.Read fault) = faults.Read fault
-recheck_fault refusals.Memory = faults.Memory
-
 -- a certificate is not upgraded
 abbrev pub upgrade_fault : UpgradeFault → RunFault
 upgrade_fault (upgrade_faults.Read fault) = faults.Read fault

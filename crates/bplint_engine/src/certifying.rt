@@ -6,14 +6,13 @@ ghost use Rattle.bplist_cert.specs.Lists.{Lists, IsCertificate};
 ghost use Rattle.bplist_lint.specs.Upgraded.{IsUpgraded};
 ghost use Rattle.bplint_engine.specs.Answers.{Answers, read_failed};
 ghost use Rattle.bplint_engine.specs.Certifying.{CertifySays, LeastSays, SortedSays, written};
-ghost use Rattle.bplint_engine.specs.Faults as faults;
 ghost use Rattle.bplint_engine.specs.Faults.{Gives};
 
 use crate::fault::RunFault;
 use crate::output::Output;
 use crate::said::Said;
-use bplist_cert::{Certificate, Checked, Refusal, check};
-use bplist_lint::{lint, upgrade};
+use bplist_cert::{Certificate, Checked, check};
+use bplist_lint::{UpgradeFault, lint, upgrade};
 use bplist_octets::Source;
 use std::alloc::{AllocError, Global};
 
@@ -55,18 +54,8 @@ fn sorted_output<S: Source>(alloc: Global, src: S, hex: bool) -> (Result<Output,
     };
     match check(alloc, src, found.certificate) {
         Ok(checked) => upgraded_output(alloc, checked, hex),
-        Err((refusal, src, _)) => (Err(recheck_fault(refusal)), src),
-    }
-}
-
-/// The fault for a refused certificate of a file that was found to hold a value: the file has changed.
-fn recheck_fault(refusal: Refusal) -> RunFault
-    ensures { result ≡ faults.recheck_fault refusal }
-{
-    match refusal {
-        Refusal::Fault(_) => RunFault::Changed,
-        Refusal::Read(fault) => RunFault::Read(fault),
-        Refusal::Memory => RunFault::Memory,
+        // The linter has found a value and made the certificate, so a broken rule means that the file has changed.
+        Err((refusal, src, _)) => (Err(RunFault::from(UpgradeFault::from(refusal))), src),
     }
 }
 

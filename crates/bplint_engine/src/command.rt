@@ -20,6 +20,7 @@ pub enum Verb {
 /// What the engine is asked to do.
 #[derive(Debug, Drop)]
 pub struct Command {
+    /// Which of the five things.
     pub verb: Verb,
     /// The path texts. Only Get and Print look at them; Print takes exactly one.
     pub paths: Vec<String>,

@@ -19,8 +19,11 @@ pub enum RunFault {
     Fault(Fault),
     /// The objects of a reference circle.
     Circle(ObjectNos),
-    /// A wrong path text, and the byte of it where it is wrong.
-    Path { place: usize },
+    /// A wrong path text.
+    Path {
+        /// The byte at which it is wrong, counted from the text's first.
+        place: usize,
+    },
     /// The first object, in the order of writing, whose kind has no old-style text.
     NoAsciiForm(ObjectNo),
     /// The text is longer than the limit.
@@ -31,8 +34,11 @@ pub enum RunFault {
     Hex,
     /// The file changed between two reads.
     Changed,
-    /// A write failed when this many bytes of the answer had gone out.
-    Write { sent: u64 },
+    /// A write failed.
+    Write {
+        /// How many bytes of the answer had gone out, fewer than all.
+        sent: u64,
+    },
     /// Memory was refused.
     Memory,
     /// A file could not be opened.

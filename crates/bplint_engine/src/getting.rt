@@ -91,9 +91,10 @@ fn lines_of(alloc: Global, replies: &[Reply]) -> Result<Output, AllocError>
 fn said_of(replies: &[Reply]) -> Said
     ensures { result ≡ spec.said_of replies.now }
 {
-    match have_missing(replies) {
-        true => Said::SomeMissing,
-        false => Said::All,
+    if have_missing(replies) {
+        Said::SomeMissing
+    } else {
+        Said::All
     }
 }
 

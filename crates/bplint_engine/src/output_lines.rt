@@ -3,7 +3,7 @@
 //! Each call adds its line to the bytes, without a line feed. The one refusal is that of a growth.
 
 ghost use Rattle.std.specs.Prelude.{◌≡◌, ◌++◌, OnOk};
-ghost use Rattle.std.specs.Fmt.{decimal, signed_decimal};
+ghost use Rattle.std.specs.Fmt.{decimal};
 ghost use Rattle.hex.specs.Hex.{encode_lower};
 ghost use Rattle.bplint_engine.specs.OutputLines.{kind_word, why_word, lint_line, check_line, face_line, missing_line};
 

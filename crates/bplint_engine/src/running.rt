@@ -21,6 +21,18 @@ use std::alloc::Global;
 use std::io::Write;
 
 /// Runs a command over a source and a certificate's bytes, and hands the source back.
+///
+/// The answer goes to `out`: lines with a line feed behind each, or a certificate's bytes. `Lint` and `Certify` do not look
+/// at `cert`. `Print` takes exactly one path.
+///
+/// The answer is the first fault, in this order: `Path` for a wrong path text, of several the first; `Fault` by rule 24 or 25
+/// for bytes that are no certificate; `Fault` or `Circle` for the file or its certificate; with `Print`, `NoAsciiForm` and then
+/// `TooLong`. Nothing went out then. `Write` is answered where a write failed: the first `sent` bytes of the answer went
+/// out, fewer than all.
+///
+/// `Read` is answered where a read of the source failed, and `Memory` where a growth was refused. Nothing went out then,
+/// but with `Print` a first part of the answer may have. `Changed` is answered where the source gives other bytes than
+/// before, and never while it is honest.
 pub fn run_on<S: Source, W: Write>(
     alloc: Global,
     command: &Command,
@@ -57,6 +69,9 @@ fn send_made<S: Source, W: Write>(
 
 /// Runs a command over the bytes of a file and a certificate. With `hex` these are hexadecimal texts;
 /// that of the certificate is looked at where the verb looks at the certificate.
+///
+/// Before all faults of [`run_on`] comes `Hex`: the file's text is wrong, or else the certificate's. Nothing went out then.
+/// `Read` and `Changed` are never answered.
 pub fn run_over<W: Write>(
     alloc: Global,
     command: &Command,
