@@ -1,4 +1,5 @@
--- What the body of a leaf means, by the kind of its head: so the calls that read leaves read the value that the definitions give.
+-- What the body of a leaf means, by the kind of its head: so the calls that read leaves read the value that the definitions
+-- give.
 use Rattle.std.proofs.Common.{◌≡◌, ℕ, ◌≤◌, List, ℤ, refl, arith}
 use Rattle.bplist_octets.specs.Octets.{part}
 use Rattle.bplist_objects.specs.declared.frame.Frame.{Frame}

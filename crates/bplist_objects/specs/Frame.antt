@@ -1,4 +1,5 @@
--- The frame of a file: the five numbers of its trailer, and what has to hold of them. Source: the format comment of CFBinaryPList.c.
+-- The frame of a file: the five numbers of its trailer, and what has to hold of them. Source: the format comment of
+-- CFBinaryPList.c.
 use Rattle.std.specs.Prelude.{◌≡◌, ◌⊎◌, ℕ, ◌+◌, ◌-◌, ◌*◌, ◌^◌, ◌<◌, ◌≤◌, List, [], ◌∷◌, length, take}
 use Rattle.bplist_objects.specs.declared.frame.Frame.{Frame}
 use Rattle.bplist_objects.specs.Numbers.{num_at}

@@ -1,4 +1,5 @@
--- What stands at the place of an object: its marker, its count and its body, and what they spell. Source: the format comment of CFBinaryPList.c.
+-- What stands at the place of an object: its marker, its count and its body, and what they spell. Source: the format comment of
+-- CFBinaryPList.c.
 use Rattle.std.specs.Prelude.{◌≡◌, ℕ, ◌+◌, ◌*◌, ◌^◌, ◌<◌, ◌≤◌, ◌⊎◌, List, [], ◌∷◌, ◌++◌, length, drop, true, false, ⊤}
 use Rattle.std.specs.List.{AllByRecursion}
 use Rattle.bplist_octets.specs.Octets.{part, num}

@@ -1,4 +1,5 @@
--- The value that an object holds, by induction on the value. Source: the format comment of CFBinaryPList.c; that keys are texts and differ is profile.
+-- The value that an object holds, by induction on the value. Source: the format comment of CFBinaryPList.c; that keys are texts
+-- and differ is profile.
 use Rattle.std.specs.Prelude.{◌≢◌, ℕ, List, [], ◌∷◌, ⊤}
 use Rattle.std.specs.List.{AllPairs}
 use Rattle.bplist_objects.specs.declared.frame.Frame.{Frame}

@@ -1,4 +1,5 @@
--- What an object spells as a function of the file, for contracts that walk along references. Source: as in Heads, which it is tied to by the law `spells_iff_computed`.
+-- What an object spells as a function of the file, for contracts that walk along references. Source: as in Heads, which it is
+-- tied to by the law `spells_iff_computed`.
 use Rattle.std.specs.Prelude.{ℕ, ◌+◌, ◌-◌, ◌*◌, ◌^◌, Bool, true, ◌&&◌, ◌||◌, nat_eq, nat_lt, nat_le, if◌then◌else◌, List, [], length, slice_index, Option, Some, None}
 use Rattle.std.specs.List.{list_all}
 use Rattle.bplist_octets.specs.Octets.{part}

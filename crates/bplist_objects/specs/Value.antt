@@ -1,4 +1,5 @@
--- Values: finite trees. Source: the format comment of CFBinaryPList.c for the kinds; that a text forgets how it was spelled and an integer how wide it was is this project's choice (profile).
+-- Values: finite trees. Source: the format comment of CFBinaryPList.c for the kinds; that a text forgets how it was spelled and
+-- an integer how wide it was is this project's choice (profile).
 use Rattle.std.specs.Prelude.{ℕ, ℤ, List, [], ◌∷◌, Bool}
 
 -- a value without parts: numbers and dates as their bytes or their number, a text as its UTF-16 units
