@@ -3,11 +3,12 @@ use Rattle.std.proofs.Common.{◌≡◌, ℕ, zero, suc, ◌+◌, ◌*◌, ◌^�
 use Rattle.std.specs.Int.{byte_at, bytes_high_first}
 use Rattle.std.proofs.lemmas.Nat.{div-mul-add, mod-mul-add}
 use Rattle.std.proofs.lemmas.Bool.{cases_lt}
-use Rattle.std.proofs.lemmas.List.{length-append, length-take, length-take-le, length-drop, get_or-take, get_or-drop, get_or_past, flat_map_more}
+use Rattle.std.proofs.lemmas.List.{length-append, length-take, get_or-take, get_or-drop, get_or_past, flat_map_more}
 use Rattle.std.proofs.Math.Nat.{add-mul, add_assoc, div-add-mod', div-one, mod-eq_of_lt, mod-lt, mul-add-mod_self_right, mul-le-mul_right, mul_assoc, one-le-pow, pow-succ'}
 use Rattle.std.proofs.Math.Seq.{take-add}
 use Rattle.bplist_octets.specs.Octets.{part, num}
 use Rattle.bplist_octets.proofs.Spelled.{num-lt}
+use Rattle.bplist_objects.proofs.Units.{length-part}
 use Rattle.bplist_cert.specs.Lists.{AreWords}
 use Rattle.bplist_cert.specs.Encoding.{words}
 
@@ -109,9 +110,6 @@ part-low xs place n low k = elim (cases_lt k n) [
       let none = get_or_past (part xs place n) k 0 short in
       omega (arith, none)
 ]
-
-pub length-part : (xs : List ℕ) (place n : ℕ) → place + n ≤ length xs → length (part xs place n) ≡ n
-length-part xs place n h = length-take-le n (drop place xs) (omega (arith, length-drop place xs))
 
 -- one more number of 4 bytes
 pub words_more : (octets numbers : List ℕ) (i x : ℕ) → AreBytes octets → 4 * (i + 1) ≤ length octets → x ≡ num (part octets (4 * i) 4)

@@ -4,9 +4,10 @@ use Rattle.std.specs.Int.{bytes_high_first}
 use Rattle.std.proofs.lemmas.List.{append_cancel_left, length-append, take-append-drop, drop-drop, take_at, drop_at}
 use Rattle.bplist_octets.specs.Octets.{part, num}
 use Rattle.bplist_octets.proofs.Spelled.{num-lt}
+use Rattle.bplist_objects.proofs.Units.{length-part}
 use Rattle.bplist_cert.specs.Lists.{Keyed, Lists, lists, AreWords, AreKeyed, HasStarts, HasCount, IsCertificate}
 use Rattle.bplist_cert.specs.Encoding.{plain_magic, keyed_magic, magic, words, key_words, octets_of, told, HasMagic, HasLength}
-use Rattle.bplist_cert.proofs.Bytes.{AreBytes, num-bytes, bytes-num, length-bytes, length-words, length-part, part-low}
+use Rattle.bplist_cert.proofs.Bytes.{AreBytes, num-bytes, bytes-num, length-bytes, length-words, part-low}
 
 -- equal lists whose fronts are of one length
 parts_same : (p q x y : List ℕ) → length p ≡ length q → p ++ x ≡ q ++ y → (p ≡ q) × (x ≡ y)

@@ -21,7 +21,7 @@ use Rattle.bplist_cert.proofs.Ordered.{text_once}
 use Rattle.bplist_cert.proofs.Onto.{onto}
 
 -- ---- two lists, item by item
-zip_length : {A B : Type 0} (R : A → B → Type 0) (xs : List A) (ys : List B) → AllZip R xs ys → length xs ≡ length ys
+pub zip_length : {A B : Type 0} (R : A → B → Type 0) (xs : List A) (ys : List B) → AllZip R xs ys → length xs ≡ length ys
 zip_length R [] [] z = refl
 zip_length R [] (y ∷ ys) z = absurd z
 zip_length R (x ∷ xs) [] z = absurd z

@@ -22,7 +22,7 @@ use Rattle.bplist_cert.specs.PairFault.{IsVouchedFault, IsCertFault, IsPairFault
 use Rattle.bplist_cert.proofs.Accepting.{broken}
 
 -- of two numbers none is before the other
-one_number : (i j : ℕ) → (i < j → ⊥) → (j < i → ⊥) → i ≡ j
+pub one_number : (i j : ℕ) → (i < j → ⊥) → (j < i → ⊥) → i ≡ j
 one_number i j a b = elim (cases_order i j) [
   | inl e ↦ e
   | inr r ↦ elim r [

@@ -1,9 +1,9 @@
-//! The keys of one dictionary in memory, by their order.
+//! The keys of one dictionary in memory, in ascending order.
 
 ghost use Rattle.std.specs.Prelude.{◌≡◌, length, MatchOption, min};
 ghost use Rattle.bplist_cert.specs.Repeats.{keys_of, positions_in, IsNumbered, IsRepeated, IsLeastOrNone, IsMarked};
 
-/// A key of a dictionary, as what it is compared by, and its number among the keys in written order.
+/// What a key of a dictionary is compared by, and its number among the keys in written order.
 #[derive(Clone, Copy, Debug, PartialEq, Eq, PartialOrd, Ord)]
 pub(crate) struct Key<K> {
     pub key: K,
