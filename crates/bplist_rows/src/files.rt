@@ -87,8 +87,8 @@ pub(crate) fn long_keys(alloc: Global, first: u8, second: u8) -> Result<Vec<u8>,
     small(alloc, &objects, &[8, 13, 86, 159])
 }
 
-/// The bytes of a certificate with these heights: of version 1 where there are no key lists, and else of version 2, with
-/// the lists behind the heights: the starts, and then the positions.
+/// The bytes of a certificate with these heights: of version 1 where there are no key lists, and else of version 2,
+/// with the starts and then the positions of the lists behind the heights.
 pub(crate) fn octets_of(
     alloc: Global,
     heights: &[u32],

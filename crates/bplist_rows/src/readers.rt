@@ -116,17 +116,23 @@ const LEAVES: &[(&[u8], u64, Leaf)] = &[
     ),
 ];
 
-/// Each read fails in turn: the fault of the source is handed on, and the same call again answers.
+/// Each read fails in turn, and then the first of the next call: the fault of the source is handed on, and the same
+/// call again answers.
 #[test]
 fn leaves(rt: HostRuntime) -> Result<(), Fail> {
     for (object, reads, want) in LEAVES {
         let file = small(rt.alloc(), object, &[8])?;
         assert_eq!(rt; leaf_in(&mut SliceSource::new(&file)), Ok(*want));
-        for fails in 0..*reads {
+        let failed = Err(ObjectFault::Read(ReadFault::Device));
+        for fails in 0..reads.saturating_add(1) {
+            let wanted = if fails < *reads {
+                [failed, Ok(*want)]
+            } else {
+                [Ok(*want), failed]
+            };
             let mut src = FaultySource::new(&file, fails);
-            let failed = Err(ObjectFault::Read(ReadFault::Device));
             let answers = [leaf_in(&mut src), leaf_in(&mut src)];
-            assert_eq!(rt; answers, [failed, Ok(*want)], "read {fails} of {object:?}");
+            assert_eq!(rt; answers, wanted, "read {fails} of {object:?}");
         }
     }
     Ok(())
