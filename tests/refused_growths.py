@@ -46,8 +46,10 @@ COMMANDS = [
     "print FILE CERT \\e 100",
     "print FILE CERT /0 100",
     "print FILE CERT /a 100",
-    "print FILE CERT " + 62 * "/0" + " 13",
 ]
+
+# What else is run on a row.
+MORE = {"doubling-64-text": ["print FILE CERT " + 62 * "/0" + " 13"]}
 
 # The path of the first two is empty.
 CALLS = ["size\t", "keys\t", "member\t0\t0", "bytes_of\t1"]
@@ -143,7 +145,7 @@ def outcomes(stage, bplint, calls):
     for row, (file, heights) in FILES.items():
         for is_hex in (False, True):
             stage.hold(file, heights, is_hex)
-            for line in COMMANDS:
+            for line in COMMANDS + MORE.get(row, []):
                 words = line.split(" ") + (["--hex"] if is_hex else [])
                 yield outcome(stage, row, Task(bplint, words, b""))
         for call in CALLS:
