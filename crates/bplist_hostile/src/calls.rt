@@ -1,5 +1,6 @@
 //! Calls of the library, and their answers as text.
 
+use bplist_ascii::print;
 use bplist_cert::{Certificate, Checked};
 use bplist_cursor::{Node, Path, Query, answer_all, face, locate, locate_counted, measure, member};
 use bplist_lint::{lint, upgrade};
@@ -19,6 +20,8 @@ pub(crate) enum Call {
     Member(Node, u64),
     AnswerAll(Vec<Query>),
     Measure,
+    /// Print of an object with this limit, behind the measures that it asks for.
+    Print(Node, u64),
 }
 
 /// What a call says where its read fails.
@@ -46,6 +49,24 @@ fn lint_told<S: Source>(alloc: Global, src: &mut S) -> Result<String, AllocError
             format!(in alloc; "{certificate} {reached} {height} {references}")
         }
         Err(refusal) => format!(in alloc; "Err({refusal:?})"),
+    }
+}
+
+/// The bytes that print writes, or why it writes no whole text.
+fn print_told<S: Source>(
+    alloc: Global,
+    checked: &mut Checked<S>,
+    node: Node,
+    limit: u64,
+) -> Result<String, AllocError> {
+    let measures = match measure(alloc, checked) {
+        Ok(measures) => measures,
+        Err(fault) => return format!(in alloc; "Err({fault:?})"),
+    };
+    let mut out = Vec::new(alloc);
+    match print(alloc, checked, &measures, node, limit, &mut out) {
+        Ok(()) => format!(in alloc; "{out:?}"),
+        Err(fault) => format!(in alloc; "Err({fault:?})"),
     }
 }
 
@@ -86,5 +107,6 @@ pub(crate) fn told<S: Source>(
         Call::Member(node, i) => text_of(alloc, member(checked, *node, *i)),
         Call::AnswerAll(queries) => text_of(alloc, answer_all(alloc, checked, queries)),
         Call::Measure => text_of(alloc, measure(alloc, checked)),
+        Call::Print(node, limit) => print_told(alloc, checked, *node, *limit),
     }
 }

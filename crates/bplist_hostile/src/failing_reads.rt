@@ -91,13 +91,28 @@ fn call_at_each_turn(
     Err(Fail::new(row.name))
 }
 
+const TOP: Node = Node {
+    object: ObjectNo(0),
+};
+
+/// An object of the rows of 65 objects, which in one of them is `((a,a),(a,a))`.
+const DEEP: Node = Node {
+    object: ObjectNo(62),
+};
+
 #[test]
 fn whole_files(rt: HostRuntime) -> Result<(), Fail> {
     let alloc = rt.alloc();
     for row in tested_rows(alloc)? {
         let checking = check_at_each_turn(&rt, alloc, &row)?;
         assert!(rt; checking > 0);
-        for call in [Call::Lint, Call::Upgrade, Call::Measure] {
+        for call in [
+            Call::Lint,
+            Call::Upgrade,
+            Call::Measure,
+            Call::Print(TOP, u64::MAX),
+            Call::Print(DEEP, 13),
+        ] {
             assert!(rt; call_at_each_turn(&rt, alloc, &row, &call, checking)? > 0);
         }
     }

@@ -91,15 +91,11 @@ fn doubling_64(alloc: Global, leaf: &[u8]) -> Result<Vec<u8>, AllocError> {
     file_of(alloc, &objects, &table)
 }
 
-fn three_keys(alloc: Global) -> Result<Vec<u8>, AllocError> {
-    let objects = [
-        0xd3, 1, 2, 3, 4, 5, 6, 0x53, 0x61, 0x2f, 0x62, 0x50, 0x51, 0x73, 0xa1, 7, 8, 0xc1, 7, 9,
-    ];
-    file_of(alloc, &objects, &[8, 15, 19, 20, 22, 24, 25, 27])
-}
-
 /// The rows on which reads are made to fail.
 pub(crate) fn tested_rows(alloc: Global) -> Result<Vec<Row>, Fail> {
+    let three_keys = [
+        0xd3, 1, 2, 3, 4, 5, 6, 0x53, 0x61, 0x2f, 0x62, 0x50, 0x51, 0x73, 0xa1, 7, 8, 0xc1, 7, 9,
+    ];
     let printable = [0xd1, 1, 2, 0x51, 0x61, 0x53, 0x62, 0x20, 0x63];
     let unprintable = [0xd1, 1, 2, 0x51, 0x61, 0x10, 5];
     let a_to_one = [0xd1, 1, 2, 0x51, 0x61, 0x10, 1];
@@ -107,7 +103,10 @@ pub(crate) fn tested_rows(alloc: Global) -> Result<Vec<Row>, Fail> {
         ("two-trues", file_of(alloc, &[0xa2, 1, 1, 9], &[8, 11])?),
         ("doubling-64", doubling_64(alloc, &[9])?),
         ("doubling-64-text", doubling_64(alloc, b"\x51a")?),
-        ("three-keys", three_keys(alloc)?),
+        (
+            "three-keys",
+            file_of(alloc, &three_keys, &[8, 15, 19, 20, 22, 24, 25, 27])?,
+        ),
         ("printable-dict", file_of(alloc, &printable, &[8, 11, 13])?),
         (
             "unprintable-dict",

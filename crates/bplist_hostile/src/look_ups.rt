@@ -34,6 +34,7 @@ const MOST: (u64, u64) = (10, 400);
 fn thousand_keys_by_halving(rt: HostRuntime) -> Result<(), Fail> {
     let alloc = rt.alloc();
     let row = thousand_keys(alloc)?.sorted(alloc)?;
+    assert_eq!(rt; row.octets.len(), 11049);
     let reads = Cell::new(0);
     let source = CountingSource {
         source: SliceSource::new(&row.octets),
