@@ -47,6 +47,13 @@ const RULES: &[(Rule, Option<ObjectNo>, u64, u8, &str)] = &[
     ),
     (Rule::Circle, None, 0, 1, "fault Circle object none place 0"),
     (
+        Rule::TooLarge,
+        None,
+        0,
+        1,
+        "fault TooLarge object none place 0",
+    ),
+    (
         Rule::PathText,
         None,
         2,
@@ -68,39 +75,40 @@ fn faults_of_rules(rt: HostRuntime) -> Result<(), Fail> {
     Ok(())
 }
 
+/// Faults that are no broken rules of a file or a certificate.
 #[test]
-fn faults_of_runs(rt: HostRuntime) -> Result<(), Fail> {
+fn other_faults(rt: HostRuntime) -> Result<(), Fail> {
     let alloc = rt.alloc();
-    let path = "fault PathText object none place 3";
-    says(&rt, alloc, RunFault::Path { place: 3 }, 2, path)?;
-    let form = RunFault::NoAsciiForm(ObjectNo(2));
-    says(&rt, alloc, form, 1, "form NoAsciiForm object 2")?;
-    says(&rt, alloc, RunFault::TooLong, 1, "form TooLong")?;
-    says(&rt, alloc, RunFault::Hex, 3, "read Hex")?;
-    says(&rt, alloc, RunFault::Changed, 3, "changed")?;
-    says(&rt, alloc, RunFault::Write { sent: 10 }, 3, "write 10")?;
-    says(&rt, alloc, RunFault::Memory, 4, "memory")?;
-    says(&rt, alloc, RunFault::Open, 3, "read Open")?;
-    says(&rt, alloc, RunFault::InputTooLong, 3, "read TooLong")
-}
-
-const READS: &[(ReadFault, &str)] = &[
-    (ReadFault::Device, "read Device"),
-    (ReadFault::Ended, "read Ended"),
-    (ReadFault::TooManyTurns, "read TooManyTurns"),
-];
-
-#[test]
-fn faults_of_reads(rt: HostRuntime) -> Result<(), Fail> {
-    for (fault, want) in READS {
-        says(&rt, rt.alloc(), RunFault::Read(*fault), 3, want)?;
+    let circle = vec![in alloc; ObjectNo(2), ObjectNo(3), ObjectNo(40)]?;
+    let rows = [
+        (
+            RunFault::Path { place: 3 },
+            2,
+            "fault PathText object none place 3",
+        ),
+        (RunFault::Circle(ObjectNos::new(circle)), 1, "circle 2 3 40"),
+        (
+            RunFault::NoAsciiForm(ObjectNo(2)),
+            1,
+            "form NoAsciiForm object 2",
+        ),
+        (RunFault::TooLong, 1, "form TooLong"),
+        (RunFault::Read(ReadFault::Device), 3, "read Device"),
+        (RunFault::Read(ReadFault::Ended), 3, "read Ended"),
+        (
+            RunFault::Read(ReadFault::TooManyTurns),
+            3,
+            "read TooManyTurns",
+        ),
+        (RunFault::Open, 3, "read Open"),
+        (RunFault::InputTooLong, 3, "read TooLong"),
+        (RunFault::Hex, 3, "read Hex"),
+        (RunFault::Changed, 3, "changed"),
+        (RunFault::Write { sent: 10 }, 3, "write 10"),
+        (RunFault::Memory, 4, "memory"),
+    ];
+    for (fault, status, want) in rows {
+        says(&rt, alloc, fault, status, want)?;
     }
     Ok(())
-}
-
-#[test]
-fn fault_of_a_circle(rt: HostRuntime) -> Result<(), Fail> {
-    let objects = vec![in rt.alloc(); ObjectNo(2), ObjectNo(3), ObjectNo(40)]?;
-    let fault = RunFault::Circle(ObjectNos::new(objects));
-    says(&rt, rt.alloc(), fault, 1, "circle 2 3 40")
 }

@@ -6,13 +6,15 @@
 #[cfg(test)]
 mod answers;
 #[cfg(test)]
+mod deep;
+#[cfg(test)]
 mod fault_lines;
 #[cfg(test)]
 mod files;
 #[cfg(test)]
 mod hostile;
 #[cfg(test)]
-mod leaves;
+mod linting;
 #[cfg(test)]
 mod runs;
 #[cfg(test)]

@@ -23,16 +23,17 @@ pub(crate) fn plain(alloc: Global, verb: Verb) -> Command
     }
 }
 
-/// The command `lint` of a file in hexadecimal text.
-pub(crate) fn lint_hex(alloc: Global) -> Command
+/// The same of inputs in hexadecimal text.
+pub(crate) fn with_hex(alloc: Global, verb: Verb, sorted: bool) -> Command
+    requires { verb ≢ Verb.Print }
     ensures { PrintsOnePath result }
 {
     Command {
-        verb: Verb::Lint,
+        verb,
         paths: Vec::new(alloc),
         limit: 0,
         hex: true,
-        sorted: false,
+        sorted,
     }
 }
 
@@ -143,96 +144,4 @@ pub(crate) fn lints(
     want: &str,
 ) -> Result<(), Fail> {
     answers(rt, alloc, row, &plain(alloc, Verb::Lint), file, b"", want)
-}
-
-/// Checks a certificate; file and certificate are hexadecimal texts here and below.
-pub(crate) fn checks(
-    rt: &impl Abort,
-    alloc: Global,
-    row: &str,
-    file: &str,
-    cert: &str,
-    want: &str,
-) -> Result<(), Fail> {
-    let file = hex::decode(alloc, file)?;
-    let cert = hex::decode(alloc, cert)?;
-    answers(
-        rt,
-        alloc,
-        row,
-        &plain(alloc, Verb::Check),
-        &file,
-        &cert,
-        want,
-    )
-}
-
-/// Asks for paths.
-pub(crate) fn gets(
-    rt: &impl Abort,
-    alloc: Global,
-    row: &str,
-    paths: &[&str],
-    file: &str,
-    cert: &str,
-    want: &str,
-) -> Result<(), Fail> {
-    let file = hex::decode(alloc, file)?;
-    let cert = hex::decode(alloc, cert)?;
-    answers(rt, alloc, row, &get(alloc, paths)?, &file, &cert, want)
-}
-
-/// Prints what lies under a path.
-pub(crate) fn prints(
-    rt: &impl Abort,
-    alloc: Global,
-    row: &str,
-    path: &str,
-    limit: u64,
-    file: &str,
-    cert: &str,
-    want: &str,
-) -> Result<(), Fail> {
-    let file = hex::decode(alloc, file)?;
-    let cert = hex::decode(alloc, cert)?;
-    answers(
-        rt,
-        alloc,
-        row,
-        &print(alloc, path, limit)?,
-        &file,
-        &cert,
-        want,
-    )
-}
-
-/// The command `certify` of a file in hexadecimal text.
-fn certify(alloc: Global, sorted: bool) -> Command
-    ensures { PrintsOnePath result }
-{
-    Command {
-        verb: Verb::Certify,
-        paths: Vec::new(alloc),
-        limit: 0,
-        hex: true,
-        sorted,
-    }
-}
-
-/// Makes a certificate, and compares its hexadecimal text. `run_over` takes the file as such a text too.
-pub(crate) fn certifies(
-    rt: &impl Abort,
-    alloc: Global,
-    row: &str,
-    sorted: bool,
-    text: &str,
-    want: &str,
-) -> Result<(), Fail> {
-    let command = certify(alloc, sorted);
-    let over = told_over(alloc, &command, text.as_bytes(), b"")?;
-    assert_eq!(rt; over.as_str(), want, "row {row} by run_over");
-    let file = hex::decode(alloc, text)?;
-    let on = told_on(alloc, &command, &file, b"")?;
-    assert_eq!(rt; on.as_str(), want, "row {row} by run_on");
-    Ok(())
 }

@@ -1,15 +1,21 @@
 //! Writers that fail or are interrupted, and texts that are no hexadecimal ones.
 
 use crate::files::SMALLEST;
-use crate::runs::lint_hex;
+use crate::runs::with_hex;
 use crate::writers::Short;
-use bplint_engine::{RunFault, run_over};
+use bplint_engine::{RunFault, Verb, run_over};
 use std::alloc::{AllocError, Global};
 use std::test::Fail;
 
 /// What `lint` of the smallest file says to a writer.
 fn lint_told(alloc: Global, out: &mut Short) -> Result<String, AllocError> {
-    match run_over(alloc, &lint_hex(alloc), SMALLEST.as_bytes(), b"", out) {
+    match run_over(
+        alloc,
+        &with_hex(alloc, Verb::Lint, false),
+        SMALLEST.as_bytes(),
+        b"",
+        out,
+    ) {
         Ok(_) => String::from_str(alloc, "yes"),
         Err(fault) => fault.line(alloc),
     }
@@ -41,7 +47,13 @@ fn writers(rt: HostRuntime) -> Result<(), Fail> {
 /// `lint` does not take the text for a file, and writes nothing.
 fn is_refused(alloc: Global, text: &str) -> bool {
     let mut out = Vec::new(alloc);
-    match run_over(alloc, &lint_hex(alloc), text.as_bytes(), b"", &mut out) {
+    match run_over(
+        alloc,
+        &with_hex(alloc, Verb::Lint, false),
+        text.as_bytes(),
+        b"",
+        &mut out,
+    ) {
         Err(RunFault::Hex) => out.is_empty(),
         _ => false,
     }

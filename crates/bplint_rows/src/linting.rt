@@ -1,10 +1,11 @@
-//! Rows whose top is a leaf, and faults of the trailer, by `lint`.
+//! The rows of `lint`.
 
-use crate::files::{file_of, top_only};
+use crate::files::{bytes_of, file_of};
 use crate::runs::lints;
 use std::test::Fail;
 
-const FRAMES_AS_WRITTEN: &[(&str, &[(&str, usize)], &str)] = &[
+/// Rows, the bytes of their files, and the answers.
+const AS_WRITTEN: &[(&str, &[(&str, usize)], &str)] = &[
     (
         "smallest-file",
         &[(
@@ -134,18 +135,6 @@ const FRAMES_AS_WRITTEN: &[(&str, &[(&str, usize)], &str)] = &[
         )],
         "1 fault OffsetHigh object 1 place 10\n",
     ),
-];
-
-#[test]
-fn header_table_and_trailer_as_written(rt: HostRuntime) -> Result<(), Fail> {
-    for (row, parts, want) in FRAMES_AS_WRITTEN {
-        let file = file_of(rt.alloc(), parts)?;
-        lints(&rt, rt.alloc(), row, &file, want)?;
-    }
-    Ok(())
-}
-
-const TEXT_ROWS_AS_WRITTEN: &[(&str, &[(&str, usize)], &str)] = &[
     (
         "ascii-300",
         &[
@@ -213,226 +202,263 @@ const TEXT_ROWS_AS_WRITTEN: &[(&str, &[(&str, usize)], &str)] = &[
 ];
 
 #[test]
-fn texts_as_written(rt: HostRuntime) -> Result<(), Fail> {
-    for (row, parts, want) in TEXT_ROWS_AS_WRITTEN {
-        let file = file_of(rt.alloc(), parts)?;
+fn files_as_written(rt: HostRuntime) -> Result<(), Fail> {
+    for (row, parts, want) in AS_WRITTEN {
+        let file = bytes_of(rt.alloc(), parts)?;
         lints(&rt, rt.alloc(), row, &file, want)?;
     }
     Ok(())
 }
 
-#[test]
-fn unreached_objects_as_written(rt: HostRuntime) -> Result<(), Fail> {
-    let rows: [(&str, &[(&str, usize)], &str); 1] = [(
-        "unreached-broken",
-        &[(
-            "62706c6973743030097f0809000000000000010100000000000000020000000000000000000000000000000a",
-            1,
-        )],
-        "0 ok reached 1 height 1 top true\n",
-    )];
-    for (row, parts, want) in rows {
-        let file = file_of(rt.alloc(), parts)?;
-        lints(&rt, rt.alloc(), row, &file, want)?;
-    }
-    Ok(())
-}
-
-#[test]
-fn shared_places_as_written(rt: HostRuntime) -> Result<(), Fail> {
-    let rows: [(&str, &[(&str, usize)], &str); 1] = [(
-        "unreached-twin",
-        &[(
-            "62706c69737430300908080000000000000101000000000000000200000000000000000000000000000009",
-            1,
-        )],
-        "0 ok reached 1 height 1 top true\n",
-    )];
-    for (row, parts, want) in rows {
-        let file = file_of(rt.alloc(), parts)?;
-        lints(&rt, rt.alloc(), row, &file, want)?;
-    }
-    Ok(())
-}
-
-const FRAMES: &[(&str, &[(&str, usize)], &str)] = &[
+/// Rows, the objects and the tables of their files, and the answers.
+const BY_OBJECTS: &[(&str, &[(&str, usize)], &str, &str)] = &[
     (
         "offset-narrow",
         &[("4f1100f4", 1), ("00", 244)],
+        "08",
         "1 fault OffsetNarrow object none place 263\n",
     ),
     (
         "offset-just-wide",
         &[("4f10f4", 1), ("00", 244)],
+        "08",
         "0 ok reached 1 height 1 top data\n",
     ),
-];
-
-#[test]
-fn header_table_and_trailer(rt: HostRuntime) -> Result<(), Fail> {
-    for (row, parts, want) in FRAMES {
-        let file = top_only(rt.alloc(), parts)?;
-        lints(&rt, rt.alloc(), row, &file, want)?;
-    }
-    Ok(())
-}
-
-const NUMBERS: &[(&str, &[(&str, usize)], &str)] = &[
     (
         "int-1-byte",
         &[("10ff", 1)],
+        "08",
         "0 ok reached 1 height 1 top int\n",
     ),
     (
         "int-4-bytes",
         &[("12ffffffff", 1)],
+        "08",
         "0 ok reached 1 height 1 top int\n",
     ),
     (
         "int-8-bytes",
         &[("13ffffffffffffffff", 1)],
+        "08",
         "0 ok reached 1 height 1 top int\n",
     ),
     (
         "int-16-bytes",
         &[("14", 1), ("00", 8), ("ff", 8)],
+        "08",
         "0 ok reached 1 height 1 top int\n",
     ),
     (
         "int-too-wide",
         &[("15", 1)],
+        "08",
         "1 fault Marker object 0 place 8\n",
     ),
-    ("int-cut", &[("11", 1)], "1 fault Extent object 0 place 8\n"),
+    (
+        "int-cut",
+        &[("11", 1)],
+        "08",
+        "1 fault Extent object 0 place 8\n",
+    ),
     (
         "real-4-bytes",
         &[("22", 1), ("00", 4)],
+        "08",
         "0 ok reached 1 height 1 top real\n",
     ),
     (
         "marker-21",
         &[("21", 1), ("00", 4)],
+        "08",
         "1 fault Marker object 0 place 8\n",
     ),
     (
         "uid-too-large",
         &[("870000000100000000", 1)],
+        "08",
         "1 fault UidLarge object 0 place 8\n",
     ),
     (
         "uid-255",
         &[("80ff", 1)],
+        "08",
         "0 ok reached 1 height 1 top uid\n",
     ),
-];
-
-#[test]
-fn integers_reals_and_uids(rt: HostRuntime) -> Result<(), Fail> {
-    for (row, parts, want) in NUMBERS {
-        let file = top_only(rt.alloc(), parts)?;
-        lints(&rt, rt.alloc(), row, &file, want)?;
-    }
-    Ok(())
-}
-
-const DATA: &[(&str, &[(&str, usize)], &str)] = &[
     (
         "data-long-count",
         &[("4f1003aabbcc", 1)],
+        "08",
         "0 ok reached 1 height 1 top data\n",
     ),
     (
         "count-not-a-width",
         &[("4f15", 1)],
+        "08",
         "1 fault Count object 0 place 9\n",
     ),
     (
         "count-enormous",
         &[("4f13ffffffffffffffff", 1)],
+        "08",
         "1 fault Extent object 0 place 8\n",
     ),
     (
         "count-missing",
         &[("4f", 1)],
+        "08",
         "1 fault Extent object 0 place 8\n",
     ),
-];
-
-#[test]
-fn data_and_counts(rt: HostRuntime) -> Result<(), Fail> {
-    for (row, parts, want) in DATA {
-        let file = top_only(rt.alloc(), parts)?;
-        lints(&rt, rt.alloc(), row, &file, want)?;
-    }
-    Ok(())
-}
-
-const TEXT_ROWS: &[(&str, &[(&str, usize)], &str)] = &[
     (
         "text-surrogate",
         &[("62d83d0022", 1)],
+        "08",
         "0 ok reached 1 height 1 top text\n",
     ),
     (
         "text-empty",
         &[("50", 1)],
+        "08",
         "0 ok reached 1 height 1 top text\n",
     ),
     (
         "text-plain",
         &[("526131", 1)],
+        "08",
         "0 ok reached 1 height 1 top text\n",
     ),
     (
         "text-space",
         &[("53612062", 1)],
+        "08",
         "0 ok reached 1 height 1 top text\n",
     ),
     (
         "text-backslash",
         &[("515c", 1)],
+        "08",
         "0 ok reached 1 height 1 top text\n",
     ),
     (
         "text-line-feed",
         &[("510a", 1)],
+        "08",
         "0 ok reached 1 height 1 top text\n",
     ),
     (
         "text-tab",
         &[("5109", 1)],
+        "08",
         "0 ok reached 1 height 1 top text\n",
     ),
     (
         "ascii-high-in-32",
         &[("5f1020", 1), ("61", 17), ("80", 1), ("61", 14)],
+        "08",
         "1 fault NotAscii object 0 place 28\n",
     ),
     (
         "wide-cut",
         &[("6f100141", 1)],
+        "08",
         "1 fault Extent object 0 place 8\n",
+    ),
+    (
+        "reference-high",
+        &[("a1ff", 1)],
+        "08",
+        "1 fault RefHigh object 0 place 9\n",
+    ),
+    (
+        "two-trues",
+        &[("a2010109", 1)],
+        "080b",
+        "0 ok reached 2 height 2 top array\n",
+    ),
+    ("self-circle", &[("a100", 1)], "08", "1 circle 0\n"),
+    (
+        "circle-below-top",
+        &[("a2010209a103a102", 1)],
+        "080b0c0e",
+        "1 circle 2 3\n",
+    ),
+    (
+        "unreached-broken",
+        &[("097f", 1)],
+        "0809",
+        "0 ok reached 1 height 1 top true\n",
+    ),
+    (
+        "reached-broken",
+        &[("a1017f", 1)],
+        "080a",
+        "1 fault Marker object 1 place 10\n",
+    ),
+    (
+        "two-broken",
+        &[("a202017fa109", 1)],
+        "080b0c",
+        "1 fault Marker object 1 place 11\n",
+    ),
+    (
+        "shared-place",
+        &[("a2010209", 1)],
+        "080b0b",
+        "1 fault Overfull object 2 place 11\n",
+    ),
+    (
+        "text-inside-data",
+        &[("a20102425161", 1)],
+        "080b0c",
+        "1 fault Overfull object 2 place 12\n",
+    ),
+    (
+        "text-inside-data-with-room",
+        &[("a201024251610000", 1)],
+        "080b0c",
+        "0 ok reached 3 height 2 top array\n",
+    ),
+    (
+        "unreached-twin",
+        &[("09", 1)],
+        "0808",
+        "0 ok reached 1 height 1 top true\n",
+    ),
+    (
+        "key-in-both-spellings",
+        &[("d201020303516161006109", 1)],
+        "080d0f12",
+        "1 fault KeyTwice object 0 place 10\n",
+    ),
+    (
+        "key-not-text",
+        &[("d101011005", 1)],
+        "080b",
+        "1 fault KeyKind object 0 place 9\n",
+    ),
+    (
+        "key-malformed",
+        &[("d101027f09", 1)],
+        "080b0c",
+        "1 fault Marker object 1 place 11\n",
+    ),
+    (
+        "three-keys",
+        &[("d301020304050653612f62505173a10708c10709", 1)],
+        "080f13141618191b",
+        "0 ok reached 8 height 3 top dict\n",
+    ),
+    (
+        "a-to-one",
+        &[("d1010251611001", 1)],
+        "080b0d",
+        "0 ok reached 3 height 2 top dict\n",
     ),
 ];
 
 #[test]
-fn texts(rt: HostRuntime) -> Result<(), Fail> {
-    for (row, parts, want) in TEXT_ROWS {
-        let file = top_only(rt.alloc(), parts)?;
-        lints(&rt, rt.alloc(), row, &file, want)?;
-    }
-    Ok(())
-}
-
-#[test]
-fn unreached_objects(rt: HostRuntime) -> Result<(), Fail> {
-    let rows: [(&str, &[(&str, usize)], &str); 1] = [(
-        "reference-high",
-        &[("a1ff", 1)],
-        "1 fault RefHigh object 0 place 9\n",
-    )];
-    for (row, parts, want) in rows {
-        let file = top_only(rt.alloc(), parts)?;
+fn files_by_objects(rt: HostRuntime) -> Result<(), Fail> {
+    for (row, objects, table, want) in BY_OBJECTS {
+        let file = file_of(rt.alloc(), objects, table)?;
         lints(&rt, rt.alloc(), row, &file, want)?;
     }
     Ok(())
