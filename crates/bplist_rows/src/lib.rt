@@ -4,17 +4,13 @@
 #![tactic(auto)]
 
 #[cfg(test)]
+mod calls;
+#[cfg(test)]
 mod certificates;
 #[cfg(test)]
 mod files;
 #[cfg(test)]
 mod heads;
-#[cfg(test)]
-mod lint_calls;
-#[cfg(test)]
-mod lint_changes;
-#[cfg(test)]
-mod lint_files;
 #[cfg(test)]
 mod linting;
 #[cfg(test)]

@@ -7,14 +7,13 @@ ghost use Rattle.bplist_objects.specs.Safe.{IsSafeBody};
 ghost use Rattle.bplist_objects.specs.Units.{IsTextKind};
 ghost use Rattle.bplist_objects.specs.declared.kind.Kind.TheVariants.{Bytes};
 
-use crate::files::top_only;
+use crate::files::small;
 use bplist_objects::{
-    Head, Kind, ObjectFault, Rule, frame_of, head_of, int_of, key_cmp, octets_at, read_units,
-    rule_name, uid_of, unit_at,
+    Head, Kind, ObjectFault, frame_of, head_of, int_of, key_cmp, octets_at, read_units, uid_of,
+    unit_at,
 };
 use bplist_octets::{FaultySource, ReadFault, SliceSource, Source};
 use std::cmp::Ordering;
-use std::process::Abort;
 use std::test::Fail;
 
 /// What is read of the object that is the top.
@@ -75,78 +74,65 @@ fn leaf_in<S: Source>(src: &mut S) -> Result<Leaf, ObjectFault> {
     }
 }
 
-const LEAVES: &[(&[u8], Leaf)] = &[
-    (&[0x10, 255], Leaf::Int(255)),
-    (&[0x11, 255, 254], Leaf::Int(65534)),
-    (&[0x12, 255, 255, 255, 255], Leaf::Int(4294967295)),
+/// Objects, how many reads their leaf takes, and the leaf.
+const LEAVES: &[(&[u8], u64, Leaf)] = &[
+    (&[0x10, 255], 6, Leaf::Int(255)),
+    (&[0x11, 255, 254], 6, Leaf::Int(65534)),
+    (&[0x12, 255, 255, 255, 255], 6, Leaf::Int(4294967295)),
     (
         &[0x13, 255, 255, 255, 255, 255, 255, 255, 255],
+        6,
         Leaf::Int(-1),
     ),
     (
         &[0x13, 127, 255, 255, 255, 255, 255, 255, 255],
+        6,
         Leaf::Int(9223372036854775807),
     ),
     (
         &[
             0x14, 0, 0, 0, 0, 0, 0, 0, 0, 255, 255, 255, 255, 255, 255, 255, 255,
         ],
+        6,
         Leaf::Int(18446744073709551615),
     ),
     (
         &[0x14, 0x80, 0, 0, 0, 0, 0, 0, 0, 0, 0, 0, 0, 0, 0, 0, 0],
+        6,
         Leaf::Int(i128::MIN),
     ),
-    (&[0x80, 255], Leaf::Uid(255)),
-    (&[0x85, 0, 0, 1, 2, 3, 4], Leaf::Uid(0x01020304)),
-    (&[0x43, 7, 8, 9], Leaf::Data([8, 9])),
-    (
-        &[0x53, 0x61, 0x20, 0x62],
-        Leaf::Units([0x61, 0x20, 0x62], [0x61, 0x20, 0x62]),
-    ),
-    (
-        &[0x63, 0xd8, 0x3d, 0, 0x22, 0x7f, 0xff],
-        Leaf::Units([0xd83d, 0x22, 0x7fff], [0xd83d, 0x22, 0x7fff]),
-    ),
-];
-
-#[test]
-fn leaves(rt: HostRuntime) -> Result<(), Fail> {
-    for (object, want) in LEAVES {
-        let file = top_only(rt.alloc(), object)?;
-        assert_eq!(rt; leaf_in(&mut SliceSource::new(&file)), Ok(*want));
-    }
-    Ok(())
-}
-
-/// Objects, how many reads their leaf takes, and the leaf.
-const READS: &[(&[u8], u64, Leaf)] = &[
-    (&[0x10, 255], 6, Leaf::Int(255)),
     (&[0x80, 255], 7, Leaf::Uid(255)),
+    (&[0x85, 0, 0, 1, 2, 3, 4], 7, Leaf::Uid(0x01020304)),
     (&[0x43, 7, 8, 9], 6, Leaf::Data([8, 9])),
     (
         &[0x53, 0x61, 0x20, 0x62],
         10,
         Leaf::Units([0x61, 0x20, 0x62], [0x61, 0x20, 0x62]),
     ),
+    (
+        &[0x63, 0xd8, 0x3d, 0, 0x22, 0x7f, 0xff],
+        9,
+        Leaf::Units([0xd83d, 0x22, 0x7fff], [0xd83d, 0x22, 0x7fff]),
+    ),
 ];
 
-/// The fault of the source is handed on, and the same call again answers.
-fn hands_on(rt: &impl Abort, file: &[u8], fails: u64, want: Leaf) {
-    let mut src = FaultySource::new(file, fails);
-    let answers = [leaf_in(&mut src), leaf_in(&mut src)];
-    assert_eq!(rt;
-        answers,
-        [Err(ObjectFault::Read(ReadFault::Device)), Ok(want)]
-    );
-}
-
+/// Each read fails in turn, and then the first of the next call: the fault of the source is handed on, and the same
+/// call again answers.
 #[test]
-fn failed_reads_are_handed_on(rt: HostRuntime) -> Result<(), Fail> {
-    for (object, reads, want) in READS {
-        let file = top_only(rt.alloc(), object)?;
-        for fails in 0..*reads {
-            hands_on(&rt, &file, fails, *want);
+fn leaves(rt: HostRuntime) -> Result<(), Fail> {
+    for (object, reads, want) in LEAVES {
+        let file = small(rt.alloc(), object, &[8])?;
+        assert_eq!(rt; leaf_in(&mut SliceSource::new(&file)), Ok(*want));
+        let failed = Err(ObjectFault::Read(ReadFault::Device));
+        for fails in 0..reads.saturating_add(1) {
+            let wanted = if fails < *reads {
+                [failed, Ok(*want)]
+            } else {
+                [Ok(*want), failed]
+            };
+            let mut src = FaultySource::new(&file, fails);
+            let answers = [leaf_in(&mut src), leaf_in(&mut src)];
+            assert_eq!(rt; answers, wanted, "read {fails} of {object:?}");
         }
     }
     Ok(())
@@ -203,7 +189,7 @@ const ORDERS: &[(&[u8], &[u16], u64, (Ordering, u64))] = &[
 #[test]
 fn order_of_keys(rt: HostRuntime) -> Result<(), Fail> {
     for (object, units, made, want) in ORDERS {
-        let file = top_only(rt.alloc(), object)?;
+        let file = small(rt.alloc(), object, &[8])?;
         let answer = compared(&mut SliceSource::new(&file), units, *made);
         assert_eq!(rt; answer, Ok(Some(*want)));
     }
@@ -231,7 +217,7 @@ fn compared_with_itself<S: Source>(
 
 #[test]
 fn a_failed_read_counts_too(rt: HostRuntime) -> Result<(), Fail> {
-    let file = top_only(rt.alloc(), &[0x51, 0x61])?;
+    let file = small(rt.alloc(), &[0x51, 0x61], &[8])?;
     let mut src = FaultySource::new(&file, 0);
     let answers = [
         compared_with_itself(&mut src, 0),
@@ -241,10 +227,4 @@ fn a_failed_read_counts_too(rt: HostRuntime) -> Result<(), Fail> {
     let equal = Some((Ok(Ordering::Equal), 2));
     assert_eq!(rt; answers, [failed, equal]);
     Ok(())
-}
-
-#[test]
-fn words_of_rules(rt: HostRuntime) {
-    let words = [rule_name(Rule::TooLarge), rule_name(Rule::KeyOrder)];
-    assert_eq!(rt; words, ["TooLarge", "KeyOrder"]);
 }

@@ -17,15 +17,6 @@ const TEXTS: &[(&[u16], &str)] = &[
     (&[0x2F, 0x3A, 0x40, 0x5B, 0x60, 0x7B], "\"/:@[`{\""),
 ];
 
-#[test]
-fn texts_of_units(rt: HostRuntime) -> Result<(), Fail> {
-    for (units, want) in TEXTS {
-        let text = text_of_units(rt.alloc(), units)?;
-        assert_eq!(rt; text.as_slice(), want.as_bytes(), "{want}");
-    }
-    Ok(())
-}
-
 const DATA: &[(&[u8], &str)] = &[
     (&[], "<>"),
     (&[0xAA, 0xBB, 0xCC], "<aabbcc>"),
@@ -33,7 +24,11 @@ const DATA: &[(&[u8], &str)] = &[
 ];
 
 #[test]
-fn texts_of_bytes(rt: HostRuntime) -> Result<(), Fail> {
+fn texts(rt: HostRuntime) -> Result<(), Fail> {
+    for (units, want) in TEXTS {
+        let text = text_of_units(rt.alloc(), units)?;
+        assert_eq!(rt; text.as_slice(), want.as_bytes(), "{want}");
+    }
     for (bytes, want) in DATA {
         let text = text_of_bytes(rt.alloc(), bytes)?;
         assert_eq!(rt; text.as_slice(), want.as_bytes(), "{want}");
