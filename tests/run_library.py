@@ -1,13 +1,11 @@
 #!/usr/bin/env python3
 """run_library.py [--only PREFIX] TABLE PROGRAM
 
-Hands all lines of TABLE to PROGRAM, one request a line, and prints every answer that differs. A call that is not built
-yet is skipped by name and not counted as passed. The last line printed is `N passed, M failed`, with `, K skipped`
-where some were. The exit status is 1 where one failed. vectors/README.md has the table's columns, and the head of
+Hands all lines of TABLE to PROGRAM, one request a line, and prints every answer that differs. The last line printed is
+`N passed, M failed`. The exit status is 1 where one failed. vectors/README.md has the table's columns, and the head of
 bplist_calls the form of a request.
 """
 import argparse
-import collections
 import dataclasses
 import os
 import subprocess
@@ -16,7 +14,6 @@ import sys
 from run_vectors import SHOWN, content, escaped, readable
 
 SECONDS = 300
-NOT_YET = b"notyet"
 WITH_PATH = ("size", "keys")
 
 
@@ -60,22 +57,17 @@ def answers(vectors, program):
 
 def report(vectors, told, complaint):
     """Prints the differences and the closing line, and answers how many failed."""
-    failed, skipped = 0, collections.Counter()
+    failed = 0
     for vector, answer in zip(vectors, told):
-        if answer == NOT_YET:
-            skipped[vector.words()[0]] += 1
-        elif answer != vector.answer.encode():
+        if answer != vector.answer.encode():
             failed += 1
             print(f"{vector.name}: {vector.call}\n    wanted {vector.answer[:SHOWN]}\n    got    {readable(answer)}")
     if complaint:
         print(f"bplist_calls says: {readable(complaint)}")
-    for call, count in sorted(skipped.items()):
-        print(f"skipped, not built yet: {count} of {call}")
-    passed = len(vectors) - failed - skipped.total()
+    passed = len(vectors) - failed
     if complaint and not failed:
         failed = 1
-    closing = f"{passed} passed, {failed} failed"
-    print(closing + (f", {skipped.total()} skipped" if skipped else ""))
+    print(f"{passed} passed, {failed} failed")
     return failed
 
 
