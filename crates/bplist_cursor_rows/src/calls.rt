@@ -3,11 +3,9 @@
 //! None has a clause, so that a test is proved without the clauses of what it calls.
 
 use bplist_cert::Checked;
-use bplist_cursor::{
-    CursorFault, Found, Node, Path, Query, answer, answer_all, face, locate_counted, member,
-};
+use bplist_cursor::{CursorFault, Node, Path, Query, answer, answer_all, face, member};
 use bplist_objects::ObjectNo;
-use bplist_octets::Source;
+use bplist_octets::SliceSource;
 use std::alloc::{AllocError, Global};
 use std::fmt::Debug;
 use std::test::Fail;
@@ -23,20 +21,22 @@ pub(crate) fn text_of<T: Debug + Drop>(alloc: Global, value: T) -> Result<String
     format!(in alloc; "{value:?}")
 }
 
-pub(crate) fn face_text<S: Source>(
+pub(crate) fn face_text(
     alloc: Global,
-    file: &mut Checked<S>,
+    file: &mut Checked<SliceSource<'_>>,
     n: u32,
 ) -> Result<String, AllocError> {
     text_of(alloc, face(alloc, file, node(n)))
 }
 
-pub(crate) fn member_of<S: Source>(
-    file: &mut Checked<S>,
+/// The number of a member's object.
+pub(crate) fn member_of(
+    file: &mut Checked<SliceSource<'_>>,
     n: u32,
     i: u64,
-) -> Result<Option<Node>, CursorFault> {
-    member(file, node(n), i)
+) -> Result<Option<u32>, CursorFault> {
+    let found = member(file, node(n), i)?;
+    Ok(found.map(|node| node.object.0))
 }
 
 /// Which query is asked at a path.
@@ -56,9 +56,9 @@ pub(crate) fn query_of(alloc: Global, asked: Asked, path: &str) -> Result<Query,
     })
 }
 
-pub(crate) fn answer_text<S: Source>(
+pub(crate) fn answer_text(
     alloc: Global,
-    file: &mut Checked<S>,
+    file: &mut Checked<SliceSource<'_>>,
     asked: Asked,
     path: &str,
 ) -> Result<String, Fail> {
@@ -66,9 +66,9 @@ pub(crate) fn answer_text<S: Source>(
     Ok(text_of(alloc, answer(alloc, file, &query))?)
 }
 
-pub(crate) fn answers_text<S: Source>(
+pub(crate) fn answers_text(
     alloc: Global,
-    file: &mut Checked<S>,
+    file: &mut Checked<SliceSource<'_>>,
     queries: &[Query],
 ) -> Result<String, AllocError> {
     text_of(alloc, answer_all(alloc, file, queries))

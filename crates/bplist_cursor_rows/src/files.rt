@@ -1,7 +1,7 @@
 //! The files of the tests, and how they are checked.
 
 use bplist_cert::{Certificate, Checked, KeyLists, check};
-use bplist_octets::Source;
+use bplist_octets::SliceSource;
 use std::alloc::{AllocError, Global};
 use std::test::Fail;
 
@@ -71,37 +71,11 @@ pub(crate) fn array(alloc: Global, items: u32) -> Result<Vec<u8>, AllocError> {
         file.extend_from_slice(&reference.to_be_bytes())?;
     }
     file.extend_from_slice(&[9, 8])?;
-    let table = array_offsets(alloc, items)?;
+    let leaves = items.saturating_mul(4).saturating_add(14);
+    let mut table = Vec::from_slice(alloc, &8u32.to_be_bytes())?;
+    table.extend_from_slice(&leaves.to_be_bytes())?;
+    table.extend_from_slice(&leaves.saturating_add(1).to_be_bytes())?;
     close(&mut file, &table, 4, 3)?;
-    Ok(file)
-}
-
-/// The places of an array of so many items, and of the two objects behind it.
-fn array_offsets(alloc: Global, items: u32) -> Result<Vec<u8>, AllocError> {
-    let place = items.saturating_mul(4).saturating_add(14);
-    let mut table = Vec::from_slice(alloc, &[0, 0, 0, 8])?;
-    table.extend_from_slice(&place.to_be_bytes())?;
-    table.extend_from_slice(&place.saturating_add(1).to_be_bytes())?;
-    Ok(table)
-}
-
-/// A dictionary of the keys `0000` to `0999` and one value, with offsets and references of two bytes.
-pub(crate) fn thousand_keys(alloc: Global) -> Result<Vec<u8>, AllocError> {
-    let mut file = Vec::from_slice(alloc, b"bplist00\xdf\x11\x03\xe8")?;
-    for key in 1..1001u16 {
-        file.extend_from_slice(&key.to_be_bytes())?;
-    }
-    for _ in 0..1000 {
-        file.extend_from_slice(&1001u16.to_be_bytes())?;
-    }
-    let mut table = Vec::from_slice(alloc, &8u16.to_be_bytes())?;
-    for key in 0..1000u16 {
-        table.extend_from_slice(&(4012 + 5 * key).to_be_bytes())?;
-        file.extend_from_slice(format!(in alloc; "T{key:04}")?.as_bytes())?;
-    }
-    table.extend_from_slice(&9012u16.to_be_bytes())?;
-    file.push(9)?;
-    close(&mut file, &table, 2, 1002)?;
     Ok(file)
 }
 
@@ -114,45 +88,28 @@ pub(crate) fn falling(alloc: Global, objects: u32) -> Result<Vec<u32>, AllocErro
     Ok(heights)
 }
 
-/// A certificate of these heights, and with these positions one of version 2 whose lists all begin at 0.
-fn certificate_of(
+/// The bytes with a certificate of these heights, which the check has to take. With positions it is one of version 2,
+/// whose lists all begin at 0.
+pub(crate) fn checked<'a>(
     alloc: Global,
+    file: &'a [u8],
     heights: &[u32],
-    positions: Option<&[u32]>,
-) -> Result<Certificate, AllocError> {
-    let keys = match positions {
-        Some(positions) => Some(KeyLists {
+    positions: &[u32],
+) -> Result<Checked<SliceSource<'a>>, Fail> {
+    let keys = if positions.is_empty() {
+        None
+    } else {
+        Some(KeyLists {
             starts: vec![in alloc; 0u32; heights.len()]?,
             positions: Vec::from_slice(alloc, positions)?,
-        }),
-        None => None,
+        })
     };
-    Ok(Certificate {
+    let certificate = Certificate {
         heights: Vec::from_slice(alloc, heights)?,
         keys,
-    })
-}
-
-/// The source with such a certificate. None where the check says no.
-pub(crate) fn accepted<S: Source + Drop>(
-    alloc: Global,
-    source: S,
-    heights: &[u32],
-    positions: Option<&[u32]>,
-) -> Result<Option<Checked<S>>, AllocError> {
-    let certificate = certificate_of(alloc, heights, positions)?;
-    Ok(check(alloc, source, certificate).ok())
-}
-
-/// The source with such a certificate, which the check has to take.
-pub(crate) fn checked<S: Source + Drop>(
-    alloc: Global,
-    source: S,
-    heights: &[u32],
-    positions: Option<&[u32]>,
-) -> Result<Checked<S>, Fail> {
-    match accepted(alloc, source, heights, positions)? {
-        Some(checked) => Ok(checked),
-        None => Err(Fail::new("the check refused")),
+    };
+    match check(alloc, SliceSource::new(file), certificate) {
+        Ok(checked) => Ok(checked),
+        Err(_) => Err(Fail::new("the check refused")),
     }
 }

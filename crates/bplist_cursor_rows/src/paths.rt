@@ -4,7 +4,6 @@ use crate::calls::text_of;
 use crate::files::{array, checked};
 use bplist_cursor::{Found, List, Node, Path, PathFault, Why, locate};
 use bplist_objects::ObjectNo;
-use bplist_octets::SliceSource;
 use std::alloc::{AllocError, Global};
 use std::test::Fail;
 
@@ -23,40 +22,25 @@ const SOUND: &[(&str, &[&[u16]])] = &[
     ("/\u{FFFF}~0", &[&[0xFFFF, 0x7E]]),
 ];
 
-/// The path that a text spells, as `Debug` writes it.
-fn parsed_text(alloc: Global, text: &str) -> Result<String, Fail> {
-    let path = Path::parse(alloc, text)?;
-    Ok(text_of(alloc, path)?)
-}
-
-/// The path of these steps, as `Debug` writes it.
-fn made_text(alloc: Global, steps: &[&[u16]]) -> Result<String, AllocError> {
+/// The path of these steps.
+fn path_of(alloc: Global, steps: &[&[u16]]) -> Result<Path, AllocError> {
     let mut own = Vec::new(alloc);
     for step in steps {
         own.push(Vec::from_slice(alloc, step)?)?;
     }
-    text_of(alloc, Path::from_steps(own))
+    Ok(Path::from_steps(own))
 }
 
-/// What `Debug` has to write of a path of these steps.
-fn text_with(alloc: Global, steps: &[&[u16]]) -> Result<String, AllocError> {
-    format!(in alloc; "Path {{ steps: {steps:?} }}")
-}
-
+/// The path of a text and that of the steps are the same.
 #[test]
 fn sound_texts(rt: HostRuntime) -> Result<(), Fail> {
+    let alloc = rt.alloc();
     for (text, steps) in SOUND {
-        let want = text_with(rt.alloc(), steps)?;
-        assert_eq!(rt; parsed_text(rt.alloc(), text)?.as_str(), want.as_str());
-    }
-    Ok(())
-}
-
-#[test]
-fn own_steps(rt: HostRuntime) -> Result<(), Fail> {
-    for (_, steps) in SOUND {
-        let want = text_with(rt.alloc(), steps)?;
-        assert_eq!(rt; made_text(rt.alloc(), steps)?.as_str(), want.as_str());
+        let want = format!(in alloc; "Path {{ steps: {steps:?} }}")?;
+        let parsed = text_of(alloc, Path::parse(alloc, text)?)?;
+        assert_eq!(rt; parsed.as_str(), want.as_str(), "at {text}");
+        let made = text_of(alloc, path_of(alloc, steps)?)?;
+        assert_eq!(rt; made.as_str(), want.as_str(), "at {text}");
     }
     Ok(())
 }
@@ -121,25 +105,19 @@ const INDICES: &[(&[u16], u32, Found)] = &[
     ),
 ];
 
-/// The path of one step.
-fn path_of(alloc: Global, step: &[u16]) -> Result<Path, AllocError> {
-    let mut steps = Vec::new(alloc);
-    steps.push(Vec::from_slice(alloc, step)?)?;
-    Ok(Path::from_steps(steps))
-}
-
 /// Where a step leads from an array of so many items.
 fn led(alloc: Global, step: &[u16], items: u32) -> Result<Found, Fail> {
-    let path = path_of(alloc, step)?;
+    let path = path_of(alloc, &[step])?;
     let file = array(alloc, items)?;
-    let mut file = checked(alloc, SliceSource::new(&file), &[2, 1, 1], None)?;
+    let mut file = checked(alloc, &file, &[2, 1, 1], &[])?;
     Ok(locate(&mut file, &path)?)
 }
 
 #[test]
 fn indices(rt: HostRuntime) -> Result<(), Fail> {
     for (step, items, want) in INDICES {
-        assert_eq!(rt; led(rt.alloc(), step, *items)?, *want);
+        let found = led(rt.alloc(), step, *items)?;
+        assert_eq!(rt; found, *want, "{step:?} of {items}");
     }
     Ok(())
 }
