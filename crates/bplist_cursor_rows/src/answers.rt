@@ -48,7 +48,11 @@ fn three_keys(rt: HostRuntime) -> Result<(), Fail> {
         let mut file = checked(alloc, &octets, THREE_KEYS_HEIGHTS, positions)?;
         for (asked, path, want) in ANSWERS {
             let text = answer_text(alloc, &mut file, *asked, path)?;
-            assert_eq!(rt; text.as_str(), *want, "{asked:?} at {path} by {positions:?}");
+            assert_eq!(rt;
+                text.as_str(),
+                *want,
+                "{asked:?} at {path} by {positions:?}"
+            );
         }
     }
     Ok(())

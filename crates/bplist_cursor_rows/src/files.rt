@@ -70,8 +70,8 @@ pub(crate) fn array(alloc: Global, items: u32) -> Result<Vec<u8>, AllocError> {
         let reference = if item < items { 1u32 } else { 2 };
         file.extend_from_slice(&reference.to_be_bytes())?;
     }
-    let leaves = file.len() as u32;
     file.extend_from_slice(&[9, 8])?;
+    let leaves = items.saturating_mul(4).saturating_add(14);
     let mut table = Vec::from_slice(alloc, &8u32.to_be_bytes())?;
     table.extend_from_slice(&leaves.to_be_bytes())?;
     table.extend_from_slice(&leaves.saturating_add(1).to_be_bytes())?;
@@ -88,8 +88,8 @@ pub(crate) fn falling(alloc: Global, objects: u32) -> Result<Vec<u32>, AllocErro
     Ok(heights)
 }
 
-/// The bytes with a certificate of these heights, which the check has to take. With positions it is one of version 2, whose
-/// lists all begin at 0.
+/// The bytes with a certificate of these heights, which the check has to take. With positions it is one of version 2,
+/// whose lists all begin at 0.
 pub(crate) fn checked<'a>(
     alloc: Global,
     file: &'a [u8],

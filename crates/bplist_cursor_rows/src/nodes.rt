@@ -1,8 +1,8 @@
 //! The worked rows of faces, members and lent bytes.
 
 use crate::calls::{face_text, member_of, node};
-use crate::files::{THREE_KEYS_HEIGHTS, checked, file_of};
 use crate::files;
+use crate::files::{THREE_KEYS_HEIGHTS, checked, file_of};
 use bplist_cursor::{CursorFault, bytes_of};
 use std::test::Fail;
 
