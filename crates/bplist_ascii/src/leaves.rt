@@ -133,8 +133,7 @@ pub(crate) fn write_data<S: Source, W: Write>(
 {
     write(sink, out, room, b"<")?;
     write_data_body(src, head, sink, out, room)?;
-    write(sink, out, room, b">")?;
-    Ok(())
+    write(sink, out, room, b">")
 }
 
 /// Puts in a text between quotes.
@@ -158,8 +157,7 @@ fn write_quoted<S: Source, W: Write>(
 {
     write(sink, out, room, b"\"")?;
     write_text_body(src, head, Style::Quoted, sink, out, room)?;
-    write(sink, out, room, b"\"")?;
-    Ok(())
+    write(sink, out, room, b"\"")
 }
 
 /// Puts in the text of a text.
@@ -182,9 +180,7 @@ pub(crate) fn write_text<S: Source, W: Write>(
     ensures falls { OnOk result (room.new < room.old) }
 {
     if is_bare(src, head)? {
-        write_text_body(src, head, Style::Bare, sink, out, room)?;
-        return Ok(());
+        return write_text_body(src, head, Style::Bare, sink, out, room);
     }
-    write_quoted(src, head, sink, out, room)?;
-    Ok(())
+    write_quoted(src, head, sink, out, room)
 }

@@ -111,10 +111,7 @@ fn write_key<S: Source, W: Write>(
 {
     let head = head_in(src, frame, n)?;
     match head.kind {
-        Kind::Ascii | Kind::Wide => {
-            write_text(src, &head, sink, out, room)?;
-            Ok(())
-        }
+        Kind::Ascii | Kind::Wide => write_text(src, &head, sink, out, room),
         _ => Err(PrintFault::Changed),
     }
 }
@@ -146,14 +143,8 @@ fn begin<S: Source, W: Write>(
 {
     let head = head_in(src, frame, n)?;
     match head.kind {
-        Kind::Ascii | Kind::Wide => {
-            write_text(src, &head, sink, out, room)?;
-            Ok(())
-        }
-        Kind::Bytes => {
-            write_data(src, &head, sink, out, room)?;
-            Ok(())
-        }
+        Kind::Ascii | Kind::Wide => write_text(src, &head, sink, out, room),
+        Kind::Bytes => write_data(src, &head, sink, out, room),
         Kind::Array => {
             write(sink, out, room, b"(")?;
             stack.push(Opened { head, next: 0 })?;
@@ -196,8 +187,7 @@ fn step_array<S: Source, W: Write>(
     ensures bounded { OnErr result (StaysWithin (W.contents out.old) (W.contents out.new) sink.old room.old) }
 {
     if opened.next >= opened.head.count {
-        write(sink, out, room, b")")?;
-        return Ok(());
+        return write(sink, out, room, b")");
     }
     write_after_first(sink, out, room, opened.next, b",")?;
     let m = reference_in(src, frame, &opened.head, opened.next)?;
@@ -205,8 +195,7 @@ fn step_array<S: Source, W: Write>(
         next: opened.next + 1,
         ..opened
     })?;
-    begin(src, frame, m, stack, sink, out, room)?;
-    Ok(())
+    begin(src, frame, m, stack, sink, out, room)
 }
 
 /// Puts in the text of the next key of a dictionary and the `=` behind it.
@@ -234,8 +223,7 @@ fn write_next_key<S: Source, W: Write>(
 {
     let key = reference_in(src, frame, &opened.head, opened.next)?;
     write_key(src, frame, key, sink, out, room)?;
-    write(sink, out, room, b"=")?;
-    Ok(())
+    write(sink, out, room, b"=")
 }
 
 /// Goes on in a dictionary, which was on top of the stack.
@@ -267,8 +255,7 @@ fn step_dict<S: Source, W: Write>(
 {
     write_after_first(sink, out, room, opened.next, b";")?;
     if opened.next >= opened.head.count {
-        write(sink, out, room, b"}")?;
-        return Ok(());
+        return write(sink, out, room, b"}");
     }
     write_next_key(src, frame, opened, sink, out, room)?;
     let _bounds = (frame.ref_size, opened.head.end);
@@ -277,8 +264,7 @@ fn step_dict<S: Source, W: Write>(
         next: opened.next + 1,
         ..opened
     })?;
-    begin(src, frame, m, stack, sink, out, room)?;
-    Ok(())
+    begin(src, frame, m, stack, sink, out, room)
 }
 
 /// Goes on in a container, which was on top of the stack.
@@ -307,14 +293,8 @@ fn step<S: Source, W: Write>(
     ensures bounded { OnErr result (StaysWithin (W.contents out.old) (W.contents out.new) sink.old room.old) }
 {
     match opened.head.kind {
-        Kind::Array => {
-            step_array(src, frame, opened, stack, sink, out, room)?;
-            Ok(())
-        }
-        Kind::Dict => {
-            step_dict(src, frame, opened, stack, sink, out, room)?;
-            Ok(())
-        }
+        Kind::Array => step_array(src, frame, opened, stack, sink, out, room),
+        Kind::Dict => step_dict(src, frame, opened, stack, sink, out, room),
         _ => Err(PrintFault::Changed),
     }
 }

@@ -1,5 +1,6 @@
 use Rattle.std.proofs.Common.{rules, ◌++◌, ◌∷◌, [], ◌≡◌, Err, refl}
 use Rattle.std.specs.List.{flat_map}
+use Rattle.std.proofs.lemmas.Result.{IfErr-weaker, on_ok_weaker, on_err_weaker}
 use Rattle.bplist_octets.specs.Octets.{part}
 use Rattle.bplist_cursor.specs.Texts.{hex_digits, text_of_bytes}
 use Rattle.bplist_ascii.proofs.WriteSteps.{adds_within, adds_fail, adds_nothing, text_after, text_more, text_adds}
@@ -23,17 +24,17 @@ returns-in_err-write_data_body-clause-bounded g c =
     let is : c.from_residual-in_err-write_data_body.result ≡ Err c.in_err-write_data_body.field-0.0 = search rules in
     rw is (adds_within _ _ _ c.in_ok-write.ensures.adds c.in_err-write_data_body.ensures.bounded)
 
-pub returns-in_err-write-2-clause-fails : goal.returns-in_err-write-2-clause-fails
-returns-in_err-write-2-clause-fails g c =
-    let is : c.from_residual-in_err-write-2.result ≡ Err c.in_err-write-2.field-0.0 = search rules in
-    let f = (g.S.Source.means c.args.src.now).octets in
-    let all = part f c.args.head.now.body c.args.head.now.count in
-    rw is (λ honest low. adds_fail _ _ _ (62 ∷ []) [] (text_of_bytes all) _ (text_adds (text_after c.in_ok-write.ensures.adds c.in_ok-write_data_body.ensures.adds) honest) c.in_err-write-2.ensures.fails refl low)
+pub returns-clause-fails : goal.returns-clause-fails
+returns-clause-fails g c =
+    let all = part (g.S.Source.means c.args.src.now).octets c.args.head.now.body c.args.head.now.count in
+    IfErr-weaker c.write-2.result _ _
+    (λ e fails honest low. adds_fail _ _ _ (62 ∷ []) [] (text_of_bytes all) e (text_adds (text_after c.in_ok-write.ensures.adds c.in_ok-write_data_body.ensures.adds) honest) fails refl low)
+    c.write-2.ensures.fails
 
-pub returns-in_err-write-2-clause-bounded : goal.returns-in_err-write-2-clause-bounded
-returns-in_err-write-2-clause-bounded g c =
-    let is : c.from_residual-in_err-write-2.result ≡ Err c.in_err-write-2.field-0.0 = search rules in
-    rw is (adds_within _ _ _ (text_after c.in_ok-write.ensures.adds c.in_ok-write_data_body.ensures.adds).adds c.in_err-write-2.ensures.bounded)
+pub returns-clause-bounded : goal.returns-clause-bounded
+returns-clause-bounded g c =
+    on_err_weaker c.write-2.result (λ bounded. adds_within _ _ _ (text_after c.in_ok-write.ensures.adds c.in_ok-write_data_body.ensures.adds).adds bounded) c.write-2.ensures.bounded
 
 pub returns-clause-adds : goal.returns-clause-adds
-returns-clause-adds g c = text_more _ _ (text_after c.in_ok-write.ensures.adds c.in_ok-write_data_body.ensures.adds) c.in_ok-write-2.ensures.adds (λ _. refl)
+returns-clause-adds g c =
+    on_ok_weaker c.write-2.result (λ adds. text_more _ _ (text_after c.in_ok-write.ensures.adds c.in_ok-write_data_body.ensures.adds) adds (λ _. refl)) c.write-2.ensures.adds

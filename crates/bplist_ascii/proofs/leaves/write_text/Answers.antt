@@ -1,5 +1,6 @@
 use Rattle.std.proofs.Common.{rules, ◌≡◌, Err, refl, sym, ◌∙◌}
 use Rattle.std.specs.List.{flat_map}
+use Rattle.std.proofs.lemmas.Result.{IfErr-weaker, on_ok_weaker}
 use Rattle.bplist_objects.specs.Units.{units_of}
 use Rattle.bplist_cursor.specs.Texts.{text_of_units, quoted}
 use Rattle.bplist_ascii.specs.declared.style.Style.TheVariants.{Bare}
@@ -12,26 +13,30 @@ returns-in_err-is_bare-clause-fails g c =
     let is : c.from_residual.result ≡ Err c.in_err-is_bare.field-0.0 = search rules in
     rw is (λ honest low. read_fails _ c.in_err-is_bare.field-0.0 (adds_nothing (g.W.Write.contents c.args.out.now) c.args.sink.now c.args.room.now) refl c.in_err-is_bare.ensures.read)
 
-pub returns-in_err-write_text_body-clause-fails : goal.returns-in_err-write_text_body-clause-fails
-returns-in_err-write_text_body-clause-fails g c =
-    let is : c.from_residual-in_err-write_text_body.result ≡ Err c.in_err-write_text_body.field-0.0 = search rules in
+pub returns-then-branch-clause-fails : goal.returns-then-branch-clause-fails
+returns-then-branch-clause-fails g c =
     let us = units_of (g.S.Source.means c.args.src.now).octets c.args.head.now in
-    rw is (λ honest low.
+    IfErr-weaker c.write_text_body.result _ _
+    (λ e fails honest low.
     let b = bare_text us (sym (c.in_ok-is_bare.ensures.exact honest) ∙ c.if-branch.true) in
     let same : flat_map (styled Bare) us ≡ text_of_units us = flat_bare us ∙ sym b.0 in
-    fails_under _ _ _ _ _ same ((rw c.in_ok-is_bare.ensures.reads at c.in_err-write_text_body.ensures.fails) honest b.1) low)
+    fails_under _ _ _ _ e same (fails honest b.1) low)
+    (rw c.in_ok-is_bare.ensures.reads at c.write_text_body.ensures.fails)
 
 pub returns-then-branch-clause-adds : goal.returns-then-branch-clause-adds
 returns-then-branch-clause-adds g c =
     let us = units_of (g.S.Source.means c.args.src.now).octets c.args.head.now in
-    text_under (λ honest.
+    on_ok_weaker c.write_text_body.result
+    (λ adds. text_under (λ honest.
     let b = bare_text us (sym (c.in_ok-is_bare.ensures.exact honest) ∙ c.if-branch.true) in
-    flat_bare us ∙ sym b.0) (rw c.in_ok-is_bare.ensures.reads at c.in_ok-write_text_body.ensures.adds)
+    flat_bare us ∙ sym b.0) adds)
+    (rw c.in_ok-is_bare.ensures.reads at c.write_text_body.ensures.adds)
 
-pub returns-in_err-write_quoted-clause-fails : goal.returns-in_err-write_quoted-clause-fails
-returns-in_err-write_quoted-clause-fails g c =
-    let is : c.from_residual-in_err-write_quoted.result ≡ Err c.in_err-write_quoted.field-0.0 = search rules in
+pub returns-clause-fails : goal.returns-clause-fails
+returns-clause-fails g c =
     let us = units_of (g.S.Source.means c.args.src.now).octets c.args.head.now in
-    rw is (λ honest low.
+    IfErr-weaker c.write_quoted.result _ _
+    (λ e fails honest low.
     let same : quoted us ≡ text_of_units us = sym (quoted_text us (sym (c.in_ok-is_bare.ensures.exact honest) ∙ c.if-branch.false)) in
-    fails_under _ _ _ _ _ same (fails_same _ _ _ _ _ (λ m. quoted (units_of m.octets c.args.head.now)) c.in_ok-is_bare.ensures.reads c.in_err-write_quoted.ensures.fails honest) low)
+    fails_under _ _ _ _ e same (fails_same _ _ _ _ e (λ m. quoted (units_of m.octets c.args.head.now)) c.in_ok-is_bare.ensures.reads fails honest) low)
+    c.write_quoted.ensures.fails

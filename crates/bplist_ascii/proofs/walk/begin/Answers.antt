@@ -1,4 +1,5 @@
 use Rattle.std.proofs.Common.{rules, ◌≡◌, ◌++◌, ◌∷◌, [], Err, refl, sym, ap, ◌∙◌}
+use Rattle.std.proofs.lemmas.Result.{IfErr-weaker, on_ok_weaker}
 use Rattle.bplist_octets.specs.Octets.{part}
 use Rattle.bplist_objects.specs.Heads.{content_of}
 use Rattle.bplist_objects.specs.Units.{units_of}
@@ -19,25 +20,27 @@ returns-in_err-head-clause-fails g c =
     let s = content_of_value (g.S.Source.means c.args.src.now).octets c.args.frame.now v c.args.n.0 h in
     read_fails (plain v) c.in_err-head.field-0.0 (adds_nothing (g.W.Write.contents c.args.out.now) c.args.sink.now c.args.room.now) refl (c.in_err-head.ensures.exact t s.0 s.1))
 
-pub returns-in_err-write_text-in-Ascii-clause-fails : goal.returns-in_err-write_text-in-Ascii-clause-fails
-returns-in_err-write_text-in-Ascii-clause-fails g c =
-    let is : c.from_residual-in_err-write_text-in-Ascii.result ≡ Err c.in_err-write_text-in-Ascii.field-0.0 = search rules in
+pub returns-in-Ascii-clause-fails : goal.returns-in-Ascii-clause-fails
+returns-in-Ascii-clause-fails g c =
     let f = (g.S.Source.means c.args.src.now).octets in
     let head = c.in_ok-head.head in
     let content = text_content f c.args.frame.now head.kind head.count head.body (text_kind head.kind c.in-Ascii.is) in
-    rw is (λ t v h formed low.
+    IfErr-weaker c.write_text.result _ _
+    (λ e fails t v h formed low.
     let same = text_of_value f c.args.frame.now c.args.n.0 v (units_of f head) (λ x s. c.in_ok-head.ensures.exact t x s ∙ content) h formed in
-    fails_under _ _ _ _ _ (sym same) (fails_same _ _ _ _ _ (λ m. text_of_units (units_of m.octets head)) c.in_ok-head.ensures.reads c.in_err-write_text-in-Ascii.ensures.fails t.honest) low)
+    fails_under _ _ _ _ e (sym same) (fails_same _ _ _ _ e (λ m. text_of_units (units_of m.octets head)) c.in_ok-head.ensures.reads fails t.honest) low)
+    c.write_text.ensures.fails
 
-pub returns-in_err-write_data-in-Bytes-clause-fails : goal.returns-in_err-write_data-in-Bytes-clause-fails
-returns-in_err-write_data-in-Bytes-clause-fails g c =
-    let is : c.from_residual-in_err-write_data-in-Bytes.result ≡ Err c.in_err-write_data-in-Bytes.field-0.0 = search rules in
+pub returns-in-Bytes-clause-fails : goal.returns-in-Bytes-clause-fails
+returns-in-Bytes-clause-fails g c =
     let f = (g.S.Source.means c.args.src.now).octets in
     let head = c.in_ok-head.head in
     let content = ap (λ k. content_of f c.args.frame.now k head.count head.body) c.in-Bytes.is in
-    rw is (λ t v h formed low.
+    IfErr-weaker c.write_data.result _ _
+    (λ e fails t v h formed low.
     let same = data_of_value f c.args.frame.now c.args.n.0 v (part f head.body head.count) (λ x s. c.in_ok-head.ensures.exact t x s ∙ content) h formed in
-    fails_under _ _ _ _ _ (sym same) (fails_same _ _ _ _ _ (λ m. text_of_bytes (part m.octets head.body head.count)) c.in_ok-head.ensures.reads c.in_err-write_data-in-Bytes.ensures.fails t.honest) low)
+    fails_under _ _ _ _ e (sym same) (fails_same _ _ _ _ e (λ m. text_of_bytes (part m.octets head.body head.count)) c.in_ok-head.ensures.reads fails t.honest) low)
+    c.write_data.ensures.fails
 
 pub returns-in_err-write-in-Array-clause-fails : goal.returns-in_err-write-in-Array-clause-fails
 returns-in_err-write-in-Array-clause-fails g c =
@@ -67,33 +70,39 @@ returns-in_err-push-in-Dict-clause-fails g c =
     let b = dict_begun (g.S.Source.means c.args.src.now).octets c.args.frame.now c.args.n.0 v c.in_ok-head.head c.in-Dict.is (c.in_ok-head.ensures.exact t) h formed in
     adds_some b.0 c.in_ok-write-in-Dict.ensures.adds b.1)
 
-pub returns-in_ok-write_text-in-Ascii-clause-exact : goal.returns-in_ok-write_text-in-Ascii-clause-exact
-returns-in_ok-write_text-in-Ascii-clause-exact g c = λ t v h formed left stands.
+pub returns-in-Ascii-clause-exact : goal.returns-in-Ascii-clause-exact
+returns-in-Ascii-clause-exact g c =
     let f = (g.S.Source.means c.args.src.now).octets in
     let head = c.in_ok-head.head in
     let content = text_content f c.args.frame.now head.kind head.count head.body (text_kind head.kind c.in-Ascii.is) in
+    on_ok_weaker c.write_text.result
+    (λ adds t v h formed left stands.
     let same = text_of_value f c.args.frame.now c.args.n.0 v (units_of f head) (λ x s. c.in_ok-head.ensures.exact t x s ∙ content) h formed in
     record {
       written = text_of_units (units_of f head);
       rest = left;
-      adds = text_adds (rw c.in_ok-head.ensures.reads at c.in_ok-write_text-in-Ascii.ensures.adds) t.honest;
+      adds = text_adds adds t.honest;
       stands = stands;
       is = ap (λ l. l ++ left) same;
-    }
+    })
+    (rw c.in_ok-head.ensures.reads at c.write_text.ensures.adds)
 
-pub returns-in_ok-write_data-in-Bytes-clause-exact : goal.returns-in_ok-write_data-in-Bytes-clause-exact
-returns-in_ok-write_data-in-Bytes-clause-exact g c = λ t v h formed left stands.
+pub returns-in-Bytes-clause-exact : goal.returns-in-Bytes-clause-exact
+returns-in-Bytes-clause-exact g c =
     let f = (g.S.Source.means c.args.src.now).octets in
     let head = c.in_ok-head.head in
     let content = ap (λ k. content_of f c.args.frame.now k head.count head.body) c.in-Bytes.is in
+    on_ok_weaker c.write_data.result
+    (λ adds t v h formed left stands.
     let same = data_of_value f c.args.frame.now c.args.n.0 v (part f head.body head.count) (λ x s. c.in_ok-head.ensures.exact t x s ∙ content) h formed in
     record {
       written = text_of_bytes (part f head.body head.count);
       rest = left;
-      adds = text_adds (rw c.in_ok-head.ensures.reads at c.in_ok-write_data-in-Bytes.ensures.adds) t.honest;
+      adds = text_adds adds t.honest;
       stands = stands;
       is = ap (λ l. l ++ left) same;
-    }
+    })
+    (rw c.in_ok-head.ensures.reads at c.write_data.ensures.adds)
 
 pub returns-in_ok-push-in-Array-clause-heads : goal.returns-in_ok-push-in-Array-clause-heads
 returns-in_ok-push-in-Array-clause-heads g c = rw c.in_ok-push-in-Array.ensures.items (safe_push _ _ _ c.requires.heads (c.in_ok-head.ensures.safe, tt))

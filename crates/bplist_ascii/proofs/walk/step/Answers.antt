@@ -1,4 +1,4 @@
-use Rattle.std.proofs.Common.{rules, ◌≡◌, Err, refl}
+use Rattle.std.proofs.Common.{refl}
 use Rattle.bplist_ascii.proofs.WriteSteps.{adds_fit, adds_nothing}
 use Rattle.bplist_ascii.proofs.WalkSteps.{safe_pop, no_container}
 use Rattle.bplist_ascii.proofs.walk.step.Goals as goal
@@ -14,16 +14,6 @@ step_dict-requires-clause-heads g c = (safe_pop _ _ _ c.requires.heads).0
 
 pub step_dict-requires-clause-head : goal.step_dict-requires-clause-head
 step_dict-requires-clause-head g c = (safe_pop _ _ _ c.requires.heads).1.0
-
-pub returns-in_err-step_array-in-Array-clause-fails : goal.returns-in_err-step_array-in-Array-clause-fails
-returns-in_err-step_array-in-Array-clause-fails g c =
-    let is : c.from_residual.result ≡ Err c.in_err-step_array-in-Array.field-0.0 = search rules in
-    rw is c.in_err-step_array-in-Array.ensures.fails
-
-pub returns-in_err-step_dict-in-Dict-clause-fails : goal.returns-in_err-step_dict-in-Dict-clause-fails
-returns-in_err-step_dict-in-Dict-clause-fails g c =
-    let is : c.from_residual-in_err-step_dict-in-Dict.result ≡ Err c.in_err-step_dict-in-Dict.field-0.0 = search rules in
-    rw is c.in_err-step_dict-in-Dict.ensures.fails
 
 pub returns-in_default : goal.returns-in_default
 returns-in_default g c = record {

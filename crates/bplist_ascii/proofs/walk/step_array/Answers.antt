@@ -1,4 +1,5 @@
 use Rattle.std.proofs.Common.{rules, arith, ◌≡◌, ◌++◌, ◌∷◌, [], Err, sym, subst, slice_index}
+use Rattle.std.proofs.lemmas.Result.{IfErr-weaker, on_ok_weaker, on_err_weaker}
 use Rattle.bplist_objects.specs.Holds.{Holds}
 use Rattle.bplist_cursor.specs.OldStyle.{plain}
 use Rattle.bplist_ascii.specs.Walks.{after_first}
@@ -8,20 +9,24 @@ use Rattle.bplist_ascii.specs.declared.print_fault.PrintFault.TheVariants.{Memor
 use Rattle.bplist_ascii.proofs.walk.step_array.Goals as goal
 
 pub returns-then-opened-clause-exact : goal.returns-then-opened-clause-exact
-returns-then-opened-clause-exact g c = λ t left stands.
+returns-then-opened-clause-exact g c =
+    on_ok_weaker c.write.result
+    (λ adds t left stands.
     let e = array_ends (g.S.Source.means c.args.src.now).octets c.args.frame.now _ _ _ c.requires.kind stands (omega (arith, c.if-opened.true)) in
-    record { written = 41 ∷ []; rest = e.0; adds = c.in_ok-write.ensures.adds; stands = e.1; is = e.2 }
+    record { written = 41 ∷ []; rest = e.0; adds = adds; stands = e.1; is = e.2 })
+    c.write.ensures.adds
 
-pub returns-in_err-write-clause-fails : goal.returns-in_err-write-clause-fails
-returns-in_err-write-clause-fails g c =
-    let is : c.from_residual.result ≡ Err c.in_err-write.field-0.0 = search rules in
-    rw is (λ t left stands low.
+pub returns-then-opened-clause-fails : goal.returns-then-opened-clause-fails
+returns-then-opened-clause-fails g c =
+    IfErr-weaker c.write.result _ _
+    (λ fault fails t left stands low.
     let e = array_ends (g.S.Source.means c.args.src.now).octets c.args.frame.now _ _ _ c.requires.kind stands (omega (arith, c.if-opened.true)) in
-    adds_fail _ _ _ (41 ∷ []) e.0 left _ (adds_nothing _ _ _) c.in_err-write.ensures.fails e.2 low)
+    adds_fail _ _ _ (41 ∷ []) e.0 left fault (adds_nothing _ _ _) fails e.2 low)
+    c.write.ensures.fails
 
 pub returns-in_err-write_after_first-clause-fails : goal.returns-in_err-write_after_first-clause-fails
 returns-in_err-write_after_first-clause-fails g c =
-    let is : c.from_residual-in_err-write_after_first.result ≡ Err c.in_err-write_after_first.field-0.0 = search rules in
+    let is : c.from_residual.result ≡ Err c.in_err-write_after_first.field-0.0 = search rules in
     rw is (λ t left stands low.
     let q = array_goes_on (g.S.Source.means c.args.src.now).octets c.args.frame.now _ _ _ c.requires.kind stands (omega (arith, c.if-opened.false)) in
     adds_fail _ _ _ (after_first c.args.opened.next (44 ∷ [])) (plain q.next.value ++ (q.next.rest ++ q.rest)) left _ (adds_nothing _ _ _) c.in_err-write_after_first.ensures.fails q.is low)
@@ -50,30 +55,32 @@ pub begin-requires-clause-heads : goal.begin-requires-clause-heads
 begin-requires-clause-heads g c = rw c.in_ok-push.ensures.items (safe_push _ _ _ c.requires.heads (c.requires.head, tt))
 
 pub returns-clause-exact : goal.returns-clause-exact
-returns-clause-exact g c = λ t left stands.
+returns-clause-exact g c =
     let f = (g.S.Source.means c.args.src.now).octets in
     let F = c.args.frame.now in
+    on_ok_weaker c.begin.result
+    (λ goes_on t left stands.
     let q = array_goes_on f F _ _ _ c.requires.kind stands (omega (arith, c.if-opened.false)) in
     let m : c.in_ok-m.m.0 ≡ slice_index q.next.refs c.args.opened.next = c.in_ok-m.ensures.exact t _ q.next.means q.next.is_object in
     adds_goes_on f F c.in_ok-write_after_first.ensures.adds
-    ((rw c.in_ok-m.ensures.reads at c.in_ok-begin.ensures.exact) t q.next.value (subst (λ n. Holds f F n q.next.value) (sym m) q.next.holds) q.next.formed (q.next.rest ++ q.rest)
-    (rw c.in_ok-push.ensures.items q.pushed)) q.is
+    (goes_on t q.next.value (subst (λ n. Holds f F n q.next.value) (sym m) q.next.holds) q.next.formed (q.next.rest ++ q.rest)
+    (rw c.in_ok-push.ensures.items q.pushed)) q.is)
+    (rw c.in_ok-m.ensures.reads at c.begin.ensures.exact)
 
-pub returns-in_err-begin-clause-fails : goal.returns-in_err-begin-clause-fails
-returns-in_err-begin-clause-fails g c =
-    let is : c.from_residual-in_err-begin.result ≡ Err c.in_err-begin.field-0.0 = search rules in
+pub returns-clause-fails : goal.returns-clause-fails
+returns-clause-fails g c =
     let f = (g.S.Source.means c.args.src.now).octets in
     let F = c.args.frame.now in
-    rw is (λ t left stands low.
+    IfErr-weaker c.begin.result _ _
+    (λ e fails t left stands low.
     let q = array_goes_on f F _ _ _ c.requires.kind stands (omega (arith, c.if-opened.false)) in
     let m : c.in_ok-m.m.0 ≡ slice_index q.next.refs c.args.opened.next = c.in_ok-m.ensures.exact t _ q.next.means q.next.is_object in
-    adds_fail _ _ _ (plain q.next.value) (q.next.rest ++ q.rest) left _ c.in_ok-write_after_first.ensures.adds
-    ((rw c.in_ok-m.ensures.reads at c.in_err-begin.ensures.fails) t q.next.value (subst (λ n. Holds f F n q.next.value) (sym m) q.next.holds) q.next.formed) q.is low)
+    adds_fail _ _ _ (plain q.next.value) (q.next.rest ++ q.rest) left e c.in_ok-write_after_first.ensures.adds
+    (fails t q.next.value (subst (λ n. Holds f F n q.next.value) (sym m) q.next.holds) q.next.formed) q.is low)
+    (rw c.in_ok-m.ensures.reads at c.begin.ensures.fails)
 
-pub returns-in_err-begin-clause-bounded : goal.returns-in_err-begin-clause-bounded
-returns-in_err-begin-clause-bounded g c =
-    let is : c.from_residual-in_err-begin.result ≡ Err c.in_err-begin.field-0.0 = search rules in
-    rw is (adds_within _ _ _ c.in_ok-write_after_first.ensures.adds c.in_err-begin.ensures.bounded)
+pub returns-clause-bounded : goal.returns-clause-bounded
+returns-clause-bounded g c = on_err_weaker c.begin.result (λ bounded. adds_within _ _ _ c.in_ok-write_after_first.ensures.adds bounded) c.begin.ensures.bounded
 
 pub returns-clause-adds : goal.returns-clause-adds
-returns-clause-adds g c = let b = c.in_ok-begin.ensures.adds in (_, adds_more c.in_ok-write_after_first.ensures.adds b.1)
+returns-clause-adds g c = on_ok_weaker c.begin.result (λ adds. (_, adds_more c.in_ok-write_after_first.ensures.adds adds.1)) c.begin.ensures.adds
