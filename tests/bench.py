@@ -2,11 +2,13 @@
 """bench.py PROGRAM [WORD..]
 
 Times PROGRAM on large property lists and prints ratios: how many times as long as reading the file once (`cat` to
-nothing), each the best of three runs in one go, and the peak memory of a run. Where gcc and libplist's headers are there,
+nothing), each the best of ten runs, all rows in turn, and the peak memory of a run. Where gcc and libplist's headers are there,
 libplist's parse of the same file is timed beside it. With words, only the files whose name has one of them are timed.
 
 FILE is read through the program's windows; `-` (standard input) is read whole, so that the run is over a slice.
 """
+import dataclasses
+import math
 import os
 import pathlib
 import plistlib
@@ -17,7 +19,7 @@ import sys
 import tempfile
 import time
 
-ROUNDS = 3
+ROUNDS = 10
 
 
 def nested():
@@ -33,18 +35,26 @@ FILES = {
 }
 
 
-def measured(words, stdin=None):
-    """The least seconds of some runs, and the exit status and peak memory of the last."""
-    best = None
-    for _ in range(ROUNDS):
-        with open(stdin or os.devnull, "rb") as given:
+@dataclasses.dataclass
+class Row:
+    """A command that is timed, with a file on standard input, and what its runs took."""
+
+    name: str
+    words: list
+    stdin: str = os.devnull
+    seconds: float = math.inf
+    status: int = 0
+    memory: float = 0.0
+
+    def run(self):
+        with open(self.stdin, "rb") as given:
             begun = time.perf_counter()
-            child = subprocess.Popen(words, stdin=given, stdout=subprocess.DEVNULL, stderr=subprocess.DEVNULL)
+            child = subprocess.Popen(self.words, stdin=given, stdout=subprocess.DEVNULL, stderr=subprocess.DEVNULL)
             _, status, usage = os.wait4(child.pid, 0)
             taken = time.perf_counter() - begun
-            child.returncode = os.waitstatus_to_exitcode(status)
-        best = taken if best is None else min(best, taken)
-    return best, child.returncode, usage.ru_maxrss / 1024
+        self.status = child.returncode = os.waitstatus_to_exitcode(status)
+        self.seconds = min(self.seconds, taken)
+        self.memory = max(self.memory, usage.ru_maxrss / 1024)
 
 
 def libplist(folder):
@@ -58,23 +68,23 @@ def libplist(folder):
 
 
 def rows(program, file, sorted_cert, cert, parser, keys):
-    """What is timed: a name, the command, and the file on standard input."""
-    yield "lint, window", [program, "lint", file], None
-    yield "lint, slice", [program, "lint", "-"], file
+    """What is timed beside reading the file once."""
+    yield Row("lint, window", [program, "lint", file])
+    yield Row("lint, slice", [program, "lint", "-"], file)
     if parser:
-        yield "libplist's parse", [parser, file], None
-    yield "check 1, window", [program, "check", file, cert], None
-    yield "check 1, slice", [program, "check", "-", cert], file
-    yield "check 2, window", [program, "check", file, sorted_cert], None
-    yield "check 2, slice", [program, "check", "-", sorted_cert], file
+        yield Row("libplist's parse", [parser, file])
+    yield Row("check 1, window", [program, "check", file, cert])
+    yield Row("check 1, slice", [program, "check", "-", cert], file)
+    yield Row("check 2, window", [program, "check", file, sorted_cert])
+    yield Row("check 2, slice", [program, "check", "-", sorted_cert], file)
     if keys:
         paths = ["/" + key for key in random.Random(1).sample(keys, 1000)]
-        yield "get one, version 1", [program, "get", file, cert, paths[0]], None
+        yield Row("get one, version 1", [program, "get", file, cert, paths[0]])
         # Through the window this row takes minutes: without key lists each look-up walks the keys.
-        yield "get 1,000, version 1, slice", [program, "get", "-", cert, *paths], file
-        yield "get one, version 2", [program, "get", file, sorted_cert, paths[0]], None
-        yield "get 1,000, version 2", [program, "get", file, sorted_cert, *paths], None
-        yield "get 1,000, version 2, slice", [program, "get", "-", sorted_cert, *paths], file
+        yield Row("get 1,000, version 1, slice", [program, "get", "-", cert, *paths], file)
+        yield Row("get one, version 2", [program, "get", file, sorted_cert, paths[0]])
+        yield Row("get 1,000, version 2", [program, "get", file, sorted_cert, *paths])
+        yield Row("get 1,000, version 2, slice", [program, "get", "-", sorted_cert, *paths], file)
 
 
 def make(name, path):
@@ -97,12 +107,17 @@ def main():
             subprocess.run([sys.executable, __file__, "--make", name, file], check=True)
             subprocess.run([program, "certify", file, cert], check=False)
             subprocess.run([program, "certify", "--sorted", file, sorted_cert], check=False)
-            once, _, _ = measured(["cat", file])
-            print(f"{name}: {os.path.getsize(file):,} bytes, read once in {once * 1000:.1f} ms")
             keys = [f"key{i:06}" for i in range(100_000)] if name == "100,000 keys" else []
-            for row, words, stdin in rows(program, file, sorted_cert, cert, parser, keys):
-                seconds, status, memory = measured(words, stdin)
-                print(f"  {row:28} {seconds / once:8.1f} x {seconds * 1000:9.1f} ms {memory:7.1f} MiB  status {status}")
+            once = Row("read once", ["cat", file])
+            timed = list(rows(program, file, sorted_cert, cert, parser, keys))
+            # All rows in turn, so that a machine that grows slower or faster meanwhile does so for all of them.
+            for _ in range(ROUNDS):
+                for row in [once, *timed]:
+                    row.run()
+            print(f"{name}: {os.path.getsize(file):,} bytes, read once in {once.seconds * 1000:.1f} ms")
+            for row in timed:
+                times = f"{row.seconds / once.seconds:8.1f} x {row.seconds * 1000:9.1f} ms"
+                print(f"  {row.name:28} {times} {row.memory:7.1f} MiB  status {row.status}")
 
 
 if __name__ == "__main__":
