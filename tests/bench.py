@@ -59,11 +59,11 @@ class Row:
 
 def libplist(folder):
     """The program that parses by libplist, or None."""
-    source = pathlib.Path(__file__).with_name("bench_libplist.c")
+    sources = [pathlib.Path(__file__).with_name(name) for name in ("bench_libplist.c", "bench_reading.c")]
     target = os.path.join(folder, "bench_libplist")
     if shutil.which("gcc") is None:
         return None
-    built = subprocess.run(["gcc", "-O2", "-o", target, source, "-lplist-2.0"], capture_output=True, check=False)
+    built = subprocess.run(["gcc", "-O2", "-o", target, *sources, "-lplist-2.0"], capture_output=True, check=False)
     return target if built.returncode == 0 else None
 
 

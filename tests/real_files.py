@@ -2,7 +2,8 @@
 """real_files.py PROGRAM
 
 Makes property lists by other writers, Python's plistlib and libplist's plistutil, and runs PROGRAM on them: `lint` says
-yes, `check` takes what `certify` and `certify --sorted` write, and `get` gives the leaves. One file counts as one test.
+yes, `check` takes what `certify` and `certify --sorted` write, `get` gives the leaves, and `ls` from the top down lists
+exactly the values. One file counts as one test.
 Without plistutil its files are skipped by name. The last line printed is `N passed, M failed`, with `, K skipped` where
 some were.
 """
@@ -103,16 +104,36 @@ def line_of(value):
     return None
 
 
+def members_of(value):
+    """The members of a container, each with its path below it."""
+    if isinstance(value, dict):
+        return [(path_of(key), member) for key, member in value.items()]
+    if isinstance(value, list):
+        return [(f"/{i}", member) for i, member in enumerate(value)]
+    return []
+
+
 def paths_and_lines(value):
     """The top, and the members of the top, at most 200 of them."""
-    if isinstance(value, dict):
-        below = [(path_of(key), member) for key, member in value.items()]
-    elif isinstance(value, list):
-        below = [(f"/{i}", member) for i, member in enumerate(value)]
-    else:
-        below = []
+    below = members_of(value)
     rows = [("", value)] + below[:100] + below[-100:]
     return [(path, line_of(member)) for path, member in rows if line_of(member)]
+
+
+def try_walk(stage, value, path=""):
+    """Lists a value and then each container in it."""
+    rows = [(path + step, member) for step, member in members_of(value)]
+    if not isinstance(value, (dict, list)):
+        rows = [(path, value)]
+    lines = stage.run("ls", stage.file, path).split("\n")[:-1]
+    assert len(lines) == len(rows), f"bplint ls {path}: {len(lines)} lines in place of {len(rows)}"
+    for (member_path, member), line in zip(rows, lines, strict=True):
+        got_path, got = line.split("\t")
+        assert got_path == member_path, f"bplint ls {path}: {got_path} in place of {member_path}"
+        wanted = line_of(member)
+        assert wanted is None or got == wanted, f"bplint ls {path}: wanted {wanted}, got {got}"
+        if member is not value and isinstance(member, (dict, list)):
+            try_walk(stage, member, member_path)
 
 
 def try_file(stage, value):
@@ -126,6 +147,7 @@ def try_file(stage, value):
         lines = stage.run("get", stage.file, stage.cert, *(path for path, _ in rows)).split("\n")[:-1]
         for (path, wanted), got in zip(rows, lines, strict=True):
             assert got == wanted, f"bplint get {path}: wanted {wanted}, got {got}"
+    try_walk(stage, value)
 
 
 def all_files():

@@ -1,5 +1,6 @@
 /* Stands before the C library's allocator and refuses one growth: the one whose number, from 1, is in REFUSED_GROWTH.
-   Where it does, it writes a byte to the file descriptor in REFUSED_GROWTH_TOLD. */
+   Where it does, it writes a zero byte to the file descriptor in REFUSED_GROWTH_TOLD. With the number -1 it refuses none, and
+   writes a zero byte for each. A program may ask it how many blocks are taken. */
 #include <errno.h>
 #include <stddef.h>
 #include <stdlib.h>
@@ -8,9 +9,11 @@
 extern void *__libc_malloc(size_t size);
 extern void *__libc_calloc(size_t count, size_t size);
 extern void *__libc_realloc(void *block, size_t size);
+extern void __libc_free(void *block);
 
 static long left = 0;
 static int told = -1;
+static long taken = 0;
 
 __attribute__((constructor)) static void start(void)
 {
@@ -20,16 +23,44 @@ __attribute__((constructor)) static void start(void)
     told = descriptor ? atoi(descriptor) : -1;
 }
 
+static void tell(void)
+{
+    if (told >= 0 && write(told, "", 1) != 1)
+        _exit(99);
+}
+
 static int refuses(void)
 {
-    if (left == 0 || --left != 0)
+    if (left < 0)
+        tell();
+    if (left <= 0 || --left != 0)
         return 0;
-    if (told >= 0 && write(told, "r", 1) != 1)
-        _exit(99);
+    tell();
     errno = ENOMEM;
     return 1;
 }
 
-void *malloc(size_t size) { return refuses() ? NULL : __libc_malloc(size); }
-void *calloc(size_t count, size_t size) { return refuses() ? NULL : __libc_calloc(count, size); }
-void *realloc(void *block, size_t size) { return refuses() ? NULL : __libc_realloc(block, size); }
+static void *counted(void *block)
+{
+    if (block)
+        taken++;
+    return block;
+}
+
+long blocks_taken(void) { return taken; }
+void *malloc(size_t size) { return refuses() ? NULL : counted(__libc_malloc(size)); }
+void *calloc(size_t count, size_t size) { return refuses() ? NULL : counted(__libc_calloc(count, size)); }
+
+void *realloc(void *block, size_t size)
+{
+    void *moved = refuses() ? NULL : __libc_realloc(block, size);
+
+    return block ? moved : counted(moved);
+}
+
+void free(void *block)
+{
+    if (block)
+        taken--;
+    __libc_free(block);
+}

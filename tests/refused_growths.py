@@ -1,13 +1,21 @@
 #!/usr/bin/env python3
 """refused_growths.py BPLINT CALLS
 
-Runs BPLINT with its Nth growth refused, for N = 1, 2, .. until a run meets no refusal. Each run ends with status 4 and
-`memory` on standard error, or with its usual answer. Nothing is written where memory was refused (by `print` at most a
-first part of its text), and OUT is left as it was. CALLS is bplist_calls, which makes the calls that no subcommand makes:
-each run of it ends with status 1 and an error that names memory, or with its usual answer. One subcommand or call on one
-file counts as one test. Without gcc nothing is run. The last line printed is `N passed, M failed`, with `, K skipped` where
-some were.
+Runs programs with one growth of memory refused, the first, the second and so on.
+
+BPLINT: each run in which a growth was refused ends with status 4 and `memory` on standard error, up to the first run that
+meets no refusal. Nothing is written then (by `print` at most a first part of its text), and OUT is left as it was. A list that
+std collects is the exception: std begins it with room for all items, and where that is refused it grows the list item by item.
+Such are the words of each command, and the objects of a circle.
+
+CALLS is bplist_calls, which makes each call of the library twice on the same value. Where a growth within the first is
+refused that call answers `Memory`, and the second answers as it does without a refusal; where it is the growth of the
+answer's text, bplist_calls ends and names memory. Each call of `EVER` grows on some file, and no other call does.
+
+One subcommand, or one call, on one file counts as one test. Without gcc nothing is run. The last line printed is
+`N passed, M failed`, with `, K skipped` where some were.
 """
+import concurrent.futures
 import dataclasses
 import os
 import pathlib
@@ -21,6 +29,7 @@ from run_vectors import doubling, escaped, expression, number
 SOURCE = pathlib.Path(__file__).with_name("refuse_growth.c")
 MOST_GROWTHS = 10_000
 UNTOUCHED = b"as it was"
+MEMORY = b"Err(Memory)"
 
 FILES = {
     "smallest-file": (expression("hd 09 08 tr(1,1,1,0,9)"), [1]),
@@ -36,6 +45,12 @@ FILES = {
     "a-to-one": (expression("hd d10102 5161 1001 080b0d tr(1,1,3,0,15)"), [2, 1, 1]),
 }
 
+# Files that hold no value: `lint` and `certify` write a fault's line.
+FAULTY = {
+    "reached-broken": expression("hd a101 7f 080a tr(1,1,2,0,11)"),
+    "circle-below-top": expression("hd a20102 09 a103 a102 080b0c0e tr(1,1,4,0,16)"),
+}
+
 # `\e` is the empty word.
 COMMANDS = [
     "lint FILE",
@@ -48,11 +63,28 @@ COMMANDS = [
     "print FILE CERT /a 100",
 ]
 
+# In how many growths a run of a row may give its usual answer, since std collects so many lists; 1 in all others.
+COLLECTED = {"circle-below-top": 2}
+
 # What else is run on a row.
 MORE = {"doubling-64-text": ["print FILE CERT " + 62 * "/0" + " 13"]}
 
-# The path of the first two is empty.
-CALLS = ["size\t", "keys\t", "member\t0\t0", "bytes_of\t1"]
+# Calls of bplist_calls, as they are named there, that grow. All others take no memory.
+EVER = {
+    "from_octets",
+    "check-1",
+    "Lint",
+    "Upgrade",
+    "Octets",
+    "Face",
+    "Answer",
+    "AnswerAll",
+    "Measure",
+    "Print",
+    "Parse",
+    "TextOfUnits",
+    "TextOfBytes",
+}
 
 
 @dataclasses.dataclass(frozen=True)
@@ -63,42 +95,36 @@ class Ran:
     out: bytes
 
 
-def certificate(heights):
-    return b"bplcert1" + number(len(heights), 8) + b"".join(number(height, 4) for height in heights)
-
-
-@dataclasses.dataclass(frozen=True)
-class Task:
-    """A run of bplint with these words, or of bplist_calls, which has none, with this standard input."""
-
-    program: str
-    words: list
-    given: bytes
-
-    def is_refusal(self, ran, usual):
-        if not self.words:
-            return ran.status == 1 and b"memory" in ran.stderr.lower() and ran.stdout == b""
-        wrote_nothing = usual.stdout.startswith(ran.stdout) if self.is_print() else ran.stdout == b""
-        return ran.status == 4 and ran.stderr == b"memory\n" and wrote_nothing and ran.out == UNTOUCHED
-
-    def is_print(self):
-        return self.words[:1] == ["print"]
-
-
 @dataclasses.dataclass(frozen=True)
 class Outcome:
-    """What the run gives when no growth is refused, and what is wrong with the first run that ends in another way."""
+    """A test, and what is wrong with it."""
 
     row: str
-    task: Task
-    usual: Ran
+    name: str
     wrong: str
+
+
+@dataclasses.dataclass(frozen=True)
+class Block:
+    """What bplist_calls says of a call: its name, the number of the first growth in it and how many there are, and its
+    answers."""
+
+    name: str
+    begin: int
+    growths: int
+    first: bytes
+    again: bytes
+
+
+def certificate(heights):
+    return b"bplcert1" + number(len(heights), 8) + b"".join(number(height, 4) for height in heights)
 
 
 class Stage:
     """A folder with FILE, CERT and OUT, and a preloaded allocator."""
 
     def __init__(self, folder, library):
+        os.makedirs(folder, exist_ok=True)
         self.paths = {name: pathlib.Path(folder, name.lower()) for name in ("FILE", "CERT", "OUT")}
         self.library = library
 
@@ -106,16 +132,18 @@ class Stage:
         for name, held in (("FILE", file), ("CERT", certificate(heights))):
             self.paths[name].write_bytes(held.hex().encode() + b"\n" if is_hex else held)
 
-    def run(self, task, refused):
-        """Makes the run, and says whether a growth was refused."""
+    def preloaded(self, refused, told):
+        return {"LD_PRELOAD": self.library, "REFUSED_GROWTH": str(refused), "REFUSED_GROWTH_TOLD": str(told)}
+
+    def run(self, program, words, refused):
+        """Runs bplint, and says whether a growth was refused."""
         self.paths["OUT"].write_bytes(UNTOUCHED)
         reading, writing = os.pipe()
-        words = [str(self.paths.get(word, os.fsdecode(escaped(word)))) for word in task.words]
+        words = [str(self.paths.get(word, os.fsdecode(escaped(word)))) for word in words]
         ran = subprocess.run(
-            [task.program, *words],
-            input=task.given,
+            [program, *words],
             capture_output=True,
-            env={"LD_PRELOAD": self.library, "REFUSED_GROWTH": str(refused), "REFUSED_GROWTH_TOLD": str(writing)},
+            env=self.preloaded(refused, writing),
             pass_fds=[writing],
             timeout=60,
             check=False,
@@ -125,43 +153,109 @@ class Stage:
             was_refused = told.read() != b""
         return Ran(ran.returncode, ran.stdout, ran.stderr, self.paths["OUT"].read_bytes()), was_refused
 
+    def calls(self, program, file, refused):
+        """Runs bplist_calls, and answers what it says of each call, and whether it ends for want of memory."""
+        ran = subprocess.run(
+            [program, "twice"],
+            input=file,
+            capture_output=True,
+            env=self.preloaded(refused, 1),
+            timeout=60,
+            check=False,
+        )
+        wants_memory = ran.returncode == 1 and b"memory" in ran.stderr.lower()
+        assert ran.returncode == 0 or wants_memory, f"{program} twice, growth {refused}: {ran.stderr.decode()}"
+        return blocks(ran.stdout), wants_memory
 
-def first_wrong(stage, task, usual):
+
+def blocks(output):
+    """The calls in what bplist_calls writes, among which each growth that is told stands as a zero byte. The last is left out
+    where it has no answers."""
+    before, *parts = output.split(b"call ")
+    grown, read = before.count(b"\0"), []
+    for part in parts:
+        within, made, said = part.partition(b"made\n")
+        name, growths = within.split(b"\n", 1)
+        first, again, _ = [*said.replace(b"\0", b"").split(b"\n"), b"", b""][:3]
+        if made and again:
+            read.append(Block(name.decode(), grown + 1, len(growths), first, again))
+        grown += part.count(b"\0")
+    return read
+
+
+def is_refusal(words, ran, usual):
+    wrote_nothing = usual.stdout.startswith(ran.stdout) if words[0] == "print" else ran.stdout == b""
+    return ran.status == 4 and ran.stderr == b"memory\n" and wrote_nothing and ran.out == UNTOUCHED
+
+
+def command_outcome(stage, program, row, words):
+    usual, _ = stage.run(program, words, 0)
+    name = " ".join(words)
+    spared = COLLECTED.get(row, 1)
     for refused in range(1, MOST_GROWTHS):
-        ran, was_refused = stage.run(task, refused)
+        ran, was_refused = stage.run(program, words, refused)
         if not was_refused:
-            return "" if ran == usual else f"with no growth refused: {ran}"
-        if ran != usual and not task.is_refusal(ran, usual):
-            return f"growth {refused} refused: {ran}"
-    return f"growth {MOST_GROWTHS} was still refused"
+            return Outcome(row, name, "" if ran == usual else f"with no growth refused: {ran}")
+        if ran == usual and spared:
+            spared -= 1
+        elif not is_refusal(words, ran, usual):
+            return Outcome(row, name, f"growth {refused} refused: {ran}")
+    return Outcome(row, name, f"growth {MOST_GROWTHS} was still refused")
 
 
-def outcome(stage, row, task):
-    usual, _ = stage.run(task, 0)
-    return Outcome(row, task, usual, first_wrong(stage, task, usual))
+def command_outcomes(folder, library, program, pool):
+    def outcomes(row, file, heights, is_hex, lines):
+        stage = Stage(os.path.join(folder, f"{row}-{is_hex}"), library)
+        stage.hold(file, heights, is_hex)
+        commands = [line.split(" ") + (["--hex"] if is_hex else []) for line in lines]
+        return [command_outcome(stage, program, row, words) for words in commands]
+
+    tasks = [(row, *held, is_hex, COMMANDS + MORE.get(row, [])) for row, held in FILES.items() for is_hex in (False, True)]
+    tasks += [(row, file, [], False, COMMANDS[:3]) for row, file in FAULTY.items()]
+    return [one for told in pool.map(lambda task: outcomes(*task), tasks) for one in told]
 
 
-def outcomes(stage, bplint, calls):
-    for row, (file, heights) in FILES.items():
-        for is_hex in (False, True):
-            stage.hold(file, heights, is_hex)
-            for line in COMMANDS + MORE.get(row, []):
-                words = line.split(" ") + (["--hex"] if is_hex else [])
-                yield outcome(stage, row, Task(bplint, words, b""))
-        for call in CALLS:
-            line = "\t".join([file.hex(), certificate(heights).hex(), call]) + "\n"
-            yield outcome(stage, row, Task(calls, [], line.encode()))
+def wrong_answers(usual, at, told):
+    """What is wrong where the call with this number met a refusal."""
+    for i, (was, now) in enumerate(zip(usual, told, strict=True)):
+        if i == at and now.first != MEMORY:
+            return f"answers {now.first.decode()}"
+        if i != at and now.first != was.first:
+            return f"afterwards {now.name} answers {now.first.decode()}"
+        if now.again != was.again:
+            return f"made again, {now.name} answers {now.again.decode()}"
+    return ""
+
+
+def call_outcomes(stage, program, pool):
+    """One outcome a call and file, and one for each call that ought to grow and does so on no file."""
+    grew = set()
+
+    def wrong_of(file, usual, at, refused):
+        told, wants_memory = stage.calls(program, file, refused)
+        if wants_memory:
+            return "" if told == usual[: len(told)] and len(told) == at else "ends for want of memory elsewhere"
+        grew.add(usual[at].name)
+        return wrong_answers(usual, at, told)
+
+    for row, (file, _) in FILES.items():
+        counted, _ = stage.calls(program, file, -1)
+        usual, _ = stage.calls(program, file, 0)
+        tasks = [(file, usual, at, block.begin + n) for at, block in enumerate(counted) for n in range(block.growths)]
+        told = list(pool.map(lambda task: wrong_of(*task), tasks))
+        wrong = {at: f"growth {refused} refused: {why}" for (_, _, at, refused), why in zip(tasks, told) if why}
+        wrong |= {at: "answers otherwise when made again" for at, block in enumerate(usual) if block.first != block.again}
+        for at, block in enumerate(usual):
+            yield Outcome(row, block.name, wrong.get(at, ""))
+    for name in sorted(EVER ^ grew):
+        yield Outcome("all files", name, "grows" if name in grew else "grows on none of them")
 
 
 def report(told):
     """Prints what is wrong and the closing line, and answers how many failed."""
-    printed = [one for one in told if one.task.is_print() and one.usual.status == 0]
-    assert any(one.usual.stdout for one in printed), "print writes no text, so no growth of its own is refused"
-    assert all(one.usual.stdout for one in told if not one.task.words), "a call without an answer"
     failed = [one for one in told if one.wrong]
     for one in failed:
-        words = one.task.words or one.task.given.decode().split()[2:]
-        print(f"{one.row}: {' '.join(words)}\n  {one.wrong}")
+        print(f"{one.row}: {one.name}\n  {one.wrong}")
     print(f"{len(told) - len(failed)} passed, {len(failed)} failed")
     return len(failed)
 
@@ -178,7 +272,9 @@ def main():
     with tempfile.TemporaryDirectory(prefix="bplint") as folder:
         library = os.path.join(folder, "refuse_growth.so")
         subprocess.run([compiler, "-shared", "-fPIC", "-O1", "-o", library, SOURCE], check=True)
-        told = list(outcomes(Stage(folder, library), bplint, calls))
+        with concurrent.futures.ThreadPoolExecutor(os.cpu_count()) as pool:
+            told = command_outcomes(folder, library, bplint, pool)
+            told += call_outcomes(Stage(folder, library), calls, pool)
     return 1 if report(told) else 0
 
 

@@ -1,18 +1,22 @@
 -- What the program takes from a command line that clap parsed. Source: profile.
 use Rattle.std.specs.Prelude.{◌≡◌, ◌<◌, ◌^◌, ◌∷◌, if◌then◌else◌, ℕ, Bool, true, false, List, [], Option, None, Some}
-use Rattle.std.specs.Prelude.{codes, option_map, unwrap_or}
+use Rattle.std.specs.Prelude.{codes, map, option_map, string_bytes, unwrap_or}
 use Rattle.std.specs.Str.{bytes_eq}
 use Rattle.std.specs.Str.Parse.{IsNumeral, digits_value, without_leading_plus}
 use Rattle.clap.specs.Words.{first_value, found_of, matched_of, one_text, raw_values}
 use Rattle.clap.specs.declared.parser.matches.ArgMatches.{ArgMatches}
+use Rattle.bplint.specs.declared.args.Line.{Line}
+use Rattle.bplint.specs.declared.args.Line.TheVariants.{Run}
+use Rattle.bplint.specs.declared.args.Shown.{Shown}
+use Rattle.bplint.specs.declared.args.Shown.TheVariants.{Map, Members, Text, Values}
+use Rattle.bplint_engine.specs.Commands.{PrintsOnePath}
 use Rattle.bplint_engine.specs.declared.command.Verb.{Verb}
 use Rattle.bplint_engine.specs.declared.command.Verb.TheVariants.{Lint, Check, Get, Certify, Print}
 
--- the verb of a subcommand's name, if it is one
+-- the verb of a subcommand's name, if it is one command over one FILE
 abbrev pub verb_named : List ℕ → Option Verb
 verb_named name =
-    if bytes_eq name (codes "lint") then Some Lint
-    else if bytes_eq name (codes "certify") then Some Certify
+    if bytes_eq name (codes "certify") then Some Certify
     else if bytes_eq name (codes "check") then Some Check
     else if bytes_eq name (codes "get") then Some Get
     else if bytes_eq name (codes "print") then Some Print
@@ -22,10 +26,19 @@ verb_named name =
 abbrev pub text_in : ArgMatches → List ℕ → List ℕ → List ℕ
 text_in matches id default = unwrap_or (first_value (found_of matches) id) default
 
+-- the texts of an argument that may be given more than once
+abbrev pub texts_in : ArgMatches → List ℕ → List (List ℕ)
+texts_in matches id = unwrap_or (option_map raw_values (matched_of (found_of matches) id)) []
+
+-- the path texts of `show`: the empty one where none was given
+abbrev pub shown_in : List (List ℕ) → List (List ℕ)
+shown_in [] = [] ∷ []
+shown_in (text ∷ texts) = text ∷ texts
+
 -- the path texts that a verb takes: the one of Print, all of Get, and else none
 abbrev pub paths_in : Verb → ArgMatches → List (List ℕ)
 paths_in Print matches = text_in matches (codes "PATH") [] ∷ []
-paths_in Get matches = unwrap_or (option_map raw_values (matched_of (found_of matches) (codes "PATH"))) []
+paths_in Get matches = texts_in matches (codes "PATH")
 paths_in Lint matches = []
 paths_in Certify matches = []
 paths_in Check matches = []
@@ -42,3 +55,18 @@ IsLimit matches limit = (one_text (found_of matches) (codes "LIMIT") ≡ None �
     × ((text : List ℕ) → one_text (found_of matches) (codes "LIMIT") ≡ Some text
     → IsNumeral 10 (without_leading_plus text) → digits_value 10 (without_leading_plus text) < 2 ^ 64
     → limit ≡ digits_value 10 (without_leading_plus text))
+
+-- a line that prints by the engine has exactly one path
+abbrev pub RunsOnePath : Line → Type 0
+RunsOnePath (Run run) = PrintsOnePath run.command
+RunsOnePath _ = Unit {0}
+
+-- what `show` and `ls` show is what the subcommand and its flags name: for `ls` the members under PATH, with `--text` the
+-- text under PATH up to the limit, and else what lies under each PATH
+abbrev pub IsShownBy : Bool → ArgMatches → Shown → Type 0
+IsShownBy ls matches Map = ⊥
+IsShownBy ls matches (Members path) = (ls ≡ true) × (path.now ≡ text_in matches (codes "PATH") [])
+IsShownBy ls matches (Text path limit) =
+    (ls ≡ false) × (path.now ≡ text_in matches (codes "PATH") []) × IsLimit matches limit
+IsShownBy ls matches (Values paths) =
+    (ls ≡ false) × (map (λ path. string_bytes path) paths.items ≡ shown_in (texts_in matches (codes "PATH")))

@@ -1,18 +1,45 @@
 //! The command line, by `clap`.
-//!
-//! Each argument is made by a function of its own: many of them in one function take minutes to check.
 ghost use Rattle.std.specs.Prelude.{◌≡◌, ◌≢◌, ◌∷◌, [], IfOk, codes, false, map, string_bytes};
-ghost use Rattle.bplint.specs.Lines.{IsFlag, IsLimit, paths_in, text_in, verb_named};
+ghost use Rattle.bplint.specs.Lines.{IsFlag, IsLimit, IsShownBy, RunsOnePath, paths_in, shown_in, text_in, texts_in, verb_named};
+ghost use Rattle.std.specs.Str.{bytes_eq};
 ghost use Rattle.bplint_engine.specs.Commands.{PrintsOnePath};
 
-use bplint_engine::{Command, Verb};
+use crate::subcommands::bplint;
+use bplint_engine::{Command, RULES, Verb, rule_of_word};
+use bplist_objects::{Rule, rule_name};
 use clap::error::ErrorKind;
-use clap::{Arg, ArgAction, ArgMatches, Error, value_parser};
+use clap::{ArgMatches, Error};
 use std::alloc::{AllocError, Global};
 
 /// A command line that was taken.
 #[derive(Debug, Drop)]
-pub struct Line<'a> {
+pub enum Line<'a> {
+    /// `lint`, of one file or several.
+    Lint(Lint<'a>),
+    /// `certify`, `check`, `get` or `print`.
+    Run(Run<'a>),
+    /// `show`, `ls` or `map`.
+    Look(Look<'a>),
+    /// `explain`, of this rule.
+    Explain(Rule),
+}
+
+/// A line of `lint`.
+#[derive(Debug, Drop)]
+pub struct Lint<'a> {
+    /// The FILEs, where `-` is standard input.
+    pub files: Vec<&'a str>,
+    /// Whether they hold hexadecimal text.
+    pub hex: bool,
+    /// Whether nothing is printed of a file that holds a value.
+    pub quiet: bool,
+    /// Whether more is said under a fault's line.
+    pub explain: bool,
+}
+
+/// A line for one command of the engine.
+#[derive(Debug, Drop)]
+pub struct Run<'a> {
     /// What the engine is asked to do.
     pub command: Command,
     /// FILE, where `-` is standard input.
@@ -21,112 +48,37 @@ pub struct Line<'a> {
     pub cert: &'a str,
     /// OUT, and standard output where the verb has none.
     pub out: &'a str,
+    /// Whether more is said under a fault's line. Only Check has the flag.
+    pub explain: bool,
 }
 
-fn hex<'a>(alloc: Global) -> Arg<'a> {
-    Arg::new(alloc, "hex")
-        .long("hex")
-        .action(ArgAction::SetTrue)
-        .help("FILE and CERT hold hexadecimal text, and OUT will")
+/// A line that asks a file itself, with no certificate.
+#[derive(Debug, Drop)]
+pub struct Look<'a> {
+    /// FILE, where `-` is standard input.
+    pub file: &'a str,
+    /// Whether it holds hexadecimal text.
+    pub hex: bool,
+    /// What is shown of its value.
+    pub shown: Shown<'a>,
 }
 
-fn operand<'a>(alloc: Global, name: &'a str, help: &'a str) -> Arg<'a> {
-    Arg::new(alloc, name).required(true).help(help)
-}
-
-fn file<'a>(alloc: Global) -> Arg<'a> {
-    operand(
-        alloc,
-        "FILE",
-        "A binary property list, or - for standard input",
-    )
-}
-
-fn out<'a>(alloc: Global) -> Arg<'a> {
-    operand(alloc, "OUT", "Where to write, or - for standard output")
-}
-
-fn sorted<'a>(alloc: Global) -> Arg<'a> {
-    Arg::new(alloc, "sorted")
-        .long("sorted")
-        .action(ArgAction::SetTrue)
-        .help("Write each dictionary's keys in sorted order too")
-}
-
-fn cert<'a>(alloc: Global) -> Arg<'a> {
-    operand(alloc, "CERT", "A certificate of FILE")
-}
-
-fn path<'a>(alloc: Global) -> Arg<'a> {
-    operand(
-        alloc,
-        "PATH",
-        "A key path, as /key/0, or the empty text for the whole",
-    )
-}
-
-fn paths<'a>(alloc: Global) -> Arg<'a> {
-    path(alloc).num_args(1..).action(ArgAction::Append)
-}
-
-fn limit<'a>(alloc: Global) -> Arg<'a> {
-    operand(
-        alloc,
-        "LIMIT",
-        "How many bytes to print at most, the line feed not counted",
-    )
-    .value_parser(value_parser!(u64))
-}
-
-fn subcommand<'a>(
-    alloc: Global,
-    name: &'a str,
-    about: &'a str,
-) -> Result<clap::Command<'a>, AllocError> {
-    clap::Command::new(alloc, name)
-        .about(about)
-        .arg(hex(alloc))?
-        .arg(file(alloc))
-}
-
-fn lint<'a>(alloc: Global) -> Result<clap::Command<'a>, AllocError> {
-    subcommand(alloc, "lint", "Says whether FILE holds a value")
-}
-
-fn certify<'a>(alloc: Global) -> Result<clap::Command<'a>, AllocError> {
-    subcommand(alloc, "certify", "Writes a certificate of FILE to OUT")?
-        .arg(sorted(alloc))?
-        .arg(out(alloc))
-}
-
-fn check<'a>(alloc: Global) -> Result<clap::Command<'a>, AllocError> {
-    subcommand(alloc, "check", "Checks a certificate of FILE")?.arg(cert(alloc))
-}
-
-fn get<'a>(alloc: Global) -> Result<clap::Command<'a>, AllocError> {
-    subcommand(alloc, "get", "Prints what lies under each PATH")?
-        .arg(cert(alloc))?
-        .arg(paths(alloc))
-}
-
-fn print<'a>(alloc: Global) -> Result<clap::Command<'a>, AllocError> {
-    let about = "Prints the value under PATH as old-style text";
-    subcommand(alloc, "print", about)?
-        .arg(cert(alloc))?
-        .arg(path(alloc))?
-        .arg(limit(alloc))
-}
-
-fn bplint<'a>(alloc: Global) -> Result<clap::Command<'a>, AllocError> {
-    clap::Command::new(alloc, "bplint")
-        .about("Lints, checks and reads binary property lists")
-        .version("0.1.0")
-        .subcommand_required(true)
-        .subcommand(lint(alloc)?)?
-        .subcommand(certify(alloc)?)?
-        .subcommand(check(alloc)?)?
-        .subcommand(get(alloc)?)?
-        .subcommand(print(alloc)?)
+/// What is shown of a file's value.
+#[derive(Debug, Drop)]
+pub enum Shown<'a> {
+    /// What lies under each of these path texts.
+    Values(Vec<String>),
+    /// The old-style text of the value under this path text.
+    Text {
+        /// The path text.
+        path: &'a str,
+        /// How many bytes the text may have, its line feed not counted.
+        limit: u64,
+    },
+    /// The members of the value under this path text.
+    Members(&'a str),
+    /// The map of the file.
+    Map,
 }
 
 /// The error for words that name no subcommand. By `subcommand_required` clap answers it itself, so that it is never
@@ -136,11 +88,11 @@ fn no_subcommand(alloc: Global) -> Result<Error, AllocError> {
     command.error(ErrorKind::MissingSubcommand, "no subcommand was given")
 }
 
+/// The verb of a subcommand that is one command of the engine over one FILE.
 fn verb_of(name: &str) -> Option<Verb>
     ensures { result ≡ verb_named name.now }
 {
     match name {
-        "lint" => Some(Verb::Lint),
         "certify" => Some(Verb::Certify),
         "check" => Some(Verb::Check),
         "get" => Some(Verb::Get),
@@ -176,43 +128,165 @@ fn paths_of(alloc: Global, verb: Verb, matches: &ArgMatches<'_>) -> Result<Vec<S
     }
 }
 
-fn line_of<'a>(alloc: Global, verb: Verb, matches: &ArgMatches<'a>) -> Result<Line<'a>, AllocError>
-    ensures one_path { IfOk result (λ line. PrintsOnePath line.command) }
-    ensures verb { IfOk result (λ line. line.command.verb ≡ verb) }
-    ensures paths { IfOk result (λ line. line.command.paths ≡ paths_in verb matches.now) }
-    ensures limit { IfOk result (λ line. IsLimit matches.now line.command.limit) }
-    ensures hex { IfOk result (λ line. IsFlag matches.now (codes "hex") line.command.hex) }
-    ensures sorted { IfOk result (λ line. verb ≡ Verb.Certify → IsFlag matches.now (codes "sorted") line.command.sorted) }
-    ensures plain { IfOk result (λ line. verb ≢ Verb.Certify → line.command.sorted ≡ false) }
-    ensures file { IfOk result (λ line. line.file.now ≡ text_in matches.now (codes "FILE") []) }
-    ensures cert { IfOk result (λ line. line.cert.now ≡ text_in matches.now (codes "CERT") []) }
-    ensures out { IfOk result (λ line. line.out.now ≡ text_in matches.now (codes "OUT") (codes "-")) }
+fn reads_hex(matches: &ArgMatches<'_>) -> bool
+    ensures { IsFlag matches.now (codes "hex") result }
 {
-    Ok(Line {
+    matches.get_flag("hex")
+}
+
+fn limit_in(matches: &ArgMatches<'_>) -> u64
+    ensures { IsLimit matches.now result }
+{
+    matches.get_one::<u64>("LIMIT").unwrap_or(0)
+}
+
+fn run_of<'a>(alloc: Global, verb: Verb, matches: &ArgMatches<'a>) -> Result<Run<'a>, AllocError>
+    ensures one_path { IfOk result (λ run. PrintsOnePath run.command) }
+    ensures verb { IfOk result (λ run. run.command.verb ≡ verb) }
+    ensures paths { IfOk result (λ run. run.command.paths ≡ paths_in verb matches.now) }
+    ensures limit { IfOk result (λ run. IsLimit matches.now run.command.limit) }
+    ensures hex { IfOk result (λ run. IsFlag matches.now (codes "hex") run.command.hex) }
+    ensures sorted { IfOk result (λ run. verb ≡ Verb.Certify → IsFlag matches.now (codes "sorted") run.command.sorted) }
+    ensures plain { IfOk result (λ run. verb ≢ Verb.Certify → run.command.sorted ≡ false) }
+    ensures file { IfOk result (λ run. run.file.now ≡ text_in matches.now (codes "FILE") []) }
+    ensures cert { IfOk result (λ run. run.cert.now ≡ text_in matches.now (codes "CERT") []) }
+    ensures out { IfOk result (λ run. run.out.now ≡ text_in matches.now (codes "OUT") (codes "-")) }
+    ensures explain { IfOk result (λ run. verb ≡ Verb.Check → IsFlag matches.now (codes "explain") run.explain) }
+{
+    Ok(Run {
         command: Command {
             verb,
             paths: paths_of(alloc, verb, matches)?,
-            limit: matches.get_one::<u64>("LIMIT").unwrap_or(0),
-            hex: matches.get_flag("hex"),
+            limit: limit_in(matches),
+            hex: reads_hex(matches),
             sorted: verb == Verb::Certify && matches.get_flag("sorted"),
         },
         file: matches.get_str("FILE").unwrap_or(""),
         cert: matches.get_str("CERT").unwrap_or(""),
         out: matches.get_str("OUT").unwrap_or("-"),
+        explain: verb == Verb::Check && matches.get_flag("explain"),
     })
+}
+
+fn lint_of<'a>(alloc: Global, matches: &ArgMatches<'a>) -> Result<Lint<'a>, AllocError>
+    ensures files { IfOk result (λ lint. map (λ file. file.now) lint.files.items ≡ texts_in matches.now (codes "FILE")) }
+    ensures hex { IfOk result (λ lint. IsFlag matches.now (codes "hex") lint.hex) }
+    ensures quiet { IfOk result (λ lint. IsFlag matches.now (codes "quiet") lint.quiet) }
+    ensures explain { IfOk result (λ lint. IsFlag matches.now (codes "explain") lint.explain) }
+{
+    Ok(Lint {
+        files: matches.get_strs("FILE").unwrap_or(&[]).to_vec(alloc)?,
+        hex: reads_hex(matches),
+        quiet: matches.get_flag("quiet"),
+        explain: matches.get_flag("explain"),
+    })
+}
+
+/// The path texts of `show`: with none given the empty one, for the whole.
+fn shown_paths(alloc: Global, matches: &ArgMatches<'_>) -> Result<Vec<String>, AllocError>
+    ensures { IfOk result (λ paths. map (λ path. string_bytes path) paths.items ≡ shown_in (texts_in matches.now (codes "PATH"))) }
+{
+    match matches.get_strs("PATH").unwrap_or(&[]) {
+        [] => one_path(alloc, ""),
+        texts => all_paths(alloc, texts),
+    }
+}
+
+fn shown_of<'a>(
+    alloc: Global,
+    name: &str,
+    matches: &ArgMatches<'a>,
+) -> Result<Shown<'a>, AllocError>
+    ensures { IfOk result (IsShownBy (bytes_eq name.now (codes "ls")) matches.now) }
+{
+    let path = matches.get_str("PATH").unwrap_or("");
+    if name == "ls" {
+        return Ok(Shown::Members(path));
+    }
+    if matches.get_flag("text") {
+        return Ok(Shown::Text {
+            path,
+            limit: limit_in(matches),
+        });
+    }
+    Ok(Shown::Values(shown_paths(alloc, matches)?))
+}
+
+fn look_of<'a>(alloc: Global, name: &str, matches: &ArgMatches<'a>) -> Result<Look<'a>, AllocError>
+    ensures file { IfOk result (λ look. look.file.now ≡ text_in matches.now (codes "FILE") []) }
+    ensures hex { IfOk result (λ look. IsFlag matches.now (codes "hex") look.hex) }
+{
+    Ok(Look {
+        file: matches.get_str("FILE").unwrap_or(""),
+        hex: reads_hex(matches),
+        shown: shown_of(alloc, name, matches)?,
+    })
+}
+
+fn map_of<'a>(matches: &ArgMatches<'a>) -> Look<'a>
+    ensures file { result.file.now ≡ text_in matches.now (codes "FILE") [] }
+    ensures hex { IsFlag matches.now (codes "hex") result.hex }
+    ensures shown { result.shown ≡ Shown.Map }
+{
+    Look {
+        file: matches.get_str("FILE").unwrap_or(""),
+        hex: reads_hex(matches),
+        shown: Shown::Map,
+    }
+}
+
+/// Whether a line of `show --text` names more than its one path.
+fn has_spare_path(name: &str, matches: &ArgMatches<'_>) -> bool {
+    name == "show" && matches.get_flag("text") && matches.get_strs("PATH").unwrap_or(&[]).len() > 1
+}
+
+/// The error for a second path behind `show --text`.
+fn spare_path(alloc: Global) -> Result<Error, AllocError> {
+    let mut command = bplint(alloc)?;
+    command.error(ErrorKind::TooManyValues, "--text takes one PATH")
 }
 
 /// Takes a command line, or says why not in `clap`'s words.
 pub fn read_line<'a>(alloc: Global, words: &'a [String]) -> Result<Line<'a>, Error>
-    ensures { IfOk result (λ line. PrintsOnePath line.command) }
+    ensures { IfOk result RunsOnePath }
 {
     let matches = bplint(alloc)?.try_get_matches_from(words)?;
-    if let Some((name, below)) = matches.subcommand() {
-        if let Some(verb) = verb_of(name) {
-            return Ok(line_of(alloc, verb, below)?);
-        }
+    let Some((name, below)) = matches.subcommand() else {
+        return Err(no_subcommand(alloc)?);
+    };
+    if has_spare_path(name, below) {
+        return Err(spare_path(alloc)?);
     }
-    Err(no_subcommand(alloc)?)
+    if let Some(verb) = verb_of(name) {
+        return Ok(Line::Run(run_of(alloc, verb, below)?));
+    }
+    match name {
+        "lint" => Ok(Line::Lint(lint_of(alloc, below)?)),
+        "map" => Ok(Line::Look(map_of(below))),
+        "explain" => explain_of(alloc, below.get_str("WORD").unwrap_or("")),
+        _ => Ok(Line::Look(look_of(alloc, name, below)?)),
+    }
+}
+
+/// The line that explains the rule of a word.
+fn explain_of<'a>(alloc: Global, word: &str) -> Result<Line<'a>, Error>
+    ensures { IfOk result RunsOnePath }
+{
+    match rule_of_word(word) {
+        Some(rule) => Ok(Line::Explain(rule)),
+        None => Err(unknown_word(alloc, word)?),
+    }
+}
+
+/// The error for a word that no rule has, which lists the words.
+fn unknown_word(alloc: Global, word: &str) -> Result<Error, AllocError> {
+    let mut message = format!(in alloc; "no rule has the word '{word}'; the words:")?;
+    for rule in RULES {
+        let known = rule_name(rule);
+        write!(message, " {known}")?;
+    }
+    let mut command = bplint(alloc)?;
+    command.error(ErrorKind::InvalidValue, &message)
 }
 
 #[cfg(test)]
@@ -227,10 +301,8 @@ mod tests {
     }
 
     #[test]
-    fn lines_that_are_taken(rt: HostRuntime) -> Result<(), Fail> {
+    fn lines_of_one_command(rt: HostRuntime) -> Result<(), Fail> {
         for (line, verb, paths, limit, hex, sorted) in [
-            ("bplint lint f", Verb::Lint, 0, 0, false, false),
-            ("bplint lint --hex -", Verb::Lint, 0, 0, true, false),
             (
                 "bplint certify f o --sorted",
                 Verb::Certify,
@@ -252,12 +324,32 @@ mod tests {
             ),
         ] {
             let words = words_of(rt.alloc(), line)?;
-            let taken = read_line(rt.alloc(), &words)?;
+            let Line::Run(taken) = read_line(rt.alloc(), &words)? else {
+                return Err(Fail::from("it is a line of another kind"));
+            };
             assert_eq!(rt; taken.command.verb, verb, "in {line}");
             assert_eq!(rt; taken.command.paths.len(), paths, "in {line}");
             assert_eq!(rt; taken.command.limit, limit, "in {line}");
             assert_eq!(rt; taken.command.hex, hex, "in {line}");
             assert_eq!(rt; taken.command.sorted, sorted, "in {line}");
+        }
+        Ok(())
+    }
+
+    #[test]
+    fn lines_of_lint(rt: HostRuntime) -> Result<(), Fail> {
+        for (line, files, hex, quiet) in [
+            ("bplint lint f", 1, false, false),
+            ("bplint lint --hex -", 1, true, false),
+            ("bplint lint --quiet f g f", 3, false, true),
+        ] {
+            let words = words_of(rt.alloc(), line)?;
+            let Line::Lint(taken) = read_line(rt.alloc(), &words)? else {
+                return Err(Fail::from("it is a line of another kind"));
+            };
+            assert_eq!(rt; taken.files.len(), files, "in {line}");
+            assert_eq!(rt; taken.hex, hex, "in {line}");
+            assert_eq!(rt; taken.quiet, quiet, "in {line}");
         }
         Ok(())
     }
@@ -269,6 +361,14 @@ mod tests {
             ("bplint nope", ErrorKind::InvalidSubcommand),
             ("bplint check f", ErrorKind::MissingRequiredArgument),
             ("bplint lint f --sorted", ErrorKind::UnknownArgument),
+            ("bplint lint", ErrorKind::MissingRequiredArgument),
+            ("bplint show f --text /a /b", ErrorKind::TooManyValues),
+            (
+                "bplint show f --limit 3",
+                ErrorKind::MissingRequiredArgument,
+            ),
+            ("bplint ls f /a /b", ErrorKind::UnknownArgument),
+            ("bplint explain Nope", ErrorKind::InvalidValue),
             ("bplint print f c /a x", ErrorKind::ValueValidation),
             ("bplint lint --help", ErrorKind::DisplayHelp),
         ] {

@@ -1,12 +1,12 @@
-//! Inputs that are read whole.
+//! Inputs: FILE, which is read by place or whole, and CERT, which is read whole.
 ghost use Rattle.std.specs.Prelude.{◌≡◌, ◌≤◌, ◌<◌, IfErr, IfOk, IfSome, length, vec_len};
 ghost use Rattle.bplint.specs.Inputs.{IsWholeFault};
 
-use crate::args::Line;
+use crate::args::Run;
 use bplint_engine::{RunFault, Verb};
-use bplist_octets::ReadFault;
+use bplist_octets::{FileSource, ReadFault};
 use std::alloc::Global;
-use std::fs::{File, Files};
+use std::fs::{self, File, Files};
 use std::io::{ErrorKind, Read};
 
 /// How many bytes a whole input may have.
@@ -48,16 +48,40 @@ fn read_whole<R: Read>(alloc: Global, reader: &mut R) -> Result<Vec<u8>, RunFaul
     Err(RunFault::Read(ReadFault::TooManyTurns))
 }
 
-/// Reads FILE whole, or standard input where it is `-`.
-pub fn read_operand<R: Files<File = File> + Input>(
+/// FILE, as far as it is read before the engine runs.
+#[derive(Drop)]
+pub enum Operand {
+    /// Read to its end.
+    Whole(Vec<u8>),
+    /// Open, and read by place.
+    File(FileSource),
+}
+
+/// Opens FILE. Standard input, hexadecimal text, and what has no length to be trusted are read whole.
+pub fn open_operand<R: Files<File = File> + Input>(
     rt: &R,
     alloc: Global,
     name: &str,
-) -> Result<Vec<u8>, RunFault> {
+    hex: bool,
+) -> Result<Operand, RunFault> {
     if name == "-" {
-        return read_whole(alloc, &mut rt.reader());
+        return Ok(Operand::Whole(read_whole(alloc, &mut rt.reader())?));
     }
-    read_file(rt, alloc, name)
+    if hex || !has_length(rt, name) {
+        return Ok(Operand::Whole(read_file(rt, alloc, name)?));
+    }
+    match FileSource::open(rt, name) {
+        Ok(file) => Ok(Operand::File(file)),
+        Err(_) => Err(RunFault::Open),
+    }
+}
+
+/// Whether a file has a length to be trusted. A pipe, a device and a folder have none, and files of /proc say 0.
+fn has_length<R: Files<File = File>>(rt: &R, name: &str) -> bool {
+    match fs::metadata(rt, name) {
+        Ok(metadata) => metadata.is_file() && metadata.len() > 0,
+        Err(_) => false,
+    }
 }
 
 fn read_file<R: Files<File = File>>(
@@ -73,10 +97,10 @@ fn read_file<R: Files<File = File>>(
 pub fn read_certificate<R: Files<File = File>>(
     rt: &R,
     alloc: Global,
-    line: &Line<'_>,
+    run: &Run<'_>,
 ) -> Result<Vec<u8>, RunFault> {
-    match line.command.verb {
+    match run.command.verb {
         Verb::Lint | Verb::Certify => Ok(Vec::new(alloc)),
-        Verb::Check | Verb::Get | Verb::Print => read_file(rt, alloc, line.cert),
+        Verb::Check | Verb::Get | Verb::Print => read_file(rt, alloc, run.cert),
     }
 }

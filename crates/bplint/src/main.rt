@@ -1,57 +1,263 @@
 //! bplint: lints, checks and reads binary property lists.
+//!
+//! ```
+//! $ bplint lint Info.plist
+//! ok reached 15 height 3 top dict
+//! ```
+//!
+//! | module | has |
+//! |---|---|
+//! | `args`, `subcommands` | the command line, by clap: a function for each argument and subcommand |
+//! | `naming` | names of files in lines |
+//! | `input` | FILE and CERT: a file through windows, or read whole |
+//! | `output` | OUT, which is created with its first byte |
+//! | here | the runs: one command over one FILE by the engine, several FILEs of `lint`, `explain` |
+//!
+//! What is written is proved in bplint_engine; the functions here pass it on.
 #![tactic(auto)]
 
+ghost use Rattle.std.specs.Prelude.{◌≡◌, max};
+ghost use Rattle.bplint.specs.Lines.{RunsOnePath};
 ghost use Rattle.bplint_engine.specs.Commands.{PrintsOnePath};
 
 mod args;
 mod input;
+mod naming;
 mod output;
+mod subcommands;
 
-use args::Line;
-use bplint_engine::{RunFault, Said, run_on, run_over};
-use bplist_octets::{FileSource, Window, Windows};
+use args::{Line, Lint, Look, Run, Shown};
+use bplint_engine::{
+    Command, RunFault, Said, Verb, explain, list_on, map_on, rule_text, run_on, run_over, show_on,
+    show_text_on, undo_hex,
+};
+use bplist_objects::Rule;
+use bplist_octets::{Pane, SliceSource, Source, Window, Windows};
 use clap::Error;
 use clap::error::ErrorKind;
-use output::OutFile;
-use std::alloc::Global;
+use input::Operand;
+use output::{LineOut, NoOut, OutFile};
+use std::alloc::{AllocError, Global};
 use std::fs::{File, Files};
 use std::io;
+use std::io::Write;
 use std::process::ExitCode;
 
 /// The exit status of a wrong command line.
 const WRONG_LINE: u8 = 2;
 
+/// How many parts of a file are held at once: the table, an object, what it refers to and its keys stand apart.
+const PANES: usize = 8;
+
+/// How a run over FILE ended.
+#[derive(Drop)]
+struct Ending {
+    answer: Result<Said, RunFault>,
+    /// What is said under the fault's line, where that was asked for.
+    under: String,
+}
+
+/// Runs a command over FILE.
+fn run_command<W: Write>(
+    alloc: Global,
+    command: &Command,
+    operand: Operand,
+    cert: &[u8],
+    explains: bool,
+    out: &mut W,
+) -> Result<Ending, RunFault>
+    requires { PrintsOnePath command.now }
+{
+    match operand {
+        Operand::Whole(text) => {
+            let answer = run_over(alloc, command, &text, cert, out);
+            let under = match &answer {
+                Err(fault) if explains => under_texts(alloc, command.hex, &text, cert, fault),
+                _ => String::new(alloc),
+            };
+            Ok(Ending { answer, under })
+        }
+        Operand::File(file) => {
+            let mut file = Window::new(file);
+            let mut panes = vec![in alloc; Pane::EMPTY; PANES].map_err(|_| RunFault::Memory)?;
+            let source = Windows::new(&mut file, &mut panes);
+            let (answer, mut source) = run_on(alloc, command, source, cert, out);
+            let under = match &answer {
+                Err(fault) if explains => under_fault(alloc, &mut source, cert, fault),
+                _ => String::new(alloc),
+            };
+            Ok(Ending { answer, under })
+        }
+    }
+}
+
+/// What is said under a fault's line. A failed read or refused memory leaves the line alone.
+fn under_fault<S: Source>(alloc: Global, src: &mut S, cert: &[u8], fault: &RunFault) -> String {
+    match explain(alloc, src, cert, fault) {
+        Ok(text) => text,
+        Err(_) => String::new(alloc),
+    }
+}
+
+/// The same for inputs that may be hexadecimal texts.
+fn under_texts(alloc: Global, hex: bool, file: &[u8], cert: &[u8], fault: &RunFault) -> String {
+    if !hex {
+        return under_fault(alloc, &mut SliceSource::new(file), cert, fault);
+    }
+    match (undo_hex(alloc, file), undo_hex(alloc, cert)) {
+        (Ok(file), Ok(cert)) => under_fault(alloc, &mut SliceSource::new(&file), &cert, fault),
+        _ => String::new(alloc),
+    }
+}
+
 fn run<R: Files<File = File> + Input + Print>(
     rt: &R,
     alloc: Global,
-    line: &Line<'_>,
-) -> Result<Said, RunFault>
+    line: &Run<'_>,
+) -> Result<Ending, RunFault>
     requires { PrintsOnePath line.now.command }
 {
-    if line.command.hex || line.file == "-" {
-        let file = input::read_operand(rt, alloc, line.file)?;
-        let cert = input::read_certificate(rt, alloc, line)?;
-        let mut out = OutFile::new(rt, line.out);
-        return run_over(alloc, &line.command, &file, &cert, &mut out);
-    }
-    let file = FileSource::open(rt, line.file).map_err(|_| RunFault::Open)?;
-    let mut file = Window::new(file);
+    let operand = input::open_operand(rt, alloc, line.file, line.command.hex)?;
     let cert = input::read_certificate(rt, alloc, line)?;
     let mut out = OutFile::new(rt, line.out);
-    // Look-ups go to and fro between the offset table, a dictionary and its keys. `Windows` serves requests of up to 512
-    // bytes and hands longer ones on; those of 513 to 4,096 bytes the `Window` below it serves.
-    let source = Windows::new(&mut file);
-    run_on(alloc, &line.command, source, &cert, &mut out).0
+    let (command, explains) = (&line.command, line.explain);
+    run_command(alloc, command, operand, &cert, explains, &mut out)
 }
 
-/// Prints a fault's line, and gives the exit status.
-fn finish<R: Eprint>(rt: &R, alloc: Global, answer: Result<Said, RunFault>) -> u8 {
+/// Writes what a rule asks.
+fn page<R: Files<File = File> + Print>(
+    rt: &R,
+    alloc: Global,
+    rule: Rule,
+) -> Result<Said, RunFault> {
+    let text = rule_text(alloc, rule)?;
+    match OutFile::new(rt, "-").write_all(text.as_bytes()) {
+        Ok(()) => Ok(Said::All),
+        Err(_) => Err(RunFault::Write { sent: 0 }),
+    }
+}
+
+/// Writes what is shown of a source.
+fn look_on<S: Source + Drop, W: Write>(
+    alloc: Global,
+    shown: &Shown<'_>,
+    src: S,
+    out: &mut W,
+) -> Result<Said, RunFault> {
+    let mut src = src;
+    match shown {
+        Shown::Values(paths) => show_on(alloc, src, paths, out).0,
+        Shown::Text { path, limit } => show_text_on(alloc, src, path, *limit, out).0,
+        Shown::Members(path) => list_on(alloc, src, path, out).0,
+        Shown::Map => map_on(alloc, &mut src, out),
+    }
+}
+
+fn look<R: Files<File = File> + Input + Print>(
+    rt: &R,
+    alloc: Global,
+    line: &Look<'_>,
+) -> Result<Said, RunFault> {
+    let mut out = OutFile::new(rt, "-");
+    match input::open_operand(rt, alloc, line.file, line.hex)? {
+        Operand::Whole(text) if line.hex => {
+            let file = undo_hex(alloc, &text)?;
+            look_on(alloc, &line.shown, SliceSource::new(&file), &mut out)
+        }
+        Operand::Whole(file) => look_on(alloc, &line.shown, SliceSource::new(&file), &mut out),
+        Operand::File(file) => {
+            let mut file = Window::new(file);
+            let mut panes = vec![in alloc; Pane::EMPTY; PANES].map_err(|_| RunFault::Memory)?;
+            look_on(
+                alloc,
+                &line.shown,
+                Windows::new(&mut file, &mut panes),
+                &mut out,
+            )
+        }
+    }
+}
+
+/// Lints one file, and prints its line behind the prefix where it holds a value.
+fn lint_file<R: Files<File = File> + Input + Print>(
+    rt: &R,
+    alloc: Global,
+    lint: &Lint<'_>,
+    name: &str,
+    prefix: &str,
+) -> Result<Ending, RunFault> {
+    let command = Command {
+        verb: Verb::Lint,
+        paths: Vec::new(alloc),
+        limit: 0,
+        hex: lint.hex,
+        sorted: false,
+    };
+    let operand = input::open_operand(rt, alloc, name, lint.hex)?;
+    if lint.quiet {
+        return run_command(alloc, &command, operand, &[], lint.explain, &mut NoOut);
+    }
+    let mut out = LineOut::new(rt, alloc, prefix);
+    run_command(alloc, &command, operand, &[], lint.explain, &mut out)
+}
+
+/// Lints files in their order, each to its end, and gives the greatest exit status of them.
+fn lint_files<R: Files<File = File> + Input + Print + Eprint>(
+    rt: &R,
+    alloc: Global,
+    lint: &Lint<'_>,
+) -> u8 {
+    let mut status = 0;
+    for name in &lint.files {
+        let next = match prefix_in(alloc, lint, name) {
+            Ok(prefix) => end(
+                rt,
+                alloc,
+                &prefix,
+                lint_file(rt, alloc, lint, name, &prefix),
+            ),
+            Err(_) => finish(rt, alloc, "", Err(RunFault::Memory)),
+        };
+        status = worse(status, next);
+    }
+    status
+}
+
+/// What the lines of a file begin with: nothing, where it is the only one.
+fn prefix_in(alloc: Global, lint: &Lint<'_>, name: &str) -> Result<String, AllocError> {
+    if lint.files.len() == 1 {
+        return Ok(String::new(alloc));
+    }
+    naming::prefix_of(alloc, name)
+}
+
+/// The exit status of several runs, of which the next ended with `next`.
+fn worse(status: u8, next: u8) -> u8
+    ensures { result ≡ max status next }
+{
+    status.max(next)
+}
+
+/// Prints a fault's line behind the prefix and what is said under it, and gives the exit status.
+fn end<R: Eprint>(rt: &R, alloc: Global, prefix: &str, ending: Result<Ending, RunFault>) -> u8 {
+    match ending {
+        Ok(Ending { answer, under }) => {
+            let status = finish(rt, alloc, prefix, answer);
+            let _ = rt.eprint(under);
+            status
+        }
+        Err(fault) => finish(rt, alloc, prefix, Err(fault)),
+    }
+}
+
+/// Prints a fault's line behind the prefix, and gives the exit status.
+fn finish<R: Eprint>(rt: &R, alloc: Global, prefix: &str, answer: Result<Said, RunFault>) -> u8 {
     match answer {
         Ok(Said::All) => 0,
         Ok(Said::SomeMissing) => 1,
-        Err(fault) => match fault.line(alloc) {
+        Err(fault) => match line_behind(alloc, prefix, &fault) {
             Ok(line) => {
-                let _ = rt.eprintln(line);
+                let _ = rt.eprint(line);
                 fault.status()
             }
             Err(_) => {
@@ -62,10 +268,15 @@ fn finish<R: Eprint>(rt: &R, alloc: Global, answer: Result<Said, RunFault>) -> u
     }
 }
 
+fn line_behind(alloc: Global, prefix: &str, fault: &RunFault) -> Result<String, AllocError> {
+    let line = fault.line(alloc)?;
+    format!(in alloc; "{prefix}{line}\n")
+}
+
 /// Prints what `clap` says of a command line, and gives the exit status.
 fn refuse<R: Print + Eprint>(rt: &R, alloc: Global, error: Error) -> u8 {
     match error.kind() {
-        ErrorKind::OutOfMemory => finish(rt, alloc, Err(RunFault::Memory)),
+        ErrorKind::OutOfMemory => finish(rt, alloc, "", Err(RunFault::Memory)),
         kind => {
             let _ = error.print(rt);
             match kind {
@@ -82,7 +293,10 @@ fn start<R: Files<File = File> + Input + Print + Eprint>(
     words: &[String],
 ) -> u8 {
     match args::read_line(alloc, words) {
-        Ok(line) => finish(rt, alloc, run(rt, alloc, &line)),
+        Ok(Line::Lint(lint)) => lint_files(rt, alloc, &lint),
+        Ok(Line::Run(line)) => end(rt, alloc, "", run(rt, alloc, &line)),
+        Ok(Line::Look(line)) => finish(rt, alloc, "", look(rt, alloc, &line)),
+        Ok(Line::Explain(rule)) => finish(rt, alloc, "", page(rt, alloc, rule)),
         Err(error) => refuse(rt, alloc, error),
     }
 }
@@ -96,7 +310,7 @@ fn main(rt: HostRuntime) -> ExitCode {
     let status = match words(&rt) {
         Ok(words) => start(&rt, rt.alloc(), &words),
         Err(error) if error.kind() == io::ErrorKind::OutOfMemory => {
-            finish(&rt, rt.alloc(), Err(RunFault::Memory))
+            finish(&rt, rt.alloc(), "", Err(RunFault::Memory))
         }
         Err(error) => {
             let _ = rt.eprintln(&error);

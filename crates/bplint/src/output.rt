@@ -1,6 +1,7 @@
 //! Where an answer goes.
 ghost use Rattle.std.specs.Prelude.{None};
 
+use std::alloc::Global;
 use std::fs::{File, Files};
 use std::io;
 use std::io::Write;
@@ -36,6 +37,58 @@ impl<'a, R: Files + Print> Write for OutFile<'a, R> {
             Some(file) => file.write(buf),
             None => Err(io::Error::from(io::ErrorKind::Other)),
         }
+    }
+
+    fn flush(&mut self) -> io::Result<()> {
+        Ok(())
+    }
+}
+
+/// A writer of one line to standard output, behind what says of which file it is.
+#[derive(Drop)]
+pub struct LineOut<'a, R> {
+    rt: &'a R,
+    alloc: Global,
+    prefix: &'a str,
+}
+
+impl<'a, R> LineOut<'a, R> {
+    /// A writer of the line behind this prefix.
+    pub fn new(rt: &'a R, alloc: Global, prefix: &'a str) -> LineOut<'a, R> {
+        LineOut { rt, alloc, prefix }
+    }
+}
+
+impl<'a, R: Print> Write for LineOut<'a, R> {
+    /// Writes prefix and line at once, so that runs side by side do not mix their lines.
+    fn write(&mut self, buf: &[u8]) -> io::Result<usize> {
+        if self.prefix.is_empty() {
+            return self.rt.write_some(buf);
+        }
+        let line = behind(self.alloc, self.prefix, buf)?;
+        self.rt.write_all(&line)?;
+        Ok(buf.len())
+    }
+
+    fn flush(&mut self) -> io::Result<()> {
+        Ok(())
+    }
+}
+
+fn behind(alloc: Global, prefix: &str, bytes: &[u8]) -> io::Result<Vec<u8>> {
+    let mut line = Vec::new(alloc);
+    line.extend_from_slice(prefix.as_bytes())?;
+    line.extend_from_slice(bytes)?;
+    Ok(line)
+}
+
+/// A writer that drops what it is given.
+#[derive(Drop)]
+pub struct NoOut;
+
+impl Write for NoOut {
+    fn write(&mut self, buf: &[u8]) -> io::Result<usize> {
+        Ok(buf.len())
     }
 
     fn flush(&mut self) -> io::Result<()> {

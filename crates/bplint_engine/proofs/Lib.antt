@@ -1,7 +1,13 @@
 mod CertifyAnswers
 mod GetAnswers
+mod LeastAnswers
 mod Leaving
 mod LintAnswers
+mod MapFindings
+mod MapLayouts
+mod MapOrders
+mod MapTexts
+mod MemberLines
 mod OneAnswer
 mod OneCertify
 mod OneCheck

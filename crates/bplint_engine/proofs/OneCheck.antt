@@ -1,6 +1,8 @@
 -- What `check` says is one, and so is the first fault of a file with the bytes of a certificate.
 use Rattle.std.proofs.Common.{◌≡◌, ℕ, ◌++◌, List, [], ◌∷◌, slice_index, inl, inr, sym, ap, ◌∙◌, subst}
+use Rattle.std.proofs.Props.{props}
 use Rattle.std.proofs.lemmas.Grind.{not_there}
+use Rattle.std.proofs.Math.Logic.{∥∥₁_elim}
 use Rattle.bplist_objects.specs.declared.fault.Fault.{Fault}
 use Rattle.bplist_objects.specs.declared.frame.Frame.{Frame}
 use Rattle.bplist_objects.specs.Frame.{trailer}
@@ -10,7 +12,6 @@ use Rattle.bplist_cert.specs.PairFault.{IsPairFault}
 use Rattle.bplist_cert.proofs.Accepting.{fault_refutes}
 use Rattle.bplist_cert.proofs.Spelling.{octets_once, magic_kept, length_kept}
 use Rattle.bplist_cert.proofs.Unique.{one_pair_fault}
-use Rattle.bplist_lint.proofs.Opening.{open_equal}
 use Rattle.bplint_engine.specs.declared.fault.RunFault.TheVariants as faults
 use Rattle.bplint_engine.specs.Answers.{Answer, gives, refuses}
 use Rattle.bplint_engine.specs.Checking.{CheckSays}
@@ -34,14 +35,7 @@ module _ (f cert : List ℕ) where
   same_lists l m is is' spelled spelled' = octets_once l m is is' (sym spelled ∙ spelled')
 
   vouched_frame : (F : Frame) (lists : Lists) → IsVouchedFor f cert F lists → F ≡ trailer f
-  vouched_frame F lists v =
-      let at : (part : Frame → ℕ) → part F ≡ part (trailer f) = λ part. open_equal v.accepted (part F) (part (trailer f)) (λ a. ap part a.valid.frame.spelled) in
-      let offset_size = at (λ X. X.offset_size) in
-      let ref_size = at (λ X. X.ref_size) in
-      let objects = at (λ X. X.objects) in
-      let top = at (λ X. X.top.0) in
-      let table = at (λ X. X.table) in
-      λ i. record { offset_size = offset_size i; ref_size = ref_size i; objects = objects i; top = record { 0 = top i }; table = table i }
+  vouched_frame F lists v = ∥∥₁_elim v.accepted (hlevel props) (λ a. a.valid.frame.spelled)
 
   pub same_frame : (F G : Frame) (l m : Lists) → IsVouchedFor f cert F l → IsVouchedFor f cert G m → F ≡ G
   same_frame F G l m v w = vouched_frame F l v ∙ sym (vouched_frame G m w)

@@ -1,5 +1,7 @@
 -- What `print` says is one.
 use Rattle.std.proofs.Common.{◌≡◌, ◌⊎◌, ℕ, ◌++◌, List, [], ◌∷◌, length, inl, inr, Option, Some, None, Result, Ok, Err, refl, sym, ap, ◌∙◌, subst, arith}
+use Rattle.std.proofs.Props.{props}
+use Rattle.std.proofs.Math.Logic.{∥∥₁_elim}
 use Rattle.bplist_objects.specs.declared.frame.Frame.{Frame}
 use Rattle.bplist_objects.specs.Holds.{Holds}
 use Rattle.bplist_objects.specs.Value.{Value}
@@ -11,7 +13,6 @@ use Rattle.bplist_cursor.specs.Look.{Missing, look}
 use Rattle.bplist_cursor.specs.OldStyle.{value_text}
 use Rattle.bplist_cursor.proofs.Unformed.{one_formless}
 use Rattle.bplist_ascii.specs.Printed.{FitsLimit, IsTooLong}
-use Rattle.bplist_lint.proofs.Opening.{open_equal}
 use Rattle.bplint_engine.specs.declared.fault.RunFault.{RunFault}
 use Rattle.bplint_engine.specs.declared.fault.RunFault.TheVariants as faults
 use Rattle.bplint_engine.specs.declared.said.Said.{Said}
@@ -83,7 +84,7 @@ module _ (f cert : List ℕ) (texts : List (List ℕ)) (limit : ℕ) where
       let value : w ≡ v = holds_one f F (one_head f F) w v F.top.0 (subst (λ X. Holds f X X.top.0 w) frame holds') holds in
       let other = subst (λ y. PathSays f F limit steps y b) value (subst (λ p. PathSays f F limit p w b) path (subst (λ X. PathSays f X limit steps' w b) frame k)) in
       one_path_answer f F limit steps v
-      (λ i j x y. open_equal vouched.accepted i j (λ accepted. one_end f F accepted.valid.frame steps v F.top.0 i j holds x y))
+      (λ i j x y. ∥∥₁_elim vouched.accepted (hlevel props) (λ accepted. one_end f F accepted.valid.frame steps v F.top.0 i j holds x y))
       a b h other
 
   not_asked : (a : RunFault) (b : Answer) → IsAskingFault f cert texts a → ValueSays f cert texts limit b → ⊥

@@ -16,8 +16,8 @@ use Rattle.bplist_cursor.specs.declared.reply.Query.TheVariants.{Get}
 use Rattle.bplist_cursor.specs.Causes.{IsExcused}
 use Rattle.bplist_cursor.specs.Found.{IsFound, LeadTo, IsHeld}
 use Rattle.bplist_cursor.specs.Look.{look}
-use Rattle.bplist_ascii.specs.Sending.{Sending, Takes, TakesPart, AtMost}
-use Rattle.bplist_ascii.specs.Printed.{BeginsText, PrintFails, Prints}
+use Rattle.bplist_ascii.specs.Sending.{Sending, SendsSome, Takes, TakesPart, AtMost}
+use Rattle.bplist_ascii.specs.Printed.{into_sink, HasText, PrintFails, Prints}
 use Rattle.bplist_ascii.specs.declared.sink.WriteFault.{WriteFault}
 use Rattle.bplist_ascii.specs.declared.print_fault.PrintFault.{PrintFault}
 use Rattle.bplist_ascii.specs.declared.print_fault.PrintFault.TheVariants as print_faults
@@ -47,7 +47,7 @@ within old new s limit start (gone, few, added) = (gone, omega (arith, few, ap (
 
 -- a first part of the text is one of the answer
 begun_answer : (old new : Option (List ℕ)) (s : Sending) (f : List ℕ) (F : Frame) (n : ℕ) (w : Value) (limit : ℕ)
-    → s ≡ record { sent = 0; held = [] } → BeginsText old new s.held w limit → AtMost old new (length s.held + limit)
+    → s ≡ record { sent = 0; held = [] } → HasText w limit (λ t. SendsSome old new (s.held ++ t)) → AtMost old new (length s.held + limit)
     → BeginsAnswer (NodeSays f F limit n w) limit old new
 begun_answer old new s f F n w limit start (t, is, fits, some) bound =
     let all : t ++ 10 ∷ [] ≡ some.gone ++ (some.rest ++ 10 ∷ []) =
@@ -58,24 +58,24 @@ begun_answer old new s f F n w limit start (t, is, fits, some) bound =
 
 -- the text was not put in whole
 pub print_failed : (old new : Option (List ℕ)) (s u : Sending) (f : List ℕ) (F : Frame) (n : ℕ) (w : Value) (limit : ℕ) (fault : PrintFault)
-    → s ≡ record { sent = 0; held = [] } → PrintFails old new s u f F n w limit fault → AtMost old new (length s.held + limit)
+    → s ≡ record { sent = 0; held = [] } → PrintFails (into_sink old new s u) f F n w limit fault → AtMost old new (length s.held + limit)
     → LeavesFault (NodeSays f F limit n w) limit old new (print_fault fault)
-print_failed old new s u f F n w limit (print_faults.NoAsciiForm part) start (none, formless, kept, _) bound = ((none, formless), kept)
-print_failed old new s u f F n w limit print_faults.TooLong start (t, is, long, kept, _) bound = ((t, is, long), kept)
+print_failed old new s u f F n w limit (print_faults.NoAsciiForm part) start (none, formless, (kept, _)) bound = ((none, formless), kept)
+print_failed old new s u f F n w limit print_faults.TooLong start (t, is, long, (kept, _)) bound = ((t, is, long), kept)
 print_failed old new s u f F n w limit (print_faults.Write sent) start (t, is, fits, part) bound = (
   All,
   t ++ 10 ∷ [],
   (t, is, fits, refl, refl),
   cut_more old new t (10 ∷ []) sent (out_part old old new s [] t sent (out_start old s (ap (λ x. x.sent) start) (ap (λ x. x.held) start)) part),
 )
-print_failed old new s u f F n w limit (print_faults.Read _) start (inl (none, kept, _)) bound = (within old new s limit start bound, inl kept)
+print_failed old new s u f F n w limit (print_faults.Read _) start (inl (none, (kept, _))) bound = (within old new s limit start bound, inl kept)
 print_failed old new s u f F n w limit (print_faults.Read _) start (inr begun) bound = begun_answer old new s f F n w limit start begun bound
 print_failed old new s u f F n w limit print_faults.Changed start h bound = absurd h
 print_failed old new s u f F n w limit print_faults.Memory start begun bound = begun_answer old new s f F n w limit start begun bound
 
 -- the text was put in, and its line feed was not
 pub end_failed : (old mid new : Option (List ℕ)) (s t : Sending) (f : List ℕ) (F : Frame) (n : ℕ) (w : Value) (limit sent : ℕ)
-    → s ≡ record { sent = 0; held = [] } → Prints old mid s t f F n w limit (Ok tt) → TakesPart mid new t (10 ∷ []) sent
+    → s ≡ record { sent = 0; held = [] } → Prints (into_sink old mid s t) f F n w limit (Ok tt) → TakesPart mid new t (10 ∷ []) sent
     → LeavesFault (NodeSays f F limit n w) limit old new (faults.Write sent)
 end_failed old mid new s t f F n w limit sent start (text, is, fits, takes) part =
     let out = out_takes (out_start old s (ap (λ x. x.sent) start) (ap (λ x. x.held) start)) takes in
@@ -83,7 +83,7 @@ end_failed old mid new s t f F n w limit sent start (text, is, fits, takes) part
 
 -- text and line feed went out
 pub printed : (old mid new : Option (List ℕ)) (s t u : Sending) (f : List ℕ) (F : Frame) (n : ℕ) (w : Value) (limit : ℕ)
-    → s ≡ record { sent = 0; held = [] } → Prints old mid s t f F n w limit (Ok tt) → Takes mid new t u (10 ∷ []) → u.held ≡ []
+    → s ≡ record { sent = 0; held = [] } → Prints (into_sink old mid s t) f F n w limit (Ok tt) → Takes mid new t u (10 ∷ []) → u.held ≡ []
     → LeavesBy (NodeSays f F limit n w) limit old new (Ok All)
 printed old mid new s t u f F n w limit start (text, is, fits, takes) ended empty =
     let out = out_takes (out_start old s (ap (λ x. x.sent) start) (ap (λ x. x.held) start)) takes in
@@ -112,7 +112,7 @@ missing_says f F limit steps v step why (Ok output) is told _ = subst (λ r. Pri
 missing_says f F limit steps v step why (Err fault) is _ memory = subst (IsRefusal (PathSays f F limit steps v)) (sym memory) tt
 
 -- the answer for the value that the file holds is that of the command
-path_to_print : (f cert : List ℕ) (texts : List (List ℕ)) (limit : ℕ) (steps : List (List ℕ)) (F : Frame) (lists : Lists) (v : Value)
+pub path_to_print : (f cert : List ℕ) (texts : List (List ℕ)) (limit : ℕ) (steps : List (List ℕ)) (F : Frame) (lists : Lists) (v : Value)
     → AreQueries texts (Get steps ∷ []) → IsVouchedFor f cert F lists → Holds f F F.top.0 v
     → (a : Answer) → PathSays f F limit steps v a → PrintSays f cert texts limit a
 path_to_print f cert texts limit steps F lists v are vouched holds (gives said bytes) h = (steps, F, lists, v, are, vouched, holds, h)

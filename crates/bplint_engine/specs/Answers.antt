@@ -7,17 +7,17 @@ use Rattle.bplint_engine.specs.declared.fault.RunFault.TheVariants as faults
 use Rattle.bplint_engine.specs.declared.output.Output.{Output}
 use Rattle.bplint_engine.specs.declared.said.Said.{Said}
 
--- the answer to a command: bytes to write and what is said of them, or a fault
+-- bytes to write and what they say, or a fault
 pub data Answer : Type 0 where
   gives : Said → List ℕ → Answer
   refuses : RunFault → Answer
 
--- the error says that a read has failed
+-- the error is a failed read
 abbrev pub is_read : RunFault → Bool
 is_read (faults.Read _) = true
 is_read _ = false
 
--- the answer says that a read has failed
+-- the answer is a failed read
 abbrev pub read_failed : {X : Type 0} → Result X RunFault → Bool
 read_failed (Ok _) = false
 read_failed (Err fault) = is_read fault
@@ -40,13 +40,12 @@ Sends old new (Ok output) (Ok said) = (said ≡ output.said) × Appends old new 
 Sends old new (Ok output) (Err fault) = (sent : ℕ) × (fault ≡ faults.Write sent) × IsCut old new output.bytes.items sent
 Sends old new (Err fault) result = (result ≡ Err fault) × Keeps old new
 
--- nothing went out, or a first part of the answer's bytes, and at most `most` bytes
+-- nothing went out, or a first part of the answer of at most `most` bytes
 abbrev pub BeginsAnswer : (Answer → Type 0) → ℕ → Option (List ℕ) → Option (List ℕ) → Type 0
 BeginsAnswer Says most old new =
     AtMost old new most × (Keeps old new ⊎ ((said : Said) × (bytes : List ℕ) × Says (gives said bytes) × SendsSome old new bytes))
 
--- what a fault leaves with the writer: nothing went out, but where a write failed a first part of the answer did, and where
--- a read failed or memory was refused a first part of it may have, of at most `most` bytes
+-- the fault is the answer and nothing is written, except for a first part after `Write`, `Read` and `Memory`
 abbrev pub LeavesFault : (Answer → Type 0) → ℕ → Option (List ℕ) → Option (List ℕ) → RunFault → Type 0
 LeavesFault Says most old new (faults.Write sent) =
     (said : Said) × (bytes : List ℕ) × Says (gives said bytes) × IsCut old new bytes sent
@@ -54,7 +53,7 @@ LeavesFault Says most old new (faults.Read _) = BeginsAnswer Says most old new
 LeavesFault Says most old new faults.Memory = BeginsAnswer Says most old new
 LeavesFault Says most old new fault = Says (refuses fault) × Keeps old new
 
--- what a run leaves with the writer: exactly the answer's bytes went out
+-- what a run leaves with the writer: the answer's bytes, or what its fault allows
 abbrev pub LeavesBy : (Answer → Type 0) → ℕ → Option (List ℕ) → Option (List ℕ) → Result Said RunFault → Type 0
 LeavesBy Says most old new (Ok said) = (bytes : List ℕ) × Says (gives said bytes) × Appends old new bytes
 LeavesBy Says most old new (Err fault) = LeavesFault Says most old new fault

@@ -8,23 +8,22 @@ use Rattle.bplint_engine.specs.declared.fault.RunFault.{RunFault}
 use Rattle.bplint_engine.specs.declared.fault.RunFault.TheVariants as faults
 use Rattle.bplint_engine.specs.Vouching.{IsVouchingFault}
 
--- the query asks what lies under the path of this text
+-- the query asks for the path of this text
 abbrev pub IsQueryOf : List ℕ → Query → Type 0
 IsQueryOf text (Get steps) = IsPathOf text steps
 IsQueryOf text _ = ⊥
 
--- these queries ask what lies under the paths of these texts, in their order
+-- the queries ask for the paths of these texts, in order
 abbrev pub AreQueries : List (List ℕ) → List Query → Type 0
 AreQueries texts queries = AllZip IsQueryOf texts queries
 
--- the first of these texts that is no path text is wrong at this place
+-- the first wrong path text is wrong at this place
 abbrev pub IsWrongAmong : List (List ℕ) → ℕ → Type 0
 IsWrongAmong [] place = ⊥
 IsWrongAmong (text ∷ texts) place =
     IsNoPath text place ⊎ ((query : Query) × IsQueryOf text query × IsWrongAmong texts place)
 
--- the first fault of path texts, a file and the bytes of a certificate, in this order: a wrong text, rules 24 and 25, and
--- that of the file and the certificate
+-- the first fault of path texts, certificate bytes, and the pair, in this order
 abbrev pub IsAskingFault : List ℕ → List ℕ → List (List ℕ) → RunFault → Type 0
 IsAskingFault f cert texts (faults.Path place) = IsWrongAmong texts place
 IsAskingFault f cert texts (faults.Fault fault) = (queries : List Query) × AreQueries texts queries × IsVouchingFault f cert fault

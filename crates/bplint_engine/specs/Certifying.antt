@@ -12,26 +12,26 @@ use Rattle.bplint_engine.specs.declared.said.Said.TheVariants.{All}
 use Rattle.bplint_engine.specs.Answers.{Answer, gives, refuses}
 use Rattle.bplint_engine.specs.Linting.{IsLintFault}
 
--- a certificate's bytes as they are, or as hexadecimal text with a line feed
+-- a certificate's bytes, or their hexadecimal text with a line feed
 abbrev pub written : Bool → List ℕ → List ℕ
 written false octets = octets
 written true octets = encode_lower octets ++ 10 ∷ []
 
--- the answer of `certify`: the certificate of the least heights
+-- `certify` answers the certificate of the least heights
 abbrev pub LeastSays : Bool → List ℕ → Answer → Type 0
 LeastSays hex f (gives said bytes) =
     (F : Frame) × (lint : Lint) × IsFrame f F × IsLintedBy f F lint
     × (said ≡ All) × (bytes ≡ written hex (octets_of lint.certificate))
 LeastSays hex f (refuses fault) = IsLintFault f fault
 
--- the answer of `certify --sorted`: the certificate of the least heights, with key lists
+-- `certify --sorted` answers it with key lists
 abbrev pub SortedSays : Bool → List ℕ → Answer → Type 0
 SortedSays hex f (gives said bytes) =
     (F : Frame) × (lint : Lint) × (lists : Lists) × IsFrame f F × IsLintedBy f F lint
     × IsCertificate lists × ∥ IsUpgraded f F lint.certificate.heights lists ∥₁ × (said ≡ All) × (bytes ≡ written hex (octets_of lists))
 SortedSays hex f (refuses fault) = IsLintFault f fault
 
--- the answer of `certify` with or without key lists
+-- `certify`, with or without key lists
 abbrev pub CertifySays : Bool → Bool → List ℕ → Answer → Type 0
 CertifySays false hex f answer = LeastSays hex f answer
 CertifySays true hex f answer = SortedSays hex f answer

@@ -8,7 +8,7 @@ use Rattle.bplint_engine.specs.Answers.{Answer, gives, refuses}
 use Rattle.bplint_engine.specs.OutputLines.{check_line}
 use Rattle.bplint_engine.specs.Vouching.{IsVouchedFor, IsVouchingFault}
 
--- the answer of `check`: the number of objects, and the certificate's height of the top
+-- `check` answers the number of objects and the top's height
 abbrev pub CheckSays : List ℕ → List ℕ → Answer → Type 0
 CheckSays f cert (gives said bytes) =
     (F : Frame) × (lists : Lists) × IsVouchedFor f cert F lists

@@ -3,8 +3,7 @@ use Rattle.std.specs.Prelude.{◌≡◌, ℕ, Bool, List, length}
 use Rattle.bplint_engine.specs.declared.command.Verb.{Verb}
 use Rattle.bplint_engine.specs.declared.command.Verb.TheVariants.{Print}
 
--- a command: its verb, the path texts, how many bytes the text of Print may have, whether inputs and certificates are
--- hexadecimal texts, and whether Certify writes key lists
+-- a command: verb, path texts, limit of Print, whether inputs are hexadecimal, whether Certify sorts
 pub record Asked : Type 0 where
   pub verb : Verb
   pub paths : List (List ℕ)

@@ -16,7 +16,7 @@ abbrev pub object_text : Option ObjectNo → List ℕ
 object_text None = codes "none"
 object_text (Some n) = decimal n.0
 
--- a broken rule: `fault WORD object N place P`
+-- `fault WORD object N place P`
 abbrev pub fault_line : Rule → Option ObjectNo → ℕ → List ℕ
 fault_line rule object place =
     codes "fault " ++ (word_of rule ++ (codes " object " ++ (object_text object ++ (codes " place " ++ decimal place))))
@@ -25,11 +25,11 @@ fault_line rule object place =
 abbrev pub spaced_number : ObjectNo → List ℕ
 spaced_number n = 32 ∷ decimal n.0
 
--- a circle: `circle` and the objects' numbers
+-- `circle` and the objects' numbers
 abbrev pub circle_line : List ObjectNo → List ℕ
 circle_line objects = codes "circle" ++ flat_map spaced_number objects
 
--- why a source's read failed
+-- the line of a failed read
 abbrev pub read_line : ReadFault → List ℕ
 read_line Device = codes "read Device"
 read_line Ended = codes "read Ended"
@@ -50,7 +50,7 @@ line_of Memory = codes "memory"
 line_of Open = codes "read Open"
 line_of InputTooLong = codes "read TooLong"
 
--- a wrong path text is as a wrong command line
+-- 2 for a wrong path text, else 1
 abbrev pub rule_status : Rule → ℕ
 rule_status PathText = 2
 rule_status _ = 1

@@ -1,8 +1,6 @@
 -- The faults of a run that come from the layers below. Source: profile.
 use Rattle.std.specs.Prelude.{ℕ, Result, Ok, Err}
 use Rattle.bplist_objects.specs.declared.fault.Fault.{Fault}
-use Rattle.bplist_objects.specs.declared.fault.ObjectFault.{ObjectFault}
-use Rattle.bplist_objects.specs.declared.fault.ObjectFault.TheVariants as errors
 use Rattle.bplist_cert.specs.declared.certificate.CertRefusal.{CertRefusal}
 use Rattle.bplist_cert.specs.declared.certificate.CertRefusal.TheVariants as cert_refusals
 use Rattle.bplist_cert.specs.declared.refusal.Refusal.{Refusal}
@@ -20,47 +18,42 @@ use Rattle.bplist_ascii.specs.declared.print_fault.PrintFault.TheVariants as pri
 use Rattle.bplint_engine.specs.declared.fault.RunFault.{RunFault}
 use Rattle.bplint_engine.specs.declared.fault.RunFault.TheVariants as faults
 
--- a file in which no rule is broken, as was found before, breaks one, or a read of it failed
-abbrev pub changed_fault : ObjectFault → RunFault
-changed_fault (errors.Fault fault) = faults.Changed
-changed_fault (errors.Read fault) = faults.Read fault
-
--- a file holds no value
+-- a refusal of the linter as a fault
 abbrev pub lint_fault : LintRefusal → RunFault
 lint_fault (lint_refusals.Fault fault) = faults.Fault fault
 lint_fault (lint_refusals.Circle objects) = faults.Circle objects
 lint_fault (lint_refusals.Read fault) = faults.Read fault
 lint_fault lint_refusals.Memory = faults.Memory
 
--- bytes are no certificate
+-- a refusal of certificate bytes as a fault
 abbrev pub octets_fault : CertRefusal → RunFault
 octets_fault (cert_refusals.Fault fault) = faults.Fault fault
 octets_fault cert_refusals.Memory = faults.Memory
 
--- a certificate is refused
+-- a refusal of the check as a fault
 abbrev pub check_fault : Refusal → RunFault
 check_fault (refusals.Fault fault) = faults.Fault fault
 check_fault (refusals.Read fault) = faults.Read fault
 check_fault refusals.Memory = faults.Memory
 
--- a path text is wrong
+-- a wrong path text as a fault
 abbrev pub path_fault : PathFault → RunFault
 path_fault (path_faults.Text place) = faults.Path place
 path_fault path_faults.Memory = faults.Memory
 
--- the cursor gives no answer
+-- a cursor's fault
 abbrev pub cursor_fault : CursorFault → RunFault
 cursor_fault (cursor_faults.Read fault) = faults.Read fault
 cursor_fault cursor_faults.Changed = faults.Changed
 cursor_fault cursor_faults.Memory = faults.Memory
 
--- a certificate is not upgraded
+-- an upgrade's fault
 abbrev pub upgrade_fault : UpgradeFault → RunFault
 upgrade_fault (upgrade_faults.Read fault) = faults.Read fault
 upgrade_fault upgrade_faults.Changed = faults.Changed
 upgrade_fault upgrade_faults.Memory = faults.Memory
 
--- a value is not printed
+-- a printer's fault
 abbrev pub print_fault : PrintFault → RunFault
 print_fault (print_faults.NoAsciiForm part) = faults.NoAsciiForm part
 print_fault print_faults.TooLong = faults.TooLong

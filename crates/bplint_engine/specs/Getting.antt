@@ -16,26 +16,26 @@ use Rattle.bplint_engine.specs.Asking.{AreQueries, IsAskingFault}
 use Rattle.bplint_engine.specs.OutputLines.{face_line, missing_line}
 use Rattle.bplint_engine.specs.Vouching.{IsVouchedFor}
 
--- the line of a reply to a path, with its line feed; there is none for a reply of another kind
+-- the line of a reply to a path
 abbrev pub reply_line : Reply → List ℕ
 reply_line (Face face) = face_line face ++ 10 ∷ []
 reply_line (Missing step why) = missing_line step why ++ 10 ∷ []
 reply_line _ = []
 
--- the lines of replies, in their order
+-- the lines of replies, in order
 abbrev pub reply_lines : List Reply → List ℕ
 reply_lines replies = flat_map reply_line replies
 
--- the reply says that a path leads nowhere
+-- the path leads nowhere
 abbrev pub is_missing : Reply → Bool
 is_missing (Missing step why) = true
 is_missing _ = false
 
--- what is said of replies: whether one of them says that a path leads nowhere
+-- whether a path leads nowhere
 abbrev pub said_of : List Reply → Said
 said_of replies = if list_any is_missing replies then SomeMissing else All
 
--- the answer of `get`: one line for each path, made of the value that the file holds
+-- `get` answers a line for each path, from the file's value
 abbrev pub GetSays : List ℕ → List ℕ → List (List ℕ) → Answer → Type 0
 GetSays f cert texts (gives said bytes) =
     (queries : List Query) × (F : Frame) × (lists : Lists) × AreQueries texts queries × IsVouchedFor f cert F lists

@@ -7,6 +7,6 @@ use Rattle.hex.specs.Hex.{decode_of}
 abbrev pub digits_of : List ℕ → List ℕ
 digits_of text = if slice_index text (length text - 1) == 10 then take (length text - 1) text else text
 
--- the bytes that the text spells, two digits each, or why it spells none
+-- the bytes that the text spells, or why it spells none
 abbrev pub spelled : List ℕ → Result (List ℕ) FromHexError
 spelled text = decode_of (digits_of text)

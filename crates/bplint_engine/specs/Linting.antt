@@ -13,13 +13,13 @@ use Rattle.bplint_engine.specs.declared.fault.RunFault.TheVariants as faults
 use Rattle.bplint_engine.specs.Answers.{Answer, gives, refuses}
 use Rattle.bplint_engine.specs.OutputLines.{lint_line, content_word}
 
--- the first fault of a file, a broken rule or a circle
+-- the first broken rule of a file, or its circle
 abbrev pub IsLintFault : List ℕ → RunFault → Type 0
 IsLintFault f (faults.Fault fault) = IsFileFault f fault
 IsLintFault f (faults.Circle objects) = IsFileCircle f (map number objects)
 IsLintFault f _ = ⊥
 
--- the answer of `lint`: how many objects the top reaches, its least height, and the kind of what it spells
+-- `lint` answers the number of reached objects, the top's least height and its kind
 abbrev pub LintSays : List ℕ → Answer → Type 0
 LintSays f (gives said bytes) =
     (F : Frame) × (lint : Lint) × (c : Content) × IsFrame f F × IsLintedBy f F lint × Spells f F F.top.0 c

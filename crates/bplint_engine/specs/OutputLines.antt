@@ -52,7 +52,7 @@ lint_line reached height word =
 abbrev pub check_line : ℕ → ℕ → List ℕ
 check_line objects height = codes "ok objects " ++ (decimal objects ++ (codes " height " ++ decimal height))
 
--- the line of `get` for a value: its kind, and a leaf's value or a container's count
+-- the line of `get`: a kind, and a leaf's value or a container's count
 abbrev pub face_line : Face → List ℕ
 face_line faces.Null = codes "null"
 face_line (faces.Bool false) = codes "false"

@@ -19,37 +19,36 @@ use Rattle.bplint_engine.specs.Asking.{AreQueries, IsAskingFault}
 use Rattle.bplint_engine.specs.OutputLines.{missing_line}
 use Rattle.bplint_engine.specs.Vouching.{IsVouchedFor}
 
--- what is written of the value that a path leads to, and of a path that leads nowhere
+-- what `print` writes of a found value, or of a path that leads nowhere
 abbrev pub PrintGives : ℕ → Result Value Missing → Said → List ℕ → Type 0
 PrintGives limit (Ok w) said bytes =
     (text : List ℕ) × (value_text w ≡ Some text) × FitsLimit limit text × (said ≡ All) × (bytes ≡ text ++ 10 ∷ [])
 PrintGives limit (Err missing) said bytes =
     (said ≡ SomeMissing) × (bytes ≡ missing_line missing.step missing.why ++ 10 ∷ [])
 
--- why nothing is written of the value that object n holds: its first part in the order of writing that has no form, or a
--- text that is too long
+-- nothing is written: a part of the value has no form, or the text is too long
 abbrev pub PrintRefuses : List ℕ → Frame → ℕ → ℕ → Value → RunFault → Type 0
 PrintRefuses f F limit n w (faults.NoAsciiForm part) = (value_text w ≡ None) × IsFormless f F n w part.0
 PrintRefuses f F limit n w faults.TooLong =
     (text : List ℕ) × (value_text w ≡ Some text) × IsTooLong limit text
 PrintRefuses f F limit n w _ = ⊥
 
--- the same of the value that a path leads to from the top
+-- the same of the value under a path
 abbrev pub IsPrintRefusal : List ℕ → Frame → ℕ → List (List ℕ) → Value → RunFault → Type 0
 IsPrintRefusal f F limit steps v fault =
     (n : ℕ) × (w : Value) × LeadTo f F F.top.0 steps n × (look v steps ≡ Ok w) × PrintRefuses f F limit n w fault
 
--- the answer of `print` for the value v: the text under the path and a line feed, or the line for a path that leads nowhere
+-- `print` answers the text under the path, or that it leads nowhere
 abbrev pub PathSays : List ℕ → Frame → ℕ → List (List ℕ) → Value → Answer → Type 0
 PathSays f F limit steps v (gives said bytes) = PrintGives limit (look v steps) said bytes
 PathSays f F limit steps v (refuses fault) = IsPrintRefusal f F limit steps v fault
 
--- the same for the value w that object n holds
+-- the same of the value that object n holds
 abbrev pub NodeSays : List ℕ → Frame → ℕ → ℕ → Value → Answer → Type 0
 NodeSays f F limit n w (gives said bytes) = PrintGives limit (Ok w) said bytes
 NodeSays f F limit n w (refuses fault) = PrintRefuses f F limit n w fault
 
--- the answer that the value which the file holds gives to one path text
+-- the same of the file's value and one path text
 abbrev pub ValueSays : List ℕ → List ℕ → List (List ℕ) → ℕ → Answer → Type 0
 ValueSays f cert texts limit answer =
     (steps : List (List ℕ)) × (F : Frame) × (lists : Lists) × (v : Value) × AreQueries texts (Get steps ∷ [])

@@ -12,7 +12,7 @@ use Rattle.bplint_engine.specs.Hexadecimal.{spelled}
 use Rattle.bplint_engine.specs.Linting.{LintSays}
 use Rattle.bplint_engine.specs.Printing.{PrintSays}
 
--- the answer to a command by its verb
+-- the answer of each verb
 abbrev pub SaysBy : Verb → Asked → List ℕ → List ℕ → Answer → Type 0
 SaysBy Lint command f cert answer = LintSays f answer
 SaysBy Check command f cert answer = CheckSays f cert answer
@@ -20,11 +20,11 @@ SaysBy Certify command f cert answer = CertifySays command.sorted command.hex f 
 SaysBy Get command f cert answer = GetSays f cert command.paths answer
 SaysBy Print command f cert answer = PrintSays f cert command.paths command.limit answer
 
--- the answer to a command over a file and a certificate's bytes
+-- a command's answer for a file and certificate bytes
 abbrev pub Says : Asked → List ℕ → List ℕ → Answer → Type 0
 Says command f cert answer = SaysBy command.verb command f cert answer
 
--- how many bytes may have gone out where a read failed or memory was refused: with Print a part of the text
+-- how many bytes may go out before a failed read or refused memory: those of Print
 abbrev pub most_by : Verb → ℕ → ℕ
 most_by Print limit = limit
 most_by _ limit = 0
@@ -39,13 +39,13 @@ takes_cert Lint = false
 takes_cert Certify = false
 takes_cert _ = true
 
--- the answer to a command over the bytes of a file and the hexadecimal text of a certificate, if it is looked at
+-- a command's answer for a file's bytes and a certificate's hexadecimal text
 abbrev pub SaysBeside : Bool → Asked → List ℕ → List ℕ → Answer → Type 0
 SaysBeside false command f text answer = Says command f [] answer
 SaysBeside true command f text answer =
     MatchResult (spelled text) (λ cert. Says command f cert answer) (λ _. answer ≡ refuses Hex)
 
--- the answer to a command over inputs: with `hex` over the bytes that the texts spell, the file's looked at first
+-- a command's answer for inputs; with `hex` for the bytes that they spell
 abbrev pub SaysOver : Bool → Asked → List ℕ → List ℕ → Answer → Type 0
 SaysOver false command file cert answer = Says command file cert answer
 SaysOver true command file cert answer =

@@ -6,16 +6,26 @@ use Rattle.bplist_cert.specs.Lists.{Lists, IsCertificate}
 use Rattle.bplist_cert.specs.Encoding.{octets_of, IsOctetsFault}
 use Rattle.bplist_cert.specs.Sorted.{IsAccepted}
 use Rattle.bplist_cert.specs.PairFault.{IsPairFault}
+use Rattle.bplist_objects.specs.Frame.{IsFrame}
+use Rattle.bplist_lint.specs.declared.answer.Lint.{Lint}
+use Rattle.bplist_lint.specs.Linted.{IsLintedBy}
 
--- these are the bytes of a certificate, which is one of the file with this frame
+-- these bytes are a certificate of the file with this frame
 pub record IsVouchedFor (f cert : List ℕ) (F : Frame) (lists : Lists) : Type 0 where
   pub certificate : IsCertificate lists
   pub spelled : cert ≡ octets_of lists
   pub accepted : ∥ IsAccepted f F lists ∥₁
 
--- the first fault of a file with the bytes of a certificate: that of the bytes by rules 24 and 25, or else that of the
--- file and the certificate
+-- the first fault of certificate bytes and file: rules 24 and 25, then the pair's
 abbrev pub IsVouchingFault : List ℕ → List ℕ → Fault → Type 0
 IsVouchingFault f cert fault =
     IsOctetsFault cert fault
     ⊎ ((lists : Lists) × IsCertificate lists × (cert ≡ octets_of lists) × IsPairFault f lists fault)
+
+-- these are the lists of the least certificate of the file, which has this frame
+pub record IsLeastFor (f : List ℕ) (F : Frame) (lists : Lists) : Type 0 where
+  pub lint : Lint
+  pub frame : IsFrame f F
+  pub linted : IsLintedBy f F lint
+  pub same : lists ≡ lint.certificate
+  pub vouched : IsVouchedFor f (octets_of lint.certificate) F lists

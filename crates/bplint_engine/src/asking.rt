@@ -28,5 +28,14 @@ pub(crate) fn path_of(alloc: Global, texts: &[String]) -> Result<Path, RunFault>
         (λ path. AreQueries (map (λ text. string_bytes text) texts.now) (Query.Get path ∷ []))
         (OnPath (IsWrongAmong (map (λ text. string_bytes text) texts.now))) }
 {
-    Ok(Path::parse(alloc, texts[0].as_str())?)
+    path_in(alloc, texts[0].as_str())
+}
+
+/// The path of a text.
+pub(crate) fn path_in(alloc: Global, text: &str) -> Result<Path, RunFault>
+    ensures { MatchResult result
+        (λ path. AreQueries (text.now ∷ []) (Query.Get path ∷ []))
+        (OnPath (IsWrongAmong (text.now ∷ []))) }
+{
+    Ok(Path::parse(alloc, text)?)
 }

@@ -1,6 +1,6 @@
 //! Why a run gives no answer, the line that says so, and the exit status.
 ghost use Rattle.std.specs.Prelude.{◌≡◌, IfOk, string_bytes};
-ghost use Rattle.bplint_engine.specs.declared.fault.RunFault.TheVariants.{Memory, Write};
+ghost use Rattle.bplint_engine.specs.declared.fault.RunFault.TheVariants.{Memory, Read, Write};
 ghost use Rattle.bplint_engine.specs.Faults.{octets_fault, check_fault, lint_fault, path_fault, cursor_fault, upgrade_fault, print_fault};
 ghost use Rattle.bplint_engine.specs.FaultLines.{line_of, status_of, fault_line, read_line, circle_line};
 
@@ -45,6 +45,14 @@ pub enum RunFault {
     Open,
     /// An input that is read whole is longer than the program takes.
     InputTooLong,
+}
+
+impl From<ReadFault> for RunFault {
+    ghost from_gives = { λ error fault. fault ≡ Read error };
+
+    fn from(error: ReadFault) -> RunFault {
+        RunFault::Read(error)
+    }
 }
 
 impl From<LintRefusal> for RunFault {

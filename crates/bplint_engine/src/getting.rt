@@ -44,7 +44,7 @@ pub(crate) fn get_output<S: Source>(
 }
 
 /// The lines of the answers, and the source again.
-fn answer_queries<S: Source>(
+pub(crate) fn answer_queries<S: Source>(
     alloc: Global,
     checked: Checked<S>,
     queries: &[Query],

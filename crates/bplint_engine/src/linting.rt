@@ -9,8 +9,7 @@ use crate::fault::RunFault;
 use crate::output::Output;
 use crate::output_lines::add_lint;
 use crate::said::Said;
-use crate::top::top_kind;
-use bplist_lint::lint;
+use bplist_lint::lint_with_kind;
 use bplist_objects::Kind;
 use bplist_octets::Source;
 use std::alloc::{AllocError, Global};
@@ -30,8 +29,7 @@ fn line_of<S: Source>(alloc: Global, src: &mut S) -> Result<Output, RunFault>
     ensures reads { OnlyReads (read_failed result) (S.means src.old) (S.means src.new) }
     ensures exact { IsTrue (S.means src.old).honest → Answers (LintSays (S.means src.old).octets) result }
 {
-    let found = lint(alloc, src)?;
-    let top = top_kind(src)?;
+    let (found, top) = lint_with_kind(alloc, src)?;
     let bytes = yes_of(alloc, found.reached, found.height, top)?;
     Ok(Output {
         said: Said::All,

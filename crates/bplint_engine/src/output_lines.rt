@@ -114,7 +114,7 @@ fn add_hexadecimal(
 }
 
 /// The word that lines have for a kind.
-fn word_of(kind: Kind) -> &'static str
+pub(crate) fn word_of(kind: Kind) -> &'static str
     ensures { result.now ≡ kind_word kind }
 {
     match kind {

@@ -51,7 +51,7 @@ pub(crate) fn print_answer<S: Source, W: Write>(
 }
 
 /// Writes what a checked file has under a path, and hands its source back.
-fn print_checked<S: Source, W: Write>(
+pub(crate) fn print_checked<S: Source, W: Write>(
     alloc: Global,
     checked: Checked<S>,
     path: &Path,
@@ -89,7 +89,7 @@ fn print_path<S: Source, W: Write>(
     }
 }
 
-fn missing_output(alloc: Global, step: u64, why: Why) -> Result<Output, RunFault>
+pub(crate) fn missing_output(alloc: Global, step: u64, why: Why) -> Result<Output, RunFault>
     ensures made { IfOk result (λ output. (output.said ≡ Said.SomeMissing)
         × (output.bytes.items ≡ missing_line step why ++ 10 ∷ [])) }
     ensures refused { IfErr result (λ fault. fault ≡ RunFault.Memory) }

@@ -2,7 +2,7 @@
 ghost use Rattle.std.specs.Prelude.{◌≡◌, false, IsTrue};
 ghost use Rattle.bplist_octets.specs.Meaning.{OnlyReads};
 ghost use Rattle.bplint_engine.specs.Commands.{PrintsOnePath};
-ghost use Rattle.bplint_engine.specs.Answers.{Leaves, Sends, read_failed};
+ghost use Rattle.bplint_engine.specs.Answers.{Leaves, read_failed};
 ghost use Rattle.bplint_engine.specs.Said.{Says, SaysOver, most, takes_cert};
 
 use crate::certifying::certify_output;
@@ -12,10 +12,9 @@ use crate::fault::RunFault;
 use crate::getting::get_output;
 use crate::hexadecimal::undo_hex;
 use crate::linting::lint_output;
-use crate::output::Output;
 use crate::printing::print_answer;
 use crate::said::Said;
-use crate::sending::send_output;
+use crate::sending::send_made;
 use bplist_octets::{SliceSource, Source};
 use std::alloc::Global;
 use std::io::Write;
@@ -52,19 +51,6 @@ pub fn run_on<S: Source, W: Write>(
         Verb::Certify => send_made(certify_output(alloc, src, command.sorted, command.hex), out),
         Verb::Print => print_answer(alloc, src, cert, &command.paths, command.limit, out),
     }
-}
-
-/// Writes what was made, and hands the source on.
-fn send_made<S: Source, W: Write>(
-    made: (Result<Output, RunFault>, S),
-    out: &mut W,
-) -> (Result<Said, RunFault>, S)
-    ensures sent { Sends (W.contents out.old) (W.contents out.new) made.0 result.0 }
-    ensures reads { read_failed result.0 ≡ read_failed made.0 }
-    ensures source { S.means result.1 ≡ S.means made.1 }
-{
-    let (made, src) = made;
-    (send_output(made, out), src)
 }
 
 /// Runs a command over the bytes of a file and a certificate. With `hex` these are hexadecimal texts;

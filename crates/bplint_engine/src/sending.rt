@@ -8,7 +8,21 @@ use crate::fault::RunFault;
 use crate::output::Output;
 use crate::said::Said;
 use bplist_ascii::{Sink, WriteFault};
+use bplist_octets::Source;
 use std::io::Write;
+
+/// Writes what was made, and hands the source on.
+pub(crate) fn send_made<S: Source, W: Write>(
+    made: (Result<Output, RunFault>, S),
+    out: &mut W,
+) -> (Result<Said, RunFault>, S)
+    ensures sent { Sends (W.contents out.old) (W.contents out.new) made.0 result.0 }
+    ensures reads { read_failed result.0 ≡ read_failed made.0 }
+    ensures source { S.means result.1 ≡ S.means made.1 }
+{
+    let (made, src) = made;
+    (send_output(made, out), src)
+}
 
 /// Writes what was made, or hands its fault on.
 pub(crate) fn send_output<W: Write>(

@@ -8,12 +8,12 @@ use Rattle.bplist_ascii.specs.declared.print_fault.PrintFault.{PrintFault}
 use Rattle.bplist_ascii.specs.declared.print_fault.PrintFault.TheVariants.{NoAsciiForm, TooLong, Write, Read, Changed, Memory}
 use Rattle.bplist_ascii.specs.Sending.{Sending, SendsSome, Takes, TakesPart, IsOut, IsCut, AtMost}
 use Rattle.bplist_ascii.specs.Writing.{IsReadFault, AddFails, TakesWithin}
-use Rattle.bplist_ascii.specs.Printed.{FitsLimit, BeginsText, PrintFails}
+use Rattle.bplist_ascii.specs.Printed.{FitsLimit, into_sink, HasText, PrintFails}
 use Rattle.bplist_ascii.proofs.SinkSteps.{out_start, out_takes, out_part, out_long}
 
 -- a failed read before anything is put in, of a value without a text
-pub read_prints : (now : Option (List ℕ)) (s : Sending) (f : List ℕ) (F : Frame) (n : ℕ) (v : Value) (limit : ℕ) (e : PrintFault) → value_text v ≡ None → IsReadFault e → PrintFails now now s s f F n v limit e
-read_prints now s f F n v limit (Read fault) none h = inl (none, Keeps-refl now, refl)
+pub read_prints : (now : Option (List ℕ)) (s : Sending) (f : List ℕ) (F : Frame) (n : ℕ) (v : Value) (limit : ℕ) (e : PrintFault) → value_text v ≡ None → IsReadFault e → PrintFails (into_sink now now s s) f F n v limit e
+read_prints now s f F n v limit (Read fault) none h = inl (none, (Keeps-refl now, refl))
 read_prints now s f F n v limit (Write sent) none h = absurd h
 read_prints now s f F n v limit Memory none h = absurd h
 read_prints now s f F n v limit Changed none h = absurd h
@@ -21,13 +21,13 @@ read_prints now s f F n v limit TooLong none h = absurd h
 read_prints now s f F n v limit (NoAsciiForm m) none h = absurd h
 
 pub walk_fails : (old new : Option (List ℕ)) (before after : Sending) (f : List ℕ) (F : Frame) (n : ℕ) (v : Value) (limit : ℕ) (e : PrintFault) (t : List ℕ) → value_text v ≡ Some t → plain v ≡ t → FitsLimit limit t
-    → (length (plain v) ≤ limit → AddFails old new before (plain v) e) → PrintFails old new before after f F n v limit e
+    → (length (plain v) ≤ limit → AddFails old new before (plain v) e) → PrintFails (into_sink old new before after) f F n v limit e
 walk_fails old new before after f F n v limit e t some is fits h = go e (h (let long = ap length is in let low = fits.0 in omega (arith, long, low)))
   where
-    begins : SendsSome old new (before.held ++ plain v) → BeginsText old new before.held v limit
+    begins : SendsSome old new (before.held ++ plain v) → HasText v limit (λ t. SendsSome old new (before.held ++ t))
     begins p = (t, some, fits, subst (λ l. SendsSome old new (before.held ++ l)) is p)
 
-    go : (e : PrintFault) → AddFails old new before (plain v) e → PrintFails old new before after f F n v limit e
+    go : (e : PrintFault) → AddFails old new before (plain v) e → PrintFails (into_sink old new before after) f F n v limit e
     go (Write sent) p = (t, some, fits, subst (λ l. TakesPart old new before l sent) is p)
     go (Read fault) p = inr (begins p)
     go Memory p = begins p

@@ -1,278 +1,268 @@
 -- The search for the first object without a form, step by step.
-use Rattle.std.proofs.Common.{◌≡◌, ◌<◌, ◌≤◌, ◌+◌, ℕ, List, [], ◌∷◌, ◌++◌, arith, length, drop, slice_index, refl, sym, ap, ◌∙◌, subst, IsTrue, Option, Some, None}
-use Rattle.std.specs.Prelude.{option_map, option_and_then, MatchOption, ⊤}
+use Rattle.std.proofs.Common.{◌≡◌, ◌<◌, ◌≤◌, ◌+◌, ◌%◌, inl, inr, ℕ, zero, suc, List, [], ◌∷◌, ◌++◌, arith, length, slice_index, slice_get, refl, sym, ap, ◌∙◌, subst, IsTrue, Option, Some, None}
+use Rattle.std.proofs.Props.{props}
+use Rattle.std.specs.Prelude.{option_map, option_and_then, MatchOption}
 use Rattle.std.specs.List.{AllByRecursion}
-use Rattle.std.proofs.lemmas.Grind.{not_there}
-use Rattle.std.proofs.lemmas.List.{drop_more, drop_all, length-append, get_or-append-add}
-use Rattle.std.proofs.lemmas.List.Elements.{All-get_or, All-from_recursion}
+use Rattle.std.proofs.Math.Logic.{∥∥₁_elim}
+use Rattle.std.proofs.lemmas.Bool.{cases_lt}
 use Rattle.bplist_objects.specs.declared.frame.Frame.{Frame}
 use Rattle.bplist_objects.specs.declared.head.Head.{Head}
 use Rattle.bplist_objects.specs.declared.kind.Kind.{Kind}
 use Rattle.bplist_objects.specs.declared.kind.Kind.TheVariants as kinds
-use Rattle.bplist_objects.specs.Numbers.{nums_at}
-use Rattle.bplist_objects.specs.Value.{Value, leaf, array, set, dict, Values, no_values, value, Pairs, no_pairs, pair}
+use Rattle.bplist_objects.specs.Value.{Value, leaf, array, set, dict, Values, no_values, value, Pairs, no_pairs, pair, text}
 use Rattle.bplist_objects.specs.Heads.{Content, Spells, content_of, content_at, refs}
-use Rattle.bplist_objects.specs.Kinds.{IsLeafKind}
-use Rattle.bplist_objects.specs.Holds.{Holds, HoldEach, HoldPairs}
-use Rattle.bplist_objects.proofs.Fronts.{one_head}
-use Rattle.bplist_objects.proofs.Leaves.{leaf_kind}
-use Rattle.bplist_objects.proofs.References.{length-nums_at, dict_parts, as_many}
+use Rattle.bplist_objects.specs.Holds.{Holds}
 use Rattle.bplist_cert.specs.CheckedFile.{CheckedFile, IsChecked}
 use Rattle.bplist_cert.specs.Valid.{IsVouchedBy}
+use Rattle.bplist_cursor.specs.declared.found.Node.{Node}
 use Rattle.bplist_cursor.specs.declared.form.Form.TheVariants.{NoForm, Length}
 use Rattle.bplist_cursor.specs.Nodes.{cap}
 use Rattle.bplist_cursor.specs.Texts.{text_of_units}
 use Rattle.bplist_cursor.specs.OldStyle.{comma, value_text, members_text, pairs_text}
 use Rattle.bplist_cursor.specs.Forms.{form_of_text}
 use Rattle.bplist_cursor.specs.Formless.{IsFormless, IsFirstFormless, IsFirstFormlessOf}
-use Rattle.bplist_cursor.proofs.CheckedFrames.{stable_le, stable_lt}
-use Rattle.bplist_ascii.specs.Searching.{LacksText, first_part, HaveMembers, HaveTexts, IsFirstWithout, LeadsOn}
-use Rattle.bplist_ascii.proofs.WalkSteps.{Means, array_kind, object_at}
+use Rattle.bplist_cursor.specs.Found.{IsHeld}
+use Rattle.bplist_cursor.specs.Members.{HoldsMember, member_of, member_reference, named, node_of, nth_value, nth_of_pairs, nth_in_turn}
+use Rattle.bplist_cursor.proofs.Membership.{held_members}
+use Rattle.bplist_ascii.specs.Walks.{IsContainer, IsOfKind}
+use Rattle.bplist_ascii.specs.Searching.{places_of, HaveTexts, LeadsOn}
+use Rattle.bplist_ascii.proofs.WalkSteps.{IsMember, held_some, held_none}
 
 -- a form says whether there is a text
 pub no_text_of : (o : Option (List ℕ)) → form_of_text o ≡ NoForm → o ≡ None
 no_text_of None e = refl
 no_text_of (Some t) e = cc e
 
-pub some_text_of : (o : Option (List ℕ)) → (form_of_text o ≡ NoForm → ⊥) → (t : List ℕ) × (o ≡ Some t)
-some_text_of None other = absurd (other refl)
-some_text_of (Some t) other = (t, refl)
-
 pub text_of_length : (o : Option (List ℕ)) (k : ℕ) → form_of_text o ≡ Length k → (t : List ℕ) × (o ≡ Some t) × (k ≡ cap (length t))
 text_of_length None k e = cc e
 text_of_length (Some t) k e = (t, refl, cc e)
 
--- which of the members lack a text
+-- where all members have texts, so has the container
 
 no_map : (k : List ℕ → List ℕ) (o : Option (List ℕ)) → option_map k o ≡ None → o ≡ None
 no_map k None e = refl
 no_map k (Some x) e = cc e
 
-lacking : (o rest : Option (List ℕ)) (vs : Values) (k : List ℕ → List ℕ → List ℕ) → (rest ≡ None → LacksText vs)
-    → option_and_then (λ t. option_map (k t) rest) o ≡ None → MatchOption o ⊤ (λ t. LacksText vs)
-lacking None rest vs k h e = tt
-lacking (Some t) rest vs k h e = h (no_map (k t) rest e)
+both_texts : (o rest : Option (List ℕ)) (k : List ℕ → List ℕ → List ℕ) → (o ≡ None → ⊥) → (rest ≡ None → ⊥) → option_and_then (λ t. option_map (k t) rest) o ≡ None → ⊥
+both_texts None rest k a b e = a refl
+both_texts (Some t) None k a b e = b refl
+both_texts (Some t) (Some r) k a b e = cc e
 
-members_lack : (vs : Values) → members_text vs ≡ None → LacksText vs
-members_lack no_values e = cc e
-members_lack (value v vs) e = lacking (value_text v) (members_text vs) vs (λ t r. t ++ (comma vs ++ r)) (members_lack vs) e
+members_have : (i : ℕ) (vs : Values) → nth_value vs i ≡ None → ((j : ℕ) → j < i → (w : Value) → nth_value vs j ≡ Some w → value_text w ≡ None → ⊥) → members_text vs ≡ None → ⊥
+members_have i no_values end texts e = cc e
+members_have zero (value v vs) end texts e = cc end
+members_have (suc i) (value v vs) end texts e =
+    both_texts (value_text v) (members_text vs) (λ t r. t ++ (comma vs ++ r)) (texts 0 (omega arith) v refl)
+    (members_have i vs end (λ j l. texts (suc j) (omega (arith, l)))) e
 
--- the values of pairs
-abbrev pub values_of : Pairs → Values
-values_of no_pairs = no_values
-values_of (pair u v ps) = value v (values_of ps)
+pairs_have : (i : ℕ) (ps : Pairs) → nth_of_pairs ps i ≡ None → ((j : ℕ) → j < i → (w : Value) → nth_of_pairs ps j ≡ Some w → value_text w ≡ None → ⊥) → pairs_text ps ≡ None → ⊥
+pairs_have i no_pairs end texts e = cc e
+pairs_have zero (pair u v ps) end texts e = cc end
+pairs_have (suc zero) (pair u v ps) end texts e = cc end
+pairs_have (suc (suc i)) (pair u v ps) end texts e =
+    both_texts (value_text v) (pairs_text ps) (λ t r. text_of_units u ++ (0x3D ∷ (t ++ (0x3B ∷ r)))) (texts 1 (omega arith) v refl)
+    (pairs_have i ps end (λ j l. texts (suc (suc j)) (omega (arith, l)))) e
 
-pairs_lack : (ps : Pairs) → pairs_text ps ≡ None → LacksText (values_of ps)
-pairs_lack no_pairs e = cc e
-pairs_lack (pair u v ps) e = lacking (value_text v) (pairs_text ps) (values_of ps) (λ t r. text_of_units u ++ (0x3D ∷ (t ++ (0x3B ∷ r)))) (pairs_lack ps) e
+all_have : (k : Kind) (v : Value) (i : ℕ) → IsOfKind k v → member_of v i ≡ None → HaveTexts v i → value_text v ≡ None → ⊥
+all_have kinds.Array (array vs) i o end texts e = members_have i vs end texts (no_map (λ t. 0x28 ∷ (t ++ 0x29 ∷ [])) (members_text vs) e)
+all_have kinds.Dict (dict ps) i o end texts e = pairs_have i ps end texts (no_map (λ t. 0x7B ∷ (t ++ 0x7D ∷ [])) (pairs_text ps) e)
+all_have _ _ i o end texts e = absurd o
 
-by_option : {X A A' : Type 0} {B B' : X → Type 0} (o : Option X) → (A → A') → ((x : X) → B x → B' x) → MatchOption o A B → MatchOption o A' B'
-by_option None f g h = f h
-by_option (Some x) f g h = g x h
+-- a key has a text
+key_has : (j : ℕ) (ps : Pairs) (w : Value) → j % 2 ≡ 0 → nth_of_pairs ps j ≡ Some w → value_text w ≡ None → ⊥
+key_has j no_pairs w even is e = cc is
+key_has zero (pair u v ps) w even is e =
+    let same : leaf (text u) ≡ w = cc is in
+    let none : Some (text_of_units u) ≡ None = ap value_text same ∙ e in
+    cc none
+key_has (suc zero) (pair u v ps) w even is e = absurd (omega (arith, even))
+key_has (suc (suc j)) (pair u v ps) w even is e = key_has j ps w (omega (arith, even)) is e
 
-none_of : {A : Type 0} (B : List ℕ → Type 0) (o : Option (List ℕ)) → o ≡ None → A → MatchOption o A B
-none_of B None e a = a
-none_of B (Some t) e a = cc e
+-- the search passes over keys: the next member is one on, and in a dictionary two
+abbrev pub Passes : Kind → ℕ → ℕ → Type 0
+Passes kinds.Dict i distance = (i % 2 ≡ 1) × (distance ≡ 2)
+Passes _ i distance = distance ≡ 1
 
-some_of : (A : Type 0) {B : Type 0} (o : Option (List ℕ)) (t : List ℕ) → o ≡ Some t → B → MatchOption o A (λ x. B)
-some_of A None t e b = cc e
-some_of A (Some x) t e b = b
+pub passes_start : (k : Kind) → Passes k (places_of k).0 (places_of k).1
+passes_start kinds.Dict = (refl, refl)
+passes_start _ = refl
 
-of_some : (A : Type 0) {B : Type 0} (o : Option (List ℕ)) (t : List ℕ) → o ≡ Some t → MatchOption o A (λ x. B) → B
-of_some A None t e b = cc e
-of_some A (Some x) t e b = b
+pub starts_low : (k : Kind) (n : ℕ) → (places_of k).0 ≤ n + 1
+starts_low kinds.Dict n = omega arith
+starts_low _ n = omega arith
+
+pub passes_on : (k : Kind) (i distance : ℕ) → Passes k i distance → Passes k (i + distance) distance
+passes_on kinds.Dict i distance (odd, p) = (omega (arith, odd, p), p)
+passes_on _ i distance p = p
+
+pub passes_few : (k : Kind) (i distance : ℕ) → Passes k i distance → (1 ≤ distance) × (distance ≤ 2)
+passes_few kinds.Dict i distance (odd, p) = (omega (arith, p), omega (arith, p))
+passes_few _ i distance p = (omega (arith, p), omega (arith, p))
+
+pub texts_start : (k : Kind) (v : Value) → IsOfKind k v → HaveTexts v (places_of k).0
+texts_start kinds.Array (array vs) o j l w is e = absurd (omega (arith, l))
+texts_start kinds.Dict (dict ps) o j l w is e = key_has j ps w (omega (arith, l)) is e
+texts_start _ _ o j l w is e = absurd o
+
+pub texts_more : (k : Kind) (v : Value) (i distance : ℕ) → IsOfKind k v → Passes k i distance → HaveTexts v i → ((w : Value) → member_of v i ≡ Some w → value_text w ≡ None → ⊥) → HaveTexts v (i + distance)
+texts_more kinds.Array (array vs) i distance o p texts here j l w is e = elim (cases_lt j i) [
+  | inl below ↦ texts j below w is e
+  | inr above ↦ here w (ap (nth_value vs) (omega (arith, above, l, p)) ∙ is) e
+]
+texts_more kinds.Dict (dict ps) i distance o (odd, p) texts here j l w is e = elim (cases_lt j i) [
+  | inl below ↦ texts j below w is e
+  | inr above ↦ elim (cases_lt i j) [
+    | inl behind ↦ key_has j ps w (omega (arith, behind, l, p, odd)) is e
+    | inr same ↦ here w (ap (nth_of_pairs ps) (omega (arith, above, same)) ∙ is) e
+  ]
+]
+texts_more _ _ i distance o p texts here j l w is e = absurd o
 
 module _ (f : List ℕ) (F : Frame) where
-  each_of_pairs : (ks ms : List ℕ) (ps : Pairs) → HoldPairs f F ks ms ps → HoldEach f F ms (values_of ps)
-  each_of_pairs [] [] no_pairs h = tt
-  each_of_pairs [] [] (pair u v ps) h = absurd h
-  each_of_pairs [] (m ∷ ms) ps h = absurd h
-  each_of_pairs (k ∷ ks) [] ps h = absurd h
-  each_of_pairs (k ∷ ks) (m ∷ ms) no_pairs h = absurd h
-  each_of_pairs (k ∷ ks) (m ∷ ms) (pair u v ps) h = (h.1, each_of_pairs ks ms ps h.2)
+  -- what an object of a container's kind holds
+  pub of_kind : (kind : Kind) (count body n : ℕ) (v : Value) → IsContainer kind → ((c : Content) → Spells f F n c → c ≡ content_of f F kind count body) → Holds f F n v → IsOfKind kind v
+  of_kind kinds.Array count body n (array vs) o m h = tt
+  of_kind kinds.Array count body n (leaf l) o m h = let e = m (Content.leaf l) h in cc e
+  of_kind kinds.Array count body n (set vs) o m h = let e = m (Content.set h.0) h.1 in cc e
+  of_kind kinds.Array count body n (dict ps) o m h = let e = m (Content.dict h.0 h.1) h.2 in cc e
+  of_kind kinds.Dict count body n (dict ps) o m h = tt
+  of_kind kinds.Dict count body n (leaf l) o m h = let e = m (Content.leaf l) h in cc e
+  of_kind kinds.Dict count body n (array vs) o m h = let e = m (Content.array h.0) h.1 in cc e
+  of_kind kinds.Dict count body n (set vs) o m h = let e = m (Content.set h.0) h.1 in cc e
+  of_kind _ count body n v o m h = absurd o
 
-  first_of_pairs : (ms : List ℕ) (ps : Pairs) (x : ℕ) → IsFirstFormless f F ms (values_of ps) x → IsFirstFormlessOf f F ms ps x
-  first_of_pairs [] ps x h = absurd h
-  first_of_pairs (m ∷ ms) no_pairs x h = absurd h
-  first_of_pairs (m ∷ ms) (pair u v ps) x h = by_option (value_text v) (λ a. a) (λ t b. first_of_pairs ms ps x b) h
-
-  -- before the first member
-  pub texts_start : (ms : List ℕ) (vs : Values) → HoldEach f F ms vs → LacksText vs → HaveTexts f F ms vs 0
-  texts_start ms vs h l = record { rest = vs; holds = h; lacks = l; on = λ x i. i }
-
-  -- the member at a place before which all have texts
-  pub record Here (ms : List ℕ) (vs : Values) (i : ℕ) : Type 0 where
-    pub value : Value
-    pub rest : Values
-    pub holds : Holds f F (slice_index ms i) value
-    pub holds_rest : HoldEach f F (drop (i + 1) ms) rest
-    pub lacks : MatchOption (value_text value) ⊤ (λ t. LacksText rest)
-    pub on : (x : ℕ) → MatchOption (value_text value) (IsFormless f F (slice_index ms i) value x) (λ t. IsFirstFormless f F (drop (i + 1) ms) rest x) → IsFirstFormless f F ms vs x
-
-  pub here : (ms : List ℕ) (vs : Values) (i : ℕ) → i < length ms → HaveTexts f F ms vs i → Here ms vs i
-  here ms vs i l t = go t.rest (subst (λ xs. HoldEach f F xs t.rest) (drop_more ms i 0 l) t.holds) t.lacks (subst (λ xs. (x : ℕ) → IsFirstFormless f F xs t.rest x → IsFirstFormless f F ms vs x) (drop_more ms i 0 l) t.on)
+  -- the object of another kind is itself the first without a form
+  pub own_kind : (kind : Kind) (count body n : ℕ) (v : Value) → (kind ≡ kinds.Array → ⊥) → (kind ≡ kinds.Dict → ⊥) → ((c : Content) → Spells f F n c → c ≡ content_of f F kind count body)
+      → Holds f F n v → value_text v ≡ None → IsFormless f F n v n
+  own_kind kind count body n (leaf l) a d m h e = (e, refl)
+  own_kind kind count body n (set vs) a d m h e = refl
+  own_kind kind count body n (array vs) a d m h e = absurd (a (array_kind kind (m (Content.array h.0) h.1)))
     where
-      go : (rest : Values) → HoldEach f F (slice_index ms i ∷ drop (i + 1) ms) rest → LacksText rest
-          → ((x : ℕ) → IsFirstFormless f F (slice_index ms i ∷ drop (i + 1) ms) rest x → IsFirstFormless f F ms vs x) → Here ms vs i
-      go no_values h l on = absurd h
-      go (value v ws) h l on = record { value = v; rest = ws; holds = h.0; holds_rest = h.1; lacks = l; on = on }
-
-  pub texts_stop : (ms : List ℕ) (vs : Values) (i m : ℕ) → i < length ms → m ≡ slice_index ms i → (h : Here ms vs i) → value_text h.value ≡ None → IsFirstWithout f F ms vs m
-  texts_stop ms vs i m l e h none = record {
-    place = i;
-    within = l;
-    is = e;
-    value = h.value;
-    holds = subst (λ n. Holds f F n h.value) (sym e) h.holds;
-    none = none;
-    on = λ x p. h.on x (none_of _ (value_text h.value) none (subst (λ n. IsFormless f F n h.value x) e p));
-  }
-
-  pub texts_more : (ms : List ℕ) (vs : Values) (i : ℕ) (t : List ℕ) → (h : Here ms vs i) → value_text h.value ≡ Some t → HaveTexts f F ms vs (i + 1)
-  texts_more ms vs i t h some = record {
-    rest = h.rest;
-    holds = h.holds_rest;
-    lacks = of_some _ (value_text h.value) t some h.lacks;
-    on = λ x p. h.on x (some_of _ (value_text h.value) t some p);
-  }
-
-  -- one of all members lacks a text
-  pub texts_end : (ms : List ℕ) (vs : Values) (i : ℕ) → length ms ≤ i → HaveTexts f F ms vs i → ⊥
-  texts_end ms vs i l t = go t.rest (subst (λ xs. HoldEach f F xs t.rest) (drop_all i ms l) t.holds) t.lacks
+      array_kind : (k : Kind) → Content.array h.0 ≡ content_of f F k count body → k ≡ kinds.Array
+      array_kind kinds.Array e = refl
+      array_kind _ e = cc e
+  own_kind kind count body n (dict ps) a d m h e = absurd (d (dict_kind kind (m (Content.dict h.0 h.1) h.2)))
     where
-      go : (rest : Values) → HoldEach f F [] rest → LacksText rest → ⊥
-      go no_values h l = l
-      go (value v ws) h l = h
+      dict_kind : (k : Kind) → Content.dict h.0 h.1 ≡ content_of f F k count body → k ≡ kinds.Dict
+      dict_kind kinds.Dict e = refl
+      dict_kind _ e = cc e
 
-  leaf_first : (kind : Kind) (count : ℕ) → IsLeafKind kind → first_part kind count ≡ None
-  leaf_first kinds.Array count h = absurd h
-  leaf_first kinds.Dict count h = absurd h
-  leaf_first kinds.Set count h = absurd h
-  leaf_first _ count h = refl
+  match_some : (A : Type 0) {B : Type 0} (o : Option (List ℕ)) → (o ≡ None → ⊥) → B → MatchOption o A (λ t. B)
+  match_some A None some b = absurd (some refl)
+  match_some A (Some t) some b = b
 
-  set_kind : (kind : Kind) (count body : ℕ) (ms : List ℕ) → Content.set ms ≡ content_of f F kind count body → kind ≡ kinds.Set
-  set_kind kinds.Set count body ms e = refl
-  set_kind _ count body ms e = cc e
+  match_none : {A : Type 0} (B : List ℕ → Type 0) (o : Option (List ℕ)) → o ≡ None → A → MatchOption o A B
+  match_none B None e a = a
+  match_none B (Some t) e a = cc e
 
-  -- an object without such parts is itself the first without a form
-  pub own_kind : (n : ℕ) (v : Value) (head : Head) → Means f F n (content_at f F head) → first_part head.kind head.count ≡ None → Holds f F n v → value_text v ≡ None → IsFormless f F n v n
-  own_kind n (leaf l) head m p h e = (e, refl)
-  own_kind n (set vs) head m p h e = refl
-  own_kind n (array vs) head m p h e =
-      let k = array_kind f F head.kind head.count head.body h.0 (m (Content.array h.0) h.1) in
-      absurd (none_is (sym (ap (λ x. first_part x head.count) k) ∙ p))
-    where
-      none_is : {x : ℕ} → Some x ≡ None → ⊥
-      none_is e = cc e
-  own_kind n (dict ps) head m p h e =
-      let k = (dict_parts f F head.kind head.count head.body h.0 h.1 (m (Content.dict h.0 h.1) h.2)).0 in
-      absurd (none_is (sym (ap (λ x. first_part x head.count) k) ∙ p))
-    where
-      none_is : {x : ℕ} → Some x ≡ None → ⊥
-      none_is e = cc e
+  at_member : (m : ℕ) (node : Node) (v w : Value) (x : ℕ) → Some node ≡ Some (node_of m) → Some v ≡ Some w → IsFormless f F node.object.0 w x → IsFormless f F m v x
+  at_member m node v w x e is h =
+      let there : node ≡ node_of m = cc e in
+      let same : w ≡ v = cc is in
+      subst (λ (y : Node). IsFormless f F y.object.0 v x) there (subst (λ y. IsFormless f F node.object.0 y x) same h)
 
-  -- the heights vouch for each reference of n, and it stands below n
-  abbrev pub AreBelow : List ℕ → ℕ → Type 0
-  AreBelow heights n = (c : Content) → Spells f F n c → (k : ℕ) → k < length (refs c)
-      → IsVouchedBy heights (slice_index (refs c) k) × (slice_index heights (slice_index (refs c) k) < slice_index heights n)
+  -- the first member without a text is the first of these
+  first_of_each : (i : ℕ) (ms : List ℕ) (vs : Values) (node : Node) (w : Value) → Some node ≡ named (slice_get ms i) → nth_value vs i ≡ Some w
+      → ((j : ℕ) → j < i → (y : Value) → nth_value vs j ≡ Some y → value_text y ≡ None → ⊥) → value_text w ≡ None → (x : ℕ) → IsFormless f F node.object.0 w x → IsFirstFormless f F ms vs x
+  first_of_each i [] vs node w e is texts none x h = cc e
+  first_of_each i (m ∷ ms) no_values node w e is texts none x h = cc is
+  first_of_each zero (m ∷ ms) (value v vs) node w e is texts none x h =
+      let same : v ≡ w = cc is in
+      match_none _ (value_text v) (ap value_text same ∙ none) (at_member m node v w x e is h)
+  first_of_each (suc i) (m ∷ ms) (value v vs) node w e is texts none x h =
+      match_some _ (value_text v) (texts 0 (omega arith) v refl) (first_of_each i ms vs node w e is (λ j l. texts (suc j) (omega (arith, l))) none x h)
 
-  -- the members or values of an object whose value has no text
-  pub record HasParts (heights : List ℕ) (n : ℕ) (v : Value) (head : Head) (first : ℕ) : Type 0 where
-    pub ms : List ℕ
-    pub vs : Values
-    pub members : HaveMembers f F heights head first ms vs
-    pub lacks : LacksText vs
-    pub on : (x : ℕ) → IsFirstFormless f F ms vs x → IsFormless f F n v x
-    pub lower : (i : ℕ) → i < length ms → slice_index heights (slice_index ms i) < slice_index heights n
+  first_of_pairs : (i : ℕ) (ks ms : List ℕ) (ps : Pairs) (node : Node) (w : Value) → Some node ≡ named (nth_in_turn ks ms i) → nth_of_pairs ps i ≡ Some w
+      → ((j : ℕ) → j < i → (y : Value) → nth_of_pairs ps j ≡ Some y → value_text y ≡ None → ⊥) → value_text w ≡ None → (x : ℕ) → IsFormless f F node.object.0 w x → IsFirstFormlessOf f F ms ps x
+  first_of_pairs i [] ms ps node w e is texts none x h = cc e
+  first_of_pairs i (k ∷ ks) [] ps node w e is texts none x h = cc e
+  first_of_pairs i (k ∷ ks) (m ∷ ms) no_pairs node w e is texts none x h = cc is
+  first_of_pairs zero (k ∷ ks) (m ∷ ms) (pair u v ps) node w e is texts none x h = absurd (key_has 0 (pair u v ps) w refl is none)
+  first_of_pairs (suc zero) (k ∷ ks) (m ∷ ms) (pair u v ps) node w e is texts none x h =
+      let same : v ≡ w = cc is in
+      match_none _ (value_text v) (ap value_text same ∙ none) (at_member m node v w x e is h)
+  first_of_pairs (suc (suc i)) (k ∷ ks) (m ∷ ms) (pair u v ps) node w e is texts none x h =
+      match_some _ (value_text v) (texts 1 (omega arith) v refl) (first_of_pairs i ks ms ps node w e is (λ j l. texts (suc (suc j)) (omega (arith, l))) none x h)
 
-  pub parts_of_value : (heights : List ℕ) (n : ℕ) (v : Value) (head : Head) (first : ℕ) → AreBelow heights n → Means f F n (content_at f F head) → first_part head.kind head.count ≡ Some first
-      → Holds f F n v → value_text v ≡ None → HasParts heights n v head first
-  parts_of_value heights n (leaf l) head first b m p h e =
-      let none = leaf_first head.kind head.count (leaf_kind f F head.kind head.count head.body l (m (Content.leaf l) h)) in absurd (cc (none, p))
-  parts_of_value heights n (set vs) head first b m p h e =
-      let k = set_kind head.kind head.count head.body h.0 (m (Content.set h.0) h.1) in
-      let none : first_part head.kind head.count ≡ None = ap (λ x. first_part x head.count) k in absurd (cc (none, p))
-  parts_of_value heights n (array vs) head first b m p h e =
-      let is = m (Content.array h.0) h.1 in
-      let k = array_kind f F head.kind head.count head.body h.0 is in
-      let begins : Some 0 ≡ Some first = sym (ap (λ x. first_part x head.count) k) ∙ p in
-      let zero_first : first ≡ 0 = cc begins in
-      let same : (i : ℕ) → first + i ≡ i = λ i. omega (arith, zero_first) in
-      let nums : h.0 ≡ nums_at f head.body F.ref_size head.count = let c = is ∙ ap (λ x. content_of f F x head.count head.body) k in cc c in
-      record {
-        ms = h.0;
-        vs = vs;
-        lacks = members_lack vs (no_map (λ t. 0x28 ∷ (t ++ 0x29 ∷ [])) (members_text vs) e);
-        on = λ x q. (h.0, h.1, q);
-        lower = λ i l. (b (Content.array h.0) h.1 i l).1;
-        members = record {
-          content = Content.array h.0;
-          means = is;
-          at = λ i l. ap (slice_index h.0) (same i);
-          long = ap length nums ∙ length-nums_at f head.body F.ref_size head.count;
-          objects = λ i l. object_at f F h.0 i h.1.refs l;
-          vouched = λ i l. (b (Content.array h.0) h.1 i l).0;
-          holds = h.2;
-        };
-      }
-  parts_of_value heights n (dict ps) head first b m p h e =
-      let is = m (Content.dict h.0 h.1) h.2 in
-      let k = (dict_parts f F head.kind head.count head.body h.0 h.1 is).0 in
-      let begins : Some head.count ≡ Some first = sym (ap (λ x. first_part x head.count) k) ∙ p in
-      let count_first : first ≡ head.count = cc begins in
-      let many = as_many f F head.kind head.count head.body h.0 h.1 is in
-      let key_count = many.0 in
-      let at : (i : ℕ) → slice_index (h.0 ++ h.1) (first + i) ≡ slice_index h.1 i = λ i.
-      ap (λ j. slice_index (h.0 ++ h.1) (j + i)) (count_first ∙ sym key_count) ∙ get_or-append-add h.0 h.1 i 0 in
-      let long = length-append h.0 h.1 in
-      let inside : (i : ℕ) → i < length h.1 → first + i < length (h.0 ++ h.1) = λ i l. omega (arith, l, long, count_first, key_count) in
-      let below : (i : ℕ) → i < length h.1 → IsVouchedBy heights (slice_index h.1 i) × (slice_index heights (slice_index h.1 i) < slice_index heights n) =
-      λ i l. subst (λ x. IsVouchedBy heights x × (slice_index heights x < slice_index heights n)) (at i) (b (Content.dict h.0 h.1) h.2 (first + i) (inside i l)) in
-      record {
-        ms = h.1;
-        vs = values_of ps;
-        lacks = pairs_lack ps (no_map (λ t. 0x7B ∷ (t ++ 0x7D ∷ [])) (pairs_text ps) e);
-        on = λ x q. (h.0, h.1, h.2, first_of_pairs h.1 ps x q);
-        lower = λ i l. (below i l).1;
-        members = record {
-          content = Content.dict h.0 h.1;
-          means = is;
-          at = λ i l. at i;
-          long = many.1;
-          objects = λ i l. subst (λ x. x < F.objects) (at i) (object_at f F (h.0 ++ h.1) (first + i) h.2.refs (inside i l));
-          vouched = λ i l. (below i l).0;
-          holds = each_of_pairs h.0 h.1 ps h.3;
-        };
-      }
+  first_of_value : (k : Kind) (n : ℕ) (v : Value) (i : ℕ) (node : Node) (w : Value) → IsOfKind k v → Holds f F n v → ((c : Content) → Spells f F n c → Some node ≡ named (member_reference c i))
+      → member_of v i ≡ Some w → HaveTexts v i → value_text w ≡ None → (x : ℕ) → IsFormless f F node.object.0 w x → IsFormless f F n v x
+  first_of_value kinds.Array n (array vs) i node w o h e is texts none x p = (h.0, h.1, first_of_each i h.0 vs node w (e (Content.array h.0) h.1) is texts none x p)
+  first_of_value kinds.Dict n (dict ps) i node w o h e is texts none x p = (h.0, h.1, h.2, first_of_pairs i h.0 h.1 ps node w (e (Content.dict h.0 h.1) h.2) is texts none x p)
+  first_of_value _ n _ i node w o h e is texts none x p = absurd o
 
--- the references of an object that a checked file vouches for are vouched for and stand below it
-pub references_below : (checked : CheckedFile) → IsChecked checked → IsTrue checked.source.honest → (n : ℕ) → IsVouchedBy checked.certificate.heights n
-    → AreBelow checked.source.octets checked.frame checked.certificate.heights n
-references_below checked is honest n vouched c s k l =
-    let heights = checked.certificate.heights in
-    let P : ℕ → Type 0 = λ m. IsVouchedBy heights m × (slice_index heights m < slice_index heights n) in
-    let told : ((P (slice_index (refs c) k) → ⊥) → ⊥) = λ no. not_there (is.accepted honest) (λ a.
-    let v = a.valid.vouched n vouched in
-    let same = one_head checked.source.octets checked.frame n v.content c v.spells s in
-    no (All-get_or P (refs c) k 0 l (All-from_recursion P (refs c) (subst (λ x. AllByRecursion P (refs x)) same v.lower)))) in
-    (stable_le 1 _ (λ no. told (λ p. no p.0)), stable_lt _ _ (λ no. told (λ p. no p.1)))
+-- what holds of all references holds of each member
 
-pub none_from : (o : Option ℕ) → ((x : ℕ) → o ≡ Some x → ⊥) → o ≡ None
-none_from None h = refl
-none_from (Some x) h = absurd (h x refl)
+all_of : (P : ℕ → Type 0) (ms : List ℕ) (i : ℕ) (node : Node) → AllByRecursion P ms → Some node ≡ named (slice_get ms i) → P node.object.0
+all_of P [] i node a e = cc e
+all_of P (m ∷ ms) zero node a e = let there : node_of m ≡ node = cc e in subst (λ (y : Node). P y.object.0) there a.0
+all_of P (m ∷ ms) (suc i) node a e = all_of P ms i node a.1 e
 
-pub match_none : {X A : Type 0} (B : X → Type 0) (o : Option X) → ((x : X) → o ≡ Some x → ⊥) → MatchOption o A B → A
-match_none B None none m = m
-match_none B (Some x) none m = absurd (none x refl)
+all_in_turn : (P : ℕ → Type 0) (ks ms : List ℕ) (i : ℕ) (node : Node) → AllByRecursion P ks → AllByRecursion P ms → Some node ≡ named (nth_in_turn ks ms i) → P node.object.0
+all_in_turn P [] ms i node a b e = cc e
+all_in_turn P (k ∷ ks) [] i node a b e = cc e
+all_in_turn P (k ∷ ks) (m ∷ ms) zero node a b e = let there : node_of k ≡ node = cc e in subst (λ (y : Node). P y.object.0) there a.0
+all_in_turn P (k ∷ ks) (m ∷ ms) (suc zero) node a b e = let there : node_of m ≡ node = cc e in subst (λ (y : Node). P y.object.0) there b.0
+all_in_turn P (k ∷ ks) (m ∷ ms) (suc (suc i)) node a b e = all_in_turn P ks ms i node a.1 b.1 e
+
+all_parts : (P : ℕ → Type 0) (ks ms : List ℕ) → AllByRecursion P (ks ++ ms) → AllByRecursion P ks × AllByRecursion P ms
+all_parts P [] ms a = (tt, a)
+all_parts P (k ∷ ks) ms a = let r = all_parts P ks ms a.1 in ((a.0, r.0), r.1)
+
+all_members : (P : ℕ → Type 0) (c : Content) (i : ℕ) (node : Node) → AllByRecursion P (refs c) → Some node ≡ named (member_reference c i) → P node.object.0
+all_members P (Content.leaf l) i node a e = cc e
+all_members P (Content.array ms) i node a e = all_of P ms i node a e
+all_members P (Content.set ms) i node a e = all_of P ms i node a e
+all_members P (Content.dict ks ms) i node a e = let r = all_parts P ks ms a in all_in_turn P ks ms i node r.0 r.1 e
+
+module _ (checked : CheckedFile) (head : Head) (n : ℕ) (v : Value) (held : IsHeld checked n v)
+    (shown : (c : Content) → Spells checked.source.octets checked.frame n c → c ≡ content_at checked.source.octets checked.frame head) (container : IsContainer head.kind) where
+  pub kind_is : IsOfKind head.kind v
+  kind_is = of_kind checked.source.octets checked.frame head.kind head.count head.body n v container shown held.1
+
+  member_is : (i : ℕ) (member : Option Node) → IsMember checked head i member → HoldsMember checked.source.octets checked.frame (member_of v i) member
+  member_is i member is =
+      let m = held_members checked.source.octets checked.frame v n held.1 in
+      subst (HoldsMember checked.source.octets checked.frame (member_of v i)) (sym (is n held.0 m.0 m.1 (shown m.0 m.1))) (m.2 i)
+
+  -- a member that has a text, if the object that holds it does not lack one
+  pub has_text : (i : ℕ) (node : Node) → IsMember checked head i (Some node) → ((w : Value) → Holds checked.source.octets checked.frame node.object.0 w → value_text w ≡ None → ⊥)
+      → (w : Value) → member_of v i ≡ Some w → value_text w ≡ None → ⊥
+  has_text i node is has w e none =
+      let h = held_some checked.source.octets checked.frame (member_of v i) node (member_is i (Some node) is) in
+      let same : h.0 ≡ w = let both = sym h.1 ∙ e in cc both in
+      has h.0 h.2 (ap value_text same ∙ none)
+
+  -- behind the last member all have texts
+  pub not_all : (i : ℕ) → IsMember checked head i None → HaveTexts v i → value_text v ≡ None → ⊥
+  not_all i is texts none = all_have head.kind v i kind_is (held_none checked.source.octets checked.frame (member_of v i) (member_is i None is)) texts none
+
+  -- the first member without a text
+  pub leads : IsChecked checked → IsTrue checked.source.honest → (i : ℕ) (node : Node) → IsMember checked head i (Some node) → IsVouchedBy checked.certificate.heights node.object.0 → HaveTexts v i
+      → ((w : Value) → Holds checked.source.octets checked.frame node.object.0 w → value_text w ≡ None)
+      → LeadsOn checked n v node.object.0 × (slice_index checked.certificate.heights node.object.0 < slice_index checked.certificate.heights n)
+  leads is honest i node member vouched texts lacks =
+      let f = checked.source.octets in
+      let F = checked.frame in
+      let heights = checked.certificate.heights in
+      let h = held_some f F (member_of v i) node (member_is i (Some node) member) in
+      let none = lacks h.0 h.2 in
+      let lower : slice_index heights node.object.0 < slice_index heights n = ∥∥₁_elim (is.accepted honest) (hlevel props) (λ a.
+      let own = a.valid.vouched n held.0 in
+      (all_members (λ m. IsVouchedBy heights m × (slice_index heights m < slice_index heights n)) own.content i node own.lower
+      (member n held.0 own.content own.spells (shown own.content own.spells))).1) in (
+        record {
+          value = h.0;
+          held = (vouched, h.2);
+          none = none;
+          on = first_of_value f F head.kind n v i node h.0 kind_is held.1 (λ c s. member n held.0 c s (shown c s)) h.1 texts none;
+        },
+        lower,
+      )
 
 -- where the search goes on
-pub leads_on : (f : List ℕ) (F : Frame) (heights : List ℕ) (n : ℕ) (v : Value) (head : Head) (first m : ℕ) → (p : HasParts f F heights n v head first) → IsFirstWithout f F p.ms p.vs m
-    → LeadsOn f F n v m × IsVouchedBy heights m × (slice_index heights m < slice_index heights n)
-leads_on f F heights n v head first m p r = (
-  record { value = r.value; holds = r.holds; none = r.none; on = λ x i. p.on x (r.on x i) },
-  subst (IsVouchedBy heights) (sym r.is) (p.members.vouched r.place r.within),
-  subst (λ x. slice_index heights x < slice_index heights n) (sym r.is) (p.lower r.place r.within),
-)
+pub leads_further : (checked : CheckedFile) (n : ℕ) (v : Value) (m k : ℕ) → (a : LeadsOn checked n v m) → LeadsOn checked m a.value k → LeadsOn checked n v k
+leads_further checked n v m k a b = record { value = b.value; held = b.held; none = b.none; on = λ x i. a.on x (b.on x i) }
 
-pub leads_further : (f : List ℕ) (F : Frame) (n : ℕ) (v : Value) (m k : ℕ) → (a : LeadsOn f F n v m) → LeadsOn f F m a.value k → LeadsOn f F n v k
-leads_further f F n v m k a b = record { value = b.value; holds = b.holds; none = b.none; on = λ x i. a.on x (b.on x i) }
+pub leads_none : {X A : Type 0} (B : X → Type 0) (o : Option X) → ((x : X) → o ≡ Some x → ⊥) → MatchOption o A B → A
+leads_none B None none m = m
+leads_none B (Some x) none m = absurd (none x refl)

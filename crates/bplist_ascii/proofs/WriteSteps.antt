@@ -13,9 +13,9 @@ use Rattle.bplist_ascii.specs.Sending.{Sending, SendsSome, TakesPart}
 use Rattle.bplist_cursor.specs.Texts.{is_plain, text_of_units, quoted}
 use Rattle.bplist_ascii.specs.declared.style.Style.TheVariants.{Bare, Quoted}
 use Rattle.bplist_octets.specs.Meaning.{Meaning}
-use Rattle.bplist_objects.specs.declared.fault.ObjectFault.{ObjectFault}
-use Rattle.bplist_objects.specs.declared.fault.ObjectFault.TheVariants as objects
-use Rattle.bplist_objects.specs.Answers.{GivesFault, Never}
+use Rattle.bplist_cursor.specs.declared.faults.Unread.{Unread}
+use Rattle.bplist_cursor.specs.declared.faults.Unread.TheVariants as unread
+use Rattle.bplist_cursor.specs.Causes.{IsUnread}
 use Rattle.bplist_ascii.specs.Writing.{IsReadFault, print_fault_of, styled, fits, is_bare_text, Adds, AddsText, AddFails, StaysWithin}
 use Rattle.bplist_ascii.specs.declared.print_fault.PrintFault.{PrintFault}
 use Rattle.bplist_ascii.specs.declared.print_fault.PrintFault.TheVariants.{NoAsciiForm, TooLong, Write, Read, Changed, Memory}
@@ -175,10 +175,10 @@ text_under e p = record { bytes = p.bytes; adds = p.adds; is = λ h. p.is h ∙ 
 pub fails_under : (old new : Option (List ℕ)) (s : Sending) (room : ℕ) (e : PrintFault) {xs ys : List ℕ} → xs ≡ ys → (length xs ≤ room → AddFails old new s xs e) → length ys ≤ room → AddFails old new s ys e
 fails_under old new s room e is h = subst (λ l. length l ≤ room → AddFails old new s l e) is h
 
--- without a fault of an object it is a failed read
-pub read_never : (e : ObjectFault) → GivesFault Never e → IsReadFault (print_fault_of e)
-read_never (objects.Fault x) h = h
-read_never (objects.Read x) h = tt
+-- a failed read is one to the printer
+pub read_unread : (e : Unread) → IsUnread e → IsReadFault (print_fault_of e)
+read_unread (unread.Read x) h = tt
+read_unread unread.Changed h = h
 
 -- of bytes of which the first were put in a first part went out
 pub adds_some : {old new : Option (List ℕ)} {s t : Sending} {r r' : ℕ} {xs whole : List ℕ} (ys : List ℕ) → Adds old new s t r r' xs → whole ≡ xs ++ ys → SendsSome old new (s.held ++ whole)
@@ -193,10 +193,6 @@ read_fails ys Memory p is h = absurd h
 read_fails ys Changed p is h = absurd h
 read_fails ys TooLong p is h = absurd h
 read_fails ys (NoAsciiForm n) p is h = absurd h
-
--- a text where more is given
-pub text_where : {old new : Option (List ℕ)} {s t : Sending} {r r' : ℕ} {P Q : Type 0} {xs ys : List ℕ} → (Q → P) → (Q → xs ≡ ys) → AddsText old new s t r r' P xs → AddsText old new s t r r' Q ys
-text_where given e p = record { bytes = p.bytes; adds = p.adds; is = λ h. p.is (given h) ∙ e h }
 
 -- a fault of a text that is read from a source is one of the text that another means the same as
 pub fails_same : (old new : Option (List ℕ)) (s : Sending) (room : ℕ) (e : PrintFault) (words : Meaning → List ℕ) {m m' : Meaning} → m ≡ m'

@@ -1,69 +1,89 @@
 -- What is left to write, where containers that are half written wait on a stack. Source: profile.
-use Rattle.std.specs.Prelude.{◌≡◌, ℕ, suc, zero, ◌+◌, ◌≤◌, ◌<◌, List, [], ◌∷◌, ◌++◌, length, drop, slice_index, Option, ⊤}
-use Rattle.std.specs.List.{AllByRecursion}
+use Rattle.std.specs.Prelude.{◌≡◌, ℕ, suc, zero, List, [], ◌∷◌, ◌++◌, Option, ⊤}
 use Rattle.bplist_objects.specs.declared.frame.Frame.{Frame}
+use Rattle.bplist_objects.specs.declared.head.Head.{Head}
 use Rattle.bplist_objects.specs.declared.kind.Kind.{Kind}
 use Rattle.bplist_objects.specs.declared.kind.Kind.TheVariants as kinds
-use Rattle.bplist_objects.specs.Value.{text, Value, Values, Pairs}
+use Rattle.bplist_objects.specs.Value.{Value, array, dict, Values, no_values, value, Pairs, no_pairs, pair}
 use Rattle.bplist_objects.specs.Heads.{Content, Spells, content_at}
-use Rattle.bplist_objects.specs.Holds.{Holds, HoldEach, HoldPairs}
 use Rattle.bplist_objects.specs.Safe.{IsSafeHead}
-use Rattle.bplist_cursor.specs.Texts.{text_of_units}
-use Rattle.bplist_cursor.specs.OldStyle.{comma, IsFormed, AreFormed, ArePairsFormed, plain, plain_members, plain_pairs}
+use Rattle.bplist_cert.specs.CheckedFile.{CheckedFile}
+use Rattle.bplist_cursor.specs.Found.{IsHeld}
+use Rattle.bplist_cursor.specs.OldStyle.{comma, IsFormed, plain, plain_members, plain_pairs}
 use Rattle.bplist_ascii.specs.Sending.{Sending}
 use Rattle.bplist_ascii.specs.Writing.{Adds}
 use Rattle.bplist_ascii.specs.declared.walk.Opened.{Opened}
 
--- xs, but nothing at the first
-abbrev pub after_first : ℕ → List ℕ → List ℕ
-after_first zero xs = []
-after_first (suc n) xs = xs
+-- what stands before the members of a container
+abbrev pub opening_of : Kind → List ℕ
+opening_of kinds.Dict = 0x7B ∷ []
+opening_of _ = 0x28 ∷ []
+
+-- what stands before member i: of an array `,`, of a dictionary `=` before a value and `;` before a further key
+abbrev pub mark_of : Kind → ℕ → List ℕ
+mark_of kinds.Dict zero = []
+mark_of kinds.Dict (suc zero) = 0x3D ∷ []
+mark_of kinds.Dict (suc (suc zero)) = 0x3B ∷ []
+mark_of kinds.Dict (suc (suc (suc i))) = mark_of kinds.Dict (suc i)
+mark_of _ zero = []
+mark_of _ (suc i) = 0x2C ∷ []
+
+-- what stands behind the members of a container, which are so many
+abbrev pub closing_of : Kind → ℕ → List ℕ
+closing_of kinds.Dict zero = 0x7D ∷ []
+closing_of kinds.Dict (suc i) = 0x3B ∷ 0x7D ∷ []
+closing_of _ i = 0x29 ∷ []
+
+-- the text of an array from what stands before member i on
+abbrev pub members_from : ℕ → Values → List ℕ
+members_from zero vs = plain_members vs ++ 0x29 ∷ []
+members_from (suc i) no_values = 0x29 ∷ []
+members_from (suc zero) (value v vs) = comma vs ++ members_from zero vs
+members_from (suc (suc i)) (value v vs) = members_from (suc i) vs
+
+-- the same of a dictionary, each key of which is a member before its value
+abbrev pub pairs_from : ℕ → Pairs → List ℕ
+pairs_from zero ps = plain_pairs ps ++ 0x7D ∷ []
+pairs_from (suc i) no_pairs = 0x3B ∷ 0x7D ∷ []
+pairs_from (suc zero) (pair u v ps) = 0x3D ∷ (plain v ++ (0x3B ∷ pairs_from zero ps))
+pairs_from (suc (suc zero)) (pair u v ps) = 0x3B ∷ pairs_from zero ps
+pairs_from (suc (suc (suc i))) (pair u v ps) = pairs_from (suc i) ps
+
+-- the text of a container from what stands before member i on
+abbrev pub text_from : Value → ℕ → List ℕ
+text_from (array vs) i = members_from i vs
+text_from (dict ps) i = pairs_from i ps
+text_from _ i = []
 
 -- the heads of containers on the stack can be read under the frame
 abbrev pub AreSafe : Frame → List Opened → Type 0
 AreSafe F [] = ⊤
 AreSafe F (o ∷ os) = IsSafeHead F o.head × AreSafe F os
 
--- each of these is an object
-abbrev pub AreObjects : Frame → List ℕ → Type 0
-AreObjects F ms = AllByRecursion (λ m. m < F.objects) ms
+-- the kinds of containers with a text
+abbrev pub IsContainer : Kind → Type 0
+IsContainer kinds.Array = ⊤
+IsContainer kinds.Dict = ⊤
+IsContainer _ = ⊥
 
-module _ (f : List ℕ) (F : Frame) where
-  -- `left` is what is left to write of an array
-  pub record ArrayLeft (o : Opened) (left : List ℕ) : Type 0 where
-    pub refs : List ℕ
-    pub values : Values
-    pub means : Content.array refs ≡ content_at f F o.head
-    pub objects : AreObjects F refs
-    pub counted : o.head.count ≡ length refs
-    pub within : o.next ≤ o.head.count
-    pub holds : HoldEach f F (drop o.next refs) values
-    pub formed : AreFormed values
-    pub is : left ≡ after_first o.next (comma values) ++ (plain_members values ++ 41 ∷ [])
+-- a value of a container's kind
+abbrev pub IsOfKind : Kind → Value → Type 0
+IsOfKind kinds.Array (array vs) = ⊤
+IsOfKind kinds.Dict (dict ps) = ⊤
+IsOfKind _ _ = ⊥
 
-  -- `left` is what is left to write of a dictionary
-  pub record DictLeft (o : Opened) (left : List ℕ) : Type 0 where
-    pub keys : List ℕ
-    pub refs : List ℕ
-    pub pairs : Pairs
-    pub means : Content.dict keys refs ≡ content_at f F o.head
-    pub objects : AreObjects F (keys ++ refs)
-    pub key_count : o.head.count ≡ length keys
-    pub value_count : o.head.count ≡ length refs
-    pub within : o.next ≤ o.head.count
-    pub holds : HoldPairs f F (drop o.next keys) (drop o.next refs) pairs
-    pub formed : ArePairsFormed pairs
-    pub is : left ≡ after_first o.next (59 ∷ []) ++ (plain_pairs pairs ++ 125 ∷ [])
-
-  -- by the kind of the container
-  abbrev pub LeftBy : Kind → Opened → List ℕ → Type 0
-  LeftBy kinds.Array o left = ArrayLeft o left
-  LeftBy kinds.Dict o left = DictLeft o left
-  LeftBy _ o left = ⊥
+module _ (checked : CheckedFile) where
+  -- an object with this head holds the container, which has a text
+  pub record IsRead (head : Head) (v : Value) : Type 0 where
+    pub object : ℕ
+    pub held : IsHeld checked object v
+    pub shown : (c : Content) → Spells checked.source.octets checked.frame object c → c ≡ content_at checked.source.octets checked.frame head
+    pub kind : IsOfKind head.kind v
+    pub formed : IsFormed v
 
   -- `left` is what is left to write of a container
   abbrev pub OpenedLeft : Opened → List ℕ → Type 0
-  OpenedLeft o left = LeftBy o.head.kind o left
+  OpenedLeft o left = (v : Value) × IsRead o.head v × (left ≡ text_from v o.next)
 
   -- `left` is what is left to write of all containers of the stack: the first is the outermost, and is written last
   abbrev pub StackLeft : List Opened → List ℕ → Type 0
@@ -77,31 +97,3 @@ module _ (f : List ℕ) (F : Frame) where
     pub adds : Adds old new before after room room' written
     pub stands : StackLeft stack rest
     pub is : left ≡ written ++ rest
-
-  -- the next pair of a dictionary of which `left` is left to write, and what is left after it
-  pub record NextPair (o : Opened) (left : List ℕ) : Type 0 where
-    pub keys : List ℕ
-    pub refs : List ℕ
-    pub units : List ℕ
-    pub value : Value
-    pub rest : List ℕ
-    pub means : Content.dict keys refs ≡ content_at f F o.head
-    pub key_is_object : slice_index (keys ++ refs) o.next < F.objects
-    pub value_is_object : slice_index (keys ++ refs) (o.head.count + o.next) < F.objects
-    pub key : Spells f F (slice_index (keys ++ refs) o.next) (Content.leaf (text units))
-    pub holds : Holds f F (slice_index (keys ++ refs) (o.head.count + o.next)) value
-    pub formed : IsFormed value
-    pub is : left ≡ after_first o.next (59 ∷ []) ++ ((text_of_units units ++ 61 ∷ []) ++ (plain value ++ rest))
-    pub after : DictLeft (record { head = o.head; next = o.next + 1 }) rest
-
-  -- the next member of an array of which `left` is left to write, and what is left after it
-  pub record NextMember (o : Opened) (left : List ℕ) : Type 0 where
-    pub refs : List ℕ
-    pub value : Value
-    pub rest : List ℕ
-    pub means : Content.array refs ≡ content_at f F o.head
-    pub is_object : slice_index refs o.next < F.objects
-    pub holds : Holds f F (slice_index refs o.next) value
-    pub formed : IsFormed value
-    pub is : left ≡ after_first o.next (44 ∷ []) ++ (plain value ++ rest)
-    pub after : ArrayLeft (record { head = o.head; next = o.next + 1 }) rest

@@ -1,11 +1,8 @@
 -- What is put into a sink where there is room for so many bytes. Source: profile.
-use Rattle.std.specs.Prelude.{◌≡◌, ℕ, ◌+◌, ◌≤◌, Bool, true, false, List, [], ◌∷◌, ◌++◌, length, Option, Result, Ok, Err, IsTrue, ⊤}
+use Rattle.std.specs.Prelude.{◌≡◌, ℕ, ◌+◌, ◌≤◌, Bool, true, false, List, [], ◌∷◌, ◌++◌, length, Option, Result, Ok, Err, ⊤}
 use Rattle.std.specs.List.{list_all}
-use Rattle.bplist_octets.specs.Meaning.{Meaning}
-use Rattle.bplist_objects.specs.declared.frame.Frame.{Frame}
-use Rattle.bplist_objects.specs.declared.fault.ObjectFault.{ObjectFault}
-use Rattle.bplist_objects.specs.declared.fault.ObjectFault.TheVariants as objects
-use Rattle.bplist_objects.specs.Frame.{IsFrame}
+use Rattle.bplist_cursor.specs.declared.faults.Unread.{Unread}
+use Rattle.bplist_cursor.specs.declared.faults.Unread.TheVariants as unread
 use Rattle.bplist_cursor.specs.Texts.{is_plain, quoted_unit}
 use Rattle.bplist_ascii.specs.Sending.{Sending, SendsSome, Takes, TakesPart, AtMost}
 use Rattle.bplist_ascii.specs.declared.print_fault.PrintFault.{PrintFault}
@@ -13,10 +10,10 @@ use Rattle.bplist_ascii.specs.declared.print_fault.PrintFault.TheVariants.{Write
 use Rattle.bplist_ascii.specs.declared.style.Style.{Style}
 use Rattle.bplist_ascii.specs.declared.style.Style.TheVariants.{Bare, Quoted}
 
--- what a fault of an object is to the printer
-abbrev pub print_fault_of : ObjectFault → PrintFault
-print_fault_of (objects.Fault _) = Changed
-print_fault_of (objects.Read fault) = Read fault
+-- the same cause as an answer of the printer
+abbrev pub print_fault_of : Unread → PrintFault
+print_fault_of (unread.Read fault) = Read fault
+print_fault_of unread.Changed = Changed
 
 -- the fault says that a read has failed
 abbrev pub is_read : PrintFault → Bool
@@ -37,11 +34,6 @@ IsReadFault _ = ⊥
 abbrev pub Reads : {X : Type 0} → (X → Type 0) → Result X PrintFault → Type 0
 Reads P (Ok x) = P x
 Reads P (Err fault) = IsReadFault fault
-
--- the source gives the bytes of its file, and the frame is that of the file
-pub record IsTrusted (source : Meaning) (frame : Frame) : Type 0 where
-  pub honest : IsTrue source.honest
-  pub framed : IsFrame source.octets frame
 
 -- these bytes were put in, and of the room `left` bytes are left
 pub record Adds (old new : Option (List ℕ)) (before after : Sending) (room left : ℕ) (bytes : List ℕ) : Type 0 where

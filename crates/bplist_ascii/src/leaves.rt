@@ -3,7 +3,7 @@
 ghost use Rattle.std.specs.Prelude.{◌≡◌, ◌+◌, ◌<◌, ◌≤◌, true, length, flat_map, IfOk, OnOk, IfErr, OnErr, IsTrue};
 ghost use Rattle.std.specs.List.{list_all};
 ghost use Rattle.bplist_octets.specs.Octets.{part};
-ghost use Rattle.bplist_octets.specs.Meaning.{OnlyReads};
+ghost use Rattle.bplist_octets.specs.Meaning.{OnlyReads, Honestly};
 ghost use Rattle.bplist_objects.specs.Safe.{IsSafeBody};
 ghost use Rattle.bplist_objects.specs.Units.{IsTextKind, units_of};
 ghost use Rattle.bplist_objects.specs.declared.kind.Kind.TheVariants.{Bytes};
@@ -13,7 +13,7 @@ ghost use Rattle.bplist_ascii.specs.declared.style.Style.TheVariants.{Bare};
 
 use crate::print_fault::PrintFault;
 use crate::sink::Sink;
-use crate::style::Style;
+use crate::style::{Style, Styled};
 use crate::writing::{write, write_digits, write_units};
 use bplist_cursor::are_plain;
 use bplist_objects::{Head, octets_at, read_units};
@@ -28,7 +28,8 @@ fn is_bare<S: Source>(src: &mut S, head: &Head) -> Result<bool, PrintFault>
     requires kind { IsTextKind head.now.kind }
     requires head { IsSafeBody (length (S.means src.old).octets) head.now }
     ensures reads { OnlyReads (print_read result) (S.means src.old) (S.means src.new) }
-    ensures exact { IfOk result (λ bare. IsTrue (S.means src.old).honest → bare ≡ is_bare_text (units_of (S.means src.old).octets head.now)) }
+    ensures exact { IfOk result (λ bare. Honestly (S.means src.old)
+        (λ f. bare ≡ is_bare_text (units_of f head.now))) }
     ensures some { IfOk result (λ bare. bare ≡ true → 0 < head.now.count) }
     ensures read { IfErr result IsReadFault }
 {
@@ -49,34 +50,34 @@ fn is_bare<S: Source>(src: &mut S, head: &Head) -> Result<bool, PrintFault>
     Ok(true)
 }
 
-/// Puts in the units of a text as a text of this style has them.
+/// Puts in the units of a text in its style.
 fn write_text_body<S: Source, W: Write>(
     src: &mut S,
-    head: &Head,
-    style: Style,
+    text: &Styled,
     sink: &mut Sink,
     out: &mut W,
     room: &mut u64,
 ) -> Result<(), PrintFault>
-    requires kind { IsTextKind head.now.kind }
-    requires head { IsSafeBody (length (S.means src.old).octets) head.now }
+    requires kind { IsTextKind text.now.head.kind }
+    requires head { IsSafeBody (length (S.means src.old).octets) text.now.head }
     ensures reads { OnlyReads (print_read result) (S.means src.old) (S.means src.new) }
     ensures adds { OnOk result (AddsText (W.contents out.old) (W.contents out.new) sink.old sink.new room.old room.new
-        (IsTrue (S.means src.old).honest) (flat_map (styled style) (units_of (S.means src.old).octets head.now))) }
-    ensures fails { IfErr result (λ e. IsTrue (S.means src.old).honest
-        → list_all (fits style) (units_of (S.means src.old).octets head.now) ≡ true
-        → length (flat_map (styled style) (units_of (S.means src.old).octets head.now)) ≤ room.old
-        → AddFails (W.contents out.old) (W.contents out.new) sink.old (flat_map (styled style) (units_of (S.means src.old).octets head.now)) e) }
+        (IsTrue (S.means src.old).honest) (flat_map (styled text.now.style) (units_of (S.means src.old).octets text.now.head))) }
+    ensures fails { IfErr result (λ e. Honestly (S.means src.old)
+        (λ f. list_all (fits text.now.style) (units_of f text.now.head) ≡ true
+        → length (flat_map (styled text.now.style) (units_of f text.now.head)) ≤ room.old
+        → AddFails (W.contents out.old) (W.contents out.new) sink.old (flat_map (styled text.now.style) (units_of f text.now.head))
+        e)) }
     ensures bounded { OnErr result (StaysWithin (W.contents out.old) (W.contents out.new) sink.old room.old) }
-    ensures falls { OnOk result (style ≡ Bare → room.new + head.now.count ≤ room.old) }
+    ensures falls { OnOk result (text.now.style ≡ Bare → room.new + text.now.head.count ≤ room.old) }
 {
     let mut buffer = [0; PART];
     let mut done = 0;
-    while done < head.count {
-        let now = (head.count - done).min(PART as u64);
+    while done < text.head.count {
+        let now = (text.head.count - done).min(PART as u64);
         let units = &mut buffer[..now as usize];
-        read_units(src, head, done, units)?;
-        write_units(sink, out, room, style, units)?;
+        read_units(src, &text.head, done, units)?;
+        write_units(sink, out, room, text.style, units)?;
         done += now;
     }
     Ok(())
@@ -95,9 +96,10 @@ fn write_data_body<S: Source, W: Write>(
     ensures reads { OnlyReads (print_read result) (S.means src.old) (S.means src.new) }
     ensures adds { OnOk result (AddsText (W.contents out.old) (W.contents out.new) sink.old sink.new room.old room.new
         (IsTrue (S.means src.old).honest) (flat_map hex_digits (part (S.means src.old).octets head.now.body head.now.count))) }
-    ensures fails { IfErr result (λ e. IsTrue (S.means src.old).honest
-        → length (flat_map hex_digits (part (S.means src.old).octets head.now.body head.now.count)) ≤ room.old
-        → AddFails (W.contents out.old) (W.contents out.new) sink.old (flat_map hex_digits (part (S.means src.old).octets head.now.body head.now.count)) e) }
+    ensures fails { IfErr result (λ e. Honestly (S.means src.old)
+        (λ f. length (flat_map hex_digits (part f head.now.body head.now.count)) ≤ room.old
+        → AddFails (W.contents out.old) (W.contents out.new) sink.old (flat_map hex_digits (part f head.now.body
+        head.now.count)) e)) }
     ensures bounded { OnErr result (StaysWithin (W.contents out.old) (W.contents out.new) sink.old room.old) }
 {
     let mut buffer = [0; PART];
@@ -125,9 +127,10 @@ pub(crate) fn write_data<S: Source, W: Write>(
     ensures reads { OnlyReads (print_read result) (S.means src.old) (S.means src.new) }
     ensures adds { OnOk result (AddsText (W.contents out.old) (W.contents out.new) sink.old sink.new room.old room.new
         (IsTrue (S.means src.old).honest) (text_of_bytes (part (S.means src.old).octets head.now.body head.now.count))) }
-    ensures fails { IfErr result (λ e. IsTrue (S.means src.old).honest
-        → length (text_of_bytes (part (S.means src.old).octets head.now.body head.now.count)) ≤ room.old
-        → AddFails (W.contents out.old) (W.contents out.new) sink.old (text_of_bytes (part (S.means src.old).octets head.now.body head.now.count)) e) }
+    ensures fails { IfErr result (λ e. Honestly (S.means src.old)
+        (λ f. length (text_of_bytes (part f head.now.body head.now.count)) ≤ room.old
+        → AddFails (W.contents out.old) (W.contents out.new) sink.old (text_of_bytes (part f head.now.body
+        head.now.count)) e)) }
     ensures bounded { OnErr result (StaysWithin (W.contents out.old) (W.contents out.new) sink.old room.old) }
     ensures falls { OnOk result (room.new < room.old) }
 {
@@ -149,14 +152,18 @@ fn write_quoted<S: Source, W: Write>(
     ensures reads { OnlyReads (print_read result) (S.means src.old) (S.means src.new) }
     ensures adds { OnOk result (AddsText (W.contents out.old) (W.contents out.new) sink.old sink.new room.old room.new
         (IsTrue (S.means src.old).honest) (quoted (units_of (S.means src.old).octets head.now))) }
-    ensures fails { IfErr result (λ e. IsTrue (S.means src.old).honest
-        → length (quoted (units_of (S.means src.old).octets head.now)) ≤ room.old
-        → AddFails (W.contents out.old) (W.contents out.new) sink.old (quoted (units_of (S.means src.old).octets head.now)) e) }
+    ensures fails { IfErr result (λ e. Honestly (S.means src.old)
+        (λ f. length (quoted (units_of f head.now)) ≤ room.old
+        → AddFails (W.contents out.old) (W.contents out.new) sink.old (quoted (units_of f head.now)) e)) }
     ensures bounded { OnErr result (StaysWithin (W.contents out.old) (W.contents out.new) sink.old room.old) }
     ensures falls { OnOk result (room.new < room.old) }
 {
     write(sink, out, room, b"\"")?;
-    write_text_body(src, head, Style::Quoted, sink, out, room)?;
+    let text = Styled {
+        head: *head,
+        style: Style::Quoted,
+    };
+    write_text_body(src, &text, sink, out, room)?;
     write(sink, out, room, b"\"")
 }
 
@@ -173,14 +180,18 @@ pub(crate) fn write_text<S: Source, W: Write>(
     ensures reads { OnlyReads (print_read result) (S.means src.old) (S.means src.new) }
     ensures adds { OnOk result (AddsText (W.contents out.old) (W.contents out.new) sink.old sink.new room.old room.new
         (IsTrue (S.means src.old).honest) (text_of_units (units_of (S.means src.old).octets head.now))) }
-    ensures fails { IfErr result (λ e. IsTrue (S.means src.old).honest
-        → length (text_of_units (units_of (S.means src.old).octets head.now)) ≤ room.old
-        → AddFails (W.contents out.old) (W.contents out.new) sink.old (text_of_units (units_of (S.means src.old).octets head.now)) e) }
+    ensures fails { IfErr result (λ e. Honestly (S.means src.old)
+        (λ f. length (text_of_units (units_of f head.now)) ≤ room.old
+        → AddFails (W.contents out.old) (W.contents out.new) sink.old (text_of_units (units_of f head.now)) e)) }
     ensures bounded { OnErr result (StaysWithin (W.contents out.old) (W.contents out.new) sink.old room.old) }
     ensures falls { OnOk result (room.new < room.old) }
 {
     if is_bare(src, head)? {
-        return write_text_body(src, head, Style::Bare, sink, out, room);
+        let text = Styled {
+            head: *head,
+            style: Style::Bare,
+        };
+        return write_text_body(src, &text, sink, out, room);
     }
     write_quoted(src, head, sink, out, room)
 }

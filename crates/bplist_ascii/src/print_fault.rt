@@ -5,7 +5,8 @@ ghost use Rattle.bplist_ascii.specs.Writing.{print_fault_of};
 ghost use Rattle.bplist_ascii.specs.declared.print_fault.PrintFault.TheVariants.{Write as write_failed, Read as read_failed, Memory as no_memory};
 
 use crate::sink::WriteFault;
-use bplist_objects::{ObjectFault, ObjectNo};
+use bplist_cursor::Unread;
+use bplist_objects::ObjectNo;
 use bplist_octets::ReadFault;
 use std::alloc::AllocFailed;
 
@@ -46,13 +47,13 @@ impl From<ReadFault> for PrintFault {
     }
 }
 
-impl From<ObjectFault> for PrintFault {
-    ghost from_gives = { λ fault e. e ≡ print_fault_of fault };
+impl From<Unread> for PrintFault {
+    ghost from_gives = { λ unread e. e ≡ print_fault_of unread };
 
-    fn from(fault: ObjectFault) -> PrintFault {
-        match fault {
-            ObjectFault::Fault(_) => PrintFault::Changed,
-            ObjectFault::Read(fault) => PrintFault::Read(fault),
+    fn from(unread: Unread) -> PrintFault {
+        match unread {
+            Unread::Read(fault) => PrintFault::Read(fault),
+            Unread::Changed => PrintFault::Changed,
         }
     }
 }

@@ -1,6 +1,7 @@
 //! The old-style text of a value, written to a writer.
 
-ghost use Rattle.std.specs.Prelude.{◌≡◌, Err, OnOk, OnErr, IsTrue};
+ghost use Rattle.std.specs.Prelude.{◌≡◌, Err, OnOk, OnErr};
+ghost use Rattle.bplist_cert.specs.CheckedFile.{HonestlyChecked};
 ghost use Rattle.bplist_objects.specs.Value.{Value};
 ghost use Rattle.bplist_objects.specs.Holds.{Holds};
 ghost use Rattle.bplist_cert.specs.Valid.{IsVouchedBy};
@@ -8,13 +9,13 @@ ghost use Rattle.bplist_cursor.specs.Kept.{Keeps};
 ghost use Rattle.bplist_cursor.specs.Sizes.{AreMeasures};
 ghost use Rattle.bplist_ascii.specs.Sending.{AtMost};
 ghost use Rattle.bplist_ascii.specs.Writing.{print_read, TakesWithin, StaysWithin};
-ghost use Rattle.bplist_ascii.specs.Printed.{Prints, IsPrinted};
+ghost use Rattle.bplist_ascii.specs.Printed.{into_sink, Prints, IsPrinted};
 ghost use Rattle.bplist_ascii.specs.declared.print_fault.PrintFault.TheVariants.{Changed};
 
 use crate::formless::first_formless;
 use crate::print_fault::PrintFault;
 use crate::sink::Sink;
-use crate::walk::write_value;
+use crate::walk::{Walk, write_value};
 use bplist_cert::Checked;
 use bplist_cursor::{Form, Measures, Node};
 use bplist_octets::Source;
@@ -36,32 +37,31 @@ pub fn print_into<S: Source, W: Write>(
     sink: &mut Sink,
     out: &mut W,
 ) -> Result<(), PrintFault>
-    requires measured { IsTrue checked.old.source.honest
-        → AreMeasures checked.old.source.octets checked.old.frame checked.old.certificate.heights measures.now }
+    requires measured { HonestlyChecked checked.old
+        (λ f F. AreMeasures f F checked.old.certificate.heights measures.now) }
     ensures reads { Keeps (print_read result) checked.old checked.new }
-    ensures exact { IsTrue checked.old.source.honest → IsVouchedBy checked.old.certificate.heights node.object.0 → (v : Value)
-        → Holds checked.old.source.octets checked.old.frame node.object.0 v
-        → Prints (W.contents out.old) (W.contents out.new) sink.old sink.new checked.old.source.octets checked.old.frame
-        node.object.0 v limit result }
+    ensures exact { HonestlyChecked checked.old (λ f F. IsVouchedBy checked.old.certificate.heights node.object.0
+        → (v : Value) → Holds f F node.object.0 v
+        → Prints (into_sink (W.contents out.old) (W.contents out.new) sink.old sink.new) f F node.object.0 v limit result) }
     ensures unvouched { (IsVouchedBy checked.old.certificate.heights node.object.0 → ⊥) → result ≡ Err Changed }
     ensures bounded { OnErr result (StaysWithin (W.contents out.old) (W.contents out.new) sink.old limit) }
     ensures fits { OnOk result (TakesWithin (W.contents out.old) (W.contents out.new) sink.old sink.new limit) }
 {
-    let frame = checked.frame();
+    let _frame = checked.frame();
     if checked.height(node.object) == 0 {
         return Err(PrintFault::Changed);
     }
     match measures.form(node.object) {
         None => Err(PrintFault::Changed),
         Some(Form::NoForm) => {
-            let part = first_formless(checked, measures, node.object)?;
+            let part = first_formless(checked, measures, node)?;
             Err(PrintFault::NoAsciiForm(part))
         }
         Some(Form::Length(length)) => {
             if length > limit || length == u64::MAX {
                 return Err(PrintFault::TooLong);
             }
-            write_value(alloc, checked, &frame, node.object, limit, sink, out)?;
+            write_value(checked, node, Walk::new(alloc, limit), sink, out)?;
             Ok(())
         }
     }
@@ -86,12 +86,12 @@ pub fn print<S: Source, W: Write>(
     limit: u64,
     out: &mut W,
 ) -> Result<(), PrintFault>
-    requires measured { IsTrue checked.old.source.honest
-        → AreMeasures checked.old.source.octets checked.old.frame checked.old.certificate.heights measures.now }
+    requires measured { HonestlyChecked checked.old
+        (λ f F. AreMeasures f F checked.old.certificate.heights measures.now) }
     ensures reads { Keeps (print_read result) checked.old checked.new }
-    ensures exact { IsTrue checked.old.source.honest → IsVouchedBy checked.old.certificate.heights node.object.0 → (v : Value)
-        → Holds checked.old.source.octets checked.old.frame node.object.0 v
-        → IsPrinted (W.contents out.old) (W.contents out.new) checked.old.source.octets checked.old.frame node.object.0 v limit result }
+    ensures exact { HonestlyChecked checked.old (λ f F. IsVouchedBy checked.old.certificate.heights node.object.0
+        → (v : Value) → Holds f F node.object.0 v
+        → IsPrinted (W.contents out.old) (W.contents out.new) f F node.object.0 v limit result) }
     ensures unvouched { (IsVouchedBy checked.old.certificate.heights node.object.0 → ⊥) → result ≡ Err Changed }
     ensures bounded { AtMost (W.contents out.old) (W.contents out.new) limit }
 {

@@ -1,5 +1,7 @@
 //! How the units of a text are written.
 
+use bplist_objects::Head;
+
 /// How the units of a text are written.
 #[derive(Clone, Copy, Debug, PartialEq, Eq, Drop)]
 pub(crate) enum Style {
@@ -7,4 +9,11 @@ pub(crate) enum Style {
     Bare,
     /// Between quotes.
     Quoted,
+}
+
+/// A text by its head, and how its units are written.
+#[derive(Clone, Copy, Debug, Drop)]
+pub(crate) struct Styled {
+    pub(crate) head: Head,
+    pub(crate) style: Style,
 }

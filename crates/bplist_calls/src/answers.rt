@@ -20,10 +20,18 @@ pub(crate) fn answer_lines<W: Write>(alloc: Global, lines: &[String], out: &mut 
     let first = words_of(first)?;
     let file = bytes_of_hex(alloc, first.file)?;
     let mut checked = checked_of(alloc, &file, first.certificate)?;
-    let measures = measure(alloc, &mut checked).map_err(|fault| anyhow!("measure: {fault:?}"))?;
+    answer_each(alloc, &mut checked, lines, out)
+}
+
+fn answer_each<W: Write>(
+    alloc: Global,
+    checked: &mut Checked<SliceSource<'_>>,
+    lines: &[String],
+    out: &mut W,
+) -> Result<()> {
+    let measures = measure(alloc, checked).map_err(|fault| anyhow!("measure: {fault:?}"))?;
     for line in lines {
-        let request = request_of(alloc, words_of(line)?)?;
-        let answer = answer_to(alloc, &mut checked, &measures, &request)?;
+        let answer = answer_to(alloc, checked, &measures, line)?;
         writeln!(out, "{answer}")?;
     }
     Ok(())
@@ -48,9 +56,9 @@ fn answer_to(
     alloc: Global,
     checked: &mut Checked<SliceSource<'_>>,
     measures: &Measures,
-    request: &Request,
+    line: &str,
 ) -> Result<String> {
-    match request {
+    match &request_of(alloc, words_of(line)?)? {
         Request::Answer(query) => reply_text(alloc, checked, query),
         Request::Nodes(n) => optional(alloc, measures.nodes(*n)),
         Request::Form(n) => form_text(alloc, measures.form(*n)),

@@ -35,6 +35,7 @@ use Rattle.bplist_cert.specs.Keys.{HaveTexts, KeysDiffer, AreInOrder}
 use Rattle.bplist_cert.specs.CheckRules.{KeepsByCheck, BreaksByCheck, BreaksAtCheck, HasOrder, BreaksOrder, KeepsLast, check_rules, vouched_rules, last_rule, list_of}
 use Rattle.bplist_cert.specs.PairFault.{IsKept, IsCertFault, IsPairFault}
 use Rattle.bplist_objects.proofs.RuleLaws.{kept_all_after}
+use Rattle.bplist_cert.proofs.Walking.{vouched_inside}
 use Rattle.bplist_cert.proofs.Walking.{last_kept}
 use Rattle.bplist_cert.proofs.TextKeys.{key_refs, texts_are, have_texts, units_at_key, distinct, differ, ordered_differ}
 
@@ -45,13 +46,6 @@ keeps_front keeps (x ∷ xs) ys k = (k.0, keeps_front keeps xs ys k.1)
 keeps_behind : (keeps : Rule → Type 0) (xs ys : List Rule) → KeepsAll keeps (xs ++ ys) → KeepsAll keeps ys
 keeps_behind keeps [] ys k = k
 keeps_behind keeps (x ∷ xs) ys k = keeps_behind keeps xs ys k.1
-
--- what is vouched for is an object
-vouched_inside : (heights : List ℕ) (count n : ℕ) → length heights ≡ count → IsVouchedBy heights n → n < count
-vouched_inside heights count n e v = elim (cases_lt n (length heights)) [
-  | inl a ↦ omega (arith, a, e)
-  | inr b ↦ absurd (let none = get_or_past heights n 0 b in omega (arith, v, none))
-]
 
 -- the rule of keys beside rule 21, by a head
 last_by : (f : List ℕ) (F : Frame) (heights : List ℕ) (keys : Option Keyed) (n : ℕ) (head : Head) → HasHead f F n head → head.kind ≡ kinds.Dict

@@ -15,5 +15,7 @@ pub mod Vouching
 pub mod TextKeys
 pub mod Accepting
 pub mod Staying
-pub mod Listing
 pub mod Unique
+pub mod KeyClassing
+pub mod KeyPairing
+pub mod Repeating

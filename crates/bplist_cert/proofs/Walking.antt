@@ -1,6 +1,7 @@
 -- One vouched object after the other.
 use Rattle.std.proofs.Common.{◌≡◌, ℕ, suc, ◌<◌, ◌≤◌, ◌+◌, ◌-◌, ◌⊎◌, inl, inr, List, [], ◌∷◌, length, slice_index, Result, Ok, Err, Option, Some, None, refl, sym, ◌∙◌, subst, arith}
 use Rattle.std.proofs.lemmas.Bool.{cases_lt}
+use Rattle.std.proofs.lemmas.List.{get_or_past}
 use Rattle.bplist_objects.specs.declared.rule.Rule.{Rule}
 use Rattle.bplist_objects.specs.declared.rule.Rule.TheVariants as rules
 use Rattle.bplist_objects.specs.declared.fault.Fault.{Fault}
@@ -31,7 +32,12 @@ use Rattle.bplist_cert.specs.Valid.{IsVouchedBy}
 use Rattle.bplist_cert.specs.Heights.{AreMet, IsHeightFault}
 use Rattle.bplist_cert.specs.Keys.{HaveTexts, KeysDiffer}
 use Rattle.bplist_cert.specs.CheckRules.{KeepsByCheck, BreaksAtCheck, IsCheckFault, check_rules, vouched_rules, last_rule, HasOrder, KeepsLast, IsLastFault, IsKeysFault}
-use Rattle.bplist_cert.specs.PairFault.{Sums, IsHeld, Running, KeepBelow, IsVouchedFault, IsPairFault}
+use Rattle.bplist_cert.specs.declared.checking.Look.{Look}
+use Rattle.bplist_cert.specs.declared.checking.Look.TheVariants.{Quick, Exact}
+use Rattle.bplist_cert.specs.Looks.{IsSeen, AreSeen, IsShown, IsShownFault}
+use Rattle.bplist_cert.specs.KeyClasses.{HasGoodKeys}
+use Rattle.bplist_cert.specs.KeyPairs.{HasGoodList}
+use Rattle.bplist_cert.specs.PairFault.{Sums, IsHeld, Running, IsWalkFault, IsVouchedFault, IsPairFault}
 use Rattle.bplist_cert.specs.Refusals.{GivesRefusal, Judges, refusal_of}
 
 -- the rule of keys beside rule 21, by the head
@@ -68,6 +74,13 @@ module _ (f : List ℕ) (F : Frame) (heights : List ℕ) (keys : Option Keyed) (
 
   abbrev Broken : Fault → Type 0
   Broken fault = IsCheckFault f F (lists heights keys) n (check_rules keys) fault
+
+  -- what an exact look finds is found by any look
+  pub told : (look : Look) (e : Refusal) → GivesRefusal Broken e → GivesRefusal (IsShownFault f F (lists heights keys) look n) e
+  told Exact e h = h
+  told Quick (refusals.Fault fault) h = tt
+  told Quick (refusals.Read r) h = tt
+  told Quick refusals.Memory h = tt
 
   -- a fault of the object by itself
   pub object_fault : (e : ObjectFault) → GivesFault (IsObjectFault f F n object_rules) e → GivesRefusal Broken (refusal_of e)
@@ -136,8 +149,16 @@ module _ (f : List ℕ) (F : Frame) (heights : List ℕ) (keys : Option Keyed) (
         keys_fault (refusals.Read r) h = tt
         keys_fault refusals.Memory h = tt
 
+        -- the object keeps the rules before those of keys
+        pub seen : IsHeld f F (lists heights keys) Quick n now
+        seen = record {
+          sums = more;
+          room = room;
+          kept = record { own = kept; room = not_overfull; vouched = vouched_any met; lower = lower_any low };
+        }
+
         -- the object keeps all rules
-        pub held : (head.kind ≡ kinds.Dict → HaveTexts f F head head.count × KeepsLast f F keys n head) → IsHeld f F (lists heights keys) n now
+        pub held : (head.kind ≡ kinds.Dict → HaveTexts f F head head.count × KeepsLast f F keys n head) → IsHeld f F (lists heights keys) Exact n now
         held last = record {
           sums = more;
           room = room;
@@ -153,35 +174,72 @@ module _ (f : List ℕ) (F : Frame) (heights : List ℕ) (keys : Option Keyed) (
     most = most_same f F (IsVouchedBy heights) n t never sums.most;
   }
 
-  below_by : KeepBelow f F (lists heights keys) n → (IsVouchedBy heights n → KeepsAll Keeps (check_rules keys)) → KeepBelow f F (lists heights keys) (suc n)
-  below_by below here m lt v = go (cases_lt m n)
-    where
-      go : (m < n) ⊎ (n ≤ m) → KeepsAll (KeepsByCheck f F (lists heights keys) m) (check_rules keys)
-      go (inl a) = below m a v
-      go (inr b) =
-          let e : n ≡ m = omega (arith, lt, b) in
-          subst (λ k. KeepsAll (KeepsByCheck f F (lists heights keys) k) (check_rules keys)) e (here (subst (IsVouchedBy heights) (sym e) v))
+  module _ (look : Look) where
+    below_by : ((m : ℕ) → m < n → IsVouchedBy heights m → IsShown f F (lists heights keys) look m) → (IsVouchedBy heights n → IsShown f F (lists heights keys) look n)
+        → (m : ℕ) → m < suc n → IsVouchedBy heights m → IsShown f F (lists heights keys) look m
+    below_by below here m lt v = go (cases_lt m n)
+      where
+        go : (m < n) ⊎ (n ≤ m) → IsShown f F (lists heights keys) look m
+        go (inl a) = below m a v
+        go (inr b) =
+            let e : n ≡ m = omega (arith, lt, b) in
+            subst (λ k. IsShown f F (lists heights keys) look k) e (here (subst (IsVouchedBy heights) (sym e) v))
 
-  -- an object that is not vouched for
-  pub passed : (slice_index heights n ≡ 0) → (t : ℕ) → Running f F (lists heights keys) n t → Running f F (lists heights keys) (suc n) t
-  passed none t run =
-      let never : IsVouchedBy heights n → ⊥ = λ v. omega (arith, v, none) in
-      record { sums = none_more never t run.sums; room = run.room; kept = below_by run.kept (λ v. absurd (never v)) }
+    -- an object that is not vouched for
+    pub passed : (slice_index heights n ≡ 0) → (t : ℕ) → Running f F (lists heights keys) look n t → Running f F (lists heights keys) look (suc n) t
+    passed none t run =
+        let never : IsVouchedBy heights n → ⊥ = λ v. omega (arith, v, none) in
+        record { sums = none_more never t run.sums; room = run.room; kept = below_by run.kept (λ v. absurd (never v)) }
+
+  -- the fault of a vouched object is that of the walk
+  fault_met : IsVouchedBy heights n → (look : Look) (t : ℕ) → Running f F (lists heights keys) look n t → (fault : Fault)
+      → IsShownFault f F (lists heights keys) look n fault → IsWalkFault f F (lists heights keys) look fault
+  fault_met v Quick t run fault h = tt
+  fault_met v Exact t run fault h = record { object = n; vouched = v; first = h; least = run.kept }
 
   -- the answer for a vouched object is that of the walk
-  pub stepped : IsVouchedBy heights n → (t : ℕ) → Running f F (lists heights keys) n t → (result : Result ℕ Refusal)
-      → Judges (IsHeld f F (lists heights keys) n) Broken result → Judges (Running f F (lists heights keys) (suc n)) (IsVouchedFault f F (lists heights keys)) result
-  stepped v t run (Ok t') h = record { sums = h.sums; room = h.room; kept = below_by run.kept (λ _. h.kept) }
-  stepped v t run (Err (refusals.Fault fault)) h = record { object = n; vouched = v; first = h; least = run.kept }
-  stepped v t run (Err (refusals.Read r)) h = tt
-  stepped v t run (Err refusals.Memory) h = tt
+  pub stepped : (look : Look) → IsVouchedBy heights n → (t : ℕ) → Running f F (lists heights keys) look n t → (result : Result ℕ Refusal)
+      → Judges (IsHeld f F (lists heights keys) look n) (IsShownFault f F (lists heights keys) look n) result → Judges (Running f F (lists heights keys) look (suc n)) (IsWalkFault f F (lists heights keys) look) result
+  stepped look v t run (Ok t') h = record { sums = h.sums; room = h.room; kept = below_by look run.kept (λ _. h.kept) }
+  stepped look v t run (Err (refusals.Fault fault)) h = fault_met v look t run fault h
+  stepped look v t run (Err (refusals.Read r)) h = tt
+  stepped look v t run (Err refusals.Memory) h = tt
+
+-- what is vouched for is an object
+pub vouched_inside : (heights : List ℕ) (count n : ℕ) → length heights ≡ count → IsVouchedBy heights n → n < count
+vouched_inside heights count n e v = elim (cases_lt n (length heights)) [
+  | inl a ↦ omega (arith, a, e)
+  | inr b ↦ absurd (let none = get_or_past heights n 0 b in omega (arith, v, none))
+]
 
 -- before the first object
-pub start : (f : List ℕ) (F : Frame) (certificate : Lists) → IsFrame f F → Running f F certificate 0 0
-start f F certificate frame = record {
+pub start : (f : List ℕ) (F : Frame) (certificate : Lists) (look : Look) → IsFrame f F → Running f F certificate look 0 0
+start f F certificate look frame = record {
   sums = record { objects = []; differ = tt; inside = tt; take_all = refl; most = most_none f F (IsVouchedBy certificate.heights) };
   room = omega (arith, frame.table_early);
   kept = λ m lt v. absurd (omega arith);
+}
+
+-- the keys of vouched object n are as this version wants them
+abbrev pub HasGood : List ℕ → Frame → Option Keyed → ℕ → Type 0
+HasGood f F None n = HasGoodKeys f F n
+HasGood f F (Some keyed) n = HasGoodList f F keyed n
+
+good_kept : (f : List ℕ) (F : Frame) (heights : List ℕ) (keys : Option Keyed) (n : ℕ) → HasGood f F keys n
+    → KeepsByCheck f F (lists heights keys) n rules.KeyKind × KeepsByCheck f F (lists heights keys) n (last_rule keys)
+good_kept f F heights None n good = (λ head has dict. (good head has dict).0, λ head has dict. (good head has dict).1)
+good_kept f F heights (Some keyed) n good = (λ head has dict. (good head has dict).0, λ head has dict. (good head has dict).1)
+
+-- where quick looks show all vouched objects as they should be, and their keys are good, they keep all rules
+pub all_good : (f : List ℕ) (F : Frame) (heights : List ℕ) (keys : Option Keyed) (t : ℕ) → Running f F (lists heights keys) Quick F.objects t → ((n : ℕ) → IsVouchedBy heights n → HasGood f F keys n)
+    → Running f F (lists heights keys) Exact F.objects t
+all_good f F heights keys t run good = record {
+  sums = run.sums;
+  room = run.room;
+  kept = λ m lt v.
+      let s = run.kept m lt v in
+      let k = good_kept f F heights keys m (good m v) in
+      kept_all_after (KeepsByCheck f F (lists heights keys) m) object_rules (vouched_rules keys) s.own (s.room, (s.vouched, (s.lower, (k.0, (k.1, tt)))));
 }
 
 -- a fault of the file as a whole
@@ -189,7 +247,11 @@ pub frame_fault : (f : List ℕ) (certificate : Lists) (e : ObjectFault) → Giv
 frame_fault f certificate (errors.Fault fault) h = inl h
 frame_fault f certificate (errors.Read r) h = tt
 
+-- what is said of a fault is said of the refusal
+pub object_refused : (P Q : Fault → Type 0) (e : ObjectFault) → ((x : Fault) → P x → Q x) → GivesFault P e → GivesRefusal Q (refusal_of e)
+object_refused P Q (errors.Fault fault) same h = same fault h
+object_refused P Q (errors.Read r) same h = tt
+
 -- a call that answers no fault is refused for a failed read or a growth alone
 pub never_refused : (Q : Fault → Type 0) (e : ObjectFault) → GivesFault Never e → GivesRefusal Q (refusal_of e)
-never_refused Q (errors.Fault fault) h = absurd h
-never_refused Q (errors.Read r) h = tt
+never_refused Q e h = object_refused Never Q e (λ x never. absurd never) h

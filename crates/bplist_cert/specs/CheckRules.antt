@@ -20,33 +20,33 @@ use Rattle.bplist_cert.specs.Valid.{IsVouchedBy}
 use Rattle.bplist_cert.specs.Heights.{AreMet, IsFirstUnmet}
 use Rattle.bplist_cert.specs.Keys.{HaveTexts, IsFirstKeyless, KeysDiffer, IsFirstTwice, AreInOrder, IsFirstUnordered, IsKeylessFault, IsTwiceFault}
 
--- the rule of keys beside rule 21: they differ, or in version 2 they stand in order in the key list
+-- rule 22, or in version 2 rule 32
 abbrev pub last_rule : Option Keyed → Rule
 last_rule None = rules.KeyTwice
 last_rule (Some keyed) = rules.KeyOrder
 
--- the rules of a vouched object behind those of an object by itself, in their order
+-- the rules of a vouched object after 14 to 20, in order
 abbrev pub vouched_rules : Option Keyed → List Rule
 vouched_rules keys = rules.Overfull ∷ rules.ChildNotVouched ∷ rules.HeightNotLess ∷ rules.KeyKind ∷ last_rule keys ∷ []
 
--- the rules of a vouched object, in their order
+-- the rules of a vouched object, in order
 abbrev pub check_rules : Option Keyed → List Rule
 check_rules keys = object_rules ++ vouched_rules keys
 
--- the key list of object n, of so many positions, is wholly there
+-- the key list of object n, of so many positions, is complete
 abbrev pub IsWhole : Keyed → ℕ → ℕ → Type 0
 IsWhole keyed n count = slice_index keyed.starts n + count ≤ length keyed.positions
 
--- the key list of object n, of so many positions
+-- the key list of object n
 abbrev pub list_of : Keyed → ℕ → ℕ → List ℕ
 list_of keyed n count = part keyed.positions (slice_index keyed.starts n) count
 
--- the key list of the dictionary with this head, if there are key lists, has its keys in order
+-- the key list of this dictionary, if any, is in order
 abbrev pub HasOrder : List ℕ → Frame → Option Keyed → ℕ → Head → Type 0
 HasOrder f F None n head = ⊤
 HasOrder f F (Some keyed) n head = IsWhole keyed n head.count × AreInOrder f F head (list_of keyed n head.count) head.count
 
--- a key list is not wholly there, or its number j is the first that is not in order; this is the place in the certificate
+-- a key list is incomplete, or number j is the first not in order, at this place of the certificate
 abbrev pub BreaksOrder : List ℕ → Frame → ℕ → Option Keyed → ℕ → Head → ℕ → Type 0
 BreaksOrder f F count None n head place = ⊥
 BreaksOrder f F count (Some keyed) n head place =
@@ -56,7 +56,7 @@ BreaksOrder f F count (Some keyed) n head place =
     × (place ≡ 16 + 8 * count + 4 * (slice_index keyed.starts n + j))))
 
 module _ (f : List ℕ) (F : Frame) (certificate : Lists) (n : ℕ) where
-  -- vouched object n keeps a rule
+  -- vouched object n keeps this rule
   abbrev pub KeepsByCheck : Rule → Type 0
   KeepsByCheck rules.Overfull = IsOverfull f F (IsVouchedBy certificate.heights) n → ⊥
   KeepsByCheck rules.ChildNotVouched =
@@ -69,7 +69,7 @@ module _ (f : List ℕ) (F : Frame) (certificate : Lists) (n : ℕ) where
   KeepsByCheck rules.KeyOrder = (head : Head) → HasHead f F n head → head.kind ≡ kinds.Dict → HasOrder f F certificate.keys n head
   KeepsByCheck rule = KeepsByObject f F n rule
 
-  -- vouched object n breaks a rule, and this is the place
+  -- vouched object n breaks this rule at this place
   abbrev pub BreaksByCheck : Rule → ℕ → Type 0
   BreaksByCheck rules.Overfull place = IsOverfull f F (IsVouchedBy certificate.heights) n × (place ≡ off f F n)
   BreaksByCheck rules.ChildNotVouched place =
@@ -90,11 +90,11 @@ module _ (f : List ℕ) (F : Frame) (certificate : Lists) (n : ℕ) where
       × BreaksOrder f F (length certificate.heights) certificate.keys n head place
   BreaksByCheck rule place = BreaksByObject f F n rule place
 
-  -- the same, where this is the object that is named
+  -- the same, if this is the object named
   abbrev pub BreaksAtCheck : Rule → Option ObjectNo → ℕ → Type 0
   BreaksAtCheck rule object place = (object ≡ Some (record { 0 = n })) × BreaksByCheck rule place
 
-  -- the fault is that of the first of these rules that vouched object n breaks
+  -- the first of these rules that vouched object n breaks
   abbrev pub IsCheckFault : List Rule → Fault → Type 0
   IsCheckFault rules fault = IsFirstFault KeepsByCheck BreaksAtCheck rules fault
 

@@ -1,24 +1,23 @@
 -- A file with a certificate that the check has accepted. Source: profile.
-use Rattle.std.specs.Prelude.{◌≡◌, ℕ, ◌≤◌, IsTrue, List, [], ◌∷◌, length, Option, Some, None}
+use Rattle.std.specs.Prelude.{◌≡◌, ℕ, IsTrue, List, [], ◌∷◌, length, Option, Some, None}
 use Rattle.bplist_octets.specs.Meaning.{Meaning}
 use Rattle.bplist_objects.specs.declared.frame.Frame.{Frame}
-use Rattle.bplist_objects.specs.Frame.{trailer}
+use Rattle.bplist_objects.specs.Frame.{IsFrame}
 use Rattle.bplist_objects.specs.Safe.{IsSafeFrame, frame_numbers}
 use Rattle.bplist_cert.specs.Lists.{Keyed, Lists}
 use Rattle.bplist_cert.specs.Sorted.{IsAccepted}
 
--- what the source means, the frame, and the lists of the certificate
+-- a source's meaning, its frame, and the lists of its certificate
 pub record CheckedFile : Type 0 where
   pub source : Meaning
   pub frame : Frame
   pub certificate : Lists
 
--- what is known of it wherever it is
+-- the frame fits, each object has a height, and over an honest source the certificate is accepted
 pub record IsChecked (checked : CheckedFile) : Type 0 where
   pub safe : IsSafeFrame (length checked.source.octets) checked.frame
   pub count : length checked.certificate.heights ≡ checked.frame.objects
-  pub spelled : IsTrue checked.source.honest → checked.frame ≡ trailer checked.source.octets
-  pub large : IsTrue checked.source.honest → length checked.source.octets ≤ 4294967295
+  pub framed : IsTrue checked.source.honest → IsFrame checked.source.octets checked.frame
   pub accepted : IsTrue checked.source.honest → ∥ IsAccepted checked.source.octets checked.frame checked.certificate ∥₁
 
 -- the starts, none in version 1
@@ -31,14 +30,18 @@ abbrev pub positions_in : Option Keyed → List ℕ
 positions_in None = []
 positions_in (Some keyed) = keyed.positions
 
--- the version of a certificate, as a list of one number
+-- the version, as a list of one number
 abbrev pub version_in : Option Keyed → List ℕ
 version_in None = 1 ∷ []
 version_in (Some keyed) = 2 ∷ []
 
--- as a source it means what its source means, and holds frame and certificate besides
+-- as a source: what its source means, with frame and certificate beside it
 abbrev pub meaning_of : CheckedFile → Meaning
 meaning_of checked = record checked.source {
   beside = frame_numbers checked.frame ∷ checked.certificate.heights ∷ starts_in checked.certificate.keys
       ∷ positions_in checked.certificate.keys ∷ version_in checked.certificate.keys ∷ checked.source.beside;
 }
+
+-- P holds of the bytes and the frame, if the source is honest
+abbrev pub HonestlyChecked : CheckedFile → (List ℕ → Frame → Type 0) → Type 0
+HonestlyChecked checked P = IsTrue checked.source.honest → P checked.source.octets checked.frame

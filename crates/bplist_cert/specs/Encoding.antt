@@ -22,7 +22,7 @@ abbrev pub magic : Option Keyed → List ℕ
 magic None = plain_magic
 magic (Some keyed) = keyed_magic
 
--- numbers of 4 bytes each, one behind the other
+-- numbers in 4 bytes each
 abbrev pub words : List ℕ → List ℕ
 words xs = flat_map (bytes_high_first 4) xs
 
@@ -31,20 +31,20 @@ abbrev pub key_words : Option Keyed → List ℕ
 key_words None = []
 key_words (Some keyed) = words keyed.starts ++ words keyed.positions
 
--- the bytes of a certificate: magic, number of heights in 8 bytes, heights, and in version 2 starts and positions
+-- the bytes of a certificate: magic, number of heights, heights, and in version 2 starts and positions
 abbrev pub octets_of : Lists → List ℕ
 octets_of lists =
     magic lists.keys ++ (bytes_high_first 8 (length lists.heights) ++ (words lists.heights ++ key_words lists.keys))
 
--- the number of heights that the bytes tell
+-- the number of heights, as the bytes tell it
 abbrev pub told : List ℕ → ℕ
 told octets = num (part octets 8 8)
 
--- rule 24: the bytes begin with the magic of a version
+-- rule 24: the magic is that of a version
 abbrev pub HasMagic : List ℕ → Type 0
 HasMagic octets = (take 8 octets ≡ plain_magic) ⊎ (take 8 octets ≡ keyed_magic)
 
--- rule 25: the bytes are as many as magic and number of heights ask for
+-- rule 25: there are as many bytes as version and number of heights ask for
 abbrev pub HasLength : List ℕ → Type 0
 HasLength octets =
     ((take 8 octets ≡ plain_magic) × (length octets ≡ 16 + 4 * told octets))
@@ -55,7 +55,7 @@ abbrev pub IsMagicFault : List ℕ → Fault → Type 0
 IsMagicFault octets fault =
     (HasMagic octets → ⊥) × (fault ≡ record { rule = rules.CertMagic; object = None; place = 0 })
 
--- rule 24 is kept; the fault of rule 25, at the place that is the number of bytes
+-- the fault of rule 25, whose place is the number of bytes
 abbrev pub IsLengthFault : List ℕ → Fault → Type 0
 IsLengthFault octets fault =
     HasMagic octets × (HasLength octets → ⊥) × (fault ≡ record { rule = rules.CertLength; object = None; place = length octets })
@@ -64,7 +64,7 @@ IsLengthFault octets fault =
 abbrev pub IsOctetsFault : List ℕ → Fault → Type 0
 IsOctetsFault octets fault = IsMagicFault octets fault ⊎ IsLengthFault octets fault
 
--- bytes are refused for the first of rules 24 and 25 that they break, or for want of memory
+-- bytes are refused by the first broken rule of 24 and 25, or because memory was refused
 abbrev pub IsCertRefusal : List ℕ → CertRefusal → Type 0
 IsCertRefusal octets (refusals.Fault fault) = IsOctetsFault octets fault
 IsCertRefusal octets refusals.Memory = ⊤

@@ -14,16 +14,16 @@ use Rattle.bplist_cert.specs.declared.heights.Wanted.TheVariants.{Vouched, Below
 abbrev pub ref : List ℕ → Frame → Head → ℕ → ℕ
 ref f F head i = nth_number f head.body F.ref_size i
 
--- the height is as it is wanted
+-- a reference's height is as wanted
 abbrev pub Meets : Wanted → ℕ → Type 0
 Meets Vouched height = 1 ≤ height
 Meets (Below bound) height = height < bound
 
--- the heights of the first so many references are as they are wanted
+-- the first `count` references have heights as wanted
 abbrev pub AreMet : List ℕ → Frame → List ℕ → Head → Wanted → ℕ → Type 0
 AreMet f F heights head wanted count = (k : ℕ) → k < count → Meets wanted (slice_index heights (ref f F head k))
 
--- reference i is the first whose height is not
+-- reference i is the first whose height is not as wanted
 pub record IsFirstUnmet (f : List ℕ) (F : Frame) (heights : List ℕ) (head : Head) (wanted : Wanted) (i : ℕ) : Type 0 where
   pub within : i < ref_count head.kind head.count
   pub unmet : Meets wanted (slice_index heights (ref f F head i)) → ⊥

@@ -10,17 +10,17 @@ use Rattle.bplist_objects.specs.Heads.{IsHeadOf}
 use Rattle.bplist_objects.specs.Units.{IsTextKind, units_of, compare_units}
 use Rattle.bplist_cert.specs.Heights.{ref}
 
--- object m spells a text, and this is its head
+-- object m spells a text with this head
 pub record IsText (f : List ℕ) (F : Frame) (m : ℕ) (head : Head) : Type 0 where
   pub within : m < F.objects
   pub is : IsHeadOf f F m head
   pub kind : IsTextKind head.kind
 
--- key i of a dictionary is the text with this head
+-- key i of a dictionary is a text with this head
 abbrev pub IsKey : List ℕ → Frame → Head → ℕ → Head → Type 0
 IsKey f F head i key = IsText f F (ref f F head i) key
 
--- the first so many keys are texts
+-- the first `count` keys are texts
 abbrev pub HaveTexts : List ℕ → Frame → Head → ℕ → Type 0
 HaveTexts f F head count = (k : ℕ) → k < count → (key : Head) × IsKey f F head k key
 
@@ -30,12 +30,12 @@ pub record IsFirstKeyless (f : List ℕ) (F : Frame) (head : Head) (i : ℕ) : T
   pub none : (key : Head) → IsKey f F head i key → ⊥
   pub before : HaveTexts f F head i
 
--- the first so many keys have different units
+-- the first `count` keys have different units
 abbrev pub KeysDiffer : List ℕ → Frame → Head → ℕ → Type 0
 KeysDiffer f F head count =
     (i j : ℕ) → i < j → j < count → (a b : Head) → IsKey f F head i a → IsKey f F head j b → units_of f a ≢ units_of f b
 
--- key j is the first that has the units of an earlier key
+-- key j is the first equal to an earlier key
 pub record IsFirstTwice (f : List ℕ) (F : Frame) (head : Head) (j : ℕ) : Type 0 where
   pub within : j < head.count
   pub earlier : ℕ
@@ -47,18 +47,18 @@ pub record IsFirstTwice (f : List ℕ) (F : Frame) (head : Head) (j : ℕ) : Typ
   pub same : units_of f first ≡ units_of f second
   pub before : KeysDiffer f F head j
 
--- number i of a key list is a position, and its key comes after that of the number before
+-- number i of a key list is a position, whose key comes after the one before
 abbrev pub IsInOrder : List ℕ → Frame → Head → List ℕ → ℕ → Type 0
 IsInOrder f F head list j =
     (slice_index list j < head.count)
     × ((i : ℕ) (a b : Head) → suc i ≡ j → IsKey f F head (slice_index list i) a → IsKey f F head (slice_index list j) b
     → compare_units (units_of f a) (units_of f b) ≡ Less)
 
--- the first so many numbers of a key list are positions, and their keys ascend
+-- the first `count` numbers of a key list are in order
 abbrev pub AreInOrder : List ℕ → Frame → Head → List ℕ → ℕ → Type 0
 AreInOrder f F head list count = (j : ℕ) → j < count → IsInOrder f F head list j
 
--- number j of a key list is the first that is no position or whose key does not come after the one before
+-- number j of a key list is the first that is not in order
 pub record IsFirstUnordered (f : List ℕ) (F : Frame) (head : Head) (list : List ℕ) (j : ℕ) : Type 0 where
   pub within : j < head.count
   pub wrong : IsInOrder f F head list j → ⊥
@@ -69,13 +69,13 @@ abbrev pub ComesAfter : List ℕ → Option Head → Head → Bool → Type 0
 ComesAfter f None key after = after ≡ true
 ComesAfter f (Some last) key after = IsTrue after ↔ (compare_units (units_of f last) (units_of f key) ≡ Less)
 
--- the fault of the first key of dictionary n that is no text
+-- dictionary n breaks rule 21 by its first key that is no text
 abbrev pub IsKeylessFault : List ℕ → Frame → ℕ → Head → Fault → Type 0
 IsKeylessFault f F n head fault =
     (fault.rule ≡ rules.KeyKind) × (fault.object ≡ Some (record { 0 = n }))
     × ((i : ℕ) × IsFirstKeyless f F head i × (fault.place ≡ head.body + i * F.ref_size))
 
--- the fault of the first key of dictionary n that has the units of an earlier one
+-- dictionary n breaks rule 22 by its first key that comes twice
 abbrev pub IsTwiceFault : List ℕ → Frame → ℕ → Head → Fault → Type 0
 IsTwiceFault f F n head fault =
     (fault.rule ≡ rules.KeyTwice) × (fault.object ≡ Some (record { 0 = n }))

@@ -6,6 +6,7 @@ pub mod Sorted
 pub mod Heights
 pub mod Keys
 pub mod CheckRules
+pub mod Looks
 pub mod PairFault
 pub mod Refusals
 pub mod CheckedFile
@@ -13,4 +14,5 @@ pub mod Repeats
 pub mod KeyUnits
 pub mod Places
 pub mod KeyPlaces
-pub mod Listing
+pub mod KeyClasses
+pub mod KeyPairs

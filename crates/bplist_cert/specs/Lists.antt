@@ -1,12 +1,12 @@
 -- Certificates as their lists. Source: profile.
 use Rattle.std.specs.Prelude.{◌≡◌, ℕ, ◌^◌, ◌<◌, List, length, slice_index, Option, Some, None, ⊤}
 
--- the key lists of a version 2 certificate: where each dictionary's list starts, and the positions of the keys
+-- the key lists of version 2: where each dictionary's list starts, and the positions of its keys
 pub record Keyed : Type 0 where
   pub starts : List ℕ
   pub positions : List ℕ
 
--- the lists of a certificate: a height for each object, and in version 2 the key lists
+-- a height for each object, and in version 2 the key lists
 pub record Lists : Type 0 where
   pub heights : List ℕ
   pub keys : Option Keyed
@@ -15,7 +15,7 @@ pub record Lists : Type 0 where
 abbrev pub lists : List ℕ → Option Keyed → Lists
 lists heights keys = record { heights = heights; keys = keys }
 
--- there are as many starts as heights
+-- there is a start for each height
 abbrev pub HasStarts : List ℕ → Option Keyed → Type 0
 HasStarts heights None = ⊤
 HasStarts heights (Some keyed) = length keyed.starts ≡ length heights
@@ -25,7 +25,7 @@ abbrev pub HasCount : Option Keyed → ℕ → Type 0
 HasCount None count = ⊤
 HasCount (Some keyed) count = length keyed.starts ≡ count
 
--- the list spells numbers of 32 bits
+-- these are numbers of 32 bits
 abbrev pub AreWords : List ℕ → Type 0
 AreWords xs = (k : ℕ) → slice_index xs k < 2 ^ 32
 

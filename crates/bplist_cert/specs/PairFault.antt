@@ -12,14 +12,17 @@ use Rattle.bplist_objects.specs.Extents.{TakeOctets, AtMost}
 use Rattle.bplist_cert.specs.Lists.{Lists}
 use Rattle.bplist_cert.specs.Valid.{IsVouchedBy}
 use Rattle.bplist_cert.specs.CheckRules.{KeepsByCheck, IsCheckFault, check_rules}
+use Rattle.bplist_cert.specs.declared.checking.Look.{Look}
+use Rattle.bplist_cert.specs.declared.checking.Look.TheVariants.{Quick, Exact}
+use Rattle.bplist_cert.specs.Looks.{IsShown}
 
--- each vouched object below n keeps the rules of the check
+-- the vouched objects below n keep all rules
 abbrev pub KeepBelow : List ℕ → Frame → Lists → ℕ → Type 0
 KeepBelow f F certificate n =
     (m : ℕ) → m < n → IsVouchedBy certificate.heights m
     → KeepsAll (KeepsByCheck f F certificate m) (check_rules certificate.keys)
 
--- the fault is that of the least vouched object that breaks one of them
+-- the first fault of the least vouched object that has one
 pub record IsVouchedFault (f : List ℕ) (F : Frame) (certificate : Lists) (fault : Fault) : Type 0 where
   pub object : ℕ
   pub vouched : IsVouchedBy certificate.heights object
@@ -34,17 +37,22 @@ pub record Sums (f : List ℕ) (F : Frame) (heights : List ℕ) (n t : ℕ) : Ty
   pub take_all : TakeOctets f F objects t
   pub most : AtMost f F (λ m. IsVouchedBy heights m × (m < n)) t
 
--- vouched object n keeps the rules, and with it the vouched objects take t bytes, for which there is room
-pub record IsHeld (f : List ℕ) (F : Frame) (certificate : Lists) (n t : ℕ) : Type 0 where
+-- a look shows vouched object n as it should be, and with it the vouched objects take t bytes, for which there is room
+pub record IsHeld (f : List ℕ) (F : Frame) (certificate : Lists) (look : Look) (n t : ℕ) : Type 0 where
   pub sums : Sums f F certificate.heights (suc n) t
   pub room : t + 8 ≤ F.table
-  pub kept : KeepsAll (KeepsByCheck f F certificate n) (check_rules certificate.keys)
+  pub kept : IsShown f F certificate look n
 
--- so far the vouched objects keep the rules, and take so many bytes, for which there is room
-pub record Running (f : List ℕ) (F : Frame) (certificate : Lists) (n t : ℕ) : Type 0 where
+-- so far the vouched objects are as they should be, and take t bytes, for which there is room
+pub record Running (f : List ℕ) (F : Frame) (certificate : Lists) (look : Look) (n t : ℕ) : Type 0 where
   pub sums : Sums f F certificate.heights n t
   pub room : t + 8 ≤ F.table
-  pub kept : KeepBelow f F certificate n
+  pub kept : (m : ℕ) → m < n → IsVouchedBy certificate.heights m → IsShown f F certificate look m
+
+-- the fault that a walk over the vouched objects ends in: by exact looks the first, by quick ones any
+abbrev pub IsWalkFault : List ℕ → Frame → Lists → Look → Fault → Type 0
+IsWalkFault f F certificate Quick fault = Unit {0}
+IsWalkFault f F certificate Exact fault = IsVouchedFault f F certificate fault
 
 -- the heights are as many as the objects, the top has one, and all vouched objects keep the rules
 pub record IsKept (f : List ℕ) (F : Frame) (certificate : Lists) : Type 0 where
@@ -52,9 +60,9 @@ pub record IsKept (f : List ℕ) (F : Frame) (certificate : Lists) : Type 0 wher
   pub count : length certificate.heights ≡ F.objects
   pub top : IsVouchedBy certificate.heights F.top.0
   pub total : ℕ
-  pub running : Running f F certificate F.objects total
+  pub running : Running f F certificate Exact F.objects total
 
--- rule 26: the heights are not as many as the objects
+-- rule 26: there are not as many heights as objects
 abbrev pub IsCountFault : Frame → List ℕ → Fault → Type 0
 IsCountFault F heights fault =
     (length heights ≢ F.objects) × (fault ≡ record { rule = rules.CertCount; object = None; place = 8 })
@@ -65,7 +73,7 @@ IsTopFault F heights fault =
     (length heights ≡ F.objects) × (slice_index heights F.top.0 ≡ 0)
     × (fault ≡ record { rule = rules.TopNotVouched; object = Some F.top; place = 16 + 4 * F.top.0 })
 
--- the first fault of a certificate of a file with this frame
+-- the first fault of a certificate for a file with this frame
 abbrev pub IsCertFault : List ℕ → Frame → Lists → Fault → Type 0
 IsCertFault f F certificate fault =
     IsCountFault F certificate.heights fault
@@ -73,7 +81,7 @@ IsCertFault f F certificate fault =
     ⊎ ((length certificate.heights ≡ F.objects) × IsVouchedBy certificate.heights F.top.0
     × IsVouchedFault f F certificate fault)
 
--- the first fault of a file and a certificate: rules 1 to 13 in order, then 26, then 27, then that of the least vouched object
+-- the first fault of file and certificate: rules 1 to 13, 26, 27, then the vouched objects
 abbrev pub IsPairFault : List ℕ → Lists → Fault → Type 0
 IsPairFault f certificate fault =
     IsFrameFault f fault ⊎ ((F : Frame) × IsFrame f F × IsCertFault f F certificate fault)

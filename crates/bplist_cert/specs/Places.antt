@@ -35,7 +35,7 @@ TellSound f F (Kept kept) m = IsSound f F m
 abbrev pub TellAllSound : List ℕ → Frame → Places → List ℕ → Type 0
 TellAllSound f F places refs = (k : ℕ) → k < length refs → TellSound f F places (slice_index refs k)
 
--- places that are kept are those of the objects, and each key of this dictionary is known to keep rules 14 to 20, if it is an object
+-- places that are kept are those of the objects, and the keys of this dictionary are sound
 abbrev pub TellKeys : List ℕ → Frame → Head → Places → Type 0
 TellKeys f F head Table = ⊤
 TellKeys f F head (Kept kept) = AreOffsets f F kept.now × KeysAreSound f F head

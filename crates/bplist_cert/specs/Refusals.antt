@@ -3,37 +3,44 @@ use Rattle.std.specs.Prelude.{◌≡◌, Bool, true, false, Result, Ok, Err, Opt
 use Rattle.bplist_objects.specs.declared.fault.Fault.{Fault}
 use Rattle.bplist_objects.specs.declared.fault.ObjectFault.{ObjectFault}
 use Rattle.bplist_objects.specs.declared.fault.ObjectFault.TheVariants as errors
+use Rattle.bplist_keys.specs.declared.fault.KeysFault.{KeysFault}
+use Rattle.bplist_keys.specs.declared.fault.KeysFault.TheVariants as keys_errors
 use Rattle.bplist_cert.specs.declared.refusal.Refusal.{Refusal}
 use Rattle.bplist_cert.specs.declared.refusal.Refusal.TheVariants as refusals
 use Rattle.bplist_cert.specs.Lists.{Keyed}
 
--- the refusal says that a read has failed
+-- the refusal is a failed read
 abbrev pub is_read : Refusal → Bool
 is_read (refusals.Read _) = true
 is_read _ = false
 
--- the answer says that a read has failed
+-- the answer is a failed read
 abbrev pub refused_read : {X : Type 0} → Result X Refusal → Bool
 refused_read (Ok x) = false
 refused_read (Err refusal) = is_read refusal
 
--- Q holds of the fault, and nothing is said of a failed read or a refused growth
+-- Q holds of the fault, unless a read failed or memory was refused
 abbrev pub GivesRefusal : (Fault → Type 0) → Refusal → Type 0
 GivesRefusal Q (refusals.Fault fault) = Q fault
 GivesRefusal Q (refusals.Read _) = Unit {0}
 GivesRefusal Q refusals.Memory = Unit {0}
 
--- P holds of the value or Q of the fault, and nothing is said of a failed read or a refused growth
+-- P holds of the value, or Q of the fault unless a read failed or memory was refused
 abbrev pub Judges : {X : Type 0} → (X → Type 0) → (Fault → Type 0) → Result X Refusal → Type 0
 Judges P Q (Ok x) = P x
 Judges P Q (Err refusal) = GivesRefusal Q refusal
 
--- a growth may be refused in version 1 alone
+-- a growth may be refused only in version 1
 abbrev pub MayRefuse : Option Keyed → Refusal → Type 0
 MayRefuse keys refusals.Memory = keys ≡ None
 MayRefuse keys _ = Unit {0}
 
--- the refusal for a fault of an object or a failed read
+-- an object's fault as a refusal
 abbrev pub refusal_of : ObjectFault → Refusal
 refusal_of (errors.Fault fault) = refusals.Fault fault
 refusal_of (errors.Read fault) = refusals.Read fault
+
+-- the refusal where keys are not ranked
+abbrev pub refusal_of_keys : KeysFault → Refusal
+refusal_of_keys (keys_errors.Read fault) = refusals.Read fault
+refusal_of_keys keys_errors.Memory = refusals.Memory

@@ -9,7 +9,7 @@ use Rattle.bplist_objects.specs.Extents.{HaveRoom}
 use Rattle.bplist_objects.specs.Holds.{AreDistinct}
 use Rattle.bplist_objects.specs.File.{FileHolds}
 
--- the heights vouch for object n
+-- object n has a height of 1 or more
 abbrev pub IsVouchedBy : List ℕ → ℕ → Type 0
 IsVouchedBy heights n = 1 ≤ slice_index heights n
 
@@ -18,7 +18,7 @@ module _ (f : List ℕ) (F : Frame) where
   abbrev pub SpellsText : ℕ → List ℕ → Type 0
   SpellsText n units = Spells f F n (leaf (text units))
 
-  -- these objects spell these texts, no two of which have the same units: rules 21 and 22 are kept
+  -- these objects spell these texts, which differ: rules 21 and 22
   abbrev pub AreKeys : List ℕ → List (List ℕ) → Type 0
   AreKeys ks us = AllZip SpellsText ks us × AreDistinct us
 
@@ -29,7 +29,7 @@ module _ (f : List ℕ) (F : Frame) where
   HasKeys (array ms) = ⊤
   HasKeys (set ms) = ⊤
 
-  -- what heights promise of object n that they vouch for
+  -- what holds of an object with a height
   pub record IsVouched (heights : List ℕ) (n : ℕ) : Type 0 where
     pub content : Content
     pub spells : Spells f F n content
@@ -44,7 +44,7 @@ pub record IsValid (f : List ℕ) (F : Frame) (heights : List ℕ) : Type 0 wher
   pub room : HaveRoom f F (IsVouchedBy heights)
   pub vouched : (n : ℕ) → IsVouchedBy heights n → IsVouched f F heights n
 
--- the file holds a value, and no other
+-- the file holds exactly one value
 pub record HoldsOneValue (f : List ℕ) : Type 0 where
   pub value : Value
   pub holds : FileHolds f value

@@ -4,7 +4,7 @@ ghost use Rattle.std.specs.Prelude.{◌≡◌, slice_index, IsTrue};
 ghost use Rattle.bplist_cert.specs.CheckedFile.{IsChecked};
 
 use crate::certificate::Certificate;
-use bplist_objects::{Frame, ObjectNo};
+use bplist_objects::{Frame, Framed, ObjectNo};
 use bplist_octets::{ReadFault, SliceSource, Source};
 use std::marker::Model;
 
@@ -40,9 +40,16 @@ impl<S: Source> Source for Checked<S> {
     }
 }
 
+impl<S: Source> Framed for Checked<S> {
+    fn frame(&self) -> Frame {
+        Checked::frame(self)
+    }
+}
+
 impl<S: Source> Checked<S> {
-    /// A source with what the check has found.
-    pub(crate) fn new(source: S, frame: Frame, certificate: Certificate) -> Checked<S>
+    /// A source with a frame and a certificate for which everything that a `Checked` promises is known: by a check, or by the
+    /// linter. It is public for callers that keep frame and certificate and are lent the source again later.
+    pub fn new(source: S, frame: Frame, certificate: Certificate) -> Checked<S>
         requires { IsChecked (record { source = S.means source; frame = frame; certificate = certificate }) }
         ensures source { result.source ≡ S.means source }
         ensures frame { result.frame ≡ frame }

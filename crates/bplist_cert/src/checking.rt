@@ -1,15 +1,18 @@
 //! The check of a certificate against a file.
 
-ghost use Rattle.std.specs.Prelude.{◌≡◌, ◌+◌, ◌≤◌, ◌<◌, ℕ, suc, length, slice_index, IsTrue, IfOk, IfErr, MatchResult, ◌⊎◌};
-ghost use Rattle.bplist_octets.specs.Meaning.{OnlyReads};
-ghost use Rattle.bplist_objects.specs.Frame.{off, IsFrame};
+ghost use Rattle.std.specs.Prelude.{◌≡◌, ◌+◌, ◌≤◌, ◌<◌, ℕ, suc, length, slice_index, IfOk, IfErr, IfSome, MatchResult, Some, None, ◌⊎◌};
+ghost use Rattle.bplist_octets.specs.Meaning.{OnlyReads, Honestly};
+ghost use Rattle.bplist_objects.specs.Framed.{HonestlyBy};
+ghost use Rattle.bplist_objects.specs.Frame.{off};
 ghost use Rattle.bplist_objects.specs.Safe.{IsSafe, IsSafeHead, IsSafeFrame};
 ghost use Rattle.bplist_objects.specs.declared.kind.Kind.TheVariants.{Dict};
-ghost use Rattle.bplist_cert.specs.Lists.{lists, HasCount, HasStarts};
+ghost use Rattle.bplist_cert.specs.Lists.{Keyed, lists, HasStarts};
 ghost use Rattle.bplist_cert.specs.Valid.{IsVouchedBy, HoldsOneValue};
 ghost use Rattle.bplist_cert.specs.Keys.{HaveTexts};
-ghost use Rattle.bplist_cert.specs.CheckRules.{IsCheckFault, KeepsLast, IsLastFault, IsKeysFault, check_rules};
-ghost use Rattle.bplist_cert.specs.PairFault.{Sums, IsHeld, Running, IsVouchedFault, IsCountFault, IsTopFault, IsKept, IsPairFault};
+ghost use Rattle.bplist_cert.specs.CheckRules.{KeepsLast, IsLastFault, IsKeysFault};
+ghost use Rattle.bplist_cert.specs.Looks.{IsShownFault};
+ghost use Rattle.bplist_cert.specs.declared.checking.Look.TheVariants.{Quick as quick, Exact as exact};
+ghost use Rattle.bplist_cert.specs.PairFault.{Sums, IsHeld, Running, IsWalkFault, IsVouchedFault, IsCountFault, IsTopFault, IsKept, IsPairFault};
 ghost use Rattle.bplist_cert.specs.Refusals.{Judges, GivesRefusal, is_read, refused_read, MayRefuse};
 ghost use Rattle.bplist_cert.specs.Sorted.{IsAccepted};
 ghost use Rattle.bplist_objects.specs.Answers.{Never};
@@ -22,7 +25,9 @@ use crate::certificate::{Certificate, KeyLists};
 use crate::checked::Checked;
 use crate::extents::check_extent;
 use crate::heights::{check_heights, height_at};
+use crate::key_classes::have_good_keys;
 use crate::key_equality::check_twice;
+use crate::key_lists::have_good_lists;
 use crate::key_order::check_order;
 use crate::keys::check_texts;
 use crate::places::Places;
@@ -34,59 +39,60 @@ use std::alloc::Global;
 /// How many entries of the offset table are read at once at most.
 const BLOCK: usize = 512;
 
-/// Looks for equal keys of dictionary `n`, whose keys are texts, or in version 2 at its key list.
-fn check_last<S: Source>(
+/// How each vouched object is looked at.
+#[derive(Clone, Copy, Debug)]
+enum Look {
+    /// By the rules before those of keys.
+    Quick,
+    /// By all rules, in the order of the check.
+    Exact,
+}
+
+/// What a walk over the vouched objects goes by, beside the source.
+#[derive(Drop)]
+struct Walk<'a> {
     alloc: Global,
-    src: &mut S,
-    frame: &Frame,
-    keys: &Option<KeyLists>,
-    count: u32,
-    n: ObjectNo,
-    head: &Head,
-) -> Result<(), Refusal>
-    requires safe { IsSafe (length (S.means src.old).octets) frame.now }
-    requires head { IsSafeHead frame.now head.now }
+    frame: Frame,
+    heights: &'a [u32],
+    keys: &'a Option<KeyLists>,
+    look: Look,
+    pub ghost all: { length heights.now ≡ frame.objects },
+    pub ghost starts: { (keyed : Keyed) → keys.now ≡ Some keyed → length keyed.starts ≡ frame.objects },
+}
+
+/// Looks for equal keys of dictionary `n`, whose keys are texts, or in version 2 at its key list.
+fn check_last<S: Source>(src: &mut S, walk: &Walk, n: ObjectNo, head: &Head) -> Result<(), Refusal>
+    requires safe { IsSafe (length (S.means src.old).octets) walk.now.frame }
+    requires head { IsSafeHead walk.now.frame head.now }
     requires dict { head.now.kind ≡ Dict }
-    requires starts { HasCount keys.now count }
-    requires within { n.0 < count }
+    requires within { n.0 < walk.now.frame.objects }
     ensures reads { OnlyReads (refused_read result) (S.means src.old) (S.means src.new) }
-    ensures memory { IfErr result (MayRefuse keys.now) }
-    ensures exact { IsTrue (S.means src.old).honest → IsFrame (S.means src.old).octets frame.now
-        → HaveTexts (S.means src.old).octets frame.now head.now head.now.count
-        → Judges (λ _. KeepsLast (S.means src.old).octets frame.now keys.now n.0 head.now)
-        (IsLastFault (S.means src.old).octets frame.now count keys.now n.0 head.now) result }
+    ensures memory { IfErr result (MayRefuse walk.now.keys.now) }
+    ensures exact { HonestlyBy (S.means src.old) walk.now.frame (λ f F. HaveTexts f F head.now head.now.count
+        → Judges (λ _. KeepsLast f F walk.now.keys.now n.0 head.now)
+        (IsLastFault f F F.objects walk.now.keys.now n.0 head.now) result) }
 {
-    match keys {
-        None => check_twice(alloc, src, frame, Places::Table, n, head),
-        Some(keys) => Ok(check_order(src, frame, keys, count, n, head)?),
+    match walk.keys {
+        None => check_twice(walk.alloc, src, &walk.frame, Places::Table, n, head),
+        Some(keys) => Ok(check_order(src, &walk.frame, keys, walk.frame.objects, n, head)?),
     }
 }
 
 /// Looks at the keys of object `n`, which is vouched for, where it is a dictionary.
-fn check_keys<S: Source>(
-    alloc: Global,
-    src: &mut S,
-    frame: &Frame,
-    keys: &Option<KeyLists>,
-    count: u32,
-    n: ObjectNo,
-    head: &Head,
-) -> Result<(), Refusal>
-    requires safe { IsSafe (length (S.means src.old).octets) frame.now }
-    requires head { IsSafeHead frame.now head.now }
-    requires starts { HasCount keys.now count }
-    requires within { n.0 < count }
+fn check_keys<S: Source>(src: &mut S, walk: &Walk, n: ObjectNo, head: &Head) -> Result<(), Refusal>
+    requires safe { IsSafe (length (S.means src.old).octets) walk.now.frame }
+    requires head { IsSafeHead walk.now.frame head.now }
+    requires within { n.0 < walk.now.frame.objects }
     ensures reads { OnlyReads (refused_read result) (S.means src.old) (S.means src.new) }
-    ensures memory { IfErr result (MayRefuse keys.now) }
-    ensures exact { IsTrue (S.means src.old).honest → IsFrame (S.means src.old).octets frame.now
-        → Judges (λ _. head.now.kind ≡ Dict → HaveTexts (S.means src.old).octets frame.now head.now head.now.count
-        × KeepsLast (S.means src.old).octets frame.now keys.now n.0 head.now)
-        (IsKeysFault (S.means src.old).octets frame.now count keys.now n.0 head.now) result }
+    ensures memory { IfErr result (MayRefuse walk.now.keys.now) }
+    ensures exact { HonestlyBy (S.means src.old) walk.now.frame (λ f F. Judges (λ _. head.now.kind ≡ Dict
+        → HaveTexts f F head.now head.now.count
+        × KeepsLast f F walk.now.keys.now n.0 head.now) (IsKeysFault f F F.objects walk.now.keys.now n.0 head.now) result) }
 {
     match head.kind {
         Kind::Dict => {
-            check_texts(src, frame, Places::Table, n, head)?;
-            check_last(alloc, src, frame, keys, count, n, head)
+            check_texts(src, &walk.frame, Places::Table, n, head)?;
+            check_last(src, walk, n, head)
         }
         _ => Ok(()),
     }
@@ -95,94 +101,139 @@ fn check_keys<S: Source>(
 /// Looks at object `n`, which is vouched for and stands at `place`, where the vouched objects before it take
 /// `used` bytes, and answers how many they take with it.
 fn check_object<S: Source>(
-    alloc: Global,
     src: &mut S,
-    frame: &Frame,
-    heights: &[u32],
-    keys: &Option<KeyLists>,
+    walk: &Walk,
     n: ObjectNo,
     place: u64,
     used: u64,
 ) -> Result<u64, Refusal>
-    requires safe { IsSafe (length (S.means src.old).octets) frame.now }
-    requires within { n.0 < frame.now.objects }
-    requires all { length heights.now ≡ frame.now.objects }
-    requires starts { HasStarts heights.now keys.now }
+    requires safe { IsSafe (length (S.means src.old).octets) walk.now.frame }
+    requires within { n.0 < walk.now.frame.objects }
     ensures reads { OnlyReads (refused_read result) (S.means src.old) (S.means src.new) }
-    ensures memory { IfErr result (MayRefuse keys.now) }
-    ensures exact { IsTrue (S.means src.old).honest → IsFrame (S.means src.old).octets frame.now
-        → place ≡ off (S.means src.old).octets frame.now n.0 → IsVouchedBy heights.now n.0
-        → Sums (S.means src.old).octets frame.now heights.now n.0 used
-        → Judges (IsHeld (S.means src.old).octets frame.now (lists heights.now keys.now) n.0)
-        (IsCheckFault (S.means src.old).octets frame.now (lists heights.now keys.now) n.0 (check_rules keys.now)) result }
+    ensures memory { IfErr result (MayRefuse walk.now.keys.now) }
+    ensures exact { HonestlyBy (S.means src.old) walk.now.frame (λ f F. place ≡ off f F n.0
+        → IsVouchedBy walk.now.heights.now n.0 → Sums f F walk.now.heights.now n.0 used
+        → Judges (IsHeld f F (lists walk.now.heights.now walk.now.keys.now) walk.now.look n.0)
+        (IsShownFault f F (lists walk.now.heights.now walk.now.keys.now) walk.now.look n.0) result) }
 {
-    let count = frame.objects;
-    let head = head_at(src, frame, n, place)?;
-    let now = check_extent(frame, n, &head, place, used)?;
-    check_heights(src, frame, heights, n, &head)?;
-    check_keys(alloc, src, frame, keys, count, n, &head)?;
-    Ok(now)
+    let head = head_at(src, &walk.frame, n, place)?;
+    let now = check_extent(&walk.frame, n, &head, place, used)?;
+    check_heights(src, &walk.frame, walk.heights, n, &head)?;
+    match walk.look {
+        Look::Quick => Ok(now),
+        Look::Exact => {
+            check_keys(src, walk, n, &head)?;
+            Ok(now)
+        }
+    }
 }
 
-/// Looks at object `n`, which stands at `place`, where the vouched objects before it keep the rules.
+/// Looks at object `n`, which stands at `place`, where the vouched objects before it are as they should be.
 fn check_step<S: Source>(
-    alloc: Global,
     src: &mut S,
-    frame: &Frame,
-    heights: &[u32],
-    keys: &Option<KeyLists>,
+    walk: &Walk,
     n: ObjectNo,
     place: u64,
     used: u64,
 ) -> Result<u64, Refusal>
-    requires safe { IsSafe (length (S.means src.old).octets) frame.now }
-    requires within { n.0 < frame.now.objects }
-    requires all { length heights.now ≡ frame.now.objects }
-    requires starts { HasStarts heights.now keys.now }
+    requires safe { IsSafe (length (S.means src.old).octets) walk.now.frame }
+    requires within { n.0 < walk.now.frame.objects }
     ensures reads { OnlyReads (refused_read result) (S.means src.old) (S.means src.new) }
-    ensures memory { IfErr result (MayRefuse keys.now) }
-    ensures exact { IsTrue (S.means src.old).honest → IsFrame (S.means src.old).octets frame.now
-        → place ≡ off (S.means src.old).octets frame.now n.0
-        → Running (S.means src.old).octets frame.now (lists heights.now keys.now) n.0 used
-        → Judges (Running (S.means src.old).octets frame.now (lists heights.now keys.now) (suc n.0))
-        (IsVouchedFault (S.means src.old).octets frame.now (lists heights.now keys.now)) result }
+    ensures memory { IfErr result (MayRefuse walk.now.keys.now) }
+    ensures exact { HonestlyBy (S.means src.old) walk.now.frame (λ f F. place ≡ off f F n.0
+        → Running f F (lists walk.now.heights.now walk.now.keys.now) walk.now.look n.0 used
+        → Judges (Running f F (lists walk.now.heights.now walk.now.keys.now) walk.now.look (suc n.0))
+        (IsWalkFault f F (lists walk.now.heights.now walk.now.keys.now) walk.now.look) result) }
 {
-    if height_at(heights, n.0 as u64) == 0 {
+    if height_at(walk.heights, n.0 as u64) == 0 {
         return Ok(used);
     }
-    check_object(alloc, src, frame, heights, keys, n, place, used)
+    check_object(src, walk, n, place, used)
 }
 
 /// Looks at the objects from number `from` on, which stand at these places.
 fn check_block<S: Source>(
+    src: &mut S,
+    walk: &Walk,
+    from: u32,
+    places: &[u64],
+    used: u64,
+) -> Result<u64, Refusal>
+    requires safe { IsSafe (length (S.means src.old).octets) walk.now.frame }
+    requires within { from + length places.now ≤ walk.now.frame.objects }
+    ensures reads { OnlyReads (refused_read result) (S.means src.old) (S.means src.new) }
+    ensures memory { IfErr result (MayRefuse walk.now.keys.now) }
+    ensures exact { HonestlyBy (S.means src.old) walk.now.frame (λ f F. ((k : ℕ) → k < length places.now
+        → slice_index places.now k ≡ off f F (from + k))
+        → Running f F (lists walk.now.heights.now walk.now.keys.now) walk.now.look from used
+        → Judges (Running f F (lists walk.now.heights.now walk.now.keys.now) walk.now.look (from + length places.now))
+        (IsWalkFault f F (lists walk.now.heights.now walk.now.keys.now) walk.now.look) result) }
+{
+    let _objects = walk.frame.objects;
+    let mut used = used;
+    for (i, place) in places.iter().enumerate() {
+        let n = ObjectNo(from + i as u32);
+        used = check_step(src, walk, n, *place, used)?;
+    }
+    Ok(used)
+}
+
+/// Looks at all vouched objects, in the order of their numbers. How many bytes they take.
+fn check_all<S: Source>(src: &mut S, walk: &Walk) -> Result<u64, Refusal>
+    requires safe { IsSafe (length (S.means src.old).octets) walk.now.frame }
+    ensures reads { OnlyReads (refused_read result) (S.means src.old) (S.means src.new) }
+    ensures memory { IfErr result (MayRefuse walk.now.keys.now) }
+    ensures exact { HonestlyBy (S.means src.old) walk.now.frame (λ f F.
+        Judges (Running f F (lists walk.now.heights.now walk.now.keys.now) walk.now.look F.objects)
+        (IsWalkFault f F (lists walk.now.heights.now walk.now.keys.now) walk.now.look) result) }
+{
+    let objects = walk.frame.objects;
+    let mut buffer = [0u64; BLOCK];
+    let mut used = 0u64;
+    let mut done = 0u32;
+    while done < objects {
+        let now = (objects - done).min(BLOCK as u32);
+        let places = &mut buffer[..now as usize];
+        read_offsets(src, &walk.frame, done, places)?;
+        used = check_block(src, walk, done, places, used)?;
+        done += now;
+    }
+    Ok(used)
+}
+
+/// How many bytes the vouched objects take, where quick looks show that all of them keep all rules. None does not say that
+/// one is broken, nor does a fault say that it is the first.
+fn check_quickly<S: Source>(
     alloc: Global,
     src: &mut S,
     frame: &Frame,
     heights: &[u32],
     keys: &Option<KeyLists>,
-    from: u32,
-    places: &[u64],
-    used: u64,
-) -> Result<u64, Refusal>
+) -> Result<Option<u64>, Refusal>
     requires safe { IsSafe (length (S.means src.old).octets) frame.now }
-    requires within { from + length places.now ≤ frame.now.objects }
     requires all { length heights.now ≡ frame.now.objects }
     requires starts { HasStarts heights.now keys.now }
     ensures reads { OnlyReads (refused_read result) (S.means src.old) (S.means src.new) }
     ensures memory { IfErr result (MayRefuse keys.now) }
-    ensures exact { IsTrue (S.means src.old).honest → IsFrame (S.means src.old).octets frame.now
-        → ((k : ℕ) → k < length places.now → slice_index places.now k ≡ off (S.means src.old).octets frame.now (from + k))
-        → Running (S.means src.old).octets frame.now (lists heights.now keys.now) from used
-        → Judges (Running (S.means src.old).octets frame.now (lists heights.now keys.now) (from + length places.now))
-        (IsVouchedFault (S.means src.old).octets frame.now (lists heights.now keys.now)) result }
+    ensures exact { HonestlyBy (S.means src.old) frame.now (λ f F.
+        IfOk result (λ kept. IfSome kept (Running f F (lists heights.now keys.now) exact F.objects))) }
 {
-    let _objects = frame.objects;
-    let mut used = used;
-    for (i, place) in places.iter().enumerate() {
-        let n = ObjectNo(from + i as u32);
-        used = check_step(alloc, src, frame, heights, keys, n, *place, used)?;
+    let walk = Walk {
+        alloc,
+        frame: *frame,
+        heights,
+        keys,
+        look: Look::Quick,
+    };
+    let used = check_all(src, &walk)?;
+    let good = match keys {
+        None => have_good_keys(alloc, src, frame, heights)?,
+        Some(keys) => have_good_lists(src, frame, heights, keys)?,
+    };
+    if good {
+        return Ok(Some(used));
     }
-    Ok(used)
+    Ok(None)
 }
 
 /// Looks at all objects, in the order of their numbers.
@@ -198,22 +249,23 @@ fn check_objects<S: Source>(
     requires starts { HasStarts heights.now keys.now }
     ensures reads { OnlyReads (refused_read result) (S.means src.old) (S.means src.new) }
     ensures memory { IfErr result (MayRefuse keys.now) }
-    ensures exact { IsTrue (S.means src.old).honest → IsFrame (S.means src.old).octets frame.now
-        → Judges (Running (S.means src.old).octets frame.now (lists heights.now keys.now) frame.now.objects)
-        (IsVouchedFault (S.means src.old).octets frame.now (lists heights.now keys.now)) result }
+    ensures exact { HonestlyBy (S.means src.old) frame.now
+        (λ f F. Judges (Running f F (lists heights.now keys.now) exact F.objects) (IsVouchedFault f F (lists heights.now
+        keys.now)) result) }
 {
-    let objects = frame.objects;
-    let mut buffer = [0u64; BLOCK];
-    let mut used = 0u64;
-    let mut done = 0u32;
-    while done < objects {
-        let now = (objects - done).min(BLOCK as u32);
-        let places = &mut buffer[..now as usize];
-        read_offsets(src, frame, done, places)?;
-        used = check_block(alloc, src, frame, heights, keys, done, places, used)?;
-        done += now;
+    match check_quickly(alloc, src, frame, heights, keys) {
+        Ok(Some(used)) => return Ok(used),
+        Ok(None) | Err(Refusal::Fault(_)) => {}
+        Err(refusal) => return Err(refusal),
     }
-    Ok(used)
+    let walk = Walk {
+        alloc,
+        frame: *frame,
+        heights,
+        keys,
+        look: Look::Exact,
+    };
+    check_all(src, &walk)
 }
 
 /// Looks at the number of heights and at the top's.
@@ -244,8 +296,8 @@ fn check_count(frame: &Frame, heights: &[u32]) -> Result<(), Fault>
 fn check_lists<S: Source>(alloc: Global, src: &mut S, cert: &Certificate) -> Result<Frame, Refusal>
     ensures reads { OnlyReads (refused_read result) (S.means src.old) (S.means src.new) }
     ensures memory { IfErr result (MayRefuse cert.now.keys) }
-    ensures exact { IsTrue (S.means src.old).honest
-        → Judges (λ frame. IsKept (S.means src.old).octets frame cert.now) (IsPairFault (S.means src.old).octets cert.now) result }
+    ensures exact { Honestly (S.means src.old) (λ f. Judges
+        (λ frame. IsKept f frame cert.now) (IsPairFault f cert.now) result) }
     ensures safe { IfOk result (λ frame. IsSafeFrame (length (S.means src.old).octets) frame × (length cert.now.heights ≡ frame.objects)) }
 {
     let frame = frame_of(src)?;
@@ -274,18 +326,18 @@ pub fn check<S: Source>(
     ensures handed { MatchResult result
         (λ checked. (checked.certificate ≡ cert) × (checked.source ≡ S.means src))
         (λ refused. (refused.2 ≡ cert) × OnlyReads (is_read refused.0) (S.means src) (S.means refused.1)) }
-    ensures yes { IsTrue (S.means src).honest
-        → IfOk result (λ checked. ∥ IsAccepted (S.means src).octets checked.frame cert ∥₁) }
-    ensures accepts { IsTrue (S.means src).honest → (F : frame) → IsAccepted (S.means src).octets F cert
-        → MatchResult result (λ checked. checked.frame ≡ F) (λ refused. GivesRefusal Never refused.0) }
-    ensures fault { IsTrue (S.means src).honest
-        → IfErr result (λ refused. GivesRefusal (IsPairFault (S.means src).octets cert) refused.0) }
+    ensures yes { Honestly (S.means src) (λ f. IfOk result (λ checked. ∥ IsAccepted f checked.frame cert ∥₁)) }
+    ensures accepts { Honestly (S.means src) (λ f. (F : frame) → IsAccepted f F cert
+        → MatchResult result (λ checked. checked.frame ≡ F) (λ refused. GivesRefusal Never refused.0)) }
+    ensures fault { Honestly (S.means src) (λ f. IfErr result
+        (λ refused. GivesRefusal (IsPairFault f cert) refused.0)) }
     ensures memory { IfErr result (λ refused. MayRefuse cert.keys refused.0) }
-    ensures one_value { IsTrue (S.means src).honest → IfOk result (λ checked. ∥ HoldsOneValue (S.means src).octets ∥₁) }
-    ensures references { IsTrue (S.means src).honest → IfOk result (λ checked. (n : ℕ) → Reach (S.means src).octets checked.frame n
-        → ∥ ((c : Content) × Spells (S.means src).octets checked.frame n c × AllByRecursion (λ m. m < checked.frame.objects) (refs c)) ∥₁) }
-    ensures no_circle { IsTrue (S.means src).honest → IfOk result (λ checked. (n : ℕ)
-        → Reach (S.means src).octets checked.frame n → Chain (S.means src).octets checked.frame n n → ⊥) }
+    ensures one_value { Honestly (S.means src) (λ f. IfOk result (λ checked. ∥ HoldsOneValue f ∥₁)) }
+    ensures references { Honestly (S.means src) (λ f. IfOk result (λ checked. (n : ℕ) → Reach f checked.frame n
+        → ∥ ((c : Content) × Spells f checked.frame n c × AllByRecursion
+        (λ m. m < checked.frame.objects) (refs c)) ∥₁)) }
+    ensures no_circle { Honestly (S.means src) (λ f. IfOk result (λ checked. (n : ℕ) → Reach f checked.frame n
+        → Chain f checked.frame n n → ⊥)) }
 {
     let mut src = src;
     match check_lists(alloc, &mut src, &cert) {

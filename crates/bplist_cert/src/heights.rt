@@ -1,7 +1,7 @@
 //! The heights of references: rules 28 and 29.
 
 ghost use Rattle.std.specs.Prelude.{◌≡◌, ◌↔◌, ◌+◌, ◌*◌, ◌≤◌, ◌<◌, length, slice_index, IsTrue, IfOk, IfSome, MatchOption, is_err};
-ghost use Rattle.bplist_octets.specs.Meaning.{OnlyReads};
+ghost use Rattle.bplist_octets.specs.Meaning.{OnlyReads, Honestly};
 ghost use Rattle.bplist_objects.specs.Safe.{IsSafe, IsSafeHead, ref_count};
 ghost use Rattle.bplist_objects.specs.Answers.{Gives, read_failed};
 ghost use Rattle.bplist_cert.specs.Heights.{Meets, AreMet, AreMetBy, IsFirstUnmet, IsFirstUnmetBy, IsUnmetFault, IsHeightFault, rule_of};
@@ -82,11 +82,10 @@ fn search_refs<S: Source>(
     requires head { IsSafeHead frame.now head.now }
     requires within { done + length block.old ≤ ref_count head.now.kind head.now.count }
     ensures reads { OnlyReads (is_err result) (S.means src.old) (S.means src.new) }
-    ensures found { IfOk result (λ found. IsTrue (S.means src.old).honest
-        → AreMet (S.means src.old).octets frame.now heights.now head.now wanted done
-        → MatchOption found
-        (AreMet (S.means src.old).octets frame.now heights.now head.now wanted (done + length block.old))
-        (IsFirstUnmet (S.means src.old).octets frame.now heights.now head.now wanted)) }
+    ensures found { IfOk result (λ found. Honestly (S.means src.old)
+        (λ f. AreMet f frame.now heights.now head.now wanted done
+        → MatchOption found (AreMet f frame.now heights.now head.now wanted (done + length block.old)) (IsFirstUnmet f
+        frame.now heights.now head.now wanted))) }
     ensures inside { IfOk result (λ found. IfSome found (λ i. i < ref_count head.now.kind head.now.count)) }
 {
     let _len = src.len();
@@ -108,9 +107,9 @@ fn first_unmet<S: Source>(
     requires safe { IsSafe (length (S.means src.old).octets) frame.now }
     requires head { IsSafeHead frame.now head.now }
     ensures reads { OnlyReads (is_err result) (S.means src.old) (S.means src.new) }
-    ensures found { IfOk result (λ found. IsTrue (S.means src.old).honest → MatchOption found
-        (AreMet (S.means src.old).octets frame.now heights.now head.now wanted (ref_count head.now.kind head.now.count))
-        (IsFirstUnmet (S.means src.old).octets frame.now heights.now head.now wanted)) }
+    ensures found { IfOk result (λ found. Honestly (S.means src.old)
+        (λ f. MatchOption found (AreMet f frame.now heights.now head.now wanted (ref_count head.now.kind
+        head.now.count)) (IsFirstUnmet f frame.now heights.now head.now wanted))) }
     ensures inside { IfOk result (λ found. IfSome found (λ i. i < ref_count head.now.kind head.now.count)) }
 {
     let _len = src.len();
@@ -140,9 +139,9 @@ fn check_refs<S: Source>(
     requires safe { IsSafe (length (S.means src.old).octets) frame.now }
     requires head { IsSafeHead frame.now head.now }
     ensures reads { OnlyReads (read_failed result) (S.means src.old) (S.means src.new) }
-    ensures exact { IsTrue (S.means src.old).honest
-        → Gives (λ _. AreMet (S.means src.old).octets frame.now heights.now head.now wanted (ref_count head.now.kind head.now.count))
-        (IsUnmetFault (S.means src.old).octets frame.now heights.now n.0 head.now wanted) result }
+    ensures exact { Honestly (S.means src.old) (λ f. Gives
+        (λ _. AreMet f frame.now heights.now head.now wanted (ref_count head.now.kind head.now.count)) (IsUnmetFault f
+        frame.now heights.now n.0 head.now wanted) result) }
 {
     match first_unmet(src, frame, heights, head, wanted)? {
         None => Ok(()),
@@ -175,10 +174,10 @@ pub(crate) fn check_heights<S: Source>(
     requires safe { IsSafe (length (S.means src.old).octets) frame.now }
     requires head { IsSafeHead frame.now head.now }
     ensures reads { OnlyReads (read_failed result) (S.means src.old) (S.means src.new) }
-    ensures exact { IsTrue (S.means src.old).honest
-        → Gives (λ _. AreMet (S.means src.old).octets frame.now heights.now head.now Vouched (ref_count head.now.kind head.now.count)
-        × AreMet (S.means src.old).octets frame.now heights.now head.now (Below (slice_index heights.now n.0)) (ref_count head.now.kind head.now.count))
-        (IsHeightFault (S.means src.old).octets frame.now heights.now n.0 head.now) result }
+    ensures exact { Honestly (S.means src.old) (λ f. Gives
+        (λ _. AreMet f frame.now heights.now head.now Vouched (ref_count head.now.kind head.now.count)
+        × AreMet f frame.now heights.now head.now (Below (slice_index heights.now n.0)) (ref_count head.now.kind
+        head.now.count)) (IsHeightFault f frame.now heights.now n.0 head.now) result) }
 {
     check_refs(src, frame, heights, n, head, Wanted::Vouched)?;
     let own = height_at(heights, n.0 as u64);

@@ -1,8 +1,8 @@
 //! Keys with the same units: rule 22.
 
-ghost use Rattle.std.specs.Prelude.{◌≡◌, ◌+◌, ◌<◌, ◌≤◌, ℕ, length, slice_index, ◌++◌, IsTrue, IfOk, IfSome, OnOk, MatchOption, ⊤};
-ghost use Rattle.bplist_octets.specs.Meaning.{OnlyReads};
-ghost use Rattle.bplist_objects.specs.Frame.{IsFrame};
+ghost use Rattle.std.specs.Prelude.{◌≡◌, ◌+◌, ◌<◌, ◌≤◌, ℕ, length, slice_index, ◌++◌, IfOk, IfSome, OnOk, MatchOption, ⊤};
+ghost use Rattle.bplist_octets.specs.Meaning.{OnlyReads, Honestly};
+ghost use Rattle.bplist_objects.specs.Framed.{HonestlyBy};
 ghost use Rattle.bplist_objects.specs.Safe.{IsSafe, IsSafeHead, IsSafeBody};
 ghost use Rattle.bplist_objects.specs.Units.{IsTextKind, units_of};
 ghost use Rattle.bplist_objects.specs.declared.kind.Kind.TheVariants.{Dict};
@@ -33,8 +33,8 @@ fn push_units<S: Source>(src: &mut S, key: &Head, units: &mut Vec<u16>) -> Resul
     requires kind { IsTextKind key.now.kind }
     requires head { IsSafeBody (length (S.means src.old).octets) key.now }
     ensures reads { OnlyReads (refused_read result) (S.means src.old) (S.means src.new) }
-    ensures units { OnOk result (IsTrue (S.means src.old).honest
-        → units.new.items ≡ units.old.items ++ units_of (S.means src.old).octets key.now) }
+    ensures units { OnOk result (Honestly (S.means src.old)
+        (λ f. units.new.items ≡ units.old.items ++ units_of f key.now)) }
     ensures never { Judges (λ _. ⊤) Never result }
     ensures more { OnOk result (length units.new.items ≡ length units.old.items + key.now.count) }
 {
@@ -63,9 +63,8 @@ fn read_references<S: Source>(
     ensures reads { OnlyReads (refused_read result) (S.means src.old) (S.means src.new) }
     ensures numbered { IfOk result (λ keys. IsNumbered keys.items) }
     ensures count { IfOk result (λ keys. length keys.items ≡ head.now.count) }
-    ensures exact { IsTrue (S.means src.old).honest
-        → Judges (λ keys. (k : ℕ) → k < head.now.count
-        → slice_index (keys_of keys.items) k ≡ ref (S.means src.old).octets frame.now head.now k) Never result }
+    ensures exact { Honestly (S.means src.old) (λ f. Judges (λ keys. (k : ℕ) → k < head.now.count
+        → slice_index (keys_of keys.items) k ≡ ref f frame.now head.now k) Never result) }
 {
     let count = head.count;
     let mut keys = Vec::with_capacity(alloc, count as usize)?;
@@ -100,12 +99,11 @@ fn push_keys<S: Source>(
     requires bounds { AreBounds keys.old.units.items keys.old.bounds.items done }
     ensures reads { OnlyReads (refused_read result) (S.means src.old) (S.means src.new) }
     ensures bounds { OnOk result (AreBounds keys.new.units.items keys.new.bounds.items (done + length refs.old)) }
-    ensures exact { IsTrue (S.means src.old).honest → IsFrame (S.means src.old).octets frame.now
-        → TellKeys (S.means src.old).octets frame.now head.now places.entry
-        → HaveTexts (S.means src.old).octets frame.now head.now head.now.count
-        → AreParts (IsKeyWith (S.means src.old).octets frame.now head.now) keys.old.units.items keys.old.bounds.items done
-        → Judges (λ _. AreParts (IsKeyWith (S.means src.old).octets frame.now head.now) keys.new.units.items keys.new.bounds.items
-        (done + length refs.old)) Never result }
+    ensures exact { HonestlyBy (S.means src.old) frame.now (λ f F. TellKeys f F head.now places.entry
+        → HaveTexts f F head.now head.now.count
+        → AreParts (IsKeyWith f F head.now) keys.old.units.items keys.old.bounds.items done
+        → Judges (λ _. AreParts (IsKeyWith f F head.now) keys.new.units.items keys.new.bounds.items (done + length
+        refs.old)) Never result) }
 {
     read_places(src, frame, places, head, done, refs, found)?;
     let count = refs.len();
@@ -135,11 +133,9 @@ pub(crate) fn read_keys<S: Source>(
     requires within { count ≤ head.now.count }
     ensures reads { OnlyReads (refused_read result) (S.means src.old) (S.means src.new) }
     ensures bounds { IfOk result (λ keys. AreBounds keys.units.items keys.bounds.items count) }
-    ensures exact { IsTrue (S.means src.old).honest → IsFrame (S.means src.old).octets frame.now
-        → TellKeys (S.means src.old).octets frame.now head.now places.entry
-        → HaveTexts (S.means src.old).octets frame.now head.now head.now.count
-        → Judges (λ keys. AreParts (IsKeyWith (S.means src.old).octets frame.now head.now) keys.units.items keys.bounds.items count)
-        Never result }
+    ensures exact { HonestlyBy (S.means src.old) frame.now (λ f F. TellKeys f F head.now places.entry
+        → HaveTexts f F head.now head.now.count → Judges
+        (λ keys. AreParts (IsKeyWith f F head.now) keys.units.items keys.bounds.items count) Never result) }
 {
     let _len = src.len();
     let mut keys = KeyUnits::without_parts(alloc, count)?;
@@ -167,8 +163,8 @@ fn first_shared<S: Source>(
     requires head { IsSafeHead frame.now head.now }
     requires dict { head.now.kind ≡ Dict }
     ensures reads { OnlyReads (refused_read result) (S.means src.old) (S.means src.new) }
-    ensures exact { IsTrue (S.means src.old).honest
-        → Judges (IsLeastOrNone (IsShared (S.means src.old).octets frame.now head.now)) Never result }
+    ensures exact { Honestly (S.means src.old)
+        (λ f. Judges (IsLeastOrNone (IsShared f frame.now head.now)) Never result) }
     ensures inside { IfOk result (λ found. IfSome found (λ i. i < head.now.count)) }
 {
     let mut keys = read_references(alloc, src, frame, head)?;
@@ -191,11 +187,9 @@ fn first_equal<S: Source>(
     requires dict { head.now.kind ≡ Dict }
     requires within { count ≤ head.now.count }
     ensures reads { OnlyReads (refused_read result) (S.means src.old) (S.means src.new) }
-    ensures exact { IsTrue (S.means src.old).honest → IsFrame (S.means src.old).octets frame.now
-        → TellKeys (S.means src.old).octets frame.now head.now places.entry
-        → HaveTexts (S.means src.old).octets frame.now head.now head.now.count
-        → Judges (λ found. MatchOption found (KeysDiffer (S.means src.old).octets frame.now head.now count)
-        (IsFirstTwice (S.means src.old).octets frame.now head.now)) Never result }
+    ensures exact { HonestlyBy (S.means src.old) frame.now (λ f F. TellKeys f F head.now places.entry
+        → HaveTexts f F head.now head.now.count → Judges
+        (λ found. MatchOption found (KeysDiffer f F head.now count) (IsFirstTwice f F head.now)) Never result) }
     ensures inside { IfOk result (λ found. IfSome found (λ i. i < count)) }
 {
     let keys = read_keys(alloc, src, frame, places, n, head, count)?;
@@ -217,11 +211,10 @@ fn first_twice<S: Source>(
     requires head { IsSafeHead frame.now head.now }
     requires dict { head.now.kind ≡ Dict }
     ensures reads { OnlyReads (refused_read result) (S.means src.old) (S.means src.new) }
-    ensures exact { IsTrue (S.means src.old).honest → IsFrame (S.means src.old).octets frame.now
-        → TellKeys (S.means src.old).octets frame.now head.now places.entry
-        → HaveTexts (S.means src.old).octets frame.now head.now head.now.count
-        → Judges (λ found. MatchOption found (KeysDiffer (S.means src.old).octets frame.now head.now head.now.count)
-        (IsFirstTwice (S.means src.old).octets frame.now head.now)) Never result }
+    ensures exact { HonestlyBy (S.means src.old) frame.now (λ f F. TellKeys f F head.now places.entry
+        → HaveTexts f F head.now head.now.count → Judges
+        (λ found. MatchOption found (KeysDiffer f F head.now head.now.count) (IsFirstTwice f F head.now)) Never
+        result) }
     ensures inside { IfOk result (λ found. IfSome found (λ i. i < head.now.count)) }
 {
     if head.count < 2 {
@@ -251,11 +244,9 @@ pub fn check_twice<S: Source>(
     requires head { IsSafeHead frame.now head.now }
     requires dict { head.now.kind ≡ Dict }
     ensures reads { OnlyReads (refused_read result) (S.means src.old) (S.means src.new) }
-    ensures exact { IsTrue (S.means src.old).honest → IsFrame (S.means src.old).octets frame.now
-        → TellKeys (S.means src.old).octets frame.now head.now places.entry
-        → HaveTexts (S.means src.old).octets frame.now head.now head.now.count
-        → Judges (λ _. KeysDiffer (S.means src.old).octets frame.now head.now head.now.count)
-        (IsTwiceFault (S.means src.old).octets frame.now n.0 head.now) result }
+    ensures exact { HonestlyBy (S.means src.old) frame.now (λ f F. TellKeys f F head.now places.entry
+        → HaveTexts f F head.now head.now.count → Judges
+        (λ _. KeysDiffer f F head.now head.now.count) (IsTwiceFault f F n.0 head.now) result) }
 {
     match first_twice(alloc, src, frame, places, n, head)? {
         None => Ok(()),

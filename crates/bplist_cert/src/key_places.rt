@@ -3,8 +3,8 @@
 //! The references, the offset table and the objects lie far from each other in a file. A source with one
 //! window reads each of them forward where they are read in turns, and not for one key after the other.
 
-ghost use Rattle.std.specs.Prelude.{◌≡◌, ◌+◌, ◌≤◌, ◌<◌, ℕ, length, slice_index, IsTrue, IfOk, OnOk, is_err};
-ghost use Rattle.bplist_octets.specs.Meaning.{OnlyReads};
+ghost use Rattle.std.specs.Prelude.{◌≡◌, ◌+◌, ◌≤◌, ◌<◌, ℕ, length, slice_index, IfOk, OnOk, is_err};
+ghost use Rattle.bplist_octets.specs.Meaning.{OnlyReads, Honestly};
 ghost use Rattle.bplist_objects.specs.Safe.{IsSafe, IsSafeHead, ref_count};
 ghost use Rattle.bplist_cert.specs.Heights.{ref};
 ghost use Rattle.bplist_cert.specs.Places.{TellPlaces};
@@ -33,10 +33,9 @@ pub(crate) fn read_places<S: Source>(
     requires within { from + length refs.old ≤ ref_count head.now.kind head.now.count }
     requires many { length found.old ≡ length refs.old }
     ensures reads { OnlyReads (is_err result) (S.means src.old) (S.means src.new) }
-    ensures refs { OnOk result (IsTrue (S.means src.old).honest
-        → AreRefs (S.means src.old).octets frame.now head.now from refs.new) }
-    ensures found { OnOk result (IsTrue (S.means src.old).honest → TellPlaces (S.means src.old).octets frame.now places.entry
-        → ArePlaced (S.means src.old).octets frame.now refs.new found.new (length refs.new)) }
+    ensures refs { OnOk result (Honestly (S.means src.old) (λ f. AreRefs f frame.now head.now from refs.new)) }
+    ensures found { OnOk result (Honestly (S.means src.old) (λ f. TellPlaces f frame.now places.entry
+        → ArePlaced f frame.now refs.new found.new (length refs.new))) }
 {
     read_refs(src, frame, head, from, refs)?;
     for k in 0..refs.len() {

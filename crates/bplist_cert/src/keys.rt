@@ -1,8 +1,9 @@
 //! The keys of dictionaries: rule 21.
 
-ghost use Rattle.std.specs.Prelude.{◌≡◌, ◌+◌, ◌*◌, ◌≤◌, ◌<◌, length, IsTrue, IfOk, IfSome, MatchOption, Some, is_err};
+ghost use Rattle.std.specs.Prelude.{◌≡◌, ◌+◌, ◌*◌, ◌≤◌, ◌<◌, length, IfOk, IfSome, MatchOption, Some, is_err};
 ghost use Rattle.bplist_octets.specs.Meaning.{OnlyReads};
-ghost use Rattle.bplist_objects.specs.Frame.{off, IsFrame};
+ghost use Rattle.bplist_objects.specs.Framed.{HonestlyBy};
+ghost use Rattle.bplist_objects.specs.Frame.{off};
 ghost use Rattle.bplist_objects.specs.Safe.{IsSafe, IsSafeHead, IsSafeBody};
 ghost use Rattle.bplist_objects.specs.Units.{IsTextKind};
 ghost use Rattle.bplist_objects.specs.Announced.{HasHead};
@@ -35,12 +36,9 @@ fn key_shape<S: Source>(
     requires safe { IsSafe (length (S.means src.old).octets) frame.now }
     requires within { m.0 < frame.now.objects }
     ensures reads { OnlyReads (read_failed result) (S.means src.old) (S.means src.new) }
-    ensures rules { IsTrue (S.means src.old).honest → IsFrame (S.means src.old).octets frame.now
-        → place ≡ off (S.means src.old).octets frame.now m.0
-        → TellSound (S.means src.old).octets frame.now places.entry m.0
-        → Gives (λ head. HasHead (S.means src.old).octets frame.now m.0 head
-        × KeepsAll (KeepsByObject (S.means src.old).octets frame.now m.0) object_rules)
-        (IsObjectFault (S.means src.old).octets frame.now m.0 object_rules) result }
+    ensures rules { HonestlyBy (S.means src.old) frame.now (λ f F. place ≡ off f F m.0
+        → TellSound f F places.entry m.0 → Gives (λ head. HasHead f F m.0 head × KeepsAll (KeepsByObject f F m.0) object_rules)
+        (IsObjectFault f F m.0 object_rules) result) }
     ensures safe { IfOk result (IsSafeHead frame.now) }
 {
     match places {
@@ -59,11 +57,9 @@ pub(crate) fn text_at<S: Source>(
 ) -> Result<Option<Head>, ReadFault>
     requires safe { IsSafe (length (S.means src.old).octets) frame.now }
     ensures reads { OnlyReads (is_err result) (S.means src.old) (S.means src.new) }
-    ensures found { IfOk result (λ found. IsTrue (S.means src.old).honest → IsFrame (S.means src.old).octets frame.now
-        → IsPlaced (S.means src.old).octets frame.now m place
-        → TellSound (S.means src.old).octets frame.now places.entry m
-        → MatchOption found ((key : head_record) → IsText (S.means src.old).octets frame.now m key → ⊥)
-        (IsText (S.means src.old).octets frame.now m)) }
+    ensures found { IfOk result (λ found. HonestlyBy (S.means src.old) frame.now (λ f F. IsPlaced f F m place
+        → TellSound f F places.entry m → MatchOption found ((key : head_record) → IsText f F m key
+        → ⊥) (IsText f F m))) }
     ensures safe { IfOk result (λ found. IfSome found (λ key. IsTextKind key.kind × IsSafeBody (length (S.means src.old).octets) key)) }
 {
     if m >= frame.objects as u64 {
@@ -90,11 +86,9 @@ fn first_other<S: Source>(
     requires safe { IsSafe (length (S.means src.old).octets) frame.now }
     requires many { length offsets.now ≡ length refs.now }
     ensures reads { OnlyReads (is_err result) (S.means src.old) (S.means src.new) }
-    ensures found { IfOk result (λ found. IsTrue (S.means src.old).honest → IsFrame (S.means src.old).octets frame.now
-        → ArePlaced (S.means src.old).octets frame.now refs.now offsets.now (length refs.now)
-        → TellAllSound (S.means src.old).octets frame.now places.entry refs.now
-        → MatchOption found (AreTexts (S.means src.old).octets frame.now refs.now (length refs.now))
-        (IsFirstOther (S.means src.old).octets frame.now refs.now)) }
+    ensures found { IfOk result (λ found. HonestlyBy (S.means src.old) frame.now
+        (λ f F. ArePlaced f F refs.now offsets.now (length refs.now) → TellAllSound f F places.entry refs.now
+        → MatchOption found (AreTexts f F refs.now (length refs.now)) (IsFirstOther f F refs.now))) }
     ensures inside { IfOk result (λ found. IfSome found (λ i. i < length refs.now)) }
 {
     for i in 0..refs.len() {
@@ -121,11 +115,9 @@ fn search_keys<S: Source>(
     requires within { done + length refs.old ≤ head.now.count }
     requires many { length found.old ≡ length refs.old }
     ensures reads { OnlyReads (is_err result) (S.means src.old) (S.means src.new) }
-    ensures first { IfOk result (λ first. IsTrue (S.means src.old).honest → IsFrame (S.means src.old).octets frame.now
-        → TellKeys (S.means src.old).octets frame.now head.now places.entry
-        → HaveTexts (S.means src.old).octets frame.now head.now done
-        → MatchOption first (HaveTexts (S.means src.old).octets frame.now head.now (done + length refs.old))
-        (IsFirstKeyless (S.means src.old).octets frame.now head.now)) }
+    ensures first { IfOk result (λ first. HonestlyBy (S.means src.old) frame.now
+        (λ f F. TellKeys f F head.now places.entry → HaveTexts f F head.now done
+        → MatchOption first (HaveTexts f F head.now (done + length refs.old)) (IsFirstKeyless f F head.now))) }
     ensures inside { IfOk result (λ first. IfSome first (λ i. i < head.now.count)) }
 {
     let _count = head.count;
@@ -147,10 +139,9 @@ fn first_keyless<S: Source>(
     requires head { IsSafeHead frame.now head.now }
     requires dict { head.now.kind ≡ Dict }
     ensures reads { OnlyReads (is_err result) (S.means src.old) (S.means src.new) }
-    ensures found { IfOk result (λ found. IsTrue (S.means src.old).honest → IsFrame (S.means src.old).octets frame.now
-        → TellKeys (S.means src.old).octets frame.now head.now places.entry
-        → MatchOption found (HaveTexts (S.means src.old).octets frame.now head.now head.now.count)
-        (IsFirstKeyless (S.means src.old).octets frame.now head.now)) }
+    ensures found { IfOk result (λ found. HonestlyBy (S.means src.old) frame.now
+        (λ f F. TellKeys f F head.now places.entry
+        → MatchOption found (HaveTexts f F head.now head.now.count) (IsFirstKeyless f F head.now))) }
     ensures inside { IfOk result (λ found. IfSome found (λ i. i < head.now.count)) }
 {
     let count = head.count;
@@ -182,10 +173,8 @@ pub fn check_texts<S: Source>(
     requires head { IsSafeHead frame.now head.now }
     requires dict { head.now.kind ≡ Dict }
     ensures reads { OnlyReads (read_failed result) (S.means src.old) (S.means src.new) }
-    ensures exact { IsTrue (S.means src.old).honest → IsFrame (S.means src.old).octets frame.now
-        → TellKeys (S.means src.old).octets frame.now head.now places.entry
-        → Gives (λ _. HaveTexts (S.means src.old).octets frame.now head.now head.now.count)
-        (IsKeylessFault (S.means src.old).octets frame.now n.0 head.now) result }
+    ensures exact { HonestlyBy (S.means src.old) frame.now (λ f F. TellKeys f F head.now places.entry
+        → Gives (λ _. HaveTexts f F head.now head.now.count) (IsKeylessFault f F n.0 head.now) result) }
 {
     match first_keyless(src, frame, places, head)? {
         None => Ok(()),
@@ -222,9 +211,8 @@ pub(crate) fn key_head<S: Source>(
     requires dict { head.now.kind ≡ Dict }
     requires within { i < head.now.count }
     ensures reads { OnlyReads (read_failed result) (S.means src.old) (S.means src.new) }
-    ensures exact { IsTrue (S.means src.old).honest → IsFrame (S.means src.old).octets frame.now
-        → HaveTexts (S.means src.old).octets frame.now head.now head.now.count
-        → Gives (IsKey (S.means src.old).octets frame.now head.now i) Never result }
+    ensures exact { HonestlyBy (S.means src.old) frame.now (λ f F. HaveTexts f F head.now head.now.count
+        → Gives (IsKey f F head.now i) Never result) }
     ensures safe { IfOk result (λ key. IsTextKind key.kind × IsSafeBody (length (S.means src.old).octets) key) }
 {
     let m = ref_at(src, frame, head, i)?;

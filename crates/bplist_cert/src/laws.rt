@@ -1,6 +1,6 @@
 //! Laws of the definitions: each is the contract of a function that does nothing.
 
-ghost use Rattle.std.specs.Prelude.{◌≡◌, ℕ, ◌<◌, List, slice_index, Bool};
+ghost use Rattle.std.specs.Prelude.{◌≡◌, ℕ, ◌<◌, List, length, slice_index, Bool};
 ghost use Rattle.bplist_octets.specs.Meaning.{OnlyReads};
 ghost use Rattle.bplist_objects.specs.declared.fault.Fault.{Fault as fault};
 ghost use Rattle.bplist_objects.specs.declared.frame.Frame.{Frame as frame};
@@ -11,8 +11,8 @@ ghost use Rattle.bplist_objects.specs.Holds.{Holds};
 ghost use Rattle.bplist_objects.specs.Reach.{Chain, Reach, Refs};
 ghost use Rattle.bplist_cert.specs.Lists.{Lists, IsCertificate};
 ghost use Rattle.bplist_cert.specs.Encoding.{octets_of};
-ghost use Rattle.bplist_cert.specs.Valid.{IsVouchedBy, IsValid, HoldsOneValue};
-ghost use Rattle.bplist_cert.specs.Sorted.{IsAccepted};
+ghost use Rattle.bplist_cert.specs.Valid.{IsVouchedBy, IsValid, HoldsOneValue, SpellsText};
+ghost use Rattle.bplist_cert.specs.Sorted.{IsSorted, IsAccepted};
 ghost use Rattle.bplist_cert.specs.Keys.{HaveTexts, KeysDiffer, AreInOrder};
 ghost use Rattle.bplist_cert.specs.PairFault.{IsPairFault};
 ghost use Rattle.bplist_cert.specs.CheckedFile.{CheckedFile, meaning_of};
@@ -50,6 +50,12 @@ pub fn vouched_references()
 pub fn ordered_keys_differ()
     ensures { (f : List ℕ) (F : frame) (h : head) (list : List ℕ) → HaveTexts f F h h.count → AreInOrder f F h list h.count
         → KeysDiffer f F h h.count }
+{}
+
+/// A dictionary with one key twice has no key list that is sorted.
+pub fn repeated_key_has_no_list()
+    ensures { (f : List ℕ) (F : frame) (ks positions : List ℕ) (i j : ℕ) (us : List ℕ) → i < j → j < length ks
+        → SpellsText f F (slice_index ks i) us → SpellsText f F (slice_index ks j) us → IsSorted f F ks positions → ⊥ }
 {}
 
 /// Where a fault of a file and a certificate is found the certificate is not one of the file.

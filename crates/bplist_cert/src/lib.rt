@@ -1,4 +1,26 @@
 //! Certificates of binary property lists, and their check.
+//!
+//! A certificate is a height for each object, and in version 2 the sorted key list of each dictionary. Nothing in it is
+//! trusted.
+//!
+//! ```
+//! let certificate = Certificate::from_octets(alloc, octets)?;      // rules 24 and 25
+//! match check(alloc, SliceSource::new(file), certificate) {
+//!     Ok(checked) => use_it(checked),                              // exactly one value, no circle
+//!     Err((refusal, source, certificate)) => report(refusal),      // the first broken rule
+//! }
+//! ```
+//!
+//! | what | calls |
+//! |---|---|
+//! | a certificate, and its bytes | [`Certificate`], [`KeyLists`], `to_octets`, `from_octets`, [`CertRefusal`] |
+//! | the check of a file and a certificate | [`check`], [`Refusal`] |
+//! | a source with the frame and the certificate that fit it | [`Checked`]: `frame`, `height`, `certificate`, `into_parts`, `octets` |
+//! | the rules of keys, for the linter: 21, 22, and a sorted key list | [`check_texts`], [`check_twice`], [`list_keys`], [`Places`] |
+//!
+//! The invariant of a `Checked` is what the check found: over an honest source its heights are valid, wherever it is. The laws
+//! say what follows: each vouched object holds one value, and its references are lower (`vouched_values`,
+//! `vouched_references`).
 #![tactic(auto)]
 
 mod certificate;
@@ -8,9 +30,12 @@ mod decoding;
 mod encoding;
 mod extents;
 mod heights;
+mod key_classes;
 mod key_equality;
-mod key_listing;
+mod key_lists;
+mod key_names;
 mod key_order;
+mod key_pairs;
 mod key_places;
 mod key_sorting;
 mod key_units;
@@ -22,12 +47,10 @@ mod refusal;
 pub use certificate::{CertRefusal, Certificate, KeyLists};
 pub use checked::Checked;
 pub use checking::check;
-pub use key_equality::check_twice;
-pub use key_listing::list_keys;
-pub use keys::check_texts;
+pub use key_names::name_object;
 pub use laws::{
     checked_stays, one_certificate, one_pair_fault, ordered_keys_differ, pair_fault_excludes,
-    reached_objects, vouched_references, vouched_values,
+    reached_objects, repeated_key_has_no_list, vouched_references, vouched_values,
 };
 pub use places::Places;
 pub use refusal::Refusal;

@@ -4,8 +4,8 @@
 //! an object before it comes to it. Who keeps the table has its keys looked at by what is kept, so that no entry is read
 //! again. It has looked at the objects by then, so that no body of a key is scanned again for rule 18.
 
-ghost use Rattle.std.specs.Prelude.{◌≡◌, ◌<◌, length, IsTrue, IfOk, is_err};
-ghost use Rattle.bplist_octets.specs.Meaning.{OnlyReads};
+ghost use Rattle.std.specs.Prelude.{◌≡◌, ◌<◌, length, IfOk, is_err};
+ghost use Rattle.bplist_octets.specs.Meaning.{OnlyReads, Honestly};
 ghost use Rattle.bplist_objects.specs.Frame.{off};
 ghost use Rattle.bplist_objects.specs.Safe.{IsSafe};
 ghost use Rattle.bplist_cert.specs.Places.{TellPlaces};
@@ -32,9 +32,8 @@ pub(crate) fn place_of<S: Source>(
 ) -> Result<u64, ReadFault>
     requires safe { IsSafe (length (S.means src.old).octets) frame.now }
     ensures reads { OnlyReads (is_err result) (S.means src.old) (S.means src.new) }
-    ensures value { IfOk result (λ place. IsTrue (S.means src.old).honest
-        → TellPlaces (S.means src.old).octets frame.now places.entry → m < frame.now.objects
-        → place ≡ off (S.means src.old).octets frame.now m) }
+    ensures value { IfOk result (λ place. Honestly (S.means src.old) (λ f. TellPlaces f frame.now places.entry
+        → m < frame.now.objects → place ≡ off f frame.now m)) }
 {
     if m >= frame.objects as u64 {
         return Ok(0);

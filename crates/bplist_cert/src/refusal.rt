@@ -3,6 +3,7 @@
 ghost use Rattle.std.specs.Prelude.{◌≡◌};
 ghost use Rattle.bplist_cert.specs.declared.refusal.Refusal.TheVariants.{Memory, Read, Fault as is_fault};
 
+use bplist_keys::KeysFault;
 use bplist_objects::{Fault, ObjectFault};
 use bplist_octets::ReadFault;
 use std::alloc::{AllocError, AllocFailed};
@@ -44,6 +45,19 @@ impl From<ObjectFault> for Refusal {
         match fault {
             ObjectFault::Fault(fault) => Refusal::Fault(fault),
             ObjectFault::Read(fault) => Refusal::Read(fault),
+        }
+    }
+}
+
+impl From<KeysFault> for Refusal {
+    ghost use Rattle.bplist_cert.specs.Refusals.{refusal_of_keys};
+
+    ghost from_gives = { λ fault e. e ≡ refusal_of_keys fault };
+
+    fn from(fault: KeysFault) -> Refusal {
+        match fault {
+            KeysFault::Read(fault) => Refusal::Read(fault),
+            KeysFault::Memory => Refusal::Memory,
         }
     }
 }

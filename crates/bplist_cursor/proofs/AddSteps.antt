@@ -1,5 +1,5 @@
 -- Sizes added along references, by blocks.
-use Rattle.std.proofs.Common.{◌≡◌, ℕ, suc, ◌+◌, ◌≤◌, ◌<◌, List, length, take, drop, slice_index, Some, None, sym, ap, ◌∙◌, arith}
+use Rattle.std.proofs.Common.{◌≡◌, ℕ, suc, ◌+◌, ◌≤◌, ◌<◌, List, length, take, drop, slice_index, Option, Some, None, refl, sym, ap, ◌∙◌, arith}
 use Rattle.std.specs.Prelude.{option_and_then}
 use Rattle.std.proofs.lemmas.List.{take-append-drop, drop-drop, drop_all, ext_get_or}
 use Rattle.std.proofs.Math.Seq.{drop-cons}
@@ -15,6 +15,11 @@ use Rattle.bplist_objects.proofs.Units.{length-part}
 use Rattle.bplist_cursor.specs.declared.measures.Size.{Size}
 use Rattle.bplist_cursor.specs.Sizes.{Table, both, size_in, added}
 use Rattle.bplist_cursor.proofs.SizeSteps.{added-append}
+
+-- what is nothing that there is is none
+pub none_of : {X : Type 0} (o : Option X) → ((x : X) → o ≡ Some x → ⊥) → o ≡ None
+none_of None h = refl
+none_of (Some x) h = absurd (h x refl)
 
 -- one more
 pub added_next : (sizes : Table) (total s : Size) (xs : List ℕ) (k : ℕ) → k < length xs → size_in sizes (slice_index xs k) ≡ Some s

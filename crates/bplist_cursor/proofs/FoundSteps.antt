@@ -1,7 +1,8 @@
 -- What the certificate of a checked file says of what a path leads to.
 use Rattle.std.proofs.Common.{arith, ◌≡◌, ◌<◌, ◌+◌, ℕ, zero, suc, List, [], ◌∷◌, length, map, drop, slice_index_or, Result, Ok, Err, refl, sym, ap, ◌∙◌, subst, IsTrue, Contains, true, false}
+use Rattle.std.proofs.Props.{props}
 use Rattle.std.proofs.lemmas.Grind.{not_there}
-use Rattle.std.proofs.Math.Logic.{∥∥₁_map}
+use Rattle.std.proofs.Math.Logic.{∥∥₁_map, ∥∥₁_elim}
 use Rattle.bplist_objects.specs.declared.frame.Frame.{Frame}
 use Rattle.bplist_objects.specs.Value.{Value}
 use Rattle.bplist_objects.specs.Heads.{Content, Spells, refs}
@@ -23,7 +24,6 @@ use Rattle.bplist_cursor.specs.declared.faults.Unread.{Unread}
 use Rattle.bplist_cursor.specs.declared.faults.Unread.TheVariants as unread
 use Rattle.bplist_cursor.specs.declared.faults.CursorFault.{CursorFault}
 use Rattle.bplist_cursor.specs.declared.faults.CursorFault.TheVariants as faults
-use Rattle.bplist_cursor.proofs.CheckedFrames.{stable_le, frame_of_checked}
 use Rattle.bplist_cursor.proofs.Counts.{few_refs}
 use Rattle.bplist_cursor.proofs.Looking.{leads_held}
 use Rattle.bplist_cursor.proofs.Taking.{taken_there}
@@ -61,11 +61,11 @@ module _ (checked : CheckedFile) (is : IsChecked checked) (honest : IsTrue check
 
   -- the top is vouched for
   pub top_vouched : IsVouchedBy heights F.top.0
-  top_vouched = stable_le _ _ (λ no. not_there valid (λ p. no p.top))
+  top_vouched = ∥∥₁_elim valid (hlevel props) (λ p. p.top)
 
   -- and so is each object that one that is vouched for refers to
   pub lower_vouched : (n m : ℕ) (content : Content) → IsVouchedBy heights n → Spells f F n content → Contains (refs content) m → IsVouchedBy heights m
-  lower_vouched n m content vouched s c = stable_le _ _ (λ no. not_there valid (λ p. no (references_lower f F heights p n m vouched (content, s, c)).0))
+  lower_vouched n m content vouched s c = ∥∥₁_elim valid (hlevel props) (λ p. (references_lower f F heights p n m vouched (content, s, c)).0)
 
   -- it holds a value
   pub value_there : (n : ℕ) → IsVouchedBy heights n → ∥ ((v : Value) × Holds f F n v) ∥₁
@@ -77,7 +77,7 @@ module _ (checked : CheckedFile) (is : IsChecked checked) (honest : IsTrue check
   module _ (v : Value) (steps : List (List ℕ)) (k n before made more : ℕ) (s : List ℕ) (e : drop k steps ≡ s ∷ drop (suc k) steps) (a : Along checked v steps k n before made) where
     pub on : (m : ℕ) → RisesAtMost checked made more (halvings_at a.value) → Leads f F n s m → Along checked v steps (k + 1) m before more
     on m rises b =
-        let q = leads_held f F (one_head f F) a.value n s m a.holds.1 (λ h sp. few_refs f F (frame_of_checked checked is honest) n h sp) b in
+        let q = leads_held f F (one_head f F) a.value n s m a.holds.1 (λ h sp. few_refs f F (is.framed honest) n h sp) b in
         let z : suc k ≡ k + 1 = omega arith in
         let there = taken_there f F a.value n s m a.holds.1 b.0 b.1 b.2 in
         record {

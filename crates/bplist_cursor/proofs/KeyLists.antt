@@ -1,8 +1,8 @@
 -- The key lists of a checked file.
-use Rattle.std.proofs.Common.{arith, ◌≡◌, ◌<◌, ◌≤◌, ◌+◌, ◌-◌, ℕ, zero, suc, length, List, [], ◌∷◌, slice_index, slice_index_or, Some, refl, subst, Ordering, Less, Equal, Greater, IsTrue}
+use Rattle.std.proofs.Common.{arith, ◌≡◌, ◌<◌, ◌≤◌, ◌+◌, ◌-◌, ℕ, zero, suc, length, List, [], ◌∷◌, slice_index, slice_index_or, Some, subst, Less, IsTrue}
+use Rattle.std.proofs.Props.{props}
 use Rattle.std.specs.List.{AllByRecursion, AllZip}
-use Rattle.std.proofs.lemmas.Grind.{not_there}
-use Rattle.std.proofs.Math.Logic.{∥∥₁_map}
+use Rattle.std.proofs.Math.Logic.{∥∥₁_map, ∥∥₁_elim}
 use Rattle.bplist_octets.specs.Octets.{part}
 use Rattle.bplist_objects.specs.declared.frame.Frame.{Frame}
 use Rattle.bplist_objects.specs.Value.{text}
@@ -15,13 +15,6 @@ use Rattle.bplist_cert.specs.Valid.{IsVouchedBy, SpellsText}
 use Rattle.bplist_cert.specs.Sorted.{IsSorted, HasSortedKeys, AreListed}
 use Rattle.bplist_cert.specs.CheckedFile.{CheckedFile, IsChecked}
 use Rattle.bplist_cursor.specs.KeySearch.{IsKeyList}
-use Rattle.bplist_cursor.proofs.CheckedFrames.{stable_le, stable_lt}
-
--- a comparison that can't but be Less is
-stable_less : (o : Ordering) → ((o ≡ Less → ⊥) → ⊥) → o ≡ Less
-stable_less Less h = refl
-stable_less Equal h = absurd (h (λ e. cc e))
-stable_less Greater h = absurd (h (λ e. cc e))
 
 all_below : (n : ℕ) (xs : List ℕ) (j : ℕ) → AllByRecursion (λ p. p < n) xs → j < length xs → slice_index xs j < n
 all_below n [] j a l = absurd (omega (arith, l))
@@ -62,14 +55,6 @@ module _ (f : List ℕ) (F : Frame) where
           cc (less, eu, ev);
     }
 
-  module _ (ks list : List ℕ) where
-    -- it is known where it is not known how
-    pub stable_list_of_keys : ((IsKeyList f F ks list → ⊥) → ⊥) → IsKeyList f F ks list
-    stable_list_of_keys h = record {
-      within = λ j l. stable_lt _ _ (λ no. h (λ is. no (is.within j l)));
-      ascend = λ i j before l us vs s t. stable_less _ (λ no. h (λ is. no (is.ascend i j before l us vs s t)));
-    }
-
 -- the key list of a dictionary that a checked file's certificate vouches for
 module _ (checked : CheckedFile) (is : IsChecked checked) (honest : IsTrue checked.source.honest) (n : ℕ) (ks ms : List ℕ)
     (vouched : IsVouchedBy checked.certificate.heights n) (spells : Spells checked.source.octets checked.frame n (dict ks ms))
@@ -78,7 +63,7 @@ module _ (checked : CheckedFile) (is : IsChecked checked) (honest : IsTrue check
   listed = ∥∥₁_map (is.accepted honest) (λ a. (subst (AreListed checked.source.octets checked.frame checked.certificate.heights) has a.listed) n ks ms vouched spells)
 
   pub list_room : slice_index keyed.starts n + length ks ≤ length keyed.positions
-  list_room = stable_le _ _ (λ no. not_there listed (λ p. no p.0))
+  list_room = ∥∥₁_elim listed (hlevel props) (λ p. p.0)
 
   pub list_of_keys : IsKeyList checked.source.octets checked.frame ks (part keyed.positions (slice_index keyed.starts n) (length ks))
-  list_of_keys = stable_list_of_keys _ _ ks _ (λ no. not_there listed (λ p. no (sorted_list _ _ ks _ p.1)))
+  list_of_keys = ∥∥₁_elim listed (hlevel props) (λ p. sorted_list _ _ ks _ p.1)

@@ -1,7 +1,8 @@
 -- Bodies of bytes of an object that a checked file vouches for.
 use Rattle.std.proofs.Common.{◌≡◌, ◌<◌, ℕ, List, [], ◌∷◌, false, IsTrue, Result, Ok, Err, refl, subst}
+use Rattle.std.proofs.Props.{props}
 use Rattle.std.specs.List.{AllByRecursion}
-use Rattle.std.proofs.lemmas.Grind.{not_there}
+use Rattle.std.proofs.Math.Logic.{∥∥₁_elim}
 use Rattle.bplist_octets.specs.Octets.{part}
 use Rattle.bplist_objects.specs.declared.fault.ObjectFault.{ObjectFault}
 use Rattle.bplist_objects.specs.declared.fault.ObjectFault.TheVariants as errors
@@ -15,7 +16,6 @@ use Rattle.bplist_objects.proofs.Fronts.{one_shape}
 use Rattle.bplist_cert.specs.CheckedFile.{CheckedFile, IsChecked}
 use Rattle.bplist_cert.specs.Valid.{IsVouchedBy}
 use Rattle.bplist_cursor.specs.Lent.{IsByteKind, SpellsBytes}
-use Rattle.bplist_cursor.proofs.CheckedFrames.{stable_lt}
 
 -- a kind of bytes is one of two
 byte_kinds : (kind : Kind) → IsByteKind kind → (kind ≡ kinds.Bytes → ⊥) → (kind ≡ kinds.Ascii → ⊥) → ⊥
@@ -29,16 +29,16 @@ no_error P (Ok x) read given none = none x refl
 no_error P (Err (errors.Fault x)) read given none = given
 no_error P (Err (errors.Read x)) read given none = cc read
 
--- bytes that can't but be low are
-stable_low : (xs : List ℕ) → ((AllByRecursion (λ b. b < 128) xs → ⊥) → ⊥) → AllByRecursion (λ b. b < 128) xs
-stable_low [] h = tt
-stable_low (x ∷ xs) h = (stable_lt x 128 (λ no. h (λ all. no all.0)), stable_low xs (λ no. h (λ all. no all.1)))
+-- that bytes are low is so in one way
+low_prop : (xs : List ℕ) → IsProp (AllByRecursion (λ b. b < 128) xs)
+low_prop [] = hlevel props
+low_prop (x ∷ xs) = hlevel (props, low_prop xs)
 
 module _ (f : List ℕ) (F : Frame) where
-  stable_proper : (kind : Kind) (count body : ℕ) → IsByteKind kind → ((IsProperLeaf f F kind count body → ⊥) → ⊥) → IsProperLeaf f F kind count body
-  stable_proper kinds.Bytes count body is h = tt
-  stable_proper kinds.Ascii count body is h = stable_low (part f body count) h
-  stable_proper _ count body is h = absurd is
+  proper_prop : (kind : Kind) (count body : ℕ) → IsByteKind kind → IsProp (IsProperLeaf f F kind count body)
+  proper_prop kinds.Bytes count body is = hlevel props
+  proper_prop kinds.Ascii count body is = low_prop (part f body count)
+  proper_prop _ count body is = absurd is
 
   no_refs : (kind : Kind) (count body : ℕ) → IsByteKind kind → AllByRecursion (λ m. m < F.objects) (refs (content_of f F kind count body))
   no_refs kinds.Bytes count body is = tt
@@ -52,9 +52,9 @@ module _ (checked : CheckedFile) (known : IsChecked checked) (honest : IsTrue ch
   spells_bytes head has is bytes body =
       let f = checked.source.octets in
       let F = checked.frame in
-      let proper : IsProperLeaf f F head.kind head.count head.body = stable_proper f F head.kind head.count head.body is (λ no. not_there (known.accepted honest) (λ a.
+      let proper : IsProperLeaf f F head.kind head.count head.body = ∥∥₁_elim (known.accepted honest) (proper_prop f F head.kind head.count head.body is) (λ a.
       let spells = (a.valid.vouched n vouched).spells in
-      no (subst (λ (h : Head). IsProperLeaf f F h.kind h.count h.body) (one_shape f F n spells.shape head spells.has has) spells.proper))) in
+      subst (λ (h : Head). IsProperLeaf f F h.kind h.count h.body) (one_shape f F n spells.shape head spells.has has) spells.proper) in
       let spells : Spells f F n (content_at f F head) = record { shape = head; has = has; proper = proper; means = refl; refs = no_refs f F head.kind head.count head.body is } in
       record { head = head; is_head = (has, spells); kind = is; body = body }
 

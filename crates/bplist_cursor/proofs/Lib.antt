@@ -9,10 +9,9 @@ pub mod Unformed
 pub mod FormTables
 pub mod Taking
 mod Causes
-pub mod CheckedFrames
 pub mod Vouching
 mod ShownFaces
-mod Membership
+pub mod Membership
 mod LentBodies
 mod SizeSteps
 mod AddSteps

@@ -1,7 +1,9 @@
 -- What is known of an object that a checked file vouches for, where its source is honest.
 use Rattle.std.proofs.Common.{◌<◌, ℕ, length, slice_index, Result, Ok, Err, IfErr, IsTrue, subst}
+use Rattle.std.proofs.Props.{props}
 use Rattle.std.specs.List.{AllByRecursion}
 use Rattle.std.proofs.lemmas.Grind.{not_there}
+use Rattle.std.proofs.Math.Logic.{∥∥₁_elim}
 use Rattle.std.proofs.lemmas.List.Elements.{All-get_or, All-from_recursion}
 use Rattle.bplist_objects.specs.Heads.{Content, Spells, refs}
 use Rattle.bplist_objects.proofs.Fronts.{one_head}
@@ -10,7 +12,6 @@ use Rattle.bplist_cert.specs.Valid.{IsVouchedBy}
 use Rattle.bplist_cursor.specs.declared.faults.CursorFault.{CursorFault}
 use Rattle.bplist_cursor.specs.declared.faults.CursorFault.TheVariants as faults
 use Rattle.bplist_cursor.specs.Causes.{GivesCursor, IsExcused}
-use Rattle.bplist_cursor.proofs.CheckedFrames.{stable_le}
 
 excused : (e : CursorFault) → ((IsExcused e → ⊥) → ⊥) → IsExcused e
 excused (faults.Read x) h = tt
@@ -32,9 +33,9 @@ module _ (checked : CheckedFile) (is : IsChecked checked) (honest : IsTrue check
   -- its references are vouched for
   pub vouched_reference : (content : Content) → Spells checked.source.octets checked.frame n content → (k : ℕ) → k < length (refs content)
       → IsVouchedBy checked.certificate.heights (slice_index (refs content) k)
-  vouched_reference content s k l = stable_le 1 _ (λ no. not_there (is.accepted honest) (λ a.
+  vouched_reference content s k l = ∥∥₁_elim (is.accepted honest) (hlevel props) (λ a.
       let v = a.valid.vouched n vouched in
       let same = one_head checked.source.octets checked.frame n v.content content v.spells s in
       let P : ℕ → Type 0 = λ m. IsVouchedBy checked.certificate.heights m × (slice_index checked.certificate.heights m < slice_index checked.certificate.heights n) in
       let lower = subst (λ c. AllByRecursion P (refs c)) same v.lower in
-      no (All-get_or P (refs content) k 0 l (All-from_recursion P (refs content) lower)).0))
+      (All-get_or P (refs content) k 0 l (All-from_recursion P (refs content) lower)).0)

@@ -12,7 +12,7 @@ abbrev pub unread_of : ObjectFault → Unread
 unread_of (objects.Fault _) = unread.Changed
 unread_of (objects.Read e) = unread.Read e
 
--- the same cause as an answer of a call
+-- a cause as a fault of the cursor
 abbrev pub cursor_fault_of : Unread → CursorFault
 cursor_fault_of (unread.Read e) = faults.Read e
 cursor_fault_of unread.Changed = faults.Changed
@@ -27,13 +27,13 @@ abbrev pub read_failed : {X : Type 0} → Result X Unread → Bool
 read_failed (Ok x) = false
 read_failed (Err e) = is_unread e
 
--- the fault says that a read has failed
+-- the fault is a failed read
 abbrev pub is_read : CursorFault → Bool
 is_read (faults.Read _) = true
 is_read faults.Changed = false
 is_read faults.Memory = false
 
--- the answer says that a read has failed
+-- the answer is a failed read
 abbrev pub cursor_read : {X : Type 0} → Result X CursorFault → Bool
 cursor_read (Ok x) = false
 cursor_read (Err e) = is_read e
@@ -48,13 +48,13 @@ abbrev pub GivesRead : {X : Type 0} → (X → Type 0) → Result X Unread → T
 GivesRead P (Ok x) = P x
 GivesRead P (Err e) = IsUnread e
 
--- not Changed
+-- the fault is not `Changed`
 abbrev pub IsExcused : CursorFault → Type 0
 IsExcused (faults.Read _) = ⊤
 IsExcused faults.Changed = ⊥
 IsExcused faults.Memory = ⊤
 
--- P holds of the answer, nothing is said of a failed read or a refused growth, and the file has not changed
+-- P holds of the answer, or the fault is not `Changed`
 abbrev pub GivesCursor : {X : Type 0} → (X → Type 0) → Result X CursorFault → Type 0
 GivesCursor P (Ok x) = P x
 GivesCursor P (Err e) = IsExcused e
@@ -65,7 +65,7 @@ IsNoMemory (faults.Read _) = ⊤
 IsNoMemory faults.Changed = ⊤
 IsNoMemory faults.Memory = ⊥
 
--- the answer is not that a growth was refused
+-- the answer is no refused growth
 abbrev pub TakesNoMemory : {X : Type 0} → Result X CursorFault → Type 0
 TakesNoMemory (Ok x) = ⊤
 TakesNoMemory (Err e) = IsNoMemory e

@@ -8,7 +8,7 @@ use Rattle.bplist_cursor.specs.declared.form.Form.TheVariants.{NoForm, Length}
 use Rattle.bplist_cursor.specs.Nodes.{cap}
 use Rattle.bplist_cursor.specs.OldStyle.{leaf_text, value_text}
 
--- the form of a value with this text, or with none
+-- the form of a value with this text, or none
 abbrev pub form_of_text : Option (List ℕ) → Form
 form_of_text None = NoForm
 form_of_text (Some t) = Length (cap (length t))
@@ -17,38 +17,38 @@ form_of_text (Some t) = Length (cap (length t))
 abbrev pub form_of : Value → Form
 form_of v = form_of_text (value_text v)
 
--- the form of two texts one behind the other: there is none where one of them is none
+-- the form of two texts together, none if one has none
 abbrev pub joined : Form → Form → Form
 joined NoForm b = NoForm
 joined (Length m) NoForm = NoForm
 joined (Length m) (Length n) = Length (cap (m + n))
 
--- the form at a number of the table
+-- the form of object n in a table
 abbrev pub form_at : List Form → ℕ → Form
 form_at T n = unwrap_or (slice_get T n) NoForm
 
--- how long a comma before these members is
+-- the length of a comma before these members
 abbrev pub comma_length : List ℕ → ℕ
 comma_length [] = 0
 comma_length (m ∷ ms) = 1
 
--- the form of these members with commas between them
+-- the form of members with commas
 abbrev pub members_form : List Form → List ℕ → Form
 members_form T [] = Length 0
 members_form T (m ∷ ms) = joined (form_at T m) (joined (Length (comma_length ms)) (members_form T ms))
 
--- the form of these pairs, each with `=` and `;`
+-- the form of pairs with `=` and `;`
 abbrev pub pairs_form : List Form → List ℕ → List ℕ → Form
 pairs_form T (k ∷ ks) (m ∷ ms) = joined (form_at T k) (joined (form_at T m) (joined (Length 2) (pairs_form T ks ms)))
 pairs_form T _ _ = Length 0
 
--- the form of what an object spells, by those of its references
+-- the form of a content, by those of its references
 abbrev pub content_form : List Form → Content → Form
 content_form T (leaf l) = form_of_text (leaf_text l)
 content_form T (array ms) = joined (Length 2) (members_form T ms)
 content_form T (set ms) = NoForm
 content_form T (dict ks ms) = joined (Length 2) (pairs_form T ks ms)
 
--- in the table T object n has the form that those of its references make
+-- in table T object n has the form of its content
 abbrev pub Formed : List ℕ → Frame → List Form → ℕ → Type 0
 Formed f F T n = (c : Content) × Spells f F n c × (form_at T n ≡ content_form T c)

@@ -17,16 +17,16 @@ abbrev pub units_of : List (Vec ℕ Global) → List (List ℕ)
 units_of steps = map (λ step. step.items) steps
 
 module _ (f : List ℕ) (F : Frame) where
-  -- the references that are taken for the steps lead from object n to m
+  -- the steps lead from object n to m by references
   abbrev pub LeadTo : ℕ → List (List ℕ) → ℕ → Type 0
   LeadTo n [] m = n ≡ m
   LeadTo n (s ∷ steps) m = (k : ℕ) × Leads f F n s k × LeadTo k steps m
 
--- object n of the checked file is vouched for and holds v
+-- object n is vouched for and holds v
 abbrev pub IsHeld : CheckedFile → ℕ → Value → Type 0
 IsHeld checked n v = IsVouchedBy checked.certificate.heights n × Holds checked.source.octets checked.frame n v
 
--- the references taken for the steps lead from the top to the node, which holds what look gives; or look says which step can't be taken
+-- the node holds what the steps lead to, or the first step that can't be taken is named
 abbrev pub IsFound : CheckedFile → Value → List (List ℕ) → Found → Type 0
 IsFound checked v steps (At node) =
     LeadTo checked.source.octets checked.frame checked.frame.top.0 steps node.object.0

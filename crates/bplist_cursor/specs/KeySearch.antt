@@ -15,7 +15,7 @@ use Rattle.bplist_cursor.specs.declared.found.Why.{Why}
 use Rattle.bplist_cursor.specs.declared.faults.Unread.{Unread}
 use Rattle.bplist_cursor.specs.declared.faults.Unread.TheVariants.{Changed}
 
--- the number of binary digits: the least d with n below 2^d, so that 0 has none
+-- the number of binary digits: the least d with n below 2^d
 abbrev pub digits_2 : ℕ → ℕ
 digits_2 zero = 0
 digits_2 (suc n) = if ltb (suc n) (2 ^ digits_2 n) then digits_2 n else suc (digits_2 n)
@@ -25,24 +25,24 @@ abbrev pub halvings_of : Kind → ℕ → ℕ
 halvings_of Dict count = digits_2 count
 halvings_of _ count = 0
 
--- so many comparisons suffice for a step at this value
+-- how many comparisons a step at this value may take
 abbrev pub halvings_at : Value → ℕ
 halvings_at (dict ps) = digits_2 (length (keys ps))
 halvings_at (leaf l) = 0
 halvings_at (array vs) = 0
 halvings_at (set vs) = 0
 
--- so many more where the step is taken
+-- those of the further steps, if the step is taken
 abbrev pub on_taken : Result Value Why → (Value → ℕ) → ℕ
 on_taken (Ok w) go = go w
 on_taken (Err why) go = 0
 
--- the sum, over the dictionaries at which one of the steps is tried, of the number of binary digits of their count of pairs
+-- the sum, over the dictionaries met, of the binary digits of their count of pairs
 abbrev pub halvings : Value → List (List ℕ) → ℕ
 halvings v [] = 0
 halvings v (s ∷ steps) = halvings_at v + on_taken (stepped v s) (λ w. halvings w steps)
 
--- with a version 2 certificate the counter rises by no more than this
+-- with key lists the counter rises by at most this
 abbrev pub RisesAtMost : CheckedFile → ℕ → ℕ → ℕ → Type 0
 RisesAtMost checked old new most = (keyed : Keyed) → checked.certificate.keys ≡ Some keyed → new ≤ old + most
 

@@ -8,7 +8,7 @@ use Rattle.bplist_cursor.specs.declared.found.Why.TheVariants.{NoKey, NoIndex, N
 use Rattle.bplist_objects.specs.Heads.{Content, leaf, array, set, dict, Spells}
 
 module _ (f : List ℕ) (F : Frame) where
-  -- among the references of this content, m is the one for the step with these units
+  -- m is the reference of this content for the step with these units
   abbrev pub IsTaken : Content → List ℕ → ℕ → Type 0
   IsTaken (dict ks ms) s m = (i : ℕ) × (i < length ks) × Spells f F (slice_index ks i) (leaf (text s)) × (slice_index ms i ≡ m)
   IsTaken (array ms) s m = (i : ℕ) × (i < length ms) × (decimal i ≡ s) × (slice_index ms i ≡ m)
@@ -19,12 +19,12 @@ module _ (f : List ℕ) (F : Frame) where
   abbrev pub Leads : ℕ → List ℕ → ℕ → Type 0
   Leads n s m = (c : Content) × Spells f F n c × IsTaken c s m
 
-  -- each key reference of a dictionary names an object that spells a text
+  -- each key of the dictionary is a text
   abbrev pub HasTextKeys : Content → Type 0
   HasTextKeys (dict ks ms) = (i : ℕ) → i < length ks → (slice_index ks i < F.objects) × ((u : List ℕ) × Spells f F (slice_index ks i) (leaf (text u)))
   HasTextKeys _ = ⊤
 
--- why a step can't be taken where no reference is taken for it
+-- why no reference is taken for a step
 abbrev pub why_of : Content → Why
 why_of (dict ks ms) = NoKey
 why_of (array ms) = NoIndex

@@ -13,7 +13,7 @@ IsByteKind kinds.Bytes = Unit {0}
 IsByteKind kinds.Ascii = Unit {0}
 IsByteKind _ = ⊥
 
--- object n spells data of these bytes, or a text that has one of these bytes for each unit: they are its body
+-- object n spells data of these bytes, or a text with one byte a unit; they are its body
 pub record SpellsBytes (f : List ℕ) (F : Frame) (n : ℕ) (bytes : List ℕ) : Type 0 where
   pub head : Head
   pub is_head : IsHeadOf f F n head

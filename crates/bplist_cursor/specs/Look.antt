@@ -11,33 +11,33 @@ abbrev pub value_at : List ℕ → Pairs → Option Value
 value_at s no_pairs = None
 value_at s (pair u v ps) = if bytes_eq u s then Some v else value_at s ps
 
--- the member whose place these units spell in decimal, where the first stands at place i
+-- the member at the index that these units spell
 abbrev pub member_at : List ℕ → ℕ → Values → Option Value
 member_at s i no_values = None
 member_at s i (value v vs) = if bytes_eq (decimal i) s then Some v else member_at s (i + 1) vs
 
--- where one step leads, or why it can't be taken
+-- where a step leads, or why it can't be taken
 abbrev pub stepped : Value → List ℕ → Result Value Why
 stepped (dict ps) s = ok_or (value_at s ps) NoKey
 stepped (array vs) s = ok_or (member_at s 0 vs) NoIndex
 stepped (set vs) s = Err NotSteppable
 stepped (leaf l) s = Err NotSteppable
 
--- the number of the first step that can't be taken, and why
+-- the first step that can't be taken, and why
 pub record Missing : Type 0 where
   pub step : ℕ
   pub why : Why
 
--- after step number k: on from the value, or the reason why the step can't be taken
+-- what follows step k
 abbrev pub after_step : ℕ → Result Value Why → (Value → Result Value Missing) → Result Value Missing
 after_step k (Err why) go = Err (record { step = k; why = why })
 after_step k (Ok v) go = go v
 
--- what the steps lead to, of which the first has the number k
+-- where the steps from number k on lead
 abbrev pub look_from : ℕ → Value → List (List ℕ) → Result Value Missing
 look_from k v [] = Ok v
 look_from k v (s ∷ steps) = after_step k (stepped v s) (λ w. look_from (k + 1) w steps)
 
--- what the steps lead to
+-- where the steps lead
 abbrev pub look : Value → List (List ℕ) → Result Value Missing
 look v steps = look_from 0 v steps

@@ -14,7 +14,7 @@ nth_value no_values i = None
 nth_value (value v vs) zero = Some v
 nth_value (value v vs) (suc i) = nth_value vs i
 
--- number 2j is the text of key j, and 2j + 1 is value j
+-- number 2j is key j, 2j + 1 is value j
 abbrev pub nth_of_pairs : Pairs → ℕ → Option Value
 nth_of_pairs no_pairs i = None
 nth_of_pairs (pair u v ps) zero = Some (leaf (text u))
@@ -57,7 +57,7 @@ IsNumberOf Dict count i k = ((j : ℕ) → i ≡ 2 * j → k ≡ j) × ((j : ℕ
 IsNumberOf _ count i k = k ≡ i
 
 module _ (f : List ℕ) (F : Frame) where
-  -- the node's object holds the member, or there is neither node nor member
+  -- the node's object holds the member, or neither exists
   abbrev pub HoldsMember : Option Value → Option Node → Type 0
   HoldsMember (Some w) (Some node) = Holds f F node.object.0 w
   HoldsMember None None = ⊤

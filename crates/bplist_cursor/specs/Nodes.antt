@@ -2,12 +2,12 @@
 use Rattle.std.specs.Prelude.{ℕ, ◌+◌, min}
 use Rattle.bplist_objects.specs.Value.{Value, leaf, array, set, dict, Values, no_values, value, Pairs, no_pairs, pair}
 
--- the number, or the last that 64 bits hold where it is greater
+-- the number, at most the greatest of 64 bits
 abbrev pub cap : ℕ → ℕ
 cap n = min n 18446744073709551615
 
 abbrev mutual
-  -- how many nodes the tree has: a container is one more than its members, and each key is a member
+  -- the number of nodes: one, and those of the members; each key is a member
   pub nodes : Value → ℕ
   nodes (leaf l) = 1
   nodes (array vs) = 1 + nodes_of vs

@@ -9,32 +9,32 @@ leaf_text (text u) = Some (text_of_units u)
 leaf_text (bytes l) = Some (text_of_bytes l)
 leaf_text _ = None
 
--- `,` before more members, and nothing behind the last
+-- `,` before more members
 abbrev pub comma : Values → List ℕ
 comma no_values = []
 comma (value v vs) = 0x2C ∷ []
 
 abbrev mutual
-  -- the text of a value, if it and all its parts have a form
+  -- the text of a value, if all its parts have one
   pub value_text : Value → Option (List ℕ)
   value_text (leaf l) = leaf_text l
   value_text (array vs) = option_map (λ t. 0x28 ∷ (t ++ 0x29 ∷ [])) (members_text vs)
   value_text (set vs) = None
   value_text (dict ps) = option_map (λ t. 0x7B ∷ (t ++ 0x7D ∷ [])) (pairs_text ps)
 
-  -- the members' texts with `,` between them
+  -- the members' texts, with `,` between them
   pub members_text : Values → Option (List ℕ)
   members_text no_values = Some []
   members_text (value v vs) = option_and_then (λ t. option_map (λ r. t ++ (comma vs ++ r)) (members_text vs)) (value_text v)
 
-  -- for each pair the key's text, `=`, the value's text and `;`
+  -- for each pair: key, `=`, value, `;`
   pub pairs_text : Pairs → Option (List ℕ)
   pairs_text no_pairs = Some []
   pairs_text (pair u v ps) = option_and_then (λ t. option_map (λ r. text_of_units u ++ (0x3D ∷ (t ++ (0x3B ∷ r)))) (pairs_text ps)) (value_text v)
 
 -- the same in two parts: whether there is a text, and the text
 
--- the leaf has a text
+-- the leaf has a text; here and below the same in two parts, whether there is a text and which
 abbrev pub IsFormedLeaf : Leaf → Type 0
 IsFormedLeaf (text u) = ⊤
 IsFormedLeaf (bytes l) = ⊤
@@ -48,12 +48,12 @@ abbrev mutual
   IsFormed (set vs) = ⊥
   IsFormed (dict ps) = ArePairsFormed ps
 
-  -- each of the values has a text
+  -- each value has a text
   pub AreFormed : Values → Type 0
   AreFormed no_values = ⊤
   AreFormed (value v vs) = IsFormed v × AreFormed vs
 
-  -- the value of each pair has a text
+  -- each pair's value has a text
   pub ArePairsFormed : Pairs → Type 0
   ArePairsFormed no_pairs = ⊤
   ArePairsFormed (pair u v ps) = IsFormed v × ArePairsFormed ps
@@ -72,12 +72,12 @@ abbrev mutual
   plain (set vs) = []
   plain (dict ps) = 0x7B ∷ (plain_pairs ps ++ 0x7D ∷ [])
 
-  -- the members' texts with `,` between them
+  -- the members' texts, with `,` between them
   pub plain_members : Values → List ℕ
   plain_members no_values = []
   plain_members (value v vs) = plain v ++ (comma vs ++ plain_members vs)
 
-  -- for each pair the key's text, `=`, the value's text and `;`
+  -- for each pair: key, `=`, value, `;`
   pub plain_pairs : Pairs → List ℕ
   plain_pairs no_pairs = []
   plain_pairs (pair u v ps) = text_of_units u ++ (0x3D ∷ (plain v ++ (0x3B ∷ plain_pairs ps)))

@@ -3,11 +3,11 @@ use Rattle.std.specs.Prelude.{◌≡◌, ◌≢◌, ◌⊎◌, ◌==◌, ℕ, �
 use Rattle.std.specs.Str.{chars}
 use Rattle.std.specs.Char.Escape.{encode_utf16}
 
--- a character of a token as a path text has it: `~` is `~0`, and `/` is `~1`
+-- a character in a path text: `~` is `~0`, `/` is `~1`
 abbrev pub escaped : ℕ → List ℕ
 escaped c = if c == 0x7E then 0x7E ∷ 0x30 ∷ [] else if c == 0x2F then 0x7E ∷ 0x31 ∷ [] else c ∷ []
 
--- a token as a path text has it, behind its `/`
+-- a token in a path text, with its `/`
 abbrev pub written_token : List ℕ → List ℕ
 written_token token = 0x2F ∷ flat_map escaped token
 
@@ -15,15 +15,15 @@ written_token token = 0x2F ∷ flat_map escaped token
 abbrev pub written : List (List ℕ) → List ℕ
 written tokens = flat_map written_token tokens
 
--- the step of a token: its characters as 16-bit units, one above FFFF as two
+-- a token's characters as UTF-16 units
 abbrev pub units : List ℕ → List ℕ
 units token = flat_map encode_utf16 token
 
--- the text is the path text of some tokens, and these are their steps
+-- the text spells these steps
 abbrev pub IsPathOf : List ℕ → List (List ℕ) → Type 0
 IsPathOf text steps = (tokens : List (List ℕ)) × (chars text ≡ written tokens) × (steps ≡ map units tokens)
 
--- behind a `~`: neither `0` nor `1`
+-- neither `0` nor `1`
 abbrev pub IsNoEscape : List ℕ → Type 0
 IsNoEscape [] = ⊤
 IsNoEscape (c ∷ cs) = (c ≢ 0x30) × (c ≢ 0x31)
@@ -33,19 +33,19 @@ abbrev pub IsLoose : List ℕ → Type 0
 IsLoose [] = ⊥
 IsLoose (c ∷ cs) = (c ≡ 0x7E) × IsNoEscape cs
 
--- the first such `~` among the characters begins at this byte of their UTF-8
+-- the first such `~` is at this byte
 pub record IsFirstLoose (cs : List ℕ) (place : ℕ) : Type 0 where
   pub before : ℕ
   pub loose : IsLoose (drop before cs)
   pub first : (k : ℕ) → k < before → ¬ IsLoose (drop k cs)
   pub counted : place ≡ length (encode_utf8_all (take before cs))
 
--- these characters are wrong at this byte of their UTF-8: they do not begin with `/`, or else at the first such `~`
+-- the text is wrong at this byte: it does not begin with `/`, or has such a `~`
 abbrev pub IsWrongAt : List ℕ → ℕ → Type 0
 IsWrongAt [] place = ⊥
 IsWrongAt (c ∷ cs) place = ((c ≢ 0x2F) × (place ≡ 0)) ⊎ ((c ≡ 0x2F) × IsFirstLoose (c ∷ cs) place)
 
--- the text is wrong at this byte, and is the path text of no tokens
+-- the text is wrong at this byte, and spells no steps
 pub record IsNoPath (text : List ℕ) (place : ℕ) : Type 0 where
   pub wrong : IsWrongAt (chars text) place
   pub none : (steps : List (List ℕ)) → ¬ IsPathOf text steps

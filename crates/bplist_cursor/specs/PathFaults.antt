@@ -3,7 +3,7 @@ use Rattle.std.specs.Prelude.{ℕ, ⊤}
 use Rattle.bplist_cursor.specs.declared.path.PathFault.{PathFault}
 use Rattle.bplist_cursor.specs.declared.path.PathFault.TheVariants.{Text, Memory}
 
--- a fact of the place of a wrong text; a refused growth says nothing
+-- P holds of the place of a wrong text
 abbrev pub OnText : (ℕ → Type 0) → PathFault → Type 0
 OnText P (Text place) = P place
 OnText P Memory = ⊤

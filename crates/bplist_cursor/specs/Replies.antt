@@ -10,7 +10,7 @@ use Rattle.bplist_cursor.specs.declared.reply.Reply.TheVariants as replies
 use Rattle.bplist_cursor.specs.Look.{Missing, look}
 use Rattle.bplist_cursor.specs.Nodes.{cap, nodes}
 
--- how many members an array or a set has
+-- how many members an array or set has
 abbrev pub count : Values → ℕ
 count no_values = 0
 count (value v vs) = 1 + count vs
@@ -26,7 +26,7 @@ leaf_face (bytes l) = faces.Bytes l
 leaf_face (text u) = faces.Text u
 leaf_face (uid x) = faces.Uid x
 
--- a leaf itself, or the kind of a container with its count
+-- a leaf, or a container's kind and count
 abbrev pub face : Value → Face
 face (leaf l) = leaf_face l
 face (array vs) = faces.Array (count vs)
@@ -40,12 +40,12 @@ keys_reply (leaf l) = replies.NoKeys
 keys_reply (array vs) = replies.NoKeys
 keys_reply (set vs) = replies.NoKeys
 
--- the reply of the value that was found, or that there is none
+-- the reply of the value found, or that there is none
 abbrev pub on_found : Result Value Missing → (Value → Reply) → Reply
 on_found (Ok v) go = go v
 on_found (Err m) go = replies.Missing m.step m.why
 
--- the reply of the value to a query
+-- a value's reply to a query
 abbrev pub reply : Value → Query → Reply
 reply v (queries.Get steps) = on_found (look v steps) (λ w. replies.Face (face w))
 reply v (queries.Keys steps) = on_found (look v steps) keys_reply

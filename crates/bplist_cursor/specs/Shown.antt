@@ -5,14 +5,14 @@ use Rattle.bplist_cursor.specs.declared.faces.Face.{Face}
 use Rattle.bplist_cursor.specs.declared.faces.Face.TheVariants as faces
 use Rattle.bplist_cursor.specs.Replies.{leaf_face}
 
--- the face of the value that an object with this content holds
+-- the face of an object with this content
 abbrev pub content_face : Content → Face
 content_face (leaf l) = leaf_face l
 content_face (array ms) = faces.Array (length ms)
 content_face (set ms) = faces.Set (length ms)
 content_face (dict ks ms) = faces.Dict (length ks)
 
--- the references that the face counts are fewer than so many bytes
+-- fewer references than so many bytes
 abbrev pub HasRoom : ℕ → Face → Type 0
 HasRoom len (faces.Array count) = count < len
 HasRoom len (faces.Set count) = count < len

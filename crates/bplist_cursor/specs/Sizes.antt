@@ -18,19 +18,19 @@ size_of v = record { nodes = cap (nodes v); form = form_of v }
 abbrev pub both : Size → Size → Size
 both a b = record { nodes = cap (a.nodes + b.nodes); form = joined a.form b.form }
 
--- a table of sizes by the number of the object, with none for an object that is not vouched for
+-- a size for each vouched object
 abbrev pub Table : Type 0
 Table = List (Option Size)
 
--- what a table says of object n
+-- the size of object n
 abbrev pub size_in : Table → ℕ → Option Size
 size_in sizes n = slice_index_or sizes n None
 
--- how many nodes the table gives object n
+-- the nodes of object n
 abbrev pub nodes_in : Table → ℕ → Option ℕ
 nodes_in sizes n = option_map (λ s. s.nodes) (size_in sizes n)
 
--- which form the table gives object n
+-- the form of object n
 abbrev pub form_in : Table → ℕ → Option Form
 form_in sizes n = option_map (λ s. s.form) (size_in sizes n)
 
@@ -63,7 +63,7 @@ module _ (f : List ℕ) (F : Frame) where
   abbrev pub IsSized : Table → ℕ → Type 0
   IsSized sizes n = (v : Value) → Holds f F n v → size_in sizes n ≡ Some (size_of v)
 
-  -- each object that the heights vouch for has the nodes and the form of the value that it holds, and no other has any
+  -- the table has nodes and form of the value of each vouched object, and no others
   pub record AreMeasures (heights : List ℕ) (sizes : Table) : Type 0 where
     pub nodes : (n : ℕ) (v : Value) → IsVouchedBy heights n → Holds f F n v → nodes_in sizes n ≡ Some (cap (nodes v))
     pub form : (n : ℕ) (v : Value) → IsVouchedBy heights n → Holds f F n v → form_in sizes n ≡ Some (form_of v)

@@ -10,7 +10,7 @@ hex_digits b = slice_index (codes "0123456789abcdef") (b / 16) ∷ slice_index (
 abbrev pub is_plain : ℕ → Bool
 is_plain u = (nat_le 0x30 u && nat_le u 0x39) || ((nat_le 0x41 u && nat_le u 0x5A) || (nat_le 0x61 u && nat_le u 0x7A))
 
--- a unit between quotes: `\"`, `\\`, `\n`, the character itself, or `\U` and four hexadecimal digits
+-- a unit inside quotes: `\"`, `\\`, `\n`, the character, or `\U` and four hexadecimal digits
 abbrev pub quoted_unit : ℕ → List ℕ
 quoted_unit u =
     if u == 0x22 then 0x5C ∷ 0x22 ∷ []
@@ -23,11 +23,11 @@ quoted_unit u =
 abbrev pub quoted : List ℕ → List ℕ
 quoted units = 0x22 ∷ (flat_map quoted_unit units ++ 0x22 ∷ [])
 
--- the text of a text with these units; the empty text is quoted
+-- the old-style text of these units; the empty text is quoted
 abbrev pub text_of_units : List ℕ → List ℕ
 text_of_units [] = quoted []
 text_of_units (u ∷ us) = if list_all is_plain (u ∷ us) then u ∷ us else quoted (u ∷ us)
 
--- the text of data: `<`, the digits, `>`
+-- the old-style text of data: `<`, the digits, `>`
 abbrev pub text_of_bytes : List ℕ → List ℕ
 text_of_bytes bytes = 0x3C ∷ (flat_map hex_digits bytes ++ 0x3E ∷ [])

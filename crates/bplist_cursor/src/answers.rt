@@ -1,6 +1,7 @@
 //! Replies to queries.
 
 ghost use Rattle.std.specs.Prelude.{⊤, ◌≡◌, ◌<◌, map, IsTrue, IfSome};
+ghost use Rattle.bplist_cert.specs.CheckedFile.{HonestlyChecked};
 ghost use Rattle.bplist_objects.specs.Value.{Value};
 ghost use Rattle.bplist_objects.specs.Holds.{Holds};
 ghost use Rattle.bplist_cursor.specs.Causes.{GivesCursor, cursor_read};
@@ -119,9 +120,9 @@ fn answer_by<S: Source>(
     measures: &mut Option<Measures>,
 ) -> Result<Reply, CursorFault>
     ensures reads { Keeps (cursor_read result) checked.old checked.new }
-    ensures exact { IsTrue checked.old.source.honest → IfSome measures.old (AreMeasuresOf checked.old) → (v : Value)
-        → Holds checked.old.source.octets checked.old.frame checked.old.frame.top.0 v
-        → GivesCursor (λ told. (told ≡ reply v query.now) × IfSome measures.new (AreMeasuresOf checked.old)) result }
+    ensures exact { HonestlyChecked checked.old (λ f F. IfSome measures.old (AreMeasuresOf checked.old) → (v : Value)
+        → Holds f F F.top.0 v → GivesCursor (λ told. (told ≡ reply v query.now)
+        × IfSome measures.new (AreMeasuresOf checked.old)) result) }
 {
     match locate(checked, path_of(query))? {
         Found::At(node) => answer_at(alloc, checked, node, query, measures),
@@ -139,9 +140,8 @@ pub fn answer<S: Source>(
     query: &Query,
 ) -> Result<Reply, CursorFault>
     ensures reads { Keeps (cursor_read result) checked.old checked.new }
-    ensures exact { IsTrue checked.old.source.honest → (v : Value)
-        → Holds checked.old.source.octets checked.old.frame checked.old.frame.top.0 v
-        → GivesCursor (λ told. told ≡ reply v query.now) result }
+    ensures exact { HonestlyChecked checked.old (λ f F. (v : Value) → Holds f F F.top.0 v
+        → GivesCursor (λ told. told ≡ reply v query.now) result) }
     ensures unchanged { IsTrue checked.old.source.honest → GivesCursor (λ _. ⊤) result }
 {
     let _frame = checked.frame();
@@ -159,9 +159,8 @@ pub fn answer_all<S: Source>(
     queries: &[Query],
 ) -> Result<Vec<Reply>, CursorFault>
     ensures reads { Keeps (cursor_read result) checked.old checked.new }
-    ensures exact { IsTrue checked.old.source.honest → (v : Value)
-        → Holds checked.old.source.octets checked.old.frame checked.old.frame.top.0 v
-        → GivesCursor (λ replies. replies.items ≡ map (reply v) queries.now) result }
+    ensures exact { HonestlyChecked checked.old (λ f F. (v : Value) → Holds f F F.top.0 v
+        → GivesCursor (λ replies. replies.items ≡ map (reply v) queries.now) result) }
     ensures unchanged { IsTrue checked.old.source.honest → GivesCursor (λ _. ⊤) result }
 {
     let _frame = checked.frame();

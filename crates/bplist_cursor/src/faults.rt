@@ -23,7 +23,7 @@ pub enum CursorFault {
 
 /// Why an object could not be read, where nothing grows.
 #[derive(Clone, Copy, Debug, PartialEq, Eq, Drop)]
-pub(crate) enum Unread {
+pub enum Unread {
     /// A read of the source failed.
     Read(ReadFault),
     /// The node is none of this file that the certificate vouches for, or the source gives other bytes than

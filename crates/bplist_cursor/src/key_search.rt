@@ -1,7 +1,8 @@
 //! Looking up a key of a dictionary: by its sorted key list where the certificate has one, else one by one.
 
-ghost use Rattle.std.specs.Prelude.{◌≡◌, ℕ, ◌+◌, ◌^◌, ◌<◌, ◌≤◌, List, length, slice_index, IsTrue, IfOk, IfSome, MatchResult, Option, Some, None};
+ghost use Rattle.std.specs.Prelude.{◌≡◌, ℕ, ◌+◌, ◌^◌, ◌<◌, ◌≤◌, List, length, slice_index, IfOk, IfSome, MatchResult, Option, Some, None};
 ghost use Rattle.bplist_octets.specs.Octets.{part};
+ghost use Rattle.bplist_cert.specs.CheckedFile.{HonestlyChecked};
 ghost use Rattle.bplist_objects.specs.Value.{text};
 ghost use Rattle.bplist_objects.specs.Heads.{Spells, leaf, dict, content_at};
 ghost use Rattle.bplist_objects.specs.Units.{compare_units};
@@ -30,9 +31,8 @@ fn compare_key<S: Source>(
 ) -> Result<Ordering, Unread>
     requires within { k.0 < checked.old.frame.objects }
     ensures reads { Keeps (read_failed result) checked.old checked.new }
-    ensures exact { IsTrue checked.old.source.honest → (us : List ℕ)
-        → Spells checked.old.source.octets checked.old.frame k.0 (leaf (text us))
-        → GivesRead (λ o. o ≡ compare_units us units.now) result }
+    ensures exact { HonestlyChecked checked.old (λ f F. (us : List ℕ) → Spells f F k.0 (leaf (text us))
+        → GivesRead (λ o. o ≡ compare_units us units.now) result) }
     ensures made { made.new ≤ made.old + 1 }
 {
     let head = head_in(checked, k)?;
@@ -52,11 +52,8 @@ fn walk_keys<S: Source>(
     requires head { IsSafeHead checked.old.frame head.now }
     requires is_dict { head.now.kind ≡ Dict }
     ensures reads { Keeps (read_failed result) checked.old checked.new }
-    ensures exact { IsTrue checked.old.source.honest → (n : ℕ) (ks ms : List ℕ)
-        → Spells checked.old.source.octets checked.old.frame n (dict ks ms)
-        → dict ks ms ≡ content_at checked.old.source.octets checked.old.frame head.now
-        → HaveTexts checked.old.source.octets checked.old.frame ks
-        → GivesRead (IsKeyPlace checked.old.source.octets checked.old.frame ks units.now) result }
+    ensures exact { HonestlyChecked checked.old (λ f F. (n : ℕ) (ks ms : List ℕ) → Spells f F n (dict ks ms)
+        → dict ks ms ≡ content_at f F head.now → HaveTexts f F ks → GivesRead (IsKeyPlace f F ks units.now) result) }
     ensures inside { IfOk result (λ o. IfSome o (λ i. i < head.now.count)) }
 {
     for i in 0..head.count {
@@ -88,13 +85,11 @@ fn compare_listed<S: Source>(
     requires head { IsSafeHead checked.old.frame head.now }
     requires is_dict { head.now.kind ≡ Dict }
     ensures reads { Keeps (read_failed result) checked.old checked.new }
-    ensures exact { IsTrue checked.old.source.honest → (n : ℕ) (ks ms : List ℕ)
-        → Spells checked.old.source.octets checked.old.frame n (dict ks ms)
-        → dict ks ms ≡ content_at checked.old.source.octets checked.old.frame head.now
-        → HaveTexts checked.old.source.octets checked.old.frame ks
-        → (keyed : Keyed) → checked.old.certificate.keys ≡ Some keyed → at < length keyed.positions
+    ensures exact { HonestlyChecked checked.old (λ f F. (n : ℕ) (ks ms : List ℕ) → Spells f F n (dict ks ms)
+        → dict ks ms ≡ content_at f F head.now → HaveTexts f F ks → (keyed : Keyed)
+        → checked.old.certificate.keys ≡ Some keyed → at < length keyed.positions
         → slice_index keyed.positions at < length ks
-        → GivesRead (IsCompared checked.old.source.octets checked.old.frame ks (slice_index keyed.positions at) units.now) result }
+        → GivesRead (IsCompared f F ks (slice_index keyed.positions at) units.now) result) }
     ensures inside { IfOk result (λ found. found.0 < head.now.count) }
     ensures made { made.new ≤ made.old + 1 }
 {
@@ -121,13 +116,11 @@ fn search_keys<S: Source>(
     requires is_dict { head.now.kind ≡ Dict }
     requires room { start + head.now.count < 2 ^ 64 }
     ensures reads { Keeps (read_failed result) checked.old checked.new }
-    ensures exact { IsTrue checked.old.source.honest → (n : ℕ) (ks ms : List ℕ)
-        → Spells checked.old.source.octets checked.old.frame n (dict ks ms)
-        → dict ks ms ≡ content_at checked.old.source.octets checked.old.frame head.now
-        → HaveTexts checked.old.source.octets checked.old.frame ks
-        → (keyed : Keyed) → checked.old.certificate.keys ≡ Some keyed → start + length ks ≤ length keyed.positions
-        → IsKeyList checked.old.source.octets checked.old.frame ks (part keyed.positions start (length ks))
-        → GivesRead (IsKeyPlace checked.old.source.octets checked.old.frame ks units.now) result }
+    ensures exact { HonestlyChecked checked.old (λ f F. (n : ℕ) (ks ms : List ℕ) → Spells f F n (dict ks ms)
+        → dict ks ms ≡ content_at f F head.now → HaveTexts f F ks → (keyed : Keyed)
+        → checked.old.certificate.keys ≡ Some keyed → start + length ks ≤ length keyed.positions
+        → IsKeyList f F ks (part keyed.positions start (length ks))
+        → GivesRead (IsKeyPlace f F ks units.now) result) }
     ensures inside { IfOk result (λ o. IfSome o (λ i. i < head.now.count)) }
     ensures bound { made.new ≤ made.old + digits_2 head.now.count }
 {
@@ -181,11 +174,9 @@ pub(crate) fn key_place<S: Source>(
     requires head { IsSafeHead checked.old.frame head.now }
     requires is_dict { head.now.kind ≡ Dict }
     ensures reads { Keeps (read_failed result) checked.old checked.new }
-    ensures exact { IsTrue checked.old.source.honest → IsVouchedBy checked.old.certificate.heights n.0 → (ks ms : List ℕ)
-        → Spells checked.old.source.octets checked.old.frame n.0 (dict ks ms)
-        → dict ks ms ≡ content_at checked.old.source.octets checked.old.frame head.now
-        → HaveTexts checked.old.source.octets checked.old.frame ks
-        → GivesRead (IsKeyPlace checked.old.source.octets checked.old.frame ks units.now) result }
+    ensures exact { HonestlyChecked checked.old (λ f F. IsVouchedBy checked.old.certificate.heights n.0
+        → (ks ms : List ℕ) → Spells f F n.0 (dict ks ms) → dict ks ms ≡ content_at f F head.now → HaveTexts f F ks
+        → GivesRead (IsKeyPlace f F ks units.now) result) }
     ensures inside { IfOk result (λ o. IfSome o (λ i. i < head.now.count)) }
     ensures bound { RisesAtMost checked.old made.old made.new (digits_2 head.now.count) }
 {

@@ -1,6 +1,7 @@
 //! The keys of a dictionary.
 
-ghost use Rattle.std.specs.Prelude.{◌≡◌, ◌<◌, ℕ, List as list, IsTrue};
+ghost use Rattle.std.specs.Prelude.{◌≡◌, ◌<◌, ℕ, List as list};
+ghost use Rattle.bplist_cert.specs.CheckedFile.{HonestlyChecked};
 ghost use Rattle.std.specs.List.{AllZip};
 ghost use Rattle.bplist_objects.specs.Value.{text};
 ghost use Rattle.bplist_objects.specs.Heads.{Spells, leaf, dict, content_at};
@@ -27,9 +28,8 @@ fn key_text<S: Source>(
 ) -> Result<List<u16>, CursorFault>
     requires within { k.0 < checked.old.frame.objects }
     ensures reads { Keeps (cursor_read result) checked.old checked.new }
-    ensures exact { IsTrue checked.old.source.honest → (us : list ℕ)
-        → Spells checked.old.source.octets checked.old.frame k.0 (leaf (text us))
-        → GivesCursor (λ units. units ≡ us) result }
+    ensures exact { HonestlyChecked checked.old (λ f F. (us : list ℕ) → Spells f F k.0 (leaf (text us))
+        → GivesCursor (λ units. units ≡ us) result) }
 {
     let head = head_in(checked, k)?;
     match head.kind {
@@ -47,11 +47,9 @@ pub(crate) fn key_texts<S: Source>(
     requires head { IsSafeHead checked.old.frame head.now }
     requires is_dict { head.now.kind ≡ Dict }
     ensures reads { Keeps (cursor_read result) checked.old checked.new }
-    ensures exact { IsTrue checked.old.source.honest → (n : ℕ) (ks ms : list ℕ)
-        → Spells checked.old.source.octets checked.old.frame n (dict ks ms)
-        → dict ks ms ≡ content_at checked.old.source.octets checked.old.frame head.now
-        → (us : list (list ℕ)) → AllZip (SpellsText checked.old.source.octets checked.old.frame) ks us
-        → GivesCursor (λ keys. keys ≡ us) result }
+    ensures exact { HonestlyChecked checked.old (λ f F. (n : ℕ) (ks ms : list ℕ) → Spells f F n (dict ks ms)
+        → dict ks ms ≡ content_at f F head.now → (us : list (list ℕ)) → AllZip (SpellsText f F) ks us
+        → GivesCursor (λ keys. keys ≡ us) result) }
 {
     let mut keys = Vec::with_capacity(alloc, head.count as usize)?;
     for i in 0..head.count {

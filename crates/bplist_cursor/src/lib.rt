@@ -1,4 +1,26 @@
-//! Key paths, and answers about the value of a checked file.
+//! Key paths, and answers about the value of a checked file, without its tree.
+//!
+//! ```
+//! let path = Path::parse(alloc, "/WindowSize/width")?;
+//! match locate_in_slice(&mut checked, &path) {
+//!     Found::At(node) => println!(rt; "{:?}", face(alloc, &mut checked, node)?)?,
+//!     Found::Missing { step, why } => println!(rt; "{why:?} at step {step}")?,
+//! }
+//! ```
+//!
+//! | what | calls |
+//! |---|---|
+//! | a path, from its text or its steps | [`Path::parse`], [`Path::from_steps`], [`PathFault`] |
+//! | where it leads | [`locate`], [`locate_in_slice`], [`locate_counted`], [`Found`], [`Node`], [`Why`] |
+//! | one step from a node | [`step_from`] |
+//! | what a node is: a leaf, or a container's kind and count | [`face`], [`Face`] |
+//! | its members and bytes | [`member`], [`bytes_of`] |
+//! | replies to many queries | [`answer`], [`answer_all`], [`Query`], [`Reply`], [`List`] |
+//! | numbers of nodes and lengths of texts | [`measure`], [`Measures`], [`Form`] |
+//! | units that need no quotes | [`is_plain`], [`are_plain`] |
+//!
+//! Every answer is that of the one value that the file holds. `CursorFault::Changed` says that the node's object has no height,
+//! or that the source gives other bytes than those that were checked.
 #![tactic(auto)]
 
 mod answers;
@@ -17,6 +39,7 @@ mod measures;
 mod members;
 mod nodes;
 mod object_sizes;
+mod one_step;
 mod path;
 mod reading;
 mod reply;
@@ -27,7 +50,7 @@ mod text_length;
 pub use answers::{answer, answer_all};
 pub use bytes::bytes_of;
 pub use faces::Face;
-pub use faults::CursorFault;
+pub use faults::{CursorFault, Unread};
 pub use form::Form;
 pub use found::{Found, Node, Why};
 pub use laws::{
@@ -37,8 +60,10 @@ pub use laws::{
 pub use list::List;
 pub use locating::{locate, locate_counted, locate_in_slice};
 pub use measures::Measures;
-pub use members::member;
+pub use members::{member, member_by_head};
+pub use nodes::node_head;
 pub use object_sizes::measure;
+pub use one_step::step_from;
 pub use path::{Path, PathFault};
 pub use reply::{Query, Reply};
 pub use showing::face;

@@ -1,6 +1,7 @@
 //! Where a path leads.
 
 ghost use Rattle.std.specs.Prelude.{⊤, ◌≡◌, ◌<◌, IsTrue, IsOk, IfOk, OnOk, Vec};
+ghost use Rattle.bplist_cert.specs.CheckedFile.{HonestlyChecked};
 ghost use Rattle.bplist_objects.specs.Value.{Value};
 ghost use Rattle.bplist_objects.specs.Holds.{Holds};
 ghost use Rattle.bplist_cursor.specs.Causes.{GivesRead, GivesCursor, TakesNoMemory, read_failed, cursor_read};
@@ -22,12 +23,10 @@ fn lead<S: Source>(
     made: &mut u64,
 ) -> Result<Found, Unread>
     ensures reads { Keeps (read_failed result) checked.old checked.new }
-    ensures exact { IsTrue checked.old.source.honest → (v : Value)
-        → Holds checked.old.source.octets checked.old.frame checked.old.frame.top.0 v
-        → GivesRead (IsFound checked.old v (units_of steps.now)) result }
-    ensures bound { OnOk result (IsTrue checked.old.source.honest → (v : Value)
-        → Holds checked.old.source.octets checked.old.frame checked.old.frame.top.0 v
-        → RisesAtMost checked.old made.old made.new (halvings v (units_of steps.now))) }
+    ensures exact { HonestlyChecked checked.old (λ f F. (v : Value) → Holds f F F.top.0 v
+        → GivesRead (IsFound checked.old v (units_of steps.now)) result) }
+    ensures bound { OnOk result (HonestlyChecked checked.old (λ f F. (v : Value) → Holds f F F.top.0 v
+        → RisesAtMost checked.old made.old made.new (halvings v (units_of steps.now)))) }
 {
     let mut object = checked.frame().top;
     for k in 0..steps.len() {
@@ -54,12 +53,10 @@ pub fn locate_counted<S: Source>(
     path: &Path,
 ) -> Result<(Found, u64), CursorFault>
     ensures reads { Keeps (cursor_read result) checked.old checked.new }
-    ensures exact { IsTrue checked.old.source.honest → (v : Value)
-        → Holds checked.old.source.octets checked.old.frame checked.old.frame.top.0 v
-        → GivesCursor (λ found. IsFound checked.old v path.now found.0) result }
-    ensures bound { IsTrue checked.old.source.honest → (v : Value)
-        → Holds checked.old.source.octets checked.old.frame checked.old.frame.top.0 v
-        → IfOk result (λ found. RisesAtMost checked.old 0 found.1 (halvings v path.now)) }
+    ensures exact { HonestlyChecked checked.old (λ f F. (v : Value) → Holds f F F.top.0 v
+        → GivesCursor (λ found. IsFound checked.old v path.now found.0) result) }
+    ensures bound { HonestlyChecked checked.old (λ f F. (v : Value) → Holds f F F.top.0 v
+        → IfOk result (λ found. RisesAtMost checked.old 0 found.1 (halvings v path.now))) }
     ensures unchanged { IsTrue checked.old.source.honest → GivesCursor (λ _. ⊤) result }
     ensures found { IsTrue checked.old.source.honest → checked.new.source.failures ≡ 0 → IsOk result }
     ensures memory { TakesNoMemory result }
@@ -77,9 +74,8 @@ pub fn locate_counted<S: Source>(
 /// honest.
 pub fn locate<S: Source>(checked: &mut Checked<S>, path: &Path) -> Result<Found, CursorFault>
     ensures reads { Keeps (cursor_read result) checked.old checked.new }
-    ensures exact { IsTrue checked.old.source.honest → (v : Value)
-        → Holds checked.old.source.octets checked.old.frame checked.old.frame.top.0 v
-        → GivesCursor (IsFound checked.old v path.now) result }
+    ensures exact { HonestlyChecked checked.old (λ f F. (v : Value) → Holds f F F.top.0 v
+        → GivesCursor (IsFound checked.old v path.now) result) }
     ensures unchanged { IsTrue checked.old.source.honest → GivesCursor (λ _. ⊤) result }
     ensures found { IsTrue checked.old.source.honest → checked.new.source.failures ≡ 0 → IsOk result }
     ensures memory { TakesNoMemory result }

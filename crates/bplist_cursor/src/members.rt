@@ -1,17 +1,18 @@
 //! The members of nodes.
 
 ghost use Rattle.std.specs.Prelude.{◌≡◌, ℕ, ◌+◌, ◌*◌, ◌^◌, ◌<◌, ◌≤◌, List, length, slice_index, false, IsTrue, IfOk, IfErr, IfSome, MatchOption, Some, None, Err};
+ghost use Rattle.bplist_cert.specs.CheckedFile.{HonestlyChecked};
 ghost use Rattle.bplist_objects.specs.Value.{Value};
-ghost use Rattle.bplist_objects.specs.Heads.{Content, Spells, array, set, dict, refs};
+ghost use Rattle.bplist_objects.specs.Heads.{Content, Spells, array, content_at, set, dict, refs};
 ghost use Rattle.bplist_objects.specs.Holds.{Holds};
-ghost use Rattle.bplist_objects.specs.Safe.{ref_count};
+ghost use Rattle.bplist_objects.specs.Safe.{IsSafeHead, ref_count};
 ghost use Rattle.bplist_cert.specs.Valid.{IsVouchedBy};
-ghost use Rattle.bplist_cursor.specs.Causes.{GivesCursor, IsExcused, TakesNoMemory, cursor_read};
+ghost use Rattle.bplist_cursor.specs.Causes.{GivesCursor, GivesRead, IsExcused, TakesNoMemory, cursor_read, read_failed};
 ghost use Rattle.bplist_cursor.specs.Kept.{Keeps};
 ghost use Rattle.bplist_cursor.specs.Members.{IsNumberOf, HoldsMember, member_of, member_reference, named, node_of};
 ghost use Rattle.bplist_cursor.specs.declared.faults.CursorFault.TheVariants.{Changed};
 
-use crate::faults::CursorFault;
+use crate::faults::{CursorFault, Unread};
 use crate::found::Node;
 use crate::nodes::node_head;
 use crate::reading::reference_in;
@@ -34,6 +35,34 @@ fn number_of(head: &Head, i: u64) -> Option<u64>
     }
 }
 
+/// The node of member `i` of an object with this head, as [`node_head`] answers it. The members are numbered as in
+/// [`member`].
+///
+/// This is for a caller who asks for many members of one object, and reads its head once.
+pub fn member_by_head<S: Source>(
+    checked: &mut Checked<S>,
+    head: &Head,
+    i: u64,
+) -> Result<Option<Node>, Unread>
+    requires head { IsSafeHead checked.old.frame head.now }
+    ensures reads { Keeps (read_failed result) checked.old checked.new }
+    ensures reference { HonestlyChecked checked.old (λ f F. (n : ℕ) → IsVouchedBy checked.old.certificate.heights n
+        → (content : Content) → Spells f F n content → content ≡ content_at f F head.now
+        → GivesRead (λ member. member ≡ named (member_reference content i)) result) }
+    ensures vouched { IfOk result (λ member. IfSome member (λ m. IsVouchedBy checked.old.certificate.heights m.object.0)) }
+    ensures within { IfOk result (λ member. IfSome member (λ _. i < ref_count head.now.kind head.now.count)) }
+{
+    let _frame = checked.frame();
+    let Some(k) = number_of(head, i) else {
+        return Ok(None);
+    };
+    let object = reference_in(checked, head, k)?;
+    if checked.height(object) == 0 {
+        return Err(Unread::Changed);
+    }
+    Ok(Some(Node { object }))
+}
+
 /// The node of member `i`, by the reference for it.
 fn member_by_reference<S: Source>(
     checked: &mut Checked<S>,
@@ -41,23 +70,15 @@ fn member_by_reference<S: Source>(
     i: u64,
 ) -> Result<Option<Node>, CursorFault>
     ensures reads { Keeps (cursor_read result) checked.old checked.new }
-    ensures reference { IsTrue checked.old.source.honest → IsVouchedBy checked.old.certificate.heights node.object.0
-        → (content : Content) → Spells checked.old.source.octets checked.old.frame node.object.0 content
-        → GivesCursor (λ member. member ≡ named (member_reference content i)) result }
+    ensures reference { HonestlyChecked checked.old (λ f F. IsVouchedBy checked.old.certificate.heights node.object.0
+        → (content : Content) → Spells f F node.object.0 content → GivesCursor
+        (λ member. member ≡ named (member_reference content i)) result) }
     ensures vouched { IfOk result (λ member. IfSome member (λ m. IsVouchedBy checked.old.certificate.heights m.object.0)) }
     ensures unvouched { (IsVouchedBy checked.old.certificate.heights node.object.0 → ⊥) → result ≡ Err Changed }
     ensures memory { TakesNoMemory result }
 {
-    let _frame = checked.frame();
     let head = node_head(checked, node)?;
-    let Some(k) = number_of(&head, i) else {
-        return Ok(None);
-    };
-    let object = reference_in(checked, &head, k)?;
-    if checked.height(object) == 0 {
-        return Err(CursorFault::Changed);
-    }
-    Ok(Some(Node { object }))
+    Ok(member_by_head(checked, &head, i)?)
 }
 
 /// The node of member `i` of a node's object: member `i` of an array or a set; of a dictionary number `2 * j` is key
@@ -72,24 +93,23 @@ pub fn member<S: Source>(
     i: u64,
 ) -> Result<Option<Node>, CursorFault>
     ensures reads { Keeps (cursor_read result) checked.old checked.new }
-    ensures array { IsTrue checked.old.source.honest → IsVouchedBy checked.old.certificate.heights node.object.0
-        → (ms : List ℕ) → Spells checked.old.source.octets checked.old.frame node.object.0 (array ms) → i < length ms
-        → GivesCursor (λ member. member ≡ Some (node_of (slice_index ms i))) result }
-    ensures set { IsTrue checked.old.source.honest → IsVouchedBy checked.old.certificate.heights node.object.0
-        → (ms : List ℕ) → Spells checked.old.source.octets checked.old.frame node.object.0 (set ms) → i < length ms
-        → GivesCursor (λ member. member ≡ Some (node_of (slice_index ms i))) result }
-    ensures key { IsTrue checked.old.source.honest → IsVouchedBy checked.old.certificate.heights node.object.0
-        → (ks ms : List ℕ) (j : ℕ) → Spells checked.old.source.octets checked.old.frame node.object.0 (dict ks ms)
-        → i ≡ 2 * j → j < length ks → GivesCursor (λ member. member ≡ Some (node_of (slice_index ks j))) result }
-    ensures value { IsTrue checked.old.source.honest → IsVouchedBy checked.old.certificate.heights node.object.0
-        → (ks ms : List ℕ) (j : ℕ) → Spells checked.old.source.octets checked.old.frame node.object.0 (dict ks ms)
-        → i ≡ 2 * j + 1 → j < length ms → GivesCursor (λ member. member ≡ Some (node_of (slice_index ms j))) result }
-    ensures none { IsTrue checked.old.source.honest → IsVouchedBy checked.old.certificate.heights node.object.0
-        → (content : Content) → Spells checked.old.source.octets checked.old.frame node.object.0 content
-        → length (refs content) ≤ i → GivesCursor (λ member. member ≡ None) result }
-    ensures holds { IsTrue checked.old.source.honest → IsVouchedBy checked.old.certificate.heights node.object.0
-        → (v : Value) → Holds checked.old.source.octets checked.old.frame node.object.0 v
-        → GivesCursor (HoldsMember checked.old.source.octets checked.old.frame (member_of v i)) result }
+    ensures array { HonestlyChecked checked.old (λ f F. IsVouchedBy checked.old.certificate.heights node.object.0
+        → (ms : List ℕ) → Spells f F node.object.0 (array ms) → i < length ms
+        → GivesCursor (λ member. member ≡ Some (node_of (slice_index ms i))) result) }
+    ensures set { HonestlyChecked checked.old (λ f F. IsVouchedBy checked.old.certificate.heights node.object.0
+        → (ms : List ℕ) → Spells f F node.object.0 (set ms) → i < length ms
+        → GivesCursor (λ member. member ≡ Some (node_of (slice_index ms i))) result) }
+    ensures key { HonestlyChecked checked.old (λ f F. IsVouchedBy checked.old.certificate.heights node.object.0
+        → (ks ms : List ℕ) (j : ℕ) → Spells f F node.object.0 (dict ks ms) → i ≡ 2 * j → j < length ks
+        → GivesCursor (λ member. member ≡ Some (node_of (slice_index ks j))) result) }
+    ensures value { HonestlyChecked checked.old (λ f F. IsVouchedBy checked.old.certificate.heights node.object.0
+        → (ks ms : List ℕ) (j : ℕ) → Spells f F node.object.0 (dict ks ms) → i ≡ 2 * j + 1 → j < length ms
+        → GivesCursor (λ member. member ≡ Some (node_of (slice_index ms j))) result) }
+    ensures none { HonestlyChecked checked.old (λ f F. IsVouchedBy checked.old.certificate.heights node.object.0
+        → (content : Content) → Spells f F node.object.0 content → length (refs content) ≤ i
+        → GivesCursor (λ member. member ≡ None) result) }
+    ensures holds { HonestlyChecked checked.old (λ f F. IsVouchedBy checked.old.certificate.heights node.object.0
+        → (v : Value) → Holds f F node.object.0 v → GivesCursor (HoldsMember f F (member_of v i)) result) }
     ensures vouched { IfOk result (λ member. IfSome member (λ m. IsVouchedBy checked.old.certificate.heights m.object.0)) }
     ensures unchanged { IsTrue checked.old.source.honest → IsVouchedBy checked.old.certificate.heights node.object.0
         → IfErr result IsExcused }

@@ -1,13 +1,14 @@
 //! The sizes of all values of a checked file, by one pass over its objects.
 
-ghost use Rattle.std.specs.Prelude.{◌≡◌, ◌+◌, ◌*◌, ◌≤◌, ◌<◌, ℕ, Option, Some, List, length, IsTrue, IfOk, IfErr, is_err, drop};
+ghost use Rattle.std.specs.Prelude.{◌≡◌, ◌<◌, ℕ, Option, Some, List, length, IfOk, IfErr, is_err};
 ghost use Rattle.std.specs.List.{AllByRecursion};
 ghost use Rattle.bplist_octets.specs.Meaning.{OnlyReads};
+ghost use Rattle.bplist_cert.specs.CheckedFile.{HonestlyChecked};
 ghost use Rattle.bplist_objects.specs.Value.{Value, Leaf};
 ghost use Rattle.bplist_objects.specs.Heads.{Content, Spells, leaf, refs, content_at};
 ghost use Rattle.bplist_objects.specs.Holds.{Holds};
-ghost use Rattle.bplist_objects.specs.Frame.{IsFrame};
-ghost use Rattle.bplist_objects.specs.Safe.{IsSafe, IsSafeHead, ref_count};
+ghost use Rattle.bplist_objects.specs.Framed.{frame_in, HonestlyIn};
+ghost use Rattle.bplist_objects.specs.Safe.{IsSafeHead};
 ghost use Rattle.bplist_cert.specs.Valid.{IsValid};
 ghost use Rattle.bplist_cursor.specs.Causes.{GivesRead, read_failed, GivesCursor, cursor_read};
 ghost use Rattle.bplist_cursor.specs.Kept.{Keeps};
@@ -23,12 +24,9 @@ use crate::form::Form;
 use crate::measures::{Measures, Size};
 use crate::text_length::text_length;
 use bplist_cert::Checked;
-use bplist_objects::{Frame, Head, Kind, ObjectNo, read_refs, refs_of, shape_of};
+use bplist_objects::{Framed, Head, Kind, ObjectNo, RefBlocks, shape_of};
 use bplist_octets::{ReadFault, Source};
 use std::alloc::Global;
-
-/// How many references are read at once at most.
-const BLOCK: usize = 512;
 
 /// What the table says of an object, None outside.
 fn size_at(sizes: &[Option<Size>], n: u64) -> Option<Size>
@@ -52,56 +50,26 @@ fn add_sizes(sizes: &[Option<Size>], refs: &[u64], start: Size) -> Option<Size>
     Some(total)
 }
 
-/// The total with the sizes of the objects that some references of this head name added: those from number `from` on,
-/// as many as the block takes.
-fn add_block<S: Source>(
-    src: &mut S,
-    frame: &Frame,
-    head: &Head,
-    sizes: &[Option<Size>],
-    total: Size,
-    from: u64,
-    block: &mut [u64],
-) -> Result<Size, Unread>
-    requires safe { IsSafe (length (S.means src.old).octets) frame.now }
-    requires head { IsSafeHead frame.now head.now }
-    requires within { from + length block.old ≤ ref_count head.now.kind head.now.count }
-    ensures reads { OnlyReads (read_failed result) (S.means src.old) (S.means src.new) }
-    ensures left { IsTrue (S.means src.old).honest → (whole : size)
-        → added sizes.now total (drop from (refs (content_at (S.means src.old).octets frame.now head.now))) ≡ Some whole
-        → GivesRead (λ s. added sizes.now s (drop (from + length block.old) (refs (content_at (S.means src.old).octets frame.now head.now))) ≡ Some whole) result }
-{
-    read_refs(src, frame, head, from, block)?;
-    match add_sizes(sizes, block, total) {
-        Some(more) => Ok(more),
-        None => Err(Unread::Changed),
-    }
-}
-
 /// The total with the sizes of the objects that the references of this head name added.
-fn add_refs<S: Source>(
-    src: &mut S,
-    frame: &Frame,
+fn add_refs<P: Framed>(
+    src: &mut P,
     head: &Head,
     sizes: &[Option<Size>],
     start: Size,
 ) -> Result<Size, Unread>
-    requires safe { IsSafe (length (S.means src.old).octets) frame.now }
-    requires head { IsSafeHead frame.now head.now }
-    ensures reads { OnlyReads (read_failed result) (S.means src.old) (S.means src.new) }
-    ensures exact { IsTrue (S.means src.old).honest → (whole : size)
-        → added sizes.now start (refs (content_at (S.means src.old).octets frame.now head.now)) ≡ Some whole
-        → GivesRead (λ s. s ≡ whole) result }
+    requires { IsSafeHead (frame_in (P.means src.old)) head.now }
+    ensures reads { OnlyReads (read_failed result) (P.means src.old) (P.means src.new) }
+    ensures exact { HonestlyIn (P.means src.old) (λ f F. (whole : size)
+        → added sizes.now start (refs (content_at f F head.now)) ≡ Some whole → GivesRead (λ s. s ≡ whole) result) }
 {
-    let _len = src.len();
-    let mut buffer = [0u64; BLOCK];
-    let refs = refs_of(head);
+    let _frame = src.frame();
+    let mut refs = RefBlocks::of(head);
     let mut total = start;
-    let mut done = 0u64;
-    while done < refs {
-        let now = (refs - done).min(BLOCK as u64) as usize;
-        total = add_block(src, frame, head, sizes, total, done, &mut buffer[..now])?;
-        done += now as u64;
+    while refs.advance(src)? {
+        let Some(more) = add_sizes(sizes, refs.block(), total) else {
+            return Err(Unread::Changed);
+        };
+        total = more;
     }
     Ok(total)
 }
@@ -118,14 +86,13 @@ fn punctuation(head: &Head) -> Form
 }
 
 /// The form of the leaf with this head.
-fn leaf_form<S: Source>(src: &mut S, frame: &Frame, head: &Head) -> Result<Form, ReadFault>
-    requires safe { IsSafe (length (S.means src.old).octets) frame.now }
-    requires head { IsSafeHead frame.now head.now }
-    ensures reads { OnlyReads (is_err result) (S.means src.old) (S.means src.new) }
-    ensures exact { IfOk result (λ form. IsTrue (S.means src.old).honest → (l : Leaf)
-        → leaf l ≡ content_at (S.means src.old).octets frame.now head.now
-        → form ≡ form_of_text (leaf_text l)) }
+fn leaf_form<P: Framed>(src: &mut P, head: &Head) -> Result<Form, ReadFault>
+    requires { IsSafeHead (frame_in (P.means src.old)) head.now }
+    ensures reads { OnlyReads (is_err result) (P.means src.old) (P.means src.new) }
+    ensures exact { IfOk result (λ form. HonestlyIn (P.means src.old) (λ f F. (l : Leaf) → leaf l ≡ content_at f F head.now
+        → form ≡ form_of_text (leaf_text l))) }
 {
+    let _frame = src.frame();
     match head.kind {
         Kind::Ascii | Kind::Wide => Ok(Form::Length(text_length(src, head)?)),
         Kind::Bytes => Ok(Form::Length(head.count.saturating_mul(2).saturating_add(2))),
@@ -134,32 +101,29 @@ fn leaf_form<S: Source>(src: &mut S, frame: &Frame, head: &Head) -> Result<Form,
 }
 
 /// The size of the value of an object, where the table has the sizes of its references.
-fn size_of_object<S: Source>(
-    src: &mut S,
-    frame: &Frame,
+fn size_of_object<P: Framed>(
+    src: &mut P,
     n: ObjectNo,
     sizes: &[Option<Size>],
 ) -> Result<Size, Unread>
-    requires safe { IsSafe (length (S.means src.old).octets) frame.now }
-    requires within { n.0 < frame.now.objects }
-    ensures reads { OnlyReads (read_failed result) (S.means src.old) (S.means src.new) }
-    ensures exact { IsTrue (S.means src.old).honest → IsFrame (S.means src.old).octets frame.now → (v : Value)
-        → Holds (S.means src.old).octets frame.now n.0 v
-        → ((c : Content) → Spells (S.means src.old).octets frame.now n.0 c
-        → AllByRecursion (IsSized (S.means src.old).octets frame.now sizes.now) (refs c))
-        → GivesRead (λ s. s ≡ size_of v) result }
+    requires { n.0 < (frame_in (P.means src.old)).objects }
+    ensures reads { OnlyReads (read_failed result) (P.means src.old) (P.means src.new) }
+    ensures exact { HonestlyIn (P.means src.old) (λ f F. (v : Value) → Holds f F n.0 v
+        → ((c : Content) → Spells f F n.0 c → AllByRecursion (IsSized f F sizes.now) (refs c))
+        → GivesRead (λ s. s ≡ size_of v) result) }
 {
-    let head = shape_of(src, frame, n)?;
+    let frame = src.frame();
+    let head = shape_of(src, &frame, n)?;
     match head.kind {
         Kind::Array | Kind::Set | Kind::Dict => {
             let start = Size {
                 nodes: 1,
                 form: punctuation(&head),
             };
-            add_refs(src, frame, &head, sizes, start)
+            add_refs(src, &head, sizes, start)
         }
         _ => {
-            let form = leaf_form(src, frame, &head)?;
+            let form = leaf_form(src, &head)?;
             Ok(Size { nodes: 1, form })
         }
     }
@@ -167,43 +131,37 @@ fn size_of_object<S: Source>(
 
 /// Gives the table the sizes of these objects, one after the other. The order is one in which each object stands
 /// behind those to which it refers.
-fn measure_in_order<S: Source>(
-    src: &mut S,
-    frame: &Frame,
+fn measure_in_order<P: Framed>(
+    src: &mut P,
     order: &[u32],
     sizes: &mut [Option<Size>],
 ) -> Result<(), Unread>
-    requires safe { IsSafe (length (S.means src.old).octets) frame.now }
-    requires inside { AreInside order.now frame.now.objects }
-    requires count { length sizes.old ≡ frame.now.objects }
-    ensures reads { OnlyReads (read_failed result) (S.means src.old) (S.means src.new) }
-    ensures exact { IsTrue (S.means src.old).honest → (heights : List ℕ) → IsValid (S.means src.old).octets frame.now heights
-        → IsOrder heights order.now → IsEmpty sizes.old
-        → GivesRead (λ _. AreSet (S.means src.old).octets frame.now heights order.now (length order.now) sizes.new) result }
+    requires inside { AreInside order.now (frame_in (P.means src.old)).objects }
+    requires count { length sizes.old ≡ (frame_in (P.means src.old)).objects }
+    ensures reads { OnlyReads (read_failed result) (P.means src.old) (P.means src.new) }
+    ensures exact { HonestlyIn (P.means src.old) (λ f F. (heights : List ℕ) → IsValid f F heights → IsOrder heights order.now
+        → IsEmpty sizes.old → GivesRead (λ _. AreSet f F heights order.now (length order.now) sizes.new) result) }
 {
     for n in order {
-        let size = size_of_object(src, frame, ObjectNo(*n), sizes)?;
+        let size = size_of_object(src, ObjectNo(*n), sizes)?;
         sizes[*n as usize] = Some(size);
     }
     Ok(())
 }
 
 /// A table with the sizes of these objects, which are in such an order.
-fn sizes_in_order<S: Source>(
+fn sizes_in_order<P: Framed>(
     alloc: Global,
-    src: &mut S,
-    frame: &Frame,
+    src: &mut P,
     order: &[u32],
 ) -> Result<Vec<Option<Size>>, CursorFault>
-    requires safe { IsSafe (length (S.means src.old).octets) frame.now }
-    requires inside { AreInside order.now frame.now.objects }
-    ensures reads { OnlyReads (cursor_read result) (S.means src.old) (S.means src.new) }
-    ensures exact { IsTrue (S.means src.old).honest → (heights : List ℕ) → IsValid (S.means src.old).octets frame.now heights
-        → IsOrder heights order.now
-        → GivesCursor (λ sizes. AreSet (S.means src.old).octets frame.now heights order.now (length order.now) sizes.items) result }
+    requires { AreInside order.now (frame_in (P.means src.old)).objects }
+    ensures reads { OnlyReads (cursor_read result) (P.means src.old) (P.means src.new) }
+    ensures exact { HonestlyIn (P.means src.old) (λ f F. (heights : List ℕ) → IsValid f F heights → IsOrder heights order.now
+        → GivesCursor (λ sizes. AreSet f F heights order.now (length order.now) sizes.items) result) }
 {
-    let mut sizes = vec![in alloc; None; frame.objects as usize]?;
-    measure_in_order(src, frame, order, &mut sizes)?;
+    let mut sizes = vec![in alloc; None; src.frame().objects as usize]?;
+    measure_in_order(src, order, &mut sizes)?;
     Ok(sizes)
 }
 
@@ -244,11 +202,11 @@ fn in_order<S: Source>(alloc: Global, checked: &Checked<S>) -> Result<Vec<u32>, 
 /// the source is honest.
 pub fn measure<S: Source>(alloc: Global, checked: &mut Checked<S>) -> Result<Measures, CursorFault>
     ensures reads { Keeps (cursor_read result) checked.old checked.new }
-    ensures exact { IsTrue checked.old.source.honest
-        → GivesCursor (AreMeasures checked.old.source.octets checked.old.frame checked.old.certificate.heights) result }
+    ensures exact { HonestlyChecked checked.old
+        (λ f F. GivesCursor (AreMeasures f F checked.old.certificate.heights) result) }
 {
-    let frame = checked.frame();
+    let _frame = checked.frame();
     let order = in_order(alloc, checked)?;
-    let sizes = sizes_in_order(alloc, checked, &frame, &order)?;
+    let sizes = sizes_in_order(alloc, checked, &order)?;
     Ok(Measures::new(sizes))
 }

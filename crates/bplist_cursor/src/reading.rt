@@ -1,6 +1,7 @@
 //! Objects of a checked file: their heads and references.
 
-ghost use Rattle.std.specs.Prelude.{◌≡◌, ℕ, ◌<◌, IsTrue, IfOk, length, slice_index};
+ghost use Rattle.std.specs.Prelude.{◌≡◌, ℕ, ◌<◌, IfOk, length, slice_index};
+ghost use Rattle.bplist_cert.specs.CheckedFile.{HonestlyChecked};
 ghost use Rattle.bplist_objects.specs.Heads.{Content, Spells, content_at, refs};
 ghost use Rattle.bplist_objects.specs.Safe.{IsSafeHead, IsSafeBody, ref_count};
 ghost use Rattle.bplist_cursor.specs.Causes.{GivesRead, read_failed};
@@ -15,9 +16,8 @@ use bplist_octets::Source;
 pub(crate) fn head_in<S: Source>(checked: &mut Checked<S>, n: ObjectNo) -> Result<Head, Unread>
     requires within { n.0 < checked.old.frame.objects }
     ensures reads { Keeps (read_failed result) checked.old checked.new }
-    ensures exact { IsTrue checked.old.source.honest → (content : Content)
-        → Spells checked.old.source.octets checked.old.frame n.0 content
-        → GivesRead (λ head. content ≡ content_at checked.old.source.octets checked.old.frame head) result }
+    ensures exact { HonestlyChecked checked.old (λ f F. (content : Content) → Spells f F n.0 content
+        → GivesRead (λ head. content ≡ content_at f F head) result) }
     ensures safe { IfOk result (IsSafeHead checked.old.frame) }
     ensures body { IfOk result (IsSafeBody (length checked.old.source.octets)) }
 {
@@ -34,10 +34,8 @@ pub(crate) fn reference_in<S: Source>(
     requires head { IsSafeHead checked.old.frame head.now }
     requires within { i < ref_count head.now.kind head.now.count }
     ensures reads { Keeps (read_failed result) checked.old checked.new }
-    ensures exact { IsTrue checked.old.source.honest → (n : ℕ) (content : Content)
-        → Spells checked.old.source.octets checked.old.frame n content
-        → content ≡ content_at checked.old.source.octets checked.old.frame head.now
-        → GivesRead (λ m. m.0 ≡ slice_index (refs content) i) result }
+    ensures exact { HonestlyChecked checked.old (λ f F. (n : ℕ) (content : Content) → Spells f F n content
+        → content ≡ content_at f F head.now → GivesRead (λ m. m.0 ≡ slice_index (refs content) i) result) }
     ensures inside { IfOk result (λ m. m.0 < checked.old.frame.objects) }
 {
     let frame = checked.frame();

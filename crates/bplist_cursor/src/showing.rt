@@ -2,6 +2,7 @@
 
 ghost use Rattle.std.specs.Prelude.{◌≡◌, ℕ, IsTrue, IfOk, IfErr, length, Err};
 ghost use Rattle.bplist_octets.specs.Octets.{part};
+ghost use Rattle.bplist_cert.specs.CheckedFile.{HonestlyChecked};
 ghost use Rattle.bplist_objects.specs.Value.{Value};
 ghost use Rattle.bplist_objects.specs.Heads.{Content, Spells, content_at, unit};
 ghost use Rattle.bplist_objects.specs.Holds.{Holds};
@@ -35,8 +36,8 @@ fn body_bytes<S: Source>(
     requires one { unit 1 head.now.kind ≡ 1 }
     requires head { IsSafeBody (length checked.old.source.octets) head.now }
     ensures reads { Keeps (cursor_read result) checked.old checked.new }
-    ensures value { GivesCursor (λ bytes. IsTrue checked.old.source.honest
-        → bytes ≡ part checked.old.source.octets head.now.body head.now.count) result }
+    ensures value { GivesCursor (λ bytes. HonestlyChecked checked.old
+        (λ f _. bytes ≡ part f head.now.body head.now.count)) result }
 {
     let mut bytes = vec![in alloc; 0u8; head.count as usize]?;
     octets_at(checked, head, 0, &mut bytes)?;
@@ -52,8 +53,7 @@ pub(crate) fn body_units<S: Source>(
     requires kind { IsTextKind head.now.kind }
     requires head { IsSafeBody (length checked.old.source.octets) head.now }
     ensures reads { Keeps (cursor_read result) checked.old checked.new }
-    ensures value { GivesCursor (λ units. IsTrue checked.old.source.honest
-        → units ≡ units_of checked.old.source.octets head.now) result }
+    ensures value { GivesCursor (λ units. HonestlyChecked checked.old (λ f _. units ≡ units_of f head.now)) result }
 {
     let mut units = vec![in alloc; 0u16; head.count as usize]?;
     read_units(checked, head, 0, &mut units)?;
@@ -69,9 +69,8 @@ fn face_by_head<S: Source>(
     requires head { IsSafeHead checked.old.frame head.now }
     requires body { IsSafeBody (length checked.old.source.octets) head.now }
     ensures reads { Keeps (cursor_read result) checked.old checked.new }
-    ensures content { IsTrue checked.old.source.honest → (n : ℕ)
-        → Spells checked.old.source.octets checked.old.frame n (content_at checked.old.source.octets checked.old.frame head.now)
-        → GivesCursor (λ shown. shown ≡ content_face (content_at checked.old.source.octets checked.old.frame head.now)) result }
+    ensures content { HonestlyChecked checked.old (λ f F. (n : ℕ) → Spells f F n (content_at f F head.now)
+        → GivesCursor (λ shown. shown ≡ content_face (content_at f F head.now)) result) }
     ensures room { IfOk result (HasRoom (length checked.old.source.octets)) }
 {
     let _frame = checked.frame();
@@ -98,9 +97,9 @@ fn face_of_node<S: Source>(
     node: Node,
 ) -> Result<Face, CursorFault>
     ensures reads { Keeps (cursor_read result) checked.old checked.new }
-    ensures content { IsTrue checked.old.source.honest → IsVouchedBy checked.old.certificate.heights node.object.0
-        → (content : Content) → Spells checked.old.source.octets checked.old.frame node.object.0 content
-        → GivesCursor (λ shown. shown ≡ content_face content) result }
+    ensures content { HonestlyChecked checked.old (λ f F. IsVouchedBy checked.old.certificate.heights node.object.0
+        → (content : Content) → Spells f F node.object.0 content → GivesCursor
+        (λ shown. shown ≡ content_face content) result) }
     ensures unvouched { (IsVouchedBy checked.old.certificate.heights node.object.0 → ⊥) → result ≡ Err Changed }
     ensures room { IfOk result (HasRoom (length checked.old.source.octets)) }
 {
@@ -122,12 +121,11 @@ pub fn face<S: Source>(
     node: Node,
 ) -> Result<Face, CursorFault>
     ensures reads { Keeps (cursor_read result) checked.old checked.new }
-    ensures value { IsTrue checked.old.source.honest → IsVouchedBy checked.old.certificate.heights node.object.0
-        → (v : Value) → Holds checked.old.source.octets checked.old.frame node.object.0 v
-        → GivesCursor (λ shown. shown ≡ face_of v) result }
-    ensures content { IsTrue checked.old.source.honest → IsVouchedBy checked.old.certificate.heights node.object.0
-        → (content : Content) → Spells checked.old.source.octets checked.old.frame node.object.0 content
-        → GivesCursor (λ shown. shown ≡ content_face content) result }
+    ensures value { HonestlyChecked checked.old (λ f F. IsVouchedBy checked.old.certificate.heights node.object.0
+        → (v : Value) → Holds f F node.object.0 v → GivesCursor (λ shown. shown ≡ face_of v) result) }
+    ensures content { HonestlyChecked checked.old (λ f F. IsVouchedBy checked.old.certificate.heights node.object.0
+        → (content : Content) → Spells f F node.object.0 content → GivesCursor
+        (λ shown. shown ≡ content_face content) result) }
     ensures unchanged { IsTrue checked.old.source.honest → IsVouchedBy checked.old.certificate.heights node.object.0
         → IfErr result IsExcused }
     ensures unvouched { (IsVouchedBy checked.old.certificate.heights node.object.0 → ⊥) → result ≡ Err Changed }

@@ -1,6 +1,7 @@
 //! One step of a path.
 
-ghost use Rattle.std.specs.Prelude.{◌≡◌, ◌<◌, ◌+◌, IsTrue, IfOk, OnOk};
+ghost use Rattle.std.specs.Prelude.{◌≡◌, ◌<◌, ◌+◌, IfOk, OnOk};
+ghost use Rattle.bplist_cert.specs.CheckedFile.{HonestlyChecked};
 ghost use Rattle.bplist_objects.specs.Value.{Value};
 ghost use Rattle.bplist_objects.specs.Heads.{Spells, Content, content_at};
 ghost use Rattle.bplist_objects.specs.Holds.{Holds};
@@ -46,11 +47,9 @@ fn place_of<S: Source>(
     requires within { n.0 < checked.old.frame.objects }
     requires head { IsSafeHead checked.old.frame head.now }
     ensures reads { Keeps (read_failed result) checked.old checked.new }
-    ensures exact { IsTrue checked.old.source.honest → IsVouchedBy checked.old.certificate.heights n.0 → (content : Content)
-        → Spells checked.old.source.octets checked.old.frame n.0 content
-        → content ≡ content_at checked.old.source.octets checked.old.frame head.now
-        → HasTextKeys checked.old.source.octets checked.old.frame content
-        → GivesRead (IsPlace checked.old.source.octets checked.old.frame content units.now) result }
+    ensures exact { HonestlyChecked checked.old (λ f F. IsVouchedBy checked.old.certificate.heights n.0
+        → (content : Content) → Spells f F n.0 content → content ≡ content_at f F head.now → HasTextKeys f F content
+        → GivesRead (IsPlace f F content units.now) result) }
     ensures inside { IfOk result (IsPlaceBelow (ref_count head.now.kind head.now.count)) }
     ensures bound { RisesAtMost checked.old made.old made.new (halvings_of head.now.kind head.now.count) }
 {
@@ -79,13 +78,11 @@ pub(crate) fn step_at<S: Source>(
 ) -> Result<Step, Unread>
     requires within { n.0 < checked.old.frame.objects }
     ensures reads { Keeps (read_failed result) checked.old checked.new }
-    ensures exact { IsTrue checked.old.source.honest → IsVouchedBy checked.old.certificate.heights n.0 → (v : Value)
-        → Holds checked.old.source.octets checked.old.frame n.0 v
-        → GivesRead (IsStep checked.old.source.octets checked.old.frame n.0 v units.now) result }
+    ensures exact { HonestlyChecked checked.old (λ f F. IsVouchedBy checked.old.certificate.heights n.0 → (v : Value)
+        → Holds f F n.0 v → GivesRead (IsStep f F n.0 v units.now) result) }
     ensures inside { IfOk result (IsInside checked.old.frame.objects) }
-    ensures bound { OnOk result (IsTrue checked.old.source.honest → (v : Value)
-        → Holds checked.old.source.octets checked.old.frame n.0 v
-        → RisesAtMost checked.old made.old made.new (halvings_at v)) }
+    ensures bound { OnOk result (HonestlyChecked checked.old (λ f F. (v : Value) → Holds f F n.0 v
+        → RisesAtMost checked.old made.old made.new (halvings_at v))) }
 {
     let head = head_in(checked, n)?;
     match place_of(checked, n, &head, units, made)? {

@@ -1,8 +1,8 @@
 //! The length of a text's old-style form.
 
-ghost use Rattle.std.specs.Prelude.{◌≡◌, ◌≤◌, length, flat_map, IsTrue, IfOk, is_err};
+ghost use Rattle.std.specs.Prelude.{◌≡◌, ◌≤◌, length, flat_map, IfOk, is_err};
 ghost use Rattle.std.specs.List.{list_all};
-ghost use Rattle.bplist_octets.specs.Meaning.{OnlyReads};
+ghost use Rattle.bplist_octets.specs.Meaning.{OnlyReads, Honestly};
 ghost use Rattle.bplist_objects.specs.Safe.{IsSafeBody};
 ghost use Rattle.bplist_objects.specs.Units.{IsTextKind, units_of};
 ghost use Rattle.bplist_cursor.specs.Nodes.{cap};
@@ -57,8 +57,8 @@ pub(crate) fn text_length<S: Source>(src: &mut S, head: &Head) -> Result<u64, Re
     requires kind { IsTextKind head.now.kind }
     requires head { IsSafeBody (length (S.means src.old).octets) head.now }
     ensures reads { OnlyReads (is_err result) (S.means src.old) (S.means src.new) }
-    ensures exact { IfOk result (λ n. IsTrue (S.means src.old).honest
-        → n ≡ cap (length (texts.text_of_units (units_of (S.means src.old).octets head.now)))) }
+    ensures exact { IfOk result (λ n. Honestly (S.means src.old)
+        (λ f. n ≡ cap (length (texts.text_of_units (units_of f head.now))))) }
 {
     let mut buffer = [0u16; BLOCK];
     let mut plain = true;

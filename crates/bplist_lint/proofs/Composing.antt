@@ -21,18 +21,20 @@ use Rattle.bplist_cert.proofs.Vouching.{reached_vouched}
 use Rattle.bplist_lint.specs.declared.refusal.LintRefusal.{LintRefusal}
 use Rattle.bplist_lint.specs.declared.refusal.LintRefusal.TheVariants as refusals
 use Rattle.bplist_lint.specs.declared.answer.Lint.{Lint}
-use Rattle.bplist_lint.specs.declared.linting.Sifted.{Sifted}
-use Rattle.bplist_lint.specs.Graph.{Reaches, AreLeast, IsCircleOf}
+use Rattle.bplist_lint.specs.declared.walking.Reached.{Reached}
+use Rattle.bplist_lint.specs.Graph.{Reaches, AreWhole, AreLeast, IsCircleOf}
 use Rattle.bplist_lint.specs.Reaching.{IsMarked}
-use Rattle.bplist_lint.specs.ReachRules.{Tallied, sum_below, number_below, references_below, is_marked}
-use Rattle.bplist_lint.specs.KeyRules.{KeepKeysBelow}
+use Rattle.bplist_lint.specs.ReachRules.{KeepReachBelow, sum_below, number_below, references_below, is_marked}
+use Rattle.bplist_lint.specs.Referring.{graph_of}
 use Rattle.bplist_lint.specs.FileFault.{IsFileFault, IsFileCircle, IsObjectsFault, IsFramedCircle}
 use Rattle.bplist_lint.specs.Refusals.{of_object, of_check, Refuses, Lints, no_circle}
-use Rattle.bplist_lint.specs.Places.{AreKept, AreBelowTable, IsPlaceFault}
+use Rattle.bplist_keys.specs.Places.{AreKept}
+use Rattle.bplist_lint.specs.Places.{AreBelowTable, IsPlaceFault}
 use Rattle.bplist_lint.specs.Least.{AreLeastHeights}
 use Rattle.bplist_lint.specs.Linted.{is_vouched, IsSifted, IsLintedBy, IsLinted, HasNoHeights}
 use Rattle.bplist_lint.proofs.Forming.{formed_holds, holds_formed}
 use Rattle.bplist_lint.proofs.Keeping.{kept_spells}
+use Rattle.bplist_lint.proofs.Referring.{all_announced}
 use Rattle.bplist_lint.proofs.PlaceSteps.{kept_low, kept_high}
 use Rattle.bplist_lint.proofs.Graphing.{reach_iff, circle_iff}
 use Rattle.bplist_lint.proofs.Answering.{formed_by_valid, least_lowest, lint_yes}
@@ -58,13 +60,13 @@ pub lints_mean : {X : Type 0} → (P O : X → Type 0) (Q S : Fault → Type 0) 
 lints_mean P O Q S R T (Ok x) oks faults circles h = oks x h
 lints_mean P O Q S R T (Err e) oks faults circles h = refusal_means Q S R T e faults circles h
 
--- what is marked in the graph is reached in the file
-pub reached_exact : (f : List ℕ) (F : Frame) (marks : List Bool) → ((n : ℕ) → IsMarked marks n ↔ Reaches (refs_at f F) F.top.0 n) → (n : ℕ) → IsMarked marks n ↔ Reach f F n
-reached_exact f F marks h n = ((λ m. (reach_iff f F n).0 ((h n).0 m)), λ r. (h n).1 ((reach_iff f F n).1 r))
-
--- and what is reached in the file is marked in the graph
+-- what is reached in the file is marked in the graph
 pub reached_in_graph : (f : List ℕ) (F : Frame) (marks : List Bool) → ((n : ℕ) → IsMarked marks n ↔ Reach f F n) → (n : ℕ) → IsMarked marks n ↔ Reaches (refs_at f F) F.top.0 n
 reached_in_graph f F marks h n = ((λ m. (reach_iff f F n).1 ((h n).0 m)), λ r. (h n).1 ((reach_iff f F n).0 r))
+
+-- where the reached objects keep their rules, each has all references that it announces
+pub are_whole : (f : List ℕ) (F : Frame) → IsFrame f F → KeepReachBelow f F F.objects → (through beside : ℕ) → AreWhole (graph_of through beside f F) F.top.0
+are_whole f F frame kept through beside n r = let s = kept_spells f F frame kept n ((reach_iff f F n).0 r) in all_announced f F n s.0 s.1
 
 -- ---- sums over the same objects
 sum_same : (g k : ℕ → ℕ) (n : ℕ) → ((m : ℕ) → m < n → g m ≡ k m) → sum_below g n ≡ sum_below k n
@@ -81,36 +83,26 @@ vouched-lt zero e = absurd (false≢true e)
 vouched-lt (suc h) e = omega arith
 
 module _ (f : List ℕ) (F : Frame) where
-  -- the passes over the objects
-  pub is_sifted : (sifted : Sifted) → ((n : ℕ) → IsMarked sifted.marked.marks.items n ↔ Reach f F n) → Tallied f F sifted.marked.marks.items F.objects sifted.tally → KeepKeysBelow f F F.objects → IsSifted f F sifted
-  is_sifted sifted marked t keys = record {
-    marked = marked;
-    kept = t.kept;
-    keys = keys;
-    reached = t.reached;
-    references = t.references;
-  }
-
   -- the marked objects are those with a height
-  module _ (sifted : Sifted) (s : IsSifted f F sifted) (heights : List ℕ) (least : AreLeastHeights f F heights) (vouched : (n : ℕ) → Reach f F n → IsVouchedBy heights n) where
-    same_objects : (n : ℕ) → is_marked sifted.marked.marks.items n ≡ is_vouched heights n
-    same_objects n = same_bools (is_marked sifted.marked.marks.items n) (is_vouched heights n)
-        (λ e. let v = vouched n ((s.marked n).0 e) in lt-ltb 0 (slice_index heights n) (omega arith))
-        (λ e. let v = vouched-lt (slice_index heights n) e in (s.marked n).1 (least.only n (omega arith)))
+  module _ (reached : Reached) (s : IsSifted f F reached) (heights : List ℕ) (least : AreLeastHeights f F heights) (vouched : (n : ℕ) → Reach f F n → IsVouchedBy heights n) where
+    same_objects : (n : ℕ) → is_marked reached.marks.items n ≡ is_vouched heights n
+    same_objects n = same_bools (is_marked reached.marks.items n) (is_vouched heights n)
+        (λ e. let v = vouched n ((s.walked.marked n).0 e) in lt-ltb 0 (slice_index heights n) (omega arith))
+        (λ e. let v = vouched-lt (slice_index heights n) e in (s.walked.marked n).1 (least.only n (omega arith)))
 
-    pub same_number : sifted.tally.reached ≡ number_below (is_vouched heights) F.objects
-    same_number = s.reached ∙ sum_same _ _ F.objects (λ m low. ap (λ b. cond b 1 0) (same_objects m))
+    pub same_number : reached.tally.reached ≡ number_below (is_vouched heights) F.objects
+    same_number = s.walked.tallied.reached ∙ sum_same _ _ F.objects (λ m low. ap (λ b. cond b 1 0) (same_objects m))
 
-    pub same_references : sifted.tally.references ≡ references_below f F (is_vouched heights) F.objects
-    same_references = s.references ∙ sum_same _ _ F.objects (λ m low. ap (λ b. cond b (length (refs_at f F m)) 0) (same_objects m))
+    pub same_references : reached.tally.references ≡ references_below f F (is_vouched heights) F.objects
+    same_references = s.walked.tallied.references ∙ sum_same _ _ F.objects (λ m low. ap (λ b. cond b (length (refs_at f F m)) 0) (same_objects m))
 
   -- the answer
-  pub linted : IsFrame f F → (sifted : Sifted) → IsSifted f F sifted → sifted.tally.references + 8 ≤ F.table → (lint : Lint) → lint.certificate.keys ≡ None
+  pub linted : IsFrame f F → (reached : Reached) → IsSifted f F reached → reached.tally.references + 8 ≤ F.table → (lint : Lint) → lint.certificate.keys ≡ None
       → length lint.certificate.heights ≡ F.objects → AreLeast (refs_at f F) F.top.0 lint.certificate.heights → lint.height ≡ slice_index lint.certificate.heights F.top.0 → 0 < lint.height
-      → lint.reached ≡ sifted.tally.reached → lint.references ≡ sifted.tally.references → IsLintedBy f F lint
+      → lint.reached ≡ reached.tally.reached → lint.references ≡ reached.tally.references → IsLintedBy f F lint
   linted frame sifted s few lint version count walked height has reached references =
       let heights : List ℕ = lint.certificate.heights in
-      let yes = lint_yes f F frame s.kept s.keys heights count walked (omega (arith, height)) in
+      let yes = lint_yes f F frame s.walked.tallied.kept s.keys heights count walked (omega (arith, height)) in
       let value = formed_holds f F yes.0 in
       let vouched : (n : ℕ) → Reach f F n → IsVouchedBy heights n = reached_vouched f F heights yes.2 in
       record {
@@ -127,8 +119,8 @@ module _ (f : List ℕ) (F : Frame) where
       }
 
   -- the circle
-  pub circled : IsFrame f F → (sifted : Sifted) → IsSifted f F sifted → (circle : List ℕ) → IsCircleOf (refs_at f F) F.top.0 circle → IsFramedCircle f F circle
-  circled frame sifted s circle c = (s.kept, s.keys, (circle_iff f F (kept_spells f F frame s.kept) circle).0 c)
+  pub circled : IsFrame f F → (reached : Reached) → IsSifted f F reached → (circle : List ℕ) → IsCircleOf (refs_at f F) F.top.0 circle → IsFramedCircle f F circle
+  circled frame sifted s circle c = (s.walked.tallied.kept, s.keys, (circle_iff f F (kept_spells f F frame s.walked.tallied.kept) circle).0 c)
 
 -- ---- a fault excludes heights and values
 pub fault_decides : (f : List ℕ) (fault : Fault) → IsFileFault f fault → HasNoHeights f

@@ -1,14 +1,16 @@
-pub mod LookSteps
+pub mod Noting
 pub mod ReachSteps
 pub mod VisitSteps
 pub mod WalkSteps
 pub mod TrailSteps
-pub mod Opening
 pub mod Referring
 pub mod Tallying
+pub mod Walks
+pub mod Visiting
 pub mod PlaceSteps
+pub mod PlaceSetting
 pub mod KeySteps
-pub mod Fingerprinting
+pub mod KeyClassing
 pub mod Founding
 pub mod Forming
 pub mod Making
@@ -21,5 +23,6 @@ pub mod Answering
 pub mod Composing
 pub mod Closing
 pub mod Completing
+pub mod KeyListing
 pub mod ListSteps
 pub mod UpgradeSteps

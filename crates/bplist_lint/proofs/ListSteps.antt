@@ -2,8 +2,8 @@
 use Rattle.std.proofs.Common.{◌≡◌, ◌≢◌, inl, inr, ℕ, zero, suc, ◌+◌, ◌-◌, ◌*◌, ◌<◌, ◌≤◌, rules, true, false, List, [], ◌++◌, length, take, drop, set, slice_index, Some, None, refl, sym, ◌∙◌, ap, subst, arith, lt-ltb}
 use Rattle.std.specs.List.{AllByRecursion}
 use Rattle.std.proofs.Math.Seq.{drop-append_seam, take-length}
-use Rattle.std.proofs.lemmas.Bool.{cases_eq}
-use Rattle.std.proofs.lemmas.List.{get_or-set_same, get_or-set_other, length-append, length-drop, drop-append-le, take-append-le}
+use Rattle.std.proofs.lemmas.Bool.{cases_eq, cases_lt}
+use Rattle.std.proofs.lemmas.List.{get_or-set_same, get_or-set_other, get_or_past, length-append, length-drop, drop-append-le, take-append-le}
 use Rattle.bplist_octets.specs.Octets.{part}
 use Rattle.bplist_objects.specs.declared.frame.Frame.{Frame}
 use Rattle.bplist_objects.specs.declared.kind.Kind.{Kind}
@@ -14,6 +14,8 @@ use Rattle.bplist_objects.specs.Heads.{Content, HasShape, Spells, unit, content_
 use Rattle.bplist_objects.specs.Announced.{HasHead}
 use Rattle.bplist_objects.specs.Extents.{HaveRoom}
 use Rattle.bplist_objects.specs.Spelled.{spelled_at}
+use Rattle.bplist_objects.specs.Rules.{KeepsAll}
+use Rattle.bplist_objects.specs.ObjectRules.{KeepsByObject, object_rules}
 use Rattle.bplist_objects.proofs.Lists.{all_weaker}
 use Rattle.bplist_objects.proofs.Filling.{shape_extent}
 use Rattle.bplist_objects.proofs.BodyLaws.{HasHead-unique}
@@ -23,9 +25,8 @@ use Rattle.bplist_objects.proofs.References.{length-nums_at}
 use Rattle.bplist_cert.specs.Lists.{Keyed}
 use Rattle.bplist_cert.specs.Valid.{IsVouchedBy, IsValid}
 use Rattle.bplist_cert.specs.Keys.{HaveTexts, KeysDiffer, AreInOrder}
-use Rattle.bplist_cert.specs.Heights.{ref}
-use Rattle.bplist_cert.specs.Places.{KeysAreSound}
-use Rattle.bplist_cert.specs.Listing.{IsListed}
+use Rattle.bplist_keys.specs.Classes.{HasNamedKeys}
+use Rattle.bplist_lint.specs.KeyLists.{IsListed}
 use Rattle.bplist_cert.proofs.Accepting.{accepted, keeps_all}
 use Rattle.bplist_lint.specs.Linted.{is_vouched}
 use Rattle.bplist_lint.specs.Upgraded.{is_dict, pairs_of, pairs, start, Listed, IsUpgraded}
@@ -187,15 +188,26 @@ module _ (f : List ℕ) (F : Frame) (heights : List ℕ) where
     pub vouched_keys : head.kind ≡ kinds.Dict → HaveTexts f F head head.count × KeysDiffer f F head head.count
     vouched_keys dict = let o = valid.vouched n vouched in rules_from_keys f F n head vouched_shape o.content o.spells o.keys dict
 
-    -- which keep rules 14 to 20
-    pub vouched_sound : head.kind ≡ kinds.Dict → KeysAreSound f F head
-    vouched_sound dict k low inside =
+    -- an object of height 1 names no keys
+    pub no_keys : (named : List ℕ) → slice_index heights n ≤ 1 → HasNamedKeys f F named n
+    no_keys named small other other_has dict k low =
         let o = valid.vouched n vouched in
+        let same = HasHead-unique f F n head other has other_has in
         let body = spells_body f F n head o.content vouched_shape o.spells in
         let lower = subst (λ c. AllByRecursion (λ m. IsVouchedBy heights m × (slice_index heights m < slice_index heights n)) (refs c)) body o.lower in
-        let key = each_key f F (λ m. IsVouchedBy heights m × (slice_index heights m < slice_index heights n)) head dict lower k low in
-        let of_key = valid.vouched (ref f F head k) key.0 in
-        spells_keeps f F (ref f F head k) valid.frame inside of_key.content of_key.spells
+        let key = each_key f F (λ m. IsVouchedBy heights m × (slice_index heights m < slice_index heights n)) head (rw same dict) lower k (rw same low) in
+        absurd (omega (arith, key.0, key.1, small))
+
+  -- an object that is vouched for keeps rules 14 to 20
+  module _ (valid : IsValid f F heights) (n : ℕ) (vouched : IsVouchedBy heights n) where
+    pub vouched_within : n < F.objects
+    vouched_within = elim (cases_lt n (length heights)) [
+      | inl lt ↦ omega (arith, lt, valid.count)
+      | inr ge ↦ absurd (let none = get_or_past heights n 0 ge in omega (arith, vouched, none))
+    ]
+
+    pub vouched_kept : KeepsAll (KeepsByObject f F n) object_rules
+    vouched_kept = let o = valid.vouched n vouched in spells_keeps f F n valid.frame vouched_within o.content o.spells
 
   -- all are listed
   module _ (valid : IsValid f F heights) (keyed : Keyed) (count : length keyed.starts ≡ F.objects) (l : Listed f F heights F.objects keyed.starts keyed.positions) where

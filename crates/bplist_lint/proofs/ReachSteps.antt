@@ -1,99 +1,181 @@
--- What the walk that marks the reached objects keeps true.
-use Rattle.std.proofs.Common.{◌≡◌, ℕ, zero, suc, ◌+◌, ◌∙◌, ◌<◌, inl, inr, Bool, true, false, List, [], ◌∷◌, ◌++◌, length, get_or, set, replicate, Contains, sym, arith}
-use Rattle.std.proofs.lemmas.Bool.{false≢true, cases_eq}
+-- What the search for the reached objects keeps true.
+use Rattle.std.proofs.Common.{◌≡◌, ℕ, zero, suc, ◌+◌, ◌-◌, ◌*◌, ◌/◌, ◌%◌, ◌∙◌, ◌<◌, ◌≤◌, ◌↔◌, inl, inr, Bool, true, false, List, [], ◌∷◌, ◌++◌, length, set, replicate, Contains, sym, ap, ap₂, subst, arith}
+use Rattle.std.proofs.Math.Nat.{add-mul, div-mul-le_self, le-div_iff_mul-le, mod-lt, mul-le-mul_right}
+use Rattle.std.proofs.lemmas.Nat.{div-mul-add, mod-mul-add, div-add-mod', mul-add-lt}
+use Rattle.std.proofs.lemmas.Bool.{false≢true, cases_eq, cases_lt}
 use Rattle.std.proofs.lemmas.List.{get_or-set_same, get_or-set_other, get_or_default, length-replicate}
 use Rattle.std.proofs.lemmas.List.Elements.{Contains-append_left, Contains-push, Contains-push_cases}
-use Rattle.bplist_lint.specs.Graph.{Reaches}
-use Rattle.bplist_lint.specs.Graph.Reaches.{start, onward}
-use Rattle.bplist_lint.specs.Reaching.{IsMarked, Looked, Marking, Emptying}
-use Rattle.bplist_lint.proofs.VisitSteps.{unwritten}
+use Rattle.bplist_objects.specs.declared.frame.Frame.{Frame}
+use Rattle.bplist_objects.specs.declared.head.Head.{Head}
+use Rattle.bplist_objects.specs.Heads.{content_at, refs}
+use Rattle.bplist_objects.specs.Numbers.{num_at}
+use Rattle.bplist_objects.specs.Reach.{Reach, top, next}
+use Rattle.bplist_objects.specs.Safe.{ref_count}
+use Rattle.bplist_objects.specs.Scan.{AreBelow, nth_number}
+use Rattle.bplist_objects.specs.Spelled.{refs_at}
+use Rattle.bplist_objects.proofs.Reaching.{refs_iff}
+use Rattle.bplist_objects.proofs.References.{length-refs, nth-refs}
+use Rattle.bplist_lint.specs.Reaching.{IsMarked, HasMarks, row, number_at, set_size, reference_at, AreGood, AreFollowed, Looked, IsSearching}
+use Rattle.bplist_lint.specs.PlaceSets.{IsIn}
+use Rattle.bplist_lint.proofs.VisitSteps.{seen-set, unwritten}
 
-none_contained : (m : ℕ) → Contains [] m → ⊥
+pub none_contained : (m : ℕ) → Contains [] m → ⊥
 none_contained m c = omega (arith, c.1)
-
--- one object of the stack was looked at
-pub emptying_step : (refs : ℕ → List ℕ) (top current n : ℕ) (marks : List Bool) (stack : List ℕ) (marks' : List Bool) (stack' : List ℕ) → Emptying refs top current marks (stack ++ n ∷ []) → Looked (refs n) current (length (refs n)) marks stack marks' stack' → Emptying refs top current marks' stack'
-emptying_step refs top current n marks stack marks' stack' r s =
-    let at_n : Reaches refs top n = r.on_stack n (Contains-push stack n) in
-    record {
-      begun = s.keeps_marks top r.begun;
-      sound = λ m h. elim (s.fresh m h) [ inl old ↦ r.sound m old | inr new ↦ onward n m at_n new.0 ];
-      on_stack = λ m h. elim (s.waiting m h) [ inl old ↦ r.on_stack m (Contains-append_left stack (n ∷ []) m old) | inr new ↦ onward n m at_n new ];
-      closed = λ m h. elim (s.fresh m h) [
-        | inl old ↦ elim (r.closed m old) [
-          | inl above ↦ inl above
-          | inr later ↦ elim later [
-            | inl w ↦ elim (Contains-push_cases stack n m w) [ inl on ↦ inr (inl (s.keeps_stack m on)) | inr e ↦ inr (inr (rw (← e) s.all)) ]
-            | inr all ↦ inr (inr (λ i in'. s.keeps_marks _ (all i in')))
-          ]
-        ]
-        | inr new ↦ elim new.1 [ inl above ↦ inl above | inr on ↦ inr (inl on) ]
-      ];
-    }
-
--- object n goes onto the empty stack
-pub emptying_start : (refs : ℕ → List ℕ) (top n : ℕ) (marks : List Bool) → Marking refs top n marks → IsMarked marks n → Emptying refs top n marks ([] ++ n ∷ [])
-emptying_start refs top n marks w is = record {
-  begun = w.begun;
-  sound = w.sound;
-  on_stack = λ m h. elim (Contains-push_cases [] n m h) [ inl none ↦ absurd (none_contained m none) | inr e ↦ rw (← e) (w.sound n is) ];
-  closed = λ m h. elim (w.closed m h) [
-    | inl from ↦ elim (cases_eq m n) [
-      | inl e ↦ inr (inl (rw e (Contains-push [] n)))
-      | inr ne ↦ inl (omega arith)
-    ]
-    | inr all ↦ inr (inr all)
-  ];
-}
-
--- the stack is empty again
-pub emptying_end : (refs : ℕ → List ℕ) (top n : ℕ) (marks : List Bool) → Emptying refs top n marks [] → Marking refs top (n + 1) marks
-emptying_end refs top n marks w = record {
-  begun = w.begun;
-  sound = w.sound;
-  closed = λ m h. elim (w.closed m h) [
-    | inl above ↦ inl (omega arith)
-    | inr later ↦ elim later [ inl on ↦ absurd (none_contained m on) | inr all ↦ inr all ]
-  ];
-}
-
--- object n is not marked
-pub marking_over : (refs : ℕ → List ℕ) (top n : ℕ) (marks : List Bool) → Marking refs top n marks → get_or marks n false ≡ false → Marking refs top (n + 1) marks
-marking_over refs top n marks w not_marked = record {
-  begun = w.begun;
-  sound = w.sound;
-  closed = λ m h. elim (w.closed m h) [
-    | inl from ↦ elim (cases_eq m n) [
-      | inl e ↦ absurd (false≢true (sym not_marked ∙ rw e at h))
-      | inr ne ↦ inl (omega arith)
-    ]
-    | inr all ↦ inr all
-  ];
-}
 
 pub marked_within : (marks : List Bool) (n : ℕ) → IsMarked marks n → n < length marks
 marked_within [] n h = absurd (false≢true h)
 marked_within (x ∷ marks) zero h = omega arith
 marked_within (x ∷ marks) (suc n) h = let r = marked_within marks n h in omega arith
 
-pub marking_end : (refs : ℕ → List ℕ) (top : ℕ) (marks : List Bool) → Marking refs top (length marks) marks → (n : ℕ) → Reaches refs top n → IsMarked marks n
-marking_end refs top marks r _ start = r.begun
-marking_end refs top marks r _ (onward p n reached c) =
-    let at_p = marking_end refs top marks r p reached in
-    elim (r.closed p at_p) [
-      | inl from ↦ absurd (let low = marked_within marks p at_p in omega arith)
-      | inr all ↦ rw (← c.2) (rw (get_or_default (refs p) c.0 n 0 c.1) (all c.0 c.1))
+-- ---- places by numbers
+-- there are few more numbers than places
+pub size_small : (F : Frame) → set_size F ≤ F.table + F.ref_size
+size_small F =
+    let whole = div-mul-le_self F.table F.ref_size in
+    let sum = add-mul (F.table / F.ref_size) 1 F.ref_size in
+    omega (arith, whole, sum)
+
+pub number_low : (F : Frame) (place : ℕ) → 1 ≤ F.ref_size → place ≤ F.table → number_at F place < set_size F
+number_low F place some within =
+    let part = div-mul-le_self place F.ref_size in
+    let low = (le-div_iff_mul-le {k = F.ref_size} {x = place / F.ref_size} {y = F.table} some).1 (omega (arith, part, within)) in
+    let below : place / F.ref_size < row F = omega (arith, low) in
+    mul-add-lt (place % F.ref_size) (row F) (place / F.ref_size) F.ref_size (mod-lt place some) below
+
+module _ (F : Frame) (some : 1 ≤ F.ref_size) (place k : ℕ) (within : place + (k + 1) * F.ref_size ≤ F.table) where
+  column : place / F.ref_size + k < row F
+  column =
+      let part = div-add-mod' place F.ref_size in
+      let sum = add-mul (place / F.ref_size) k F.ref_size in
+      let more = add-mul k 1 F.ref_size in
+      let low = (le-div_iff_mul-le {k = F.ref_size} {x = place / F.ref_size + k} {y = F.table} some).1 (omega (arith, part, sum, more, within)) in
+      omega (arith, low)
+
+  number_is : number_at F place + k ≡ place % F.ref_size * row F + (place / F.ref_size + k)
+  number_is = omega arith
+
+  -- the numbers of the references of a body follow one another
+  pub place_back : (number_at F place + k) % row F * F.ref_size + (number_at F place + k) / row F ≡ place + k * F.ref_size
+  place_back =
+      let low = ap (λ x. x % row F) number_is ∙ mod-mul-add (place % F.ref_size) (row F) (place / F.ref_size + k) column in
+      let high = ap (λ x. x / row F) number_is ∙ div-mul-add (place % F.ref_size) (row F) (place / F.ref_size + k) column in
+      let part = div-add-mod' place F.ref_size in
+      let sum = add-mul (place / F.ref_size) k F.ref_size in
+      ap₂ (λ a b. a * F.ref_size + b) low high ∙ omega (arith, part, sum)
+
+  pub reference_back : (f : List ℕ) → reference_at f F (number_at F place + k) ≡ nth_number f place F.ref_size k
+  reference_back f = ap (λ p. num_at f p F.ref_size) place_back
+
+  -- and each is a number of the set
+  pub number_fits : number_at F place + k < set_size F
+  number_fits =
+      let fit = mul-add-lt (place % F.ref_size) (row F) (place / F.ref_size + k) F.ref_size (mod-lt place some) column in
+      omega (arith, number_is, fit)
+
+-- what was looked at so far
+module _ (references : List ℕ) (marks : List Bool) (stack : List ℕ) where
+  pub looked_none : Looked references marks stack marks stack
+  looked_none = record { keeps_marks = λ m h. h; keeps_stack = λ m h. h; fresh = λ m h. inl h; waiting = λ m h. inl h }
+
+  -- a reference to an object that was not marked
+  pub looked_more : (marks' : List Bool) (stack' : List ℕ) (m : ℕ) → Looked references marks stack marks' stack' → Contains references m → m < length marks' → Looked references marks stack (set marks' m true) (stack' ++ m ∷ [])
+  looked_more marks' stack' m s among fits = record {
+    keeps_marks = λ n h. seen-set marks' m n fits (s.keeps_marks n h);
+    keeps_stack = λ n h. Contains-append_left stack' (m ∷ []) n (s.keeps_stack n h);
+    fresh = λ n h. elim (cases_eq n m) [
+      | inl e ↦ inr (rw e among, rw e (Contains-push stack' m))
+      | inr d ↦ elim (s.fresh n (rw (get_or-set_other marks' m n true false d) at h)) [
+        | inl old ↦ inl old
+        | inr new ↦ inr (new.0, Contains-append_left stack' (m ∷ []) n new.1)
+      ]
+    ];
+    waiting = λ n h. elim (Contains-push_cases stack' m n h) [
+      | inl w ↦ elim (s.waiting n w) [ inl old ↦ inl old | inr new ↦ inr (seen-set marks' m n fits new) ]
+      | inr e ↦ rw (← e) (inr (get_or-set_same marks' m true false fits))
+    ];
+  }
+
+module _ (f : List ℕ) (F : Frame) where
+  -- one object of the stack was looked at
+  pub searching_step : (n : ℕ) (stack : List ℕ) (marks : List Bool) (good followed : List ℕ) (stack' : List ℕ) (marks' : List Bool) (good' followed' : List ℕ) → IsSearching f F (stack ++ n ∷ []) marks good followed
+      → Looked (refs_at f F n) marks stack marks' stack' → HasMarks marks' (refs_at f F n) → AreGood f F good' → AreFollowed f F followed' marks' → IsSearching f F stack' marks' good' followed'
+  searching_step n stack marks good followed stack' marks' good' followed' w s all known_good known_followed =
+      let at_n : Reach f F n = w.sound n (w.on_stack n (Contains-push stack n)) in
+      record {
+        begun = s.keeps_marks F.top.0 w.begun;
+        sound = λ m h. elim (s.fresh m h) [ inl old ↦ w.sound m old | inr new ↦ next at_n ((refs_iff f F n m).1 new.0) ];
+        on_stack = λ m c. elim (s.waiting m c) [
+          | inl old ↦ s.keeps_marks m (w.on_stack m (Contains-append_left stack (n ∷ []) m old))
+          | inr new ↦ new
+        ];
+        closed = λ m h. elim (s.fresh m h) [
+          | inl old ↦ elim (w.closed m old) [
+            | inl on ↦ elim (Contains-push_cases stack n m on) [ inl rest ↦ inl (s.keeps_stack m rest) | inr e ↦ inr (rw (← e) all) ]
+            | inr marked ↦ inr (λ i low. s.keeps_marks _ (marked i low))
+          ]
+          | inr new ↦ inl new.1
+        ];
+        known_good = known_good;
+        known_followed = known_followed;
+      }
+
+  -- an object without references was
+  pub searching_none : (n : ℕ) (stack : List ℕ) (marks : List Bool) (good followed good' : List ℕ) → IsSearching f F (stack ++ n ∷ []) marks good followed → refs_at f F n ≡ [] → AreGood f F good' → IsSearching f F stack marks good' followed
+  searching_none n stack marks good followed good' w none known_good =
+      searching_step n stack marks good followed stack marks good' followed w (looked_none (refs_at f F n) marks stack) (λ i low. absurd (let z = ap length none in omega (arith, low, z))) known_good w.known_followed
+
+  -- the top is marked
+  pub searching_start : (good followed : List ℕ) → F.top.0 < F.objects → ((k : ℕ) → IsIn good k → ⊥) → ((k : ℕ) → IsIn followed k → ⊥) → IsSearching f F ([] ++ F.top.0 ∷ []) (set (replicate F.objects false) F.top.0 true) good followed
+  searching_start good followed within no_good none_followed =
+      let begun : IsMarked (set (replicate F.objects false) F.top.0 true) F.top.0 = get_or-set_same (replicate F.objects false) F.top.0 true false (rw length-replicate within) in
+      let is_top : (m : ℕ) → IsMarked (set (replicate F.objects false) F.top.0 true) m → m ≡ F.top.0 =
+      λ m h. elim (cases_eq m F.top.0) [
+        | inl e ↦ e
+        | inr d ↦ let c = rw (get_or-set_other (replicate F.objects false) F.top.0 m true false d) at h in absurd (false≢true (sym (unwritten F.objects m false) ∙ c))
+      ] in
+      record {
+        begun = begun;
+        sound = λ m h. rw (is_top m h) top;
+        on_stack = λ m c. elim (Contains-push_cases [] F.top.0 m c) [ inl none ↦ absurd (none_contained m none) | inr e ↦ rw (← e) begun ];
+        closed = λ m h. inl (rw (is_top m h) (Contains-push [] F.top.0));
+        known_good = λ k i. absurd (no_good k i);
+        known_followed = λ k i. absurd (none_followed k i);
+      }
+
+  -- the stack is empty
+  module _ (marks : List Bool) (good followed : List ℕ) (w : IsSearching f F [] marks good followed) where
+    reach_marked : (n : ℕ) → Reach f F n → IsMarked marks n
+    reach_marked n top = w.begun
+    reach_marked n (next {n = k} r e) = elim (w.closed k (reach_marked k r)) [
+      | inl on ↦ absurd (none_contained k on)
+      | inr all ↦ let c = (refs_iff f F k n).0 e in rw (← c.2) (rw (get_or_default (refs_at f F k) c.0 n 0 c.1) (all c.0 c.1))
     ]
 
-pub marking_start : (refs : ℕ → List ℕ) (top size : ℕ) → top < size → Marking refs top 0 (set (replicate size false) top true)
-marking_start refs top size in' =
-    let is_top : (m : ℕ) → IsMarked (set (replicate size false) top true) m → m ≡ top =
-    λ m h. elim (cases_eq m top) [
-      | inl e ↦ e
-      | inr d ↦ let f = rw (get_or-set_other (replicate size false) top m true false d) at h in absurd (false≢true (sym (unwritten size m false) ∙ f))
-    ] in
-    record {
-      begun = get_or-set_same (replicate size false) top true false (rw length-replicate in');
-      sound = λ m h. rw (is_top m h) start;
-      closed = λ m h. inl (omega arith);
-    }
+    pub searching_end : (n : ℕ) → IsMarked marks n ↔ Reach f F n
+    searching_end n = (w.sound n, reach_marked n)
+
+  -- ---- what follows of a body whose places were all followed
+  module _ (head : Head) (some : 1 ≤ F.ref_size) (inside : head.body + ref_count head.kind head.count * F.ref_size ≤ F.table) where
+    part : (k : ℕ) → k < ref_count head.kind head.count → head.body + (k + 1) * F.ref_size ≤ F.table
+    part k low = let most : k + 1 ≤ ref_count head.kind head.count = omega arith in let more = mul-le-mul_right F.ref_size most in omega (arith, more)
+
+    -- reference k stands at this number
+    pub reference_at_k : (k : ℕ) → k < ref_count head.kind head.count → reference_at f F (number_at F head.body + k) ≡ nth_number f head.body F.ref_size k
+    reference_at_k k low = reference_back F some head.body k (part k low) f
+
+    pub number_at_k : (k : ℕ) → k < ref_count head.kind head.count → number_at F head.body + k < set_size F
+    number_at_k k low = number_fits F some head.body k (part k low)
+
+    pub numbers_low : number_at F head.body + ref_count head.kind head.count ≤ set_size F
+    numbers_low = elim (cases_lt 0 (ref_count head.kind head.count)) [
+      | inl has ↦ let last = number_at_k (ref_count head.kind head.count - 1) (omega arith) in omega (arith, last, has)
+      | inr none ↦ let first = number_low F head.body some (omega (arith, inside)) in omega (arith, first, none)
+    ]
+
+    pub all_good : (good : List ℕ) → AreGood f F good → ((k : ℕ) → k < ref_count head.kind head.count → IsIn good (number_at F head.body + k)) → AreBelow f head.body F.ref_size (ref_count head.kind head.count) F.objects
+    all_good good known all k low = rw (reference_at_k k low) at (known _ (all k low))
+
+    pub all_marked : (followed : List ℕ) (marks : List Bool) → AreFollowed f F followed marks → ((k : ℕ) → k < ref_count head.kind head.count → IsIn followed (number_at F head.body + k)) → HasMarks marks (refs (content_at f F head))
+    all_marked followed marks known all k low =
+        let below : k < ref_count head.kind head.count = omega (arith, low, length-refs f F head.kind head.count head.body) in
+        subst (IsMarked marks) (reference_at_k k below ∙ sym (nth-refs f F head.kind head.count head.body k below)) (known _ (all k below))

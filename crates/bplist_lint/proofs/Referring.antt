@@ -9,34 +9,19 @@ use Rattle.bplist_objects.specs.declared.kind.Kind.{Kind}
 use Rattle.bplist_objects.specs.declared.kind.Kind.TheVariants as kinds
 use Rattle.bplist_objects.specs.Heads.{Content, HasShape, IsProperLeaf, Spells, content_at, refs}
 use Rattle.bplist_objects.specs.Safe.{ref_count}
-use Rattle.bplist_objects.specs.Spelled.{spelled_at, refs_found, refs_at}
+use Rattle.bplist_objects.specs.Spelled.{spelled_at, head_found, refs_found, refs_at}
 use Rattle.bplist_objects.proofs.Fronts.{one_shape}
-use Rattle.bplist_objects.proofs.Spelling.{spells_iff}
+use Rattle.bplist_objects.proofs.Spelling.{head_is_found, spells_iff}
 use Rattle.bplist_objects.proofs.References.{length-refs}
 use Rattle.bplist_objects.specs.Scan.{AreBelow, nth_number}
 use Rattle.bplist_objects.proofs.References.{nth-refs, each_ref, all_refs}
 use Rattle.bplist_objects.proofs.Reaching.{refs_spelled}
-use Rattle.bplist_objects.proofs.Ties.{spells_body}
-use Rattle.bplist_lint.specs.Referring.{IsBlock, AreAlike, AreReferences}
+use Rattle.bplist_objects.proofs.Ties.{shape_announced, spells_body}
+use Rattle.bplist_lint.specs.Referring.{IsBlock, refs_announced}
 
-empty : (xs : List ℕ) → length xs ≡ 0 → xs ≡ []
+pub empty : (xs : List ℕ) → length xs ≡ 0 → xs ≡ []
 empty [] e = refl
 empty (x ∷ xs) e = absurd (omega arith)
-
--- what was read of a body: one of its numbers is not that of an object, or all are and stand in the block
-pub whole_read : (f : List ℕ) (F : Frame) (body count : ℕ) (numbers : List ℕ) (found : Option (List ℕ)) → length numbers ≡ count
-    → ((k : ℕ) → k < length numbers → slice_index numbers k ≡ nth_number f body F.ref_size (0 + k))
-    → MatchOption found ((k : ℕ) × (k < length numbers) × (F.objects ≤ slice_index numbers k)) (AreAlike F.objects (length numbers) numbers)
-    → MatchOption found (AreBelow f body F.ref_size count F.objects → ⊥) (AreReferences f F body count)
-whole_read f F body count numbers None long same high = λ below.
-    let at_k : slice_index numbers high.0 ≡ nth_number f body F.ref_size high.0 = same high.0 high.1 ∙ ap (nth_number f body F.ref_size) (zero-add high.0) in
-    let l = below high.0 (omega (arith, high.1, long)) in
-    let h = high.2 in
-    omega (arith, at_k, l, h)
-whole_read f F body count numbers (Some block) long same alike = λ k low.
-    let at_k : slice_index numbers k ≡ nth_number f body F.ref_size k = same k (omega (arith, long, low)) ∙ ap (nth_number f body F.ref_size) (zero-add k) in
-    let a = alike k (omega (arith, long, low)) in
-    (a.0 ∙ at_k, (let l = a.1 in omega (arith, l, at_k)))
 
 module _ (f : List ℕ) (F : Frame) (n : ℕ) where
   -- an object that spells nothing refers to nothing
@@ -106,23 +91,36 @@ module _ (f : List ℕ) (F : Frame) (n : ℕ) where
   pub counted : (h : Head) → refs_at f F n ≡ refs (content_at f F h) → length (refs_at f F n) ≡ ref_count h.kind h.count
   counted h is = ap length is ∙ length-refs f F h.kind h.count h.body
 
+  -- how many it announces, by its head
+  pub announced_as : (h : Head) → HasShape f F n h → refs_announced (head_found f F n) ≡ ref_count h.kind h.count
+  announced_as h has = ap refs_announced (head_is_found f F n h (shape_announced f F n h has))
+
+  -- an object that spells a content has all references that it announces
+  pub all_announced : (c : Content) → Spells f F n c → refs_announced (head_found f F n) ≡ length (refs_at f F n)
+  all_announced c s = announced_as s.shape s.has ∙ sym (counted s.shape (refs_spelled f F n c s ∙ ap refs s.means))
+
   -- what has references is no text and no UID
   proper_container : (kind : Kind) (count body : ℕ) → 0 < ref_count kind count → IsProperLeaf f F kind count body
   proper_container kinds.Ascii count body some = absurd (omega (arith, some))
   proper_container kinds.Uid count body some = absurd (omega (arith, some))
   proper_container _ count body some = tt
 
-  -- where all numbers of a body with references are those of objects, they are the references
-  pub whole_count : (h : Head) → HasShape f F n h → 0 < ref_count h.kind h.count → AreBelow f h.body F.ref_size (ref_count h.kind h.count) F.objects → length (refs_at f F n) ≡ ref_count h.kind h.count
-  whole_count h has some below =
-      let s : Spells f F n (content_at f F h) = record {
-        shape = h;
-        has = has;
-        proper = proper_container h.kind h.count h.body some;
-        means = refl;
-        refs = all_refs f F (λ m. m < F.objects) h.kind h.count h.body below;
-      } in
-      counted h (refs_spelled f F n (content_at f F h) s)
+  -- where all numbers of a body are those of objects, they are the references
+  pub refs_as_shape : (h : Head) → HasShape f F n h → AreBelow f h.body F.ref_size (ref_count h.kind h.count) F.objects → refs_at f F n ≡ refs (content_at f F h)
+  refs_as_shape h has below = elim (cases_lt 0 (ref_count h.kind h.count)) [
+    | inl some ↦
+        let s : Spells f F n (content_at f F h) = record {
+          shape = h;
+          has = has;
+          proper = proper_container h.kind h.count h.body some;
+          means = refl;
+          refs = all_refs f F (λ m. m < F.objects) h.kind h.count h.body below;
+        } in
+        refs_spelled f F n (content_at f F h) s
+    | inr none ↦
+        let zero : ref_count h.kind h.count ≡ 0 = omega (arith, none) in
+        no_refs_leaf h has zero ∙ sym (empty (refs (content_at f F h)) (length-refs f F h.kind h.count h.body ∙ zero))
+  ]
 
   -- and where one is not, there is none
   pub broken_count : (h : Head) → HasShape f F n h → (AreBelow f h.body F.ref_size (ref_count h.kind h.count) F.objects → ⊥) → length (refs_at f F n) ≡ 0
@@ -130,13 +128,6 @@ module _ (f : List ℕ) (F : Frame) (n : ℕ) where
     | inl some ↦ absurd (never (as_shape h has 0 some).low)
     | inr none ↦ omega (arith, none)
   ]
-
-  -- they stand in a block
-  pub whole_block : (h : Head) → HasShape f F n h → (count : ℕ) (block : List ℕ) → AreReferences f F h.body count block → IsBlock (refs_at f F n) 0 count block
-  whole_block h has count block read k low within =
-      let l : k < length (refs_at f F n) = omega (arith, within) in
-      let a = as_shape h has k l in
-      (read k low).0 ∙ sym (a.each k (omega (arith, a.count, l))) ∙ ap (slice_index (refs_at f F n)) (sym (zero-add k))
 
   -- no reference where there is no shape
   pub none_left : ((h : Head) → HasShape f F n h → ⊥) → (i : ℕ) → i < length (refs_at f F n) → ⊥

@@ -21,7 +21,7 @@ use Rattle.bplist_objects.proofs.References.{length-refs}
 use Rattle.bplist_objects.proofs.Reaching.{refs_spelled}
 use Rattle.bplist_lint.specs.Reaching.{IsMarked}
 use Rattle.bplist_lint.specs.ReachRules.{KeepsByReach, BreaksAtReach, IsReachFault, Sums, Tallied}
-use Rattle.bplist_lint.specs.declared.faults.Tally.{Tally}
+use Rattle.bplist_lint.specs.declared.tally.Tally.{Tally}
 
 pub next_is : (n : ℕ) → suc n ≡ n + 1
 next_is n = omega arith

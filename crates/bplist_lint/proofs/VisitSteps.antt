@@ -1,5 +1,5 @@
 -- Steps of the walk that finds the least heights, of its marks, its heights and its stack alone.
-use Rattle.std.proofs.Common.{◌≡◌, ◌≢◌, ℕ, zero, suc, ◌+◌, ◌-◌, ◌<◌, ◌≤◌, ◌⊎◌, inl, inr, Bool, true, false, cond, List, [], ◌∷◌, ◌++◌, length, get_or, set, replicate, count_by, refl, sym, ◌∙◌, arith, lt-ltb}
+use Rattle.std.proofs.Common.{◌≡◌, ◌≢◌, ℕ, zero, suc, ◌+◌, ◌-◌, ◌^◌, ◌<◌, ◌≤◌, max, ◌⊎◌, inl, inr, Bool, true, false, cond, List, [], ◌∷◌, ◌++◌, length, get_or, set, replicate, count_by, not, refl, sym, ap, ◌∙◌, arith, lt-ltb}
 use Rattle.std.proofs.lemmas.Bool.{cases_eq, cases_lt, false≢true}
 use Rattle.std.proofs.lemmas.List.{get_or-set_same, get_or-set_other, length-set, get_or_append_left, get_or_push, length_push, length-replicate}
 use Rattle.std.proofs.lemmas.List.Sums.{sum_by-set, sum_by-append, count_by-le-length}
@@ -162,6 +162,11 @@ standing_finish size seen heights rest v h s high low =
       ];
     }
 
+-- an object without references is seen, and has its height at once
+pub standing_bare : (size : ℕ) (seen : List Bool) (heights : List ℕ) (stack : List Visit) (m : ℕ) → Standing size seen heights stack → m < size → get_or seen m false ≡ false → Standing size (set seen m true) (set heights m 1) stack
+standing_bare size seen heights stack m s within new =
+    standing_finish size (set seen m true) heights stack (record { object = m; next = 0; count = 0; best = 0; sound = true }) 1 (standing_open size seen heights stack m 0 s within new) (omega arith) (omega arith)
+
 -- nothing is seen
 pub standing_none : (size : ℕ) → Standing size (replicate size false) (replicate size 0) []
 standing_none size = record {
@@ -178,3 +183,47 @@ standing_none size = record {
 pub work_advance : (seen : List Bool) (rest : List Visit) (v v' : Visit) → v.next < v.count → v'.next ≡ v.next + 1 → v'.count ≡ v.count → work seen (rest ++ v' ∷ []) < work seen (rest ++ v ∷ [])
 work_advance seen rest v v' more next same =
     omega (arith, sum_by-append (λ (w : Visit). (w.count - w.next) + 1) rest (v ∷ []), sum_by-append (λ (w : Visit). (w.count - w.next) + 1) rest (v' ∷ []))
+
+-- more references were looked at, and no fewer objects seen
+pub work_onward : (seen seen' : List Bool) (rest : List Visit) (v v' : Visit) → count_by not seen' ≤ count_by not seen → v.next ≤ v'.next → v'.count ≡ v.count → work seen' (rest ++ v' ∷ []) ≤ work seen (rest ++ v ∷ [])
+work_onward seen seen' rest v v' fewer more same =
+    omega (arith, fewer, more, same, sum_by-append (λ (w : Visit). (w.count - w.next) + 1) rest (v ∷ []), sum_by-append (λ (w : Visit). (w.count - w.next) + 1) rest (v' ∷ []))
+
+-- the visit on top is done
+pub work_done : (seen seen' : List Bool) (rest : List Visit) (v : Visit) → count_by not seen' ≤ count_by not seen → work seen' rest < work seen (rest ++ v ∷ [])
+work_done seen seen' rest v fewer =
+    omega (arith, fewer, sum_by-append (λ (w : Visit). (w.count - w.next) + 1) rest (v ∷ []))
+
+-- the visit on top looked at one more reference, to an object with this height, or without one where it is 0
+pub standing_after : (size : ℕ) (seen : List Bool) (heights : List ℕ) (rest : List Visit) (v v' : Visit) (m h : ℕ) → Standing size seen heights (rest ++ v ∷ []) → v.next < v.count → h ≡ get_or heights m 0
+    → (0 < h → v' ≡ record { object = v.object; next = v.next + 1; count = v.count; best = max v.best h; sound = v.sound }) → (h ≡ 0 → v' ≡ record { object = v.object; next = v.next + 1; count = v.count; best = v.best; sound = false })
+    → Standing size seen heights (rest ++ v' ∷ [])
+standing_after size seen heights rest v v' m h s more is found circular =
+    let top = each_last (λ _ w. IsVisit size (count_by is_height heights) w) rest v s.visits in
+    let low = top.low in
+    let high = s.low m in
+    elim (cases_lt 0 h) [
+      | inl has ↦ rw (found has) (standing_advance size seen heights rest v _ s refl (omega arith) (omega arith))
+      | inr none ↦ rw (circular (omega arith)) (standing_advance size seen heights rest v _ s refl (omega arith) low)
+    ]
+
+pub after_same : (v v' : Visit) (h : ℕ) → (0 < h → v' ≡ record { object = v.object; next = v.next + 1; count = v.count; best = max v.best h; sound = v.sound }) → (h ≡ 0 → v' ≡ record { object = v.object; next = v.next + 1; count = v.count; best = v.best; sound = false })
+    → (v'.object ≡ v.object) × (v'.next ≡ v.next + 1) × (v'.count ≡ v.count)
+after_same v v' h found circular = elim (cases_lt 0 h) [
+  | inl has ↦ (ap (λ (x : Visit). x.object) (found has), ap (λ (x : Visit). x.next) (found has), ap (λ (x : Visit). x.count) (found has))
+  | inr none ↦ let is = circular (omega arith) in (ap (λ (x : Visit). x.object) is, ap (λ (x : Visit). x.next) is, ap (λ (x : Visit). x.count) is)
+]
+
+-- an object that was not seen is opened, on top of the visit
+pub work_open : (seen : List Bool) (rest : List Visit) (v : Visit) (m count : ℕ) → m < length seen → get_or seen m false ≡ false → count < 2 ^ 64
+    → work (set seen m true) ((rest ++ v ∷ []) ++ record { object = m; next = 0; count = count; best = 0; sound = true } ∷ []) < work seen (rest ++ v ∷ [])
+work_open seen rest v m count within new small =
+    let less = rw new at (count-set not seen m true false within) in
+    omega (arith, less, small, sum_by-append (λ (w : Visit). (w.count - w.next) + 1) (rest ++ v ∷ []) (record { object = m; next = 0; count = count; best = 0; sound = true } ∷ []))
+
+-- the visit on top is one, and its object has no height
+pub top_visit : (size : ℕ) (seen : List Bool) (heights : List ℕ) (rest : List Visit) (v : Visit) → Standing size seen heights (rest ++ v ∷ []) → IsVisit size (count_by is_height heights) v
+top_visit size seen heights rest v s = each_last (λ _ g. IsVisit size (count_by is_height heights) g) rest v s.visits
+
+pub top_open : (size : ℕ) (seen : List Bool) (heights : List ℕ) (rest : List Visit) (v : Visit) → Standing size seen heights (rest ++ v ∷ []) → IsOpen seen heights v.object
+top_open size seen heights rest v s = each_last (λ _ g. IsOpen seen heights g.object) rest v s.unfinished

@@ -117,6 +117,36 @@ walking_open refs top seen heights rest v m count w known within among counted =
       ];
     }
 
+-- an object without references is seen, and has its height at once
+pub walking_bare : (refs : ℕ → List ℕ) (top : ℕ) (seen : List Bool) (heights : List ℕ) (stack : List Visit) (m : ℕ) → Walking refs top seen heights stack → Reaches refs top m → m < length seen → m < length heights → refs m ≡ [] → Walking refs top (set seen m true) (set heights m 1) stack
+walking_bare refs top seen heights stack m w reached within in_heights none =
+    let empty : length (refs m) ≡ 0 = ap length none in
+    record {
+      reached = λ n h. elim (at_set seen m true false n within) [
+        | inl c ↦ rw c.0 reached
+        | inr c ↦ w.reached n (sym c.1 ∙ h)
+      ];
+      linked = w.linked;
+      visits = λ k h. read-seen refs seen m _ within (w.visits k h);
+      measured = λ n l. elim (at_set heights m 1 0 n in_heights) [
+        | inl c ↦ rw (c.1, c.0) (above m [] (sym empty) (λ i low. absurd (omega arith)))
+        | inr c ↦ rw c.1 (w.measured n (rw c.1 at l))
+      ];
+      settled = λ n h. elim (at_set seen m true false n within) [
+        | inl c ↦ inr (rw c.0 (record { all = λ i low. absurd (omega arith); circular = λ low. absurd (let one = get_or-set_same heights m 1 0 in_heights in omega arith) }))
+        | inr c ↦ elim (w.settled n (sym c.1 ∙ h)) [
+          | inl on ↦ inl on
+          | inr is ↦ inr (record {
+            all = λ i l. seen-set seen m _ within (is.all i l);
+            circular = λ low. elim (at_set heights m 1 0 n in_heights) [
+              | inl d ↦ absurd (c.0 d.0)
+              | inr d ↦ is.circular (sym d.1 ∙ low)
+            ];
+          })
+        ]
+      ];
+    }
+
 -- the visit on top is done, and its object is not founded
 pub walking_leave : (refs : ℕ → List ℕ) (top : ℕ) (seen : List Bool) (heights : List ℕ) (rest : List Visit) (v : Visit) → Walking refs top seen heights (rest ++ v ∷ []) → v.next ≡ v.count → v.sound ≡ false → Walking refs top seen heights rest
 walking_leave refs top seen heights rest v w whole unsound =
@@ -243,6 +273,17 @@ not_founded refs top seen heights rest v m w known none among is =
 pub among_at : (xs : List ℕ) (i m : ℕ) → i < length xs → m ≡ get_or xs i 0 → Contains xs m
 among_at xs i m in' is = rw is (Contains-get_or xs i 0 in')
 
+-- the visit on top looked at one more reference, to an object with this height, or without one where it is 0
+pub walking_after : (refs : ℕ → List ℕ) (top : ℕ) (seen : List Bool) (heights : List ℕ) (rest : List Visit) (v v' : Visit) (m h : ℕ) → Walking refs top seen heights (rest ++ v ∷ []) → v.next < length (refs v.object) → m ≡ get_or (refs v.object) v.next 0 → IsMarked seen m → h ≡ get_or heights m 0
+    → (0 < h → v' ≡ record { object = v.object; next = v.next + 1; count = v.count; best = max v.best h; sound = v.sound }) → (h ≡ 0 → v' ≡ record { object = v.object; next = v.next + 1; count = v.count; best = v.best; sound = false })
+    → Walking refs top seen heights (rest ++ v' ∷ [])
+walking_after refs top seen heights rest v v' m h w within is known at_m found circular =
+    let r = each_last (λ _ g. IsRead refs seen g) rest v w.visits in
+    elim (cases_lt 0 h) [
+      | inl has ↦ rw (found has) (walking_advance refs top seen heights rest v _ w refl (read_height refs seen v m h v.sound r is known (rw (← at_m) at (w.measured m (omega arith))) refl))
+      | inr none ↦ rw (circular (omega arith)) (walking_advance refs top seen heights rest v _ w refl (read_circle refs seen v m v.best r is known (not_founded refs top seen heights rest v m w known (omega arith) (among_at (refs v.object) v.next m within is))))
+    ]
+
 -- a visit that is done and sound gives the least height
 pub least_finish : (refs : ℕ → List ℕ) (seen : List Bool) (v : Visit) → IsRead refs seen v → v.sound ≡ true → v.next ≡ v.count → Least refs v.object (v.best + 1)
 least_finish refs seen v r sound all =
@@ -263,3 +304,11 @@ are_least refs top seen heights w all known = record {
     ]
   ];
 }
+
+-- what the visit on top knows
+pub top_read : (refs : ℕ → List ℕ) (top : ℕ) (seen : List Bool) (heights : List ℕ) (rest : List Visit) (v : Visit) → Walking refs top seen heights (rest ++ v ∷ []) → IsRead refs seen v
+top_read refs top seen heights rest v w = each_last (λ _ g. IsRead refs seen g) rest v w.visits
+
+-- its next reference leads to a reached object
+pub next_reached : (refs : ℕ → List ℕ) (top : ℕ) (seen : List Bool) (heights : List ℕ) (rest : List Visit) (v : Visit) (m : ℕ) → Walking refs top seen heights (rest ++ v ∷ []) → IsMarked seen v.object → v.next < length (refs v.object) → m ≡ get_or (refs v.object) v.next 0 → Reaches refs top m
+next_reached refs top seen heights rest v m w known within is = onward v.object m (w.reached v.object known) (among_at (refs v.object) v.next m within is)

@@ -10,7 +10,7 @@ use Rattle.bplist_lint.specs.Graph.{IsCircleBy}
 use Rattle.bplist_lint.specs.ReachRules.{KeepReachBelow, IsReachFault}
 use Rattle.bplist_lint.specs.KeyRules.{KeepKeysBelow, IsKeysFault}
 
--- m is the first reference of object n, in written order, that is not founded
+-- m is the first reference of object n that is not founded
 pub record LeadsOn (f : List ℕ) (F : Frame) (n m : ℕ) : Type 0 where
   pub content : Content
   pub spells : Spells f F n content
@@ -20,23 +20,22 @@ pub record LeadsOn (f : List ℕ) (F : Frame) (n m : ℕ) : Type 0 where
   pub not_founded : Founded f F m → ⊥
   pub first : (k : ℕ) → k < place → Founded f F (slice_index (refs content) k)
 
--- the circle that first references that are not founded lead to from the top
+-- the circle that these references lead to from the top
 abbrev pub IsCircle : List ℕ → Frame → List ℕ → Type 0
 IsCircle f F circle = IsCircleBy (LeadsOn f F) F.top.0 circle
 
--- the first fault of a file with this frame that has an object: of the reached objects by rules 14 to 20 and 31, then
--- of the reached dictionaries by rules 21 and 22
+-- the first fault of an object: rules 14 to 20 and 31 of reached objects, then 21 and 22
 abbrev pub IsObjectsFault : List ℕ → Frame → Fault → Type 0
 IsObjectsFault f F fault = IsReachFault f F fault ⊎ (KeepReachBelow f F F.objects × IsKeysFault f F fault)
 
--- the first fault of a file that is a broken rule: rules 1 to 13 in order, then that of the objects
+-- the first broken rule of a file: rules 1 to 13, then those of objects
 abbrev pub IsFileFault : List ℕ → Fault → Type 0
 IsFileFault f fault = IsFrameFault f fault ⊎ ((F : Frame) × IsFrame f F × IsObjectsFault f F fault)
 
--- the first fault of a file with this frame is this circle: the reached objects keep all other rules
+-- the file keeps all other rules, and this is its circle
 abbrev pub IsFramedCircle : List ℕ → Frame → List ℕ → Type 0
 IsFramedCircle f F circle = KeepReachBelow f F F.objects × KeepKeysBelow f F F.objects × IsCircle f F circle
 
--- the first fault of a file is this circle
+-- the same, with the file's frame
 abbrev pub IsFileCircle : List ℕ → List ℕ → Type 0
 IsFileCircle f circle = (F : Frame) × IsFrame f F × IsFramedCircle f F circle

@@ -2,33 +2,42 @@
 -- Source: the reader of CFBinaryPList.c, which refuses circles; heights and circles as lists are profile.
 use Rattle.std.specs.Prelude.{◌≡◌, ℕ, suc, ◌+◌, ◌<◌, max, List, [], ◌∷◌, length, slice_index, Contains}
 
--- how many objects there are, and the references of each in written order. Where they are read through
--- a borrow, and what is known of them is kept in another, through and beside are their ghost names
+-- how many objects there are, the references of each in written order, and how many of them it announces. Where they are
+-- read through a borrow, and what is known of them is kept in another, through and beside are their ghost names
 pub record Graph : Type 0 where
   pub through : ℕ
   pub beside : ℕ
   pub size : ℕ
   pub refs : ℕ → List ℕ
+  pub announced : ℕ → ℕ
 
--- the least set with top that is closed under references
+-- object n has as many references as it announces
+abbrev pub IsWhole : Graph → ℕ → Type 0
+IsWhole graph n = graph.announced n ≡ length (graph.refs n)
+
+-- top, and what reached objects refer to
 pub data Reaches (refs : ℕ → List ℕ) (top : ℕ) : ℕ → Type 0 where
   start : Reaches refs top top
   onward : (n m : ℕ) → Reaches refs top n → Contains (refs n) m → Reaches refs top m
 
--- the least set that contains an object when all its references are in it
+-- so has each object that top reaches
+abbrev pub AreWhole : Graph → ℕ → Type 0
+AreWhole graph top = (n : ℕ) → Reaches graph.refs top n → IsWhole graph n
+
+-- every chain of references from the object ends
 pub data Ends (refs : ℕ → List ℕ) : ℕ → Type 0 where
   ends : (n : ℕ) → ((m : ℕ) → Contains (refs n) m → Ends refs m) → Ends refs n
 
--- the greatest of these heights, 0 of none
+-- the greatest height, 0 of none
 abbrev pub greatest : List ℕ → ℕ
 greatest [] = 0
 greatest (h ∷ hs) = max h (greatest hs)
 
--- where these are the least heights of the references of n, one by one, that of n is 1 plus the greatest of them
+-- the height of n is one above the greatest of its references' heights
 pub data Least (refs : ℕ → List ℕ) : ℕ → ℕ → Type 0 where
   above : (n : ℕ) (heights : List ℕ) → length heights ≡ length (refs n) → ((i : ℕ) → i < length (refs n) → Least refs (slice_index (refs n) i) (slice_index heights i)) → Least refs n (suc (greatest heights))
 
--- m is the first reference of n, in written order, that is not founded
+-- m is the first reference of n that is not founded
 pub record IsNext (refs : ℕ → List ℕ) (n m : ℕ) : Type 0 where
   pub place : ℕ
   pub in_refs : place < length (refs n)
@@ -36,8 +45,7 @@ pub record IsNext (refs : ℕ → List ℕ) (n m : ℕ) : Type 0 where
   pub not_founded : Ends refs m → ⊥
   pub first : (k : ℕ) → k < place → Ends refs (slice_index (refs n) k)
 
--- x 0 is top, and each further x is the one that next leads to. j is least such that x j equals an earlier x i,
--- and the circle lists x i up to, without, x j
+-- the circle that next leads to from top: from the first object met twice up to its second meeting
 pub record IsCircleBy (next : ℕ → ℕ → Type 0) (top : ℕ) (circle : List ℕ) : Type 0 where
   pub x : ℕ → ℕ
   pub i : ℕ
@@ -50,11 +58,11 @@ pub record IsCircleBy (next : ℕ → ℕ → Type 0) (top : ℕ) (circle : List
   pub long : i + length circle ≡ j
   pub listed : (k : ℕ) → k < length circle → slice_index circle k ≡ x (i + k)
 
--- the circle that first references that are not founded lead to from top
+-- the circle of first references that are not founded
 abbrev pub IsCircleOf : (ℕ → List ℕ) → ℕ → List ℕ → Type 0
 IsCircleOf refs top circle = IsCircleBy (IsNext refs) top circle
 
--- the heights of exactly the objects that are reached and founded, and 0 of the others
+-- the least heights of the objects that are reached and founded, 0 of the others
 pub record AreLeast (refs : ℕ → List ℕ) (top : ℕ) (heights : List ℕ) : Type 0 where
   pub vouched : (n : ℕ) → 0 < slice_index heights n → Reaches refs top n × Least refs n (slice_index heights n)
   pub all : (n : ℕ) → Reaches refs top n → Ends refs n → 0 < slice_index heights n

@@ -13,19 +13,19 @@ use Rattle.bplist_objects.specs.Rules.{KeepsAll, IsFirstFault}
 use Rattle.bplist_objects.specs.Reach.{Reach}
 use Rattle.bplist_cert.specs.Keys.{HaveTexts, IsFirstKeyless, KeysDiffer, IsFirstTwice}
 
--- the rules of keys, in their order
+-- rules 21 and 22
 abbrev pub key_rules : List Rule
 key_rules = rules.KeyKind ∷ rules.KeyTwice ∷ []
 
 module _ (f : List ℕ) (F : Frame) where
   module _ (n : ℕ) where
-    -- object n keeps a rule of keys
+    -- object n keeps this rule of keys
     abbrev pub KeepsByKeys : Rule → Type 0
     KeepsByKeys rules.KeyKind = (head : Head) → HasHead f F n head → head.kind ≡ Dict → HaveTexts f F head head.count
     KeepsByKeys rules.KeyTwice = (head : Head) → HasHead f F n head → head.kind ≡ Dict → KeysDiffer f F head head.count
     KeepsByKeys rule = Unit {0}
 
-    -- object n breaks a rule of keys, and this is the place
+    -- object n breaks this rule of keys at this place
     abbrev pub BreaksByKeys : Rule → ℕ → Type 0
     BreaksByKeys rules.KeyKind place =
         (head : Head) × (i : ℕ) × HasHead f F n head × (head.kind ≡ Dict) × IsFirstKeyless f F head i
@@ -35,15 +35,15 @@ module _ (f : List ℕ) (F : Frame) where
         × (place ≡ head.body + i * F.ref_size)
     BreaksByKeys rule place = ⊥
 
-    -- the same, where this is the object that is named
+    -- the same, if this is the object named
     abbrev pub BreaksAtKeys : Rule → Option ObjectNo → ℕ → Type 0
     BreaksAtKeys rule object place = (object ≡ Some (record { 0 = n })) × BreaksByKeys rule place
 
-  -- the reached objects below n keep these rules
+  -- the reached objects below n keep rules 21 and 22
   abbrev pub KeepKeysBelow : ℕ → Type 0
   KeepKeysBelow n = (m : ℕ) → m < n → Reach f F m → KeepsAll (KeepsByKeys m) key_rules
 
-  -- the fault is that of the least reached dictionary that breaks one of them, with the first that it breaks
+  -- the first fault of keys of the least reached dictionary that has one
   pub record IsKeysFault (fault : Fault) : Type 0 where
     pub object : ℕ
     pub reached : Reach f F object

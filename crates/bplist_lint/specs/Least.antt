@@ -6,16 +6,16 @@ use Rattle.bplist_objects.specs.Reach.{Reach}
 use Rattle.bplist_cert.specs.Valid.{IsVouchedBy}
 use Rattle.bplist_lint.specs.Graph.{greatest}
 
--- object n stands 1 above the highest of its references, and at 1 with none
+-- object n has height 1 without references, else one above their greatest
 abbrev pub StandsLeast : List ℕ → Frame → List ℕ → ℕ → Type 0
 StandsLeast f F heights n =
     (c : Content) × Spells f F n c × (slice_index heights n ≡ 1 + greatest (map (slice_index heights) (refs c)))
 
--- each reached object stands so
+-- each reached object does
 abbrev pub StandLeast : List ℕ → Frame → List ℕ → Type 0
 StandLeast f F heights = (n : ℕ) → Reach f F n → StandsLeast f F heights n
 
--- there is a height for each object, the least for each that is reached and 0 for each other
+-- each reached object has its least height, each other 0
 pub record AreLeastHeights (f : List ℕ) (F : Frame) (heights : List ℕ) : Type 0 where
   pub count : length heights ≡ F.objects
   pub least : StandLeast f F heights

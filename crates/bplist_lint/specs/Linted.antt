@@ -1,25 +1,26 @@
 -- What the linter says of a file that holds a value. Source: profile.
-use Rattle.std.specs.Prelude.{◌≡◌, ◌↔◌, ℕ, ◌+◌, ◌≤◌, Bool, nat_lt, List, slice_index, None}
+use Rattle.std.specs.Prelude.{◌≡◌, ℕ, ◌+◌, ◌≤◌, Bool, nat_lt, List, slice_index, None}
 use Rattle.bplist_objects.specs.declared.frame.Frame.{Frame}
+use Rattle.bplist_objects.specs.declared.head.Head.{Head}
+use Rattle.bplist_objects.specs.declared.kind.Kind.{Kind}
 use Rattle.bplist_objects.specs.Frame.{IsFrame}
+use Rattle.bplist_objects.specs.Heads.{IsHeadOf}
 use Rattle.bplist_objects.specs.Value.{Value}
 use Rattle.bplist_objects.specs.File.{FileHolds}
 use Rattle.bplist_objects.specs.Reach.{Reach}
 use Rattle.bplist_cert.specs.Valid.{IsValid}
 use Rattle.bplist_lint.specs.declared.answer.Lint.{Lint}
-use Rattle.bplist_lint.specs.declared.linting.Sifted.{Sifted}
+use Rattle.bplist_lint.specs.declared.walking.Reached.{Reached}
 use Rattle.bplist_lint.specs.Least.{AreLeastHeights}
-use Rattle.bplist_lint.specs.Reaching.{IsMarked}
-use Rattle.bplist_lint.specs.ReachRules.{KeepReachBelow, number_below, references_below, is_marked}
+use Rattle.bplist_lint.specs.ReachRules.{number_below, references_below}
+use Rattle.bplist_lint.specs.Walks.{IsWalked}
 use Rattle.bplist_lint.specs.KeyRules.{KeepKeysBelow}
 
 -- the object has a height
 abbrev pub is_vouched : List ℕ → ℕ → Bool
 is_vouched heights n = nat_lt 0 (slice_index heights n)
 
--- the answer for a file with this frame that holds a value: the certificate is of version 1 and has the least heights of
--- the reached objects and 0 elsewhere, these are valid and no valid ones are lower, and the numbers are those of the
--- reached objects
+-- the file holds a value; the certificate has the least valid heights, and the numbers are those of reached objects
 pub record IsLintedBy (f : List ℕ) (F : Frame) (lint : Lint) : Type 0 where
   pub value : Value
   pub holds : FileHolds f value
@@ -32,18 +33,20 @@ pub record IsLintedBy (f : List ℕ) (F : Frame) (lint : Lint) : Type 0 where
   pub references : lint.references ≡ references_below f F (is_vouched lint.certificate.heights) F.objects
   pub few : lint.references + 8 ≤ F.table
 
--- the answer for a file that holds a value
+-- the same, with the file's frame
 abbrev pub IsLinted : List ℕ → Lint → Type 0
 IsLinted f lint = (F : Frame) × IsFrame f F × IsLintedBy f F lint
+
+-- the same, with the kind of the top
+abbrev pub IsLintedWithKind : List ℕ → Lint → Kind → Type 0
+IsLintedWithKind f lint kind =
+    (F : Frame) × IsFrame f F × IsLintedBy f F lint × ((head : Head) × IsHeadOf f F F.top.0 head × (kind ≡ head.kind))
 
 -- no heights are valid for the file
 abbrev pub HasNoHeights : List ℕ → Type 0
 HasNoHeights f = (F : Frame) (heights : List ℕ) → IsValid f F heights → ⊥
 
--- the reached objects keep all rules but 23, exactly they are marked, and this is their tally
-pub record IsSifted (f : List ℕ) (F : Frame) (sifted : Sifted) : Type 0 where
-  pub marked : (n : ℕ) → IsMarked sifted.marked.marks.items n ↔ Reach f F n
-  pub kept : KeepReachBelow f F F.objects
+-- the reached objects keep all rules but 23
+pub record IsSifted (f : List ℕ) (F : Frame) (reached : Reached) : Type 0 where
+  pub walked : IsWalked f F reached
   pub keys : KeepKeysBelow f F F.objects
-  pub reached : sifted.tally.reached ≡ number_below (is_marked sifted.marked.marks.items) F.objects
-  pub references : sifted.tally.references ≡ references_below f F (is_marked sifted.marked.marks.items) F.objects

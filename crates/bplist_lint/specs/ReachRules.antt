@@ -13,9 +13,9 @@ use Rattle.bplist_objects.specs.ObjectRules.{KeepsByObject, BreaksByObject, obje
 use Rattle.bplist_objects.specs.Reach.{Reach, Differ}
 use Rattle.bplist_objects.specs.Extents.{TakeOctets, AtMost, IsOverfull}
 use Rattle.bplist_objects.specs.Spelled.{refs_at}
-use Rattle.bplist_lint.specs.declared.faults.Tally.{Tally}
+use Rattle.bplist_lint.specs.declared.tally.Tally.{Tally}
 
--- the rules of a reached object, in their order
+-- the rules of a reached object, in order
 abbrev pub reach_rules : List Rule
 reach_rules = object_rules ++ rules.Overfull ∷ []
 
@@ -24,7 +24,7 @@ abbrev pub sum_below : (ℕ → ℕ) → ℕ → ℕ
 sum_below g zero = 0
 sum_below g (suc n) = sum_below g n + g n
 
--- how many objects p holds of among those below n
+-- how many objects below n satisfy p
 abbrev pub number_below : (ℕ → Bool) → ℕ → ℕ
 number_below p n = sum_below (λ m. cond (p m) 1 0) n
 
@@ -34,25 +34,25 @@ is_marked marks n = slice_index_or marks n false
 
 module _ (f : List ℕ) (F : Frame) where
   module _ (n : ℕ) where
-    -- reached object n keeps a rule
+    -- reached object n keeps this rule
     abbrev pub KeepsByReach : Rule → Type 0
     KeepsByReach rules.Overfull = IsOverfull f F (Reach f F) n → ⊥
     KeepsByReach rule = KeepsByObject f F n rule
 
-    -- reached object n breaks a rule, and this is the place
+    -- reached object n breaks this rule at this place
     abbrev pub BreaksByReach : Rule → ℕ → Type 0
     BreaksByReach rules.Overfull place = IsOverfull f F (Reach f F) n × (place ≡ off f F n)
     BreaksByReach rule place = BreaksByObject f F n rule place
 
-    -- the same, where this is the object that is named
+    -- the same, if this is the object named
     abbrev pub BreaksAtReach : Rule → Option ObjectNo → ℕ → Type 0
     BreaksAtReach rule object place = (object ≡ Some (record { 0 = n })) × BreaksByReach rule place
 
-  -- the reached objects below n keep these rules
+  -- the reached objects below n keep rules 14 to 20 and 31
   abbrev pub KeepReachBelow : ℕ → Type 0
   KeepReachBelow n = (m : ℕ) → m < n → Reach f F m → KeepsAll (KeepsByReach m) reach_rules
 
-  -- the fault is that of the least reached object that breaks one of them, with the first that it breaks
+  -- the first fault of the least reached object that has one
   pub record IsReachFault (fault : Fault) : Type 0 where
     pub object : ℕ
     pub reached : Reach f F object
@@ -67,7 +67,7 @@ module _ (f : List ℕ) (F : Frame) where
     pub take_all : TakeOctets f F objects t
     pub most : AtMost f F (λ m. S m × (m < n)) t
 
-  -- how many references the objects that p holds of have together among those below n
+  -- how many references the objects below n that satisfy p have
   abbrev pub references_below : (ℕ → Bool) → ℕ → ℕ
   references_below p n = sum_below (λ m. cond (p m) (length (refs_at f F m)) 0) n
 

@@ -1,32 +1,71 @@
--- What one step of the walk that marks the reached objects does to the marks and the stack. Source: profile.
-use Rattle.std.specs.Prelude.{◌≡◌, ℕ, ◌<◌, ◌≤◌, ◌⊎◌, Bool, true, false, List, length, slice_index_or, slice_index, Contains}
-use Rattle.bplist_lint.specs.Graph.{Reaches}
+-- Marks on objects, and the search for the reached ones: places by numbers, and what is known of those that were looked at.
+-- Source: profile.
+use Rattle.std.specs.Prelude.{◌≡◌, ◌⊎◌, ℕ, ◌+◌, ◌*◌, ◌/◌, ◌%◌, ◌<◌, Bool, true, false, All, List, length, slice_index_or, slice_index, vec_len, Contains}
+use Rattle.bplist_objects.specs.declared.frame.Frame.{Frame}
+use Rattle.bplist_objects.specs.Numbers.{num_at}
+use Rattle.bplist_objects.specs.Reach.{Reach}
+use Rattle.bplist_objects.specs.Spelled.{refs_at}
+use Rattle.bplist_lint.specs.PlaceSets.{IsIn}
+use Rattle.bplist_lint.specs.declared.reaching.Search.{Search}
 
 -- object n is marked
 abbrev pub IsMarked : List Bool → ℕ → Type 0
 IsMarked marks n = slice_index_or marks n false ≡ true
 
--- the first i of these references are marked, and those that were not lie above current or on the stack
-pub record Looked (references : List ℕ) (current i : ℕ) (marks : List Bool) (stack : List ℕ) (marks' : List Bool) (stack' : List ℕ) : Type 0 where
-  pub keeps_marks : (m : ℕ) → IsMarked marks m → IsMarked marks' m
-  pub keeps_stack : (m : ℕ) → Contains stack m → Contains stack' m
-  pub fresh : (m : ℕ) → IsMarked marks' m → IsMarked marks m ⊎ (Contains references m × ((current < m) ⊎ Contains stack' m))
-  pub waiting : (m : ℕ) → Contains stack' m → Contains stack m ⊎ Contains references m
-  pub all : (k : ℕ) → k < i → IsMarked marks' (slice_index references k)
-
 -- the references of an object are marked
 abbrev pub HasMarks : List Bool → List ℕ → Type 0
 HasMarks marks references = (i : ℕ) → i < length references → IsMarked marks (slice_index references i)
 
--- between two objects of the loop: the marked are reached, and the references of those below next are marked
-pub record Marking (refs : ℕ → List ℕ) (top next : ℕ) (marks : List Bool) : Type 0 where
-  pub begun : IsMarked marks top
-  pub sound : (m : ℕ) → IsMarked marks m → Reaches refs top m
-  pub closed : (m : ℕ) → IsMarked marks m → (next ≤ m) ⊎ HasMarks marks (refs m)
+-- ---- places by numbers
+-- how many references can stand one behind the other
+abbrev pub row : Frame → ℕ
+row F = F.table / F.ref_size + 1
 
--- inside, at current: the marked lie above current or on the stack, or their references are marked
-pub record Emptying (refs : ℕ → List ℕ) (top current : ℕ) (marks : List Bool) (stack : List ℕ) : Type 0 where
-  pub begun : IsMarked marks top
-  pub sound : (m : ℕ) → IsMarked marks m → Reaches refs top m
-  pub on_stack : (m : ℕ) → Contains stack m → Reaches refs top m
-  pub closed : (m : ℕ) → IsMarked marks m → (current < m) ⊎ (Contains stack m ⊎ HasMarks marks (refs m))
+-- the number of a place: those of references that stand one behind the other follow one another
+abbrev pub number_at : Frame → ℕ → ℕ
+number_at F place = place % F.ref_size * row F + place / F.ref_size
+
+-- how many numbers there are
+abbrev pub set_size : Frame → ℕ
+set_size F = row F * F.ref_size
+
+-- the reference at the place with this number
+abbrev pub reference_at : List ℕ → Frame → ℕ → ℕ
+reference_at f F number = num_at f (number % row F * F.ref_size + number / row F) F.ref_size
+
+-- at the places in this set the numbers of objects stand
+abbrev pub AreGood : List ℕ → Frame → List ℕ → Type 0
+AreGood f F words = (k : ℕ) → IsIn words k → reference_at f F k < F.objects
+
+-- the objects whose numbers stand at the places in this set are marked
+abbrev pub AreFollowed : List ℕ → Frame → List ℕ → List Bool → Type 0
+AreFollowed f F words marks = (k : ℕ) → IsIn words k → IsMarked marks (reference_at f F k)
+
+-- ---- the search
+-- whatever the source gives: there is a mark for each object, objects are on the stack, and the sets are for all places
+pub record IsReady (F : Frame) (search : Search) : Type 0 where
+  pub all_marks : vec_len search.marks ≡ F.objects
+  pub stack_in : All (λ m. m < F.objects) search.stack.items
+  pub good_size : search.good.size ≡ set_size F
+  pub followed_size : search.followed.size ≡ set_size F
+
+-- what is marked now was marked or is one of these references and on the stack, and nothing else came onto the stack
+pub record Looked (references : List ℕ) (marks : List Bool) (stack : List ℕ) (marks' : List Bool) (stack' : List ℕ) : Type 0 where
+  pub keeps_marks : (m : ℕ) → IsMarked marks m → IsMarked marks' m
+  pub keeps_stack : (m : ℕ) → Contains stack m → Contains stack' m
+  pub fresh : (m : ℕ) → IsMarked marks' m → IsMarked marks m ⊎ (Contains references m × Contains stack' m)
+  pub waiting : (m : ℕ) → Contains stack' m → Contains stack m ⊎ IsMarked marks' m
+
+module _ (f : List ℕ) (F : Frame) where
+  -- the marked objects are reached; they are on the stack, or their references are marked
+  pub record IsSearching (stack : List ℕ) (marks : List Bool) (good followed : List ℕ) : Type 0 where
+    pub begun : IsMarked marks F.top.0
+    pub sound : (m : ℕ) → IsMarked marks m → Reach f F m
+    pub on_stack : (m : ℕ) → Contains stack m → IsMarked marks m
+    pub closed : (m : ℕ) → IsMarked marks m → Contains stack m ⊎ HasMarks marks (refs_at f F m)
+    pub known_good : AreGood f F good
+    pub known_followed : AreFollowed f F followed marks
+
+  -- the same of a search, with this stack
+  abbrev pub Searching : List ℕ → Search → Type 0
+  Searching stack search = IsSearching stack search.marks.items search.good.words.items search.followed.words.items

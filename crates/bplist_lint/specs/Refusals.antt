@@ -3,6 +3,8 @@ use Rattle.std.specs.Prelude.{ℕ, Bool, true, false, List, map, Result, Ok, Err
 use Rattle.bplist_objects.specs.declared.fault.Fault.{Fault}
 use Rattle.bplist_objects.specs.declared.fault.ObjectFault.{ObjectFault}
 use Rattle.bplist_objects.specs.declared.fault.ObjectFault.TheVariants as object_faults
+use Rattle.bplist_keys.specs.declared.fault.KeysFault.{KeysFault}
+use Rattle.bplist_keys.specs.declared.fault.KeysFault.TheVariants as keys_faults
 use Rattle.bplist_cert.specs.declared.refusal.Refusal.{Refusal}
 use Rattle.bplist_cert.specs.declared.refusal.Refusal.TheVariants as cert_refusals
 use Rattle.bplist_lint.specs.declared.references.WalkFault.{WalkFault}
@@ -11,40 +13,45 @@ use Rattle.bplist_lint.specs.declared.refusal.LintRefusal.{LintRefusal}
 use Rattle.bplist_lint.specs.declared.refusal.LintRefusal.TheVariants as refusals
 use Rattle.bplist_lint.specs.Trail.{number}
 
--- the refusal for a fault of an object or a failed read
+-- an object's fault as a refusal
 abbrev pub of_object : ObjectFault → LintRefusal
 of_object (object_faults.Fault fault) = refusals.Fault fault
 of_object (object_faults.Read error) = refusals.Read error
 
--- the refusal for what a walk met
+-- a walk's fault as a refusal
 abbrev pub of_walk : WalkFault → LintRefusal
 of_walk (walk_faults.Read error) = refusals.Read error
 of_walk walk_faults.Memory = refusals.Memory
 
--- the refusal for what a pass over keys met
+-- a fault of keys as a refusal
+abbrev pub of_keys : KeysFault → LintRefusal
+of_keys (keys_faults.Read error) = refusals.Read error
+of_keys keys_faults.Memory = refusals.Memory
+
+-- a refusal of the checker as one of the linter
 abbrev pub of_check : Refusal → LintRefusal
 of_check (cert_refusals.Fault fault) = refusals.Fault fault
 of_check (cert_refusals.Read error) = refusals.Read error
 of_check cert_refusals.Memory = refusals.Memory
 
--- the refusal says that a read has failed
+-- the refusal is a failed read
 abbrev pub refused_read : LintRefusal → Bool
 refused_read (refusals.Read _) = true
 refused_read _ = false
 
--- the answer says that a read has failed
+-- the answer is a failed read
 abbrev pub lint_failed : {X : Type 0} → Result X LintRefusal → Bool
 lint_failed (Ok x) = false
 lint_failed (Err refusal) = refused_read refusal
 
--- P holds of the fault or Q of the circle, and nothing is said of a failed read or a refused growth
+-- P holds of the fault or Q of the circle, unless a read failed or memory was refused
 abbrev pub Refuses : (Fault → Type 0) → (List ℕ → Type 0) → LintRefusal → Type 0
 Refuses P Q (refusals.Fault fault) = P fault
 Refuses P Q (refusals.Circle circle) = Q (map number circle)
 Refuses P Q (refusals.Read _) = Unit {0}
 Refuses P Q refusals.Memory = Unit {0}
 
--- P holds of the answer, Q of the fault or R of the circle
+-- P holds of the answer, Q of the fault, or R of the circle
 abbrev pub Lints : {X : Type 0} → (X → Type 0) → (Fault → Type 0) → (List ℕ → Type 0) → Result X LintRefusal → Type 0
 Lints P Q R (Ok x) = P x
 Lints P Q R (Err refusal) = Refuses Q R refusal

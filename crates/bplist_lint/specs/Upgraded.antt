@@ -13,7 +13,7 @@ use Rattle.bplist_cert.specs.CheckRules.{HasOrder}
 use Rattle.bplist_lint.specs.ReachRules.{Sums, sum_below}
 use Rattle.bplist_lint.specs.Linted.{is_vouched}
 
--- whether a dictionary is spelled
+-- the content is a dictionary
 abbrev pub is_dict : Option Content → Bool
 is_dict (Some (dict ks ms)) = true
 is_dict (Some (leaf l)) = false
@@ -21,7 +21,7 @@ is_dict (Some (array ms)) = false
 is_dict (Some (set ms)) = false
 is_dict None = false
 
--- how many pairs what is spelled has, 0 for what is no dictionary
+-- how many pairs a dictionary has, 0 for other contents
 abbrev pub pairs_of : Option Content → ℕ
 pairs_of (Some (dict ks ms)) = length ks
 pairs_of (Some (leaf l)) = 0
@@ -30,11 +30,11 @@ pairs_of (Some (set ms)) = 0
 pairs_of None = 0
 
 module _ (f : List ℕ) (F : Frame) (heights : List ℕ) where
-  -- how many positions object n has in the key lists
+  -- how many positions the key list of object n has
   abbrev pub pairs : ℕ → ℕ
   pairs n = cond (is_vouched heights n) (pairs_of (spelled_at f F n)) 0
 
-  -- where its key list starts: behind those of the dictionaries before it
+  -- where the key list of object n starts, 0 if it has none
   abbrev pub start : ℕ → ℕ
   start n = cond (is_vouched heights n) (cond (is_dict (spelled_at f F n)) (sum_below pairs n) 0) 0
 
@@ -49,8 +49,7 @@ module _ (f : List ℕ) (F : Frame) (heights : List ℕ) where
     pub sums : Sums f F (IsVouchedBy heights) n used
     pub few : length positions ≤ used
 
-  -- the certificate has these heights, and the key lists of the vouched dictionaries one behind the other in the order of
-  -- the objects, with the number of positions before each as its start and 0 as the start of every other object
+  -- the certificate keeps its heights and gets the key lists of the vouched dictionaries, one after the other
   pub record IsUpgraded (certificate : Lists) : Type 0 where
     pub same : certificate.heights ≡ heights
     pub keyed : Keyed

@@ -7,8 +7,7 @@ use Rattle.bplist_objects.specs.Extents.{HaveRoom}
 use Rattle.bplist_objects.specs.Reach.{Reach, Founded}
 use Rattle.bplist_cert.specs.Valid.{HasKeys}
 
--- the file has this frame, each reached object spells a content whose keys are different texts, the reached objects have
--- room before the table, and the top is founded
+-- each reached object spells a content, keys are different texts, rule 31 is kept, and the top is founded
 pub record IsWellFormed (f : List ℕ) (F : Frame) : Type 0 where
   pub frame : IsFrame f F
   pub contents : (n : ℕ) → Reach f F n → (c : Content) × Spells f F n c × HasKeys f F c

@@ -3,7 +3,7 @@
 ghost use Rattle.std.specs.Prelude.{◌≡◌, ℕ, ◌^◌, ◌<◌, ◌≤◌, IsTrue, drop, map, length, slice_index, Contains, IfOk, IfSome, MatchOption, is_err};
 ghost use Rattle.bplist_octets.specs.Meaning.{OnlyReads};
 ghost use Rattle.bplist_lint.specs.Answers.{walk_failed};
-ghost use Rattle.bplist_lint.specs.Graph.{AreLeast, IsCircleOf};
+ghost use Rattle.bplist_lint.specs.Graph.{IsWhole, AreWhole, AreLeast, IsCircleOf};
 ghost use Rattle.bplist_lint.specs.Trail.{number, object, AllHave, IsFirstWithout, IsPlaceOf};
 
 use crate::references::{References, WalkFault};
@@ -22,7 +22,7 @@ fn first_without<R: References>(
     ensures same { R.graph graph.new ≡ R.graph graph.old }
     ensures reads { OnlyReads (is_err result) (R.means graph.old) (R.means graph.new) }
     ensures inside { IfOk result (λ m. IfSome m (λ m. m < (R.graph graph.old).size)) }
-    ensures first { IsTrue (R.means graph.old).honest → IfOk result (λ m. let references = (R.graph graph.old).refs n in
+    ensures first { IsTrue (R.means graph.old).honest → IsWhole (R.graph graph.old) n → IfOk result (λ m. let references = (R.graph graph.old).refs n in
         MatchOption m
         (AllHave heights.now references (length references))
         (λ m. IsFirstWithout heights.now references m)) }
@@ -89,7 +89,7 @@ pub fn circle<R: References>(
     requires circular { slice_index heights.now top ≡ 0 }
     ensures same { R.graph graph.new ≡ R.graph graph.old }
     ensures reads { OnlyReads (walk_failed result) (R.means graph.old) (R.means graph.new) }
-    ensures circle { IsTrue (R.means graph.old).honest → IfOk result (λ circle.
+    ensures circle { IsTrue (R.means graph.old).honest → AreWhole (R.graph graph.old) top → IfOk result (λ circle.
         IsCircleOf (R.graph graph.old).refs top (map number circle.items)) }
 {
     let mut met = vec![in alloc; false; heights.len()]?;

@@ -7,22 +7,13 @@ ghost use Rattle.bplist_objects.specs.Safe.{IsSafe};
 ghost use Rattle.bplist_objects.specs.Reach.{Reach};
 ghost use Rattle.bplist_objects.specs.Answers.{Gives, read_failed};
 ghost use Rattle.bplist_lint.specs.Reaching.{IsMarked};
-ghost use Rattle.bplist_cert.specs.Places.{AreOffsets};
+ghost use Rattle.bplist_keys.specs.Texts.{AreOffsets};
 ghost use Rattle.bplist_lint.specs.ReachRules.{IsReachFault, Tallied};
+ghost use Rattle.bplist_lint.specs.Tallies.{IsRoomy};
 
-use bplist_objects::{Fault, Frame, ObjectFault, ObjectNo, Rule, head_at, refs_of};
+use crate::tally::Tally;
+use bplist_objects::{Fault, Frame, ObjectFault, ObjectNo, Rule, head_at};
 use bplist_octets::Source;
-
-/// What the reached objects up to one come to.
-#[derive(Clone, Copy, Debug, PartialEq, Eq, Drop)]
-pub struct Tally {
-    /// How many they are.
-    pub reached: u64,
-    /// How many bytes they take together.
-    pub used: u64,
-    /// How many references they have together.
-    pub references: u64,
-}
 
 /// Looks at reached object `n`, which stands at `place`, and adds it to the tally of those before it.
 fn check_object<S: Source>(
@@ -34,13 +25,9 @@ fn check_object<S: Source>(
 ) -> Result<Tally, ObjectFault>
     requires safe { IsSafe (length (S.means src.old).octets) frame.now }
     requires within { n < frame.now.objects }
-    requires few { tally.reached ≤ n }
-    requires room { tally.used + 8 ≤ frame.now.table }
-    requires references { tally.references ≤ tally.used }
+    requires roomy { IsRoomy frame.now tally }
     ensures reads { OnlyReads (read_failed result) (S.means src.old) (S.means src.new) }
-    ensures few { IfOk result (λ now. now.reached ≡ tally.reached + 1) }
-    ensures room { IfOk result (λ now. now.used + 8 ≤ frame.now.table) }
-    ensures references { IfOk result (λ now. now.references ≤ now.used) }
+    ensures roomy { IfOk result (IsRoomy frame.now) }
     ensures exact { IsTrue (S.means src.old).honest → IsFrame (S.means src.old).octets frame.now
         → place ≡ off (S.means src.old).octets frame.now n → (marks : List Bool) → IsMarked marks n
         → Reach (S.means src.old).octets frame.now n
@@ -48,21 +35,15 @@ fn check_object<S: Source>(
         → Gives (Tallied (S.means src.old).octets frame.now marks (n + 1))
         (IsReachFault (S.means src.old).octets frame.now) result }
 {
-    let table = frame.table;
     let head = head_at(src, frame, ObjectNo(n), place)?;
-    let extent = head.end - place;
-    if extent > table - 8 - tally.used {
-        return Err(ObjectFault::Fault(Fault {
+    match tally.with(frame, place, &head) {
+        Some(now) => Ok(now),
+        None => Err(ObjectFault::Fault(Fault {
             rule: Rule::Overfull,
             object: Some(ObjectNo(n)),
             place,
-        }));
+        })),
     }
-    Ok(Tally {
-        reached: tally.reached + 1,
-        used: tally.used + extent,
-        references: tally.references + refs_of(&head),
-    })
 }
 
 /// Looks at each marked object, in the order of their numbers, where exactly the reached objects are marked.
@@ -77,19 +58,14 @@ pub fn check_reached<S: Source>(
     requires places { length places.now ≡ frame.now.objects }
     requires marks { length marks.now ≡ frame.now.objects }
     ensures reads { OnlyReads (read_failed result) (S.means src.old) (S.means src.new) }
-    ensures room { IfOk result (λ tally. tally.used + 8 ≤ frame.now.table) }
-    ensures references { IfOk result (λ tally. tally.references ≤ tally.used) }
+    ensures roomy { IfOk result (IsRoomy frame.now) }
     ensures exact { IsTrue (S.means src.old).honest → IsFrame (S.means src.old).octets frame.now
         → AreOffsets (S.means src.old).octets frame.now places.now
         → ((n : ℕ) → IsMarked marks.now n ↔ Reach (S.means src.old).octets frame.now n)
         → Gives (Tallied (S.means src.old).octets frame.now marks.now frame.now.objects)
         (IsReachFault (S.means src.old).octets frame.now) result }
 {
-    let mut tally = Tally {
-        reached: 0,
-        used: 0,
-        references: 0,
-    };
+    let mut tally = Tally::new();
     for n in 0..frame.objects {
         if marks[n as usize] {
             tally = check_object(src, frame, n, places[n as usize] as u64, tally)?;

@@ -1,128 +1,126 @@
 //! The first fault of the reached dictionaries by rules 21 and 22.
 //!
-//! The fingerprints of a dictionary's keys mostly say that it keeps both. They are kept for the whole pass, since many
-//! dictionaries share the objects of their keys. Only where they leave it open the keys themselves are looked at.
+//! Each text that is named as a key has a class, which is found once for all dictionaries. A repeated key is a repeated
+//! class, and a key without one is no text.
 
-ghost use Rattle.std.specs.Prelude.{◌≡◌, ◌↔◌, ℕ, ◌<◌, IsTrue, OnOk, length};
+ghost use Rattle.std.specs.Prelude.{◌≡◌, ◌↔◌, ◌+◌, ◌*◌, ◌≤◌, ℕ, ◌<◌, IsTrue, IfOk, OnOk, length, slice_index};
 ghost use Rattle.bplist_octets.specs.Meaning.{OnlyReads};
-ghost use Rattle.bplist_objects.specs.Frame.{IsFrame};
+ghost use Rattle.bplist_objects.specs.Answers.{Never};
+ghost use Rattle.bplist_objects.specs.Frame.{off, IsFrame};
 ghost use Rattle.bplist_objects.specs.Safe.{IsSafe, IsSafeHead};
 ghost use Rattle.bplist_objects.specs.Reach.{Reach};
 ghost use Rattle.bplist_objects.specs.Rules.{KeepsAll, IsFirstFault};
+ghost use Rattle.bplist_objects.specs.ObjectRules.{KeepsByObject, object_rules};
+ghost use Rattle.bplist_objects.specs.Announced.{HasHead};
+ghost use Rattle.bplist_objects.specs.declared.kind.Kind.TheVariants.{Dict};
+ghost use Rattle.bplist_keys.specs.Texts.{AreOffsets};
+ghost use Rattle.bplist_cert.specs.KeyClasses.{KeysAreSound};
+ghost use Rattle.bplist_cert.specs.Refusals.{Judges, refused_read};
+ghost use Rattle.bplist_keys.specs.Ranks.{AreClasses};
 ghost use Rattle.bplist_lint.specs.Reaching.{IsMarked};
-ghost use Rattle.bplist_cert.specs.Places.{AreOffsets, KeysAreSound};
 ghost use Rattle.bplist_lint.specs.Referring.{AreBare};
 ghost use Rattle.bplist_lint.specs.ReachRules.{KeepReachBelow};
 ghost use Rattle.bplist_lint.specs.KeyRules.{KeepsByKeys, BreaksAtKeys, key_rules, KeepKeysBelow, IsKeysFault};
-ghost use Rattle.bplist_lint.specs.Fingerprints.{HaveRows, AreSound, AreKnown};
-ghost use Rattle.bplist_objects.specs.Announced.{HasHead};
-ghost use Rattle.bplist_objects.specs.declared.kind.Kind.TheVariants.{Dict};
-ghost use Rattle.bplist_cert.specs.Refusals.{Judges, refused_read};
+ghost use Rattle.bplist_keys.specs.Classes.{AreClassed, wrong_key};
+ghost use Rattle.bplist_lint.specs.KeyClasses.{IsWrongFault};
+ghost use Rattle.bplist_objects.specs.declared.head.Head.{Head as head_record};
 
-use crate::key_texts::KeyTexts;
-use bplist_cert::{Places, Refusal, check_texts, check_twice};
-use bplist_objects::{Frame, Head, Kind, ObjectNo, shape_at};
+use crate::key_names::{Reached, named_keys};
+use bplist_cert::Refusal;
+use bplist_keys::{ClassTable, KeysFault, NamedKeys, Ranks, Wrong, classes_of};
+use bplist_objects::{Fault, Frame, Head, Kind, ObjectNo, Rule, shape_at};
 use bplist_octets::Source;
 use std::alloc::Global;
 
-/// Looks at the keys of dictionary `n`, which has this head, by their units. The keys are known to keep rules 14 to 20.
-fn check_units<S: Source>(
+/// The classes of the texts that are named as keys.
+fn key_classes<S: Source>(
     alloc: Global,
     src: &mut S,
     frame: &Frame,
     places: &[u32],
-    n: ObjectNo,
-    head: &Head,
-) -> Result<(), Refusal>
+    named: NamedKeys,
+) -> Result<Ranks, Refusal>
     requires safe { IsSafe (length (S.means src.old).octets) frame.now }
-    requires head { IsSafeHead frame.now head.now }
-    requires dict { head.now.kind ≡ Dict }
+    requires places { length places.now ≡ frame.now.objects }
+    requires named { length named.table.items ≡ frame.now.objects }
     ensures reads { OnlyReads (refused_read result) (S.means src.old) (S.means src.new) }
     ensures exact { IsTrue (S.means src.old).honest → IsFrame (S.means src.old).octets frame.now
         → AreOffsets (S.means src.old).octets frame.now places.now
-        → KeysAreSound (S.means src.old).octets frame.now head.now
-        → HasHead (S.means src.old).octets frame.now n.0 head.now
-        → Judges (λ _. KeepsAll (KeepsByKeys (S.means src.old).octets frame.now n.0) key_rules)
-        (IsFirstFault (KeepsByKeys (S.means src.old).octets frame.now n.0)
-        (BreaksAtKeys (S.means src.old).octets frame.now n.0) key_rules) result }
+        → Judges (λ ranks. AreClasses (S.means src.old).octets frame.now named.table.items ranks.table.items) Never result }
 {
-    let places = Places::Kept(places);
-    check_texts(src, frame, places, n, head)?;
-    check_twice(alloc, src, frame, places, n, head)
+    match classes_of(alloc, src, frame, places, named) {
+        Ok(classes) => Ok(classes),
+        Err(KeysFault::Read(fault)) => Err(Refusal::Read(fault)),
+        Err(KeysFault::Memory) => Err(Refusal::Memory),
+    }
 }
 
-/// Looks at the keys of dictionary `n`, which has this head.
-fn check_dict<S: Source>(
-    alloc: Global,
-    src: &mut S,
-    frame: &Frame,
-    places: &[u32],
-    marks: &[bool],
-    n: ObjectNo,
-    head: &Head,
-    texts: &mut KeyTexts,
-) -> Result<(), Refusal>
-    requires safe { IsSafe (length (S.means src.old).octets) frame.now }
-    requires places { length places.now ≡ frame.now.objects }
-    requires marks { length marks.now ≡ frame.now.objects }
-    requires rows { HaveRows texts.old.read.items texts.old.fingerprints.items frame.now.objects }
+/// The place of key reference `i` of a dictionary, in a file of so many bytes.
+fn key_place(frame: &Frame, head: &Head, i: u64, len: u64) -> u64
+    requires safe { IsSafe len frame.now }
     requires head { IsSafeHead frame.now head.now }
     requires dict { head.now.kind ≡ Dict }
-    ensures reads { OnlyReads (refused_read result) (S.means src.old) (S.means src.new) }
-    ensures rows { HaveRows texts.new.read.items texts.new.fingerprints.items frame.now.objects }
-    ensures known { OnOk result (IsTrue (S.means src.old).honest
-        → AreSound (S.means src.old).octets frame.now places.now marks.now
-        → AreKnown (S.means src.old).octets frame.now texts.old.read.items texts.old.fingerprints.items
-        → AreKnown (S.means src.old).octets frame.now texts.new.read.items texts.new.fingerprints.items) }
-    ensures exact { IsTrue (S.means src.old).honest
-        → AreSound (S.means src.old).octets frame.now places.now marks.now
-        → AreKnown (S.means src.old).octets frame.now texts.old.read.items texts.old.fingerprints.items
-        → KeysAreSound (S.means src.old).octets frame.now head.now
-        → HasHead (S.means src.old).octets frame.now n.0 head.now
-        → Judges (λ _. KeepsAll (KeepsByKeys (S.means src.old).octets frame.now n.0) key_rules)
-        (IsFirstFault (KeepsByKeys (S.means src.old).octets frame.now n.0)
-        (BreaksAtKeys (S.means src.old).octets frame.now n.0) key_rules) result }
+    requires within { i < head.now.count }
+    ensures { result ≡ head.now.body + i * frame.now.ref_size }
 {
-    if texts.differ(src, frame, places, marks, head)? {
-        return Ok(());
-    }
-    check_units(alloc, src, frame, places, n, head)
+    head.body + i * frame.ref_size as u64
 }
 
-/// Looks at the keys of marked object `n`, where it is a dictionary.
+/// The fault of the keys of dictionary `n`, in a file of so many bytes.
+fn key_fault(frame: &Frame, n: ObjectNo, head: &Head, wrong: Wrong, len: u64) -> Fault
+    requires safe { IsSafe len frame.now }
+    requires head { IsSafeHead frame.now head.now }
+    requires dict { head.now.kind ≡ Dict }
+    requires within { wrong_key wrong < head.now.count }
+    ensures { IsWrongFault frame.now n head.now wrong result }
+{
+    match wrong {
+        Wrong::NoText(i) => Fault {
+            rule: Rule::KeyKind,
+            object: Some(n),
+            place: key_place(frame, head, i, len),
+        },
+        Wrong::Again(i) => Fault {
+            rule: Rule::KeyTwice,
+            object: Some(n),
+            place: key_place(frame, head, i, len),
+        },
+    }
+}
+
+/// Looks at the keys of marked object `n`, which stands at `place`, where it is a dictionary.
 fn check_object<S: Source>(
-    alloc: Global,
     src: &mut S,
     frame: &Frame,
-    places: &[u32],
-    marks: &[bool],
+    place: u64,
     n: u32,
-    texts: &mut KeyTexts,
+    table: &mut ClassTable,
 ) -> Result<(), Refusal>
     requires safe { IsSafe (length (S.means src.old).octets) frame.now }
-    requires places { length places.now ≡ frame.now.objects }
-    requires marks { length marks.now ≡ frame.now.objects }
-    requires rows { HaveRows texts.old.read.items texts.old.fingerprints.items frame.now.objects }
     requires within { n < frame.now.objects }
-    requires marked { IsMarked marks.now n }
     ensures reads { OnlyReads (refused_read result) (S.means src.old) (S.means src.new) }
-    ensures rows { HaveRows texts.new.read.items texts.new.fingerprints.items frame.now.objects }
-    ensures known { OnOk result (IsTrue (S.means src.old).honest
-        → AreSound (S.means src.old).octets frame.now places.now marks.now
-        → AreKnown (S.means src.old).octets frame.now texts.old.read.items texts.old.fingerprints.items
-        → AreKnown (S.means src.old).octets frame.now texts.new.read.items texts.new.fingerprints.items) }
-    ensures exact { IsTrue (S.means src.old).honest
-        → AreSound (S.means src.old).octets frame.now places.now marks.now
-        → AreKnown (S.means src.old).octets frame.now texts.old.read.items texts.old.fingerprints.items
+    ensures same { table.new.classes.table.items ≡ table.old.classes.table.items }
+    ensures low { IsTrue (S.means src.old).honest → ((x : ℕ) → slice_index table.old.seen.items x ≤ n)
+        → OnOk result ((x : ℕ) → slice_index table.new.seen.items x ≤ n + 1) }
+    ensures exact { IsTrue (S.means src.old).honest → IsFrame (S.means src.old).octets frame.now
+        → place ≡ off (S.means src.old).octets frame.now n
+        → KeepsAll (KeepsByObject (S.means src.old).octets frame.now n) object_rules
+        → ((head : head_record) → HasHead (S.means src.old).octets frame.now n head → head.kind ≡ Dict
+        → AreClassed (S.means src.old).octets frame.now table.old.classes.table.items head
+        × KeysAreSound (S.means src.old).octets frame.now head)
+        → ((x : ℕ) → slice_index table.old.seen.items x ≤ n)
         → Judges (λ _. KeepsAll (KeepsByKeys (S.means src.old).octets frame.now n) key_rules)
         (IsFirstFault (KeepsByKeys (S.means src.old).octets frame.now n)
         (BreaksAtKeys (S.means src.old).octets frame.now n) key_rules) result }
 {
-    let place = places[n as usize] as u64;
+    let _objects = frame.objects;
     let n = ObjectNo(n);
     let head = shape_at(src, frame, n, place)?;
     match head.kind {
-        Kind::Dict => check_dict(alloc, src, frame, places, marks, n, &head, texts),
+        Kind::Dict => match table.first_wrong(src, frame, n.0, &head)? {
+            None => Ok(()),
+            Some(wrong) => Err(Refusal::Fault(key_fault(frame, n, &head, wrong, src.len()))),
+        },
         _ => Ok(()),
     }
 }
@@ -150,10 +148,17 @@ pub fn check_keys<S: Source>(
         → Judges (λ _. KeepKeysBelow (S.means src.old).octets frame.now frame.now.objects)
         (IsKeysFault (S.means src.old).octets frame.now) result }
 {
-    let mut texts = KeyTexts::none_read(alloc, frame.objects)?;
+    let reached = Reached {
+        places,
+        marks,
+        bare,
+    };
+    let named = named_keys(alloc, src, frame, &reached)?;
+    let classes = key_classes(alloc, src, frame, places, named)?;
+    let mut table = ClassTable::new(alloc, classes)?;
     for n in 0..frame.objects {
         if marks[n as usize] && !bare[n as usize] {
-            check_object(alloc, src, frame, places, marks, n, &mut texts)?;
+            check_object(src, frame, places[n as usize] as u64, n, &mut table)?;
         }
     }
     Ok(())

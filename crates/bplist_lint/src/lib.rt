@@ -1,23 +1,45 @@
-//! The linter: does a file hold a value, with which least heights, and if not, which fault is its first?
+//! The linter: whether a file holds a value, with which least heights, and if not, which fault is its first.
+//!
+//! ```
+//! let mut source = SliceSource::new(file);
+//! match lint(alloc, &mut source) {
+//!     Ok(sound) => keep(sound.certificate),                 // what `check` takes
+//!     Err(LintRefusal::Fault(fault)) => report(fault),      // the first broken rule, its object and place
+//!     Err(LintRefusal::Circle(objects)) => report_circle(objects.as_slice()),
+//!     Err(_) => retry(),                                    // a failed read or refused memory
+//! }
+//! ```
+//!
+//! | what | calls |
+//! |---|---|
+//! | the verdict on a file | [`lint`], [`Lint`], [`LintRefusal`], [`ObjectNos`] |
+//! | the same with the kind of the top | [`lint_with_kind`] |
+//! | a certificate with sorted key lists | [`upgrade`], [`UpgradeFault`] |
+//!
+//! A no is final: after it no certificate is valid for the file (clause `decisive`, law `fault_is_final`). docs/DESIGN.md
+//! describes the passes, docs/RULES.md the order of the rules.
 #![tactic(auto)]
 
 mod answer;
 mod circling;
 mod faults;
-mod fingerprint;
 mod heights;
-mod key_texts;
+mod key_lists;
+mod key_names;
 mod keys;
 mod laws;
 mod linting;
 mod object_nos;
 mod objects;
+mod place_set;
 mod places;
 mod reaching;
 mod references;
 mod refusal;
+mod tally;
 mod upgrade_fault;
 mod upgrading;
+mod walking;
 
 pub use answer::Lint;
 pub use laws::{
@@ -25,7 +47,7 @@ pub use laws::{
     holds_iff_well_formed, least_heights_are_valid, least_is_least, one_file_fault,
     valid_iff_well_formed, value_or_fault, well_formed_iff_kept,
 };
-pub use linting::lint;
+pub use linting::{lint, lint_with_kind};
 pub use object_nos::ObjectNos;
 pub use refusal::LintRefusal;
 pub use upgrade_fault::UpgradeFault;

@@ -8,70 +8,41 @@ ghost use Rattle.bplist_objects.specs.Reach.{Reach};
 ghost use Rattle.bplist_objects.specs.Spelled.{refs_at};
 ghost use Rattle.bplist_objects.specs.Value.{Value};
 ghost use Rattle.bplist_objects.specs.File.{FileHolds};
-ghost use Rattle.bplist_objects.specs.Answers.{Never};
+ghost use Rattle.bplist_objects.specs.Answers.{Gives, Never, read_failed};
+ghost use Rattle.bplist_objects.specs.Heads.{HasShape};
+ghost use Rattle.bplist_objects.specs.declared.head.Head.{Head as head};
 ghost use Rattle.bplist_lint.specs.Answers.{walk_failed};
 ghost use Rattle.bplist_lint.specs.Graph.{AreLeast, IsCircleOf};
 ghost use Rattle.bplist_lint.specs.Reaching.{IsMarked};
-ghost use Rattle.bplist_cert.specs.Places.{AreOffsets};
+ghost use Rattle.bplist_keys.specs.Texts.{AreOffsets};
 ghost use Rattle.bplist_lint.specs.Referring.{AreBare};
 ghost use Rattle.bplist_lint.specs.Trail.{number};
+ghost use Rattle.bplist_lint.specs.ReachRules.{IsReachFault, KeepReachBelow};
+ghost use Rattle.bplist_lint.specs.Walks.{Fits, IsWalked};
 ghost use Rattle.bplist_lint.specs.FileFault.{IsObjectsFault, IsFileFault, IsFileCircle, IsFramedCircle};
 ghost use Rattle.bplist_lint.specs.Refusals.{Lints, lint_failed, no_circle};
-ghost use Rattle.bplist_lint.specs.Linted.{IsSifted, IsLintedBy, IsLinted, HasNoHeights};
+ghost use Rattle.bplist_lint.specs.Linted.{IsSifted, IsLintedBy, IsLinted, IsLintedWithKind, HasNoHeights};
 
 use crate::answer::Lint;
 use crate::circling::circle;
-use crate::faults::{Tally, check_reached};
+use crate::faults::check_reached;
 use crate::heights::least_heights;
 use crate::keys::check_keys;
 use crate::object_nos::ObjectNos;
 use crate::objects::Objects;
-use crate::places::{check_places, places_of};
-use crate::reaching::reached;
+use crate::places::check_places;
+use crate::reaching::{Marked, mark_reached};
 use crate::references::WalkFault;
 use crate::refusal::LintRefusal;
+use crate::walking::{Reached, walk};
 use bplist_cert::Certificate;
-use bplist_objects::{Frame, ObjectNo, trailer_of};
-use bplist_octets::{Source, Windows};
+use bplist_keys::places_of;
+use bplist_objects::{Fault, Frame, Kind, ObjectFault, ObjectNo, Rule, shape_at, trailer_of};
+use bplist_octets::Source;
 use std::alloc::Global;
 
-/// Marks on the objects of a file, one for each.
-#[derive(Drop)]
-struct Marked {
-    /// Exactly the reached objects are marked.
-    marks: Vec<bool>,
-    /// Marked objects have no references.
-    bare: Vec<bool>,
-}
-
-/// Marks exactly the objects that the top reaches, and those among them that turn out to have no references.
-fn mark_reached<S: Source>(
-    alloc: Global,
-    src: &mut S,
-    frame: &Frame,
-    places: &[u32],
-) -> Result<Marked, WalkFault>
-    requires frame { IsSafeFrame (length (S.means src.old).octets) frame.now }
-    requires places { length places.now ≡ frame.now.objects }
-    requires framed { IsTrue (S.means src.old).honest → IsFrame (S.means src.old).octets frame.now }
-    requires placed { IsTrue (S.means src.old).honest → AreOffsets (S.means src.old).octets frame.now places.now }
-    ensures reads { OnlyReads (walk_failed result) (S.means src.old) (S.means src.new) }
-    ensures all { IfOk result (λ marked. vec_len marked.marks ≡ frame.now.objects) }
-    ensures all_bare { IfOk result (λ marked. vec_len marked.bare ≡ frame.now.objects) }
-    ensures exact { IsTrue (S.means src.old).honest → IfOk result (λ marked.
-        (n : ℕ) → IsMarked marked.marks.items n ↔ Reach (S.means src.old).octets frame.now n) }
-    ensures bare { IsTrue (S.means src.old).honest → IfOk result (λ marked.
-        AreBare (S.means src.old).octets frame.now marked.bare.items) }
-{
-    let (size, top) = (frame.objects, frame.top.0);
-    let mut bare = vec![in alloc; false; size as usize]?;
-    let mut objects = Objects::new(src, *frame, places, &mut bare);
-    let marks = reached(alloc, &mut objects, size, top)?;
-    Ok(Marked { marks, bare })
-}
-
-/// The least height of each object that is reached and founded, and 0 for each other, where `marks` marks exactly the
-/// reached objects, and `bare` only objects that have no references.
+/// The least height of each object that is reached and founded, and 0 for each other, where the reached objects keep rules
+/// 14 to 20, `marks` marks exactly them, and `bare` only objects that have no references.
 fn find_heights<S: Source>(
     alloc: Global,
     src: &mut S,
@@ -90,6 +61,7 @@ fn find_heights<S: Source>(
     ensures reads { OnlyReads (walk_failed result) (S.means src.old) (S.means src.new) }
     ensures all { IfOk result (λ heights. vec_len heights ≡ frame.now.objects) }
     ensures exact { IsTrue (S.means src.old).honest
+        → KeepReachBelow (S.means src.old).octets frame.now frame.now.objects
         → ((n : ℕ) → IsMarked marks.now n ↔ Reach (S.means src.old).octets frame.now n)
         → IfOk result (λ heights. AreLeast (refs_at (S.means src.old).octets frame.now) frame.now.top.0 heights.items) }
 {
@@ -98,7 +70,7 @@ fn find_heights<S: Source>(
     least_heights(alloc, &mut objects, size, marks)
 }
 
-/// The circle that first references without a height lead to from the top.
+/// The circle that first references without a height lead to from the top, where the reached objects keep rules 14 to 20.
 fn find_circle<S: Source>(
     alloc: Global,
     src: &mut S,
@@ -115,7 +87,8 @@ fn find_circle<S: Source>(
         → AreLeast (refs_at (S.means src.old).octets frame.now) frame.now.top.0 heights.now }
     requires circular { slice_index heights.now frame.now.top.0 ≡ 0 }
     ensures reads { OnlyReads (walk_failed result) (S.means src.old) (S.means src.new) }
-    ensures circle { IsTrue (S.means src.old).honest → IfOk result (λ circle.
+    ensures circle { IsTrue (S.means src.old).honest
+        → KeepReachBelow (S.means src.old).octets frame.now frame.now.objects → IfOk result (λ circle.
         IsCircleOf (refs_at (S.means src.old).octets frame.now) frame.now.top.0 (map number circle.items)) }
 {
     let top = frame.top.0;
@@ -124,11 +97,58 @@ fn find_circle<S: Source>(
     circle(alloc, &mut objects, heights, top)
 }
 
-/// What the passes over the reached objects come to.
-#[derive(Drop)]
-struct Sifted {
-    tally: Tally,
-    marked: Marked,
+/// What is known of the reached objects, by passes over them in the order of their numbers: they keep rules 14 to 20 and
+/// 31, or this is the first fault.
+fn find_reached_in_order<S: Source>(
+    alloc: Global,
+    src: &mut S,
+    frame: &Frame,
+    places: &[u32],
+) -> Result<Reached, LintRefusal>
+    requires frame { IsSafeFrame (length (S.means src.old).octets) frame.now }
+    requires places { length places.now ≡ frame.now.objects }
+    requires framed { IsTrue (S.means src.old).honest → IsFrame (S.means src.old).octets frame.now }
+    requires placed { IsTrue (S.means src.old).honest → AreOffsets (S.means src.old).octets frame.now places.now }
+    ensures reads { OnlyReads (lint_failed result) (S.means src.old) (S.means src.new) }
+    ensures fits { IfOk result (Fits frame.now) }
+    ensures exact { IsTrue (S.means src.old).honest
+        → Lints (IsWalked (S.means src.old).octets frame.now) (IsReachFault (S.means src.old).octets frame.now)
+        no_circle result }
+{
+    let len = src.len();
+    if frame.table > u32::MAX as u64 {
+        return Err(LintRefusal::Fault(Fault {
+            rule: Rule::TooLarge,
+            object: None,
+            place: len,
+        }));
+    }
+    let Marked { marks, bare } = mark_reached(alloc, src, frame, places)?;
+    let tally = check_reached(src, frame, places, &marks)?;
+    Ok(Reached { marks, bare, tally })
+}
+
+/// What is known of the reached objects, which keep rules 14 to 20 and 31, or their first fault.
+fn find_reached<S: Source>(
+    alloc: Global,
+    src: &mut S,
+    frame: &Frame,
+    places: &[u32],
+) -> Result<Reached, LintRefusal>
+    requires frame { IsSafeFrame (length (S.means src.old).octets) frame.now }
+    requires places { length places.now ≡ frame.now.objects }
+    requires framed { IsTrue (S.means src.old).honest → IsFrame (S.means src.old).octets frame.now }
+    requires placed { IsTrue (S.means src.old).honest → AreOffsets (S.means src.old).octets frame.now places.now }
+    ensures reads { OnlyReads (lint_failed result) (S.means src.old) (S.means src.new) }
+    ensures fits { IfOk result (Fits frame.now) }
+    ensures exact { IsTrue (S.means src.old).honest
+        → Lints (IsWalked (S.means src.old).octets frame.now) (IsReachFault (S.means src.old).octets frame.now)
+        no_circle result }
+{
+    match walk(alloc, src, frame, places)? {
+        Some(reached) => Ok(reached),
+        None => find_reached_in_order(alloc, src, frame, places),
+    }
 }
 
 /// Looks at the reached objects by rules 14 to 22 and 31, first each by itself and then at the keys of each.
@@ -137,25 +157,20 @@ fn sift<S: Source>(
     src: &mut S,
     frame: &Frame,
     places: &[u32],
-) -> Result<Sifted, LintRefusal>
+) -> Result<Reached, LintRefusal>
     requires frame { IsSafeFrame (length (S.means src.old).octets) frame.now }
     requires places { length places.now ≡ frame.now.objects }
     requires framed { IsTrue (S.means src.old).honest → IsFrame (S.means src.old).octets frame.now }
     requires placed { IsTrue (S.means src.old).honest → AreOffsets (S.means src.old).octets frame.now places.now }
     ensures reads { OnlyReads (lint_failed result) (S.means src.old) (S.means src.new) }
-    ensures room { IfOk result (λ sifted. sifted.tally.references + 8 ≤ frame.now.table) }
-    ensures all { IfOk result (λ sifted. vec_len sifted.marked.marks ≡ frame.now.objects) }
-    ensures all_bare { IfOk result (λ sifted. vec_len sifted.marked.bare ≡ frame.now.objects) }
-    ensures bare { IsTrue (S.means src.old).honest → IfOk result (λ sifted.
-        AreBare (S.means src.old).octets frame.now sifted.marked.bare.items) }
+    ensures fits { IfOk result (Fits frame.now) }
     ensures exact { IsTrue (S.means src.old).honest
         → Lints (IsSifted (S.means src.old).octets frame.now) (IsObjectsFault (S.means src.old).octets frame.now)
         no_circle result }
 {
-    let marked = mark_reached(alloc, src, frame, places)?;
-    let tally = check_reached(src, frame, places, &marked.marks)?;
-    check_keys(alloc, src, frame, places, &marked.marks, &marked.bare)?;
-    Ok(Sifted { tally, marked })
+    let reached = find_reached(alloc, src, frame, places)?;
+    check_keys(alloc, src, frame, places, &reached.marks, &reached.bare)?;
+    Ok(reached)
 }
 
 /// What the linter says of a file with this frame, whose objects stand at these places.
@@ -174,10 +189,7 @@ fn lint_objects<S: Source>(
         → Lints (IsLintedBy (S.means src.old).octets frame.now) (IsObjectsFault (S.means src.old).octets frame.now)
         (IsFramedCircle (S.means src.old).octets frame.now) result }
 {
-    let Sifted {
-        tally,
-        marked: Marked { marks, bare },
-    } = sift(alloc, src, frame, places)?;
+    let Reached { marks, bare, tally } = sift(alloc, src, frame, places)?;
     let heights = find_heights(alloc, src, frame, places, &marks, bare)?;
     let height = heights[frame.top.0 as usize];
     if height == 0 {
@@ -195,17 +207,34 @@ fn lint_objects<S: Source>(
     })
 }
 
-/// What `lint` says, over a source that is read to and fro between a few places at little cost.
-fn lint_through<S: Source>(alloc: Global, src: &mut S) -> Result<Lint, LintRefusal>
+/// The kind of the top.
+fn top_kind<S: Source>(src: &mut S, frame: &Frame, places: &[u32]) -> Result<Kind, ObjectFault>
+    requires frame { IsSafeFrame (length (S.means src.old).octets) frame.now }
+    requires places { length places.now ≡ frame.now.objects }
+    requires framed { IsTrue (S.means src.old).honest → IsFrame (S.means src.old).octets frame.now }
+    requires placed { IsTrue (S.means src.old).honest → AreOffsets (S.means src.old).octets frame.now places.now }
+    ensures reads { OnlyReads (read_failed result) (S.means src.old) (S.means src.new) }
+    ensures exact { IsTrue (S.means src.old).honest → (x : head) → HasShape (S.means src.old).octets frame.now frame.now.top.0 x
+        → Gives (λ kind. kind ≡ x.kind) Never result }
+{
+    let place = places[frame.top.0 as usize] as u64;
+    let head = shape_at(src, frame, frame.top, place)?;
+    Ok(head.kind)
+}
+
+/// What `lint` says, and beside a yes the kind of the top, which no caller has to read again.
+pub fn lint_with_kind<S: Source>(alloc: Global, src: &mut S) -> Result<(Lint, Kind), LintRefusal>
     ensures reads { OnlyReads (lint_failed result) (S.means src.old) (S.means src.new) }
     ensures exact { IsTrue (S.means src.old).honest
-        → Lints (IsLinted (S.means src.old).octets) (IsFileFault (S.means src.old).octets)
-        (IsFileCircle (S.means src.old).octets) result }
+        → Lints (λ answer. IsLintedWithKind (S.means src.old).octets answer.0 answer.1)
+        (IsFileFault (S.means src.old).octets) (IsFileCircle (S.means src.old).octets) result }
 {
     let frame = trailer_of(src)?;
     let places = places_of(alloc, src, &frame)?;
     check_places(&frame, &places, src.len())?;
-    lint_objects(alloc, src, &frame, &places)
+    let lint = lint_objects(alloc, src, &frame, &places)?;
+    let kind = top_kind(src, &frame, &places)?;
+    Ok((lint, kind))
 }
 
 /// Says whether the file holds a value: the least certificate for it, or the first fault of the file, and then no
@@ -214,6 +243,8 @@ fn lint_through<S: Source>(alloc: Global, src: &mut S) -> Result<Lint, LintRefus
 /// Places of a fault count from the file's first byte. `Read` is answered where a read of the source failed, and
 /// `Memory` where a growth was refused. After a refusal the source is as it was, but for the count of its failures. Over
 /// a source that is not honest nothing is said of which answer comes.
+///
+/// The reads alternate between a few places: over a file put `Windows` around it.
 pub fn lint<S: Source>(alloc: Global, src: &mut S) -> Result<Lint, LintRefusal>
     ensures reads { OnlyReads (lint_failed result) (S.means src.old) (S.means src.new) }
     ensures exact { IsTrue (S.means src.old).honest
@@ -224,6 +255,6 @@ pub fn lint<S: Source>(alloc: Global, src: &mut S) -> Result<Lint, LintRefusal>
     ensures never { IsTrue (S.means src.old).honest → (v : Value) → FileHolds (S.means src.old).octets v
         → Lints (λ _. ⊤) Never no_circle result }
 {
-    let mut windows = Windows::new(src);
-    lint_through(alloc, &mut windows)
+    let (lint, _kind) = lint_with_kind(alloc, src)?;
+    Ok(lint)
 }

@@ -37,6 +37,7 @@ impl ObjectNos {
     pub fn into_vec(self) -> Vec<ObjectNo>
         ensures { result.items ≡ self }
     {
-        self.numbers
+        let ObjectNos { numbers } = self;
+        numbers
     }
 }

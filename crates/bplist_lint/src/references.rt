@@ -1,8 +1,8 @@
 //! References between objects, as the walks read them.
 
-ghost use Rattle.std.specs.Prelude.{◌≡◌, ◌<◌, IsTrue, length, slice_index, IfOk, is_err};
+ghost use Rattle.std.specs.Prelude.{◌≡◌, ◌<◌, [], IsTrue, length, slice_index, IfOk, is_err};
 ghost use Rattle.bplist_octets.specs.Meaning.{Meaning, OnlyReads};
-ghost use Rattle.bplist_lint.specs.Graph.{Graph};
+ghost use Rattle.bplist_lint.specs.Graph.{Graph, IsWhole};
 ghost use Rattle.bplist_lint.specs.declared.references.WalkFault.TheVariants.{Read, Memory};
 
 use bplist_octets::ReadFault;
@@ -49,12 +49,17 @@ pub trait References {
     /// What the references are read from.
     ghost means: { Self → Meaning };
 
-    /// How many references object `n` has.
+    /// Whether object `n` is known to have no references.
+    fn is_bare(&self, n: u32) -> bool
+        requires { n < (graph self.now).size }
+        ensures { IsTrue (means self.now).honest → IsTrue result → (graph self.now).refs n ≡ [] };
+
+    /// How many references object `n` has, where all that its head announces are numbers of objects.
     fn count(&mut self, n: u32) -> Result<u64, ReadFault>
         requires { n < (graph self.old).size }
         ensures same { graph self.new ≡ graph self.old }
         ensures reads { OnlyReads (is_err result) (means self.old) (means self.new) }
-        ensures value { IsTrue (means self.old).honest
+        ensures value { IsTrue (means self.old).honest → IsWhole (graph self.old) n
             → IfOk result (λ c. c ≡ length ((graph self.old).refs n)) };
 
     /// Reference `i` of object `n`, in written order. Over any source it is a number of an object.

@@ -5,11 +5,13 @@ ghost use Rattle.bplist_objects.specs.declared.fault.ObjectFault.{ObjectFault as
 ghost use Rattle.bplist_cert.specs.declared.refusal.Refusal.{Refusal as cert_refusal};
 ghost use Rattle.bplist_lint.specs.declared.references.WalkFault.{WalkFault as walk_fault};
 ghost use Rattle.bplist_lint.specs.declared.refusal.LintRefusal.TheVariants.{Fault as is_fault};
-ghost use Rattle.bplist_lint.specs.Refusals.{of_object, of_walk, of_check};
+ghost use Rattle.bplist_keys.specs.declared.fault.KeysFault.{KeysFault as keys_fault};
+ghost use Rattle.bplist_lint.specs.Refusals.{of_object, of_walk, of_keys, of_check};
 
 use crate::object_nos::ObjectNos;
 use crate::references::WalkFault;
 use bplist_cert::Refusal;
+use bplist_keys::KeysFault;
 use bplist_objects::{Fault, ObjectFault};
 use bplist_octets::ReadFault;
 
@@ -52,6 +54,17 @@ impl From<WalkFault> for LintRefusal {
         match fault {
             WalkFault::Read(error) => LintRefusal::Read(error),
             WalkFault::Memory => LintRefusal::Memory,
+        }
+    }
+}
+
+impl From<KeysFault> for LintRefusal {
+    ghost from_gives = { λ fault e. e ≡ of_keys fault };
+
+    fn from(fault: KeysFault) -> LintRefusal {
+        match fault {
+            KeysFault::Read(error) => LintRefusal::Read(error),
+            KeysFault::Memory => LintRefusal::Memory,
         }
     }
 }

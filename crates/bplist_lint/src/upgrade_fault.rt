@@ -3,10 +3,12 @@
 ghost use Rattle.std.specs.Prelude.{◌≡◌};
 ghost use Rattle.bplist_objects.specs.declared.fault.ObjectFault.{ObjectFault as object_fault};
 ghost use Rattle.bplist_cert.specs.declared.refusal.Refusal.{Refusal as cert_refusal};
+ghost use Rattle.bplist_keys.specs.declared.fault.KeysFault.{KeysFault as keys_fault};
 ghost use Rattle.bplist_lint.specs.declared.references.WalkFault.{WalkFault as walk_fault};
 
 use crate::references::WalkFault;
 use bplist_cert::Refusal;
+use bplist_keys::KeysFault;
 use bplist_objects::ObjectFault;
 use bplist_octets::ReadFault;
 use std::alloc::{AllocError, AllocFailed};
@@ -58,6 +60,19 @@ impl From<WalkFault> for UpgradeFault {
         match fault {
             WalkFault::Read(error) => UpgradeFault::Read(error),
             WalkFault::Memory => UpgradeFault::Memory,
+        }
+    }
+}
+
+impl From<KeysFault> for UpgradeFault {
+    ghost use Rattle.bplist_lint.specs.Upgrades.{of_keys};
+
+    ghost from_gives = { λ fault e. e ≡ of_keys fault };
+
+    fn from(fault: KeysFault) -> UpgradeFault {
+        match fault {
+            KeysFault::Read(error) => UpgradeFault::Read(error),
+            KeysFault::Memory => UpgradeFault::Memory,
         }
     }
 }

@@ -2,83 +2,125 @@
 
 ghost use Rattle.std.specs.Prelude.{◌≡◌, ◌+◌, ◌≤◌, ◌<◌, ℕ, List, set, length, IsTrue, IfOk, vec_len};
 ghost use Rattle.bplist_octets.specs.Meaning.{OnlyReads};
-ghost use Rattle.bplist_objects.specs.Frame.{IsFrame};
+ghost use Rattle.bplist_objects.specs.Frame.{off, IsFrame};
 ghost use Rattle.bplist_objects.specs.Safe.{IsSafe};
+ghost use Rattle.bplist_keys.specs.Texts.{AreOffsets};
+ghost use Rattle.bplist_keys.specs.Ranks.{AreRanks};
 ghost use Rattle.bplist_cert.specs.Valid.{IsVouchedBy, IsValid};
-ghost use Rattle.bplist_cert.specs.Places.{AreOffsets};
+ghost use Rattle.bplist_keys.specs.Classes.{HasNamedKeys};
 ghost use Rattle.bplist_lint.specs.Upgraded.{Listed, IsUpgraded};
 ghost use Rattle.bplist_lint.specs.Upgrades.{Upgrades, upgrade_failed};
 
-use crate::places::places_of;
+use crate::key_lists::KeySorting;
 use crate::upgrade_fault::UpgradeFault;
-use bplist_cert::{Certificate, Checked, KeyLists, Places, list_keys};
+use bplist_cert::{Certificate, Checked, KeyLists, name_object};
+use bplist_keys::{NamedKeys, Ranks, places_of, ranks_of};
 use bplist_objects::{Frame, Kind, ObjectNo, shape_at};
 use bplist_octets::Source;
 use std::alloc::Global;
 
-/// Puts the key list of vouched object `n` behind the positions, where it is a dictionary. The start of the list, 0 for any
-/// other object.
-fn list_object<S: Source>(
+/// The objects that are vouched for.
+#[derive(Clone, Copy)]
+struct Vouched<'a> {
+    /// The places of all objects.
+    places: &'a [u32],
+    /// An object with a height above 0 is vouched for.
+    heights: &'a [u32],
+}
+
+/// The objects that the vouched dictionaries name as keys. An object of height 1 has no references.
+fn vouched_keys<S: Source>(
     alloc: Global,
     src: &mut S,
     frame: &Frame,
-    places: &[u32],
+    vouched: &Vouched,
+) -> Result<NamedKeys, UpgradeFault>
+    requires safe { IsSafe (length (S.means src.old).octets) frame.now }
+    requires places { length vouched.now.places.now ≡ frame.now.objects }
+    requires heights { length vouched.now.heights.now ≡ frame.now.objects }
+    ensures reads { OnlyReads (upgrade_failed result) (S.means src.old) (S.means src.new) }
+    ensures all { IfOk result (λ named. length named.table.items ≡ frame.now.objects) }
+    ensures exact { IsTrue (S.means src.old).honest → AreOffsets (S.means src.old).octets frame.now vouched.now.places.now
+        → IsValid (S.means src.old).octets frame.now vouched.now.heights.now
+        → Upgrades (λ named. (n : ℕ) → IsVouchedBy vouched.now.heights.now n
+        → HasNamedKeys (S.means src.old).octets frame.now named.table.items n) result }
+{
+    let (places, heights) = (vouched.places, vouched.heights);
+    let mut named = NamedKeys::new(alloc, frame.objects)?;
+    for n in 0..frame.objects {
+        if heights[n as usize] > 1 {
+            name_object(src, frame, places[n as usize] as u64, n, &mut named)?;
+        }
+    }
+    Ok(named)
+}
+
+/// Puts the key list of vouched object `n`, which stands at `place`, behind those before it, where it is a dictionary.
+/// The start of the list, 0 for any other object.
+fn list_object<S: Source>(
+    src: &mut S,
+    frame: &Frame,
+    place: u64,
     n: u32,
-    positions: &mut Vec<u32>,
+    lists: &mut KeySorting,
 ) -> Result<u32, UpgradeFault>
     requires safe { IsSafe (length (S.means src.old).octets) frame.now }
-    requires places { length places.now ≡ frame.now.objects }
     requires within { n < frame.now.objects }
-    requires few { vec_len positions.old ≤ 4294967295 }
+    requires few { vec_len lists.old.positions ≤ 4294967295 }
     ensures reads { OnlyReads (upgrade_failed result) (S.means src.old) (S.means src.new) }
-    ensures few { IfOk result (λ _. vec_len positions.new ≤ 4294967295) }
+    ensures same { lists.new.ranks.table.items ≡ lists.old.ranks.table.items }
+    ensures few { IfOk result (λ _. vec_len lists.new.positions ≤ 4294967295) }
     ensures exact { IsTrue (S.means src.old).honest → IsFrame (S.means src.old).octets frame.now
-        → AreOffsets (S.means src.old).octets frame.now places.now → (heights starts : List ℕ)
+        → place ≡ off (S.means src.old).octets frame.now n → (named heights starts : List ℕ)
+        → AreRanks (S.means src.old).octets frame.now named lists.old.ranks.table.items
+        → HasNamedKeys (S.means src.old).octets frame.now named n
         → IsValid (S.means src.old).octets frame.now heights → IsVouchedBy heights n → n < length starts
-        → Listed (S.means src.old).octets frame.now heights n starts positions.old.items
-        → Upgrades (λ start. Listed (S.means src.old).octets frame.now heights (n + 1) (set starts n start) positions.new.items) result }
+        → Listed (S.means src.old).octets frame.now heights n starts lists.old.positions.items
+        → Upgrades (λ start. Listed (S.means src.old).octets frame.now heights (n + 1) (set starts n start) lists.new.positions.items) result }
 {
-    let place = places[n as usize] as u64;
-    let n = ObjectNo(n);
-    let head = shape_at(src, frame, n, place)?;
+    let head = shape_at(src, frame, ObjectNo(n), place)?;
     match head.kind {
         Kind::Dict => {
-            let start = positions.len() as u32;
+            let start = lists.positions.len() as u32;
             if head.count > (u32::MAX - start) as u64 {
                 return Err(UpgradeFault::Changed);
             }
-            let places = Places::Kept(places);
-            list_keys(alloc, src, frame, places, n, &head, positions)?;
+            lists.list(src, frame, &head)?;
             Ok(start)
         }
         _ => Ok(0),
     }
 }
 
-/// The key lists of the vouched dictionaries, one behind the other in the order of the objects.
+/// The key lists of the vouched dictionaries, one behind the other in the order of the objects, by these ranks of the texts
+/// that they name as keys.
 fn list_all<S: Source>(
     alloc: Global,
     src: &mut S,
     frame: &Frame,
-    places: &[u32],
-    heights: &[u32],
+    vouched: &Vouched,
+    ranks: Ranks,
 ) -> Result<KeyLists, UpgradeFault>
     requires safe { IsSafe (length (S.means src.old).octets) frame.now }
-    requires places { length places.now ≡ frame.now.objects }
-    requires heights { length heights.now ≡ frame.now.objects }
+    requires places { length vouched.now.places.now ≡ frame.now.objects }
+    requires heights { length vouched.now.heights.now ≡ frame.now.objects }
     ensures reads { OnlyReads (upgrade_failed result) (S.means src.old) (S.means src.new) }
     ensures starts { IfOk result (λ keys. length keys.starts ≡ frame.now.objects) }
-    ensures exact { IsTrue (S.means src.old).honest → AreOffsets (S.means src.old).octets frame.now places.now
-        → IsValid (S.means src.old).octets frame.now heights.now
-        → Upgrades (λ keys. Listed (S.means src.old).octets frame.now heights.now frame.now.objects keys.starts keys.positions) result }
+    ensures exact { IsTrue (S.means src.old).honest → AreOffsets (S.means src.old).octets frame.now vouched.now.places.now
+        → IsValid (S.means src.old).octets frame.now vouched.now.heights.now
+        → (named : List ℕ) → AreRanks (S.means src.old).octets frame.now named ranks.table.items
+        → ((n : ℕ) → IsVouchedBy vouched.now.heights.now n → HasNamedKeys (S.means src.old).octets frame.now named n)
+        → Upgrades (λ keys. Listed (S.means src.old).octets frame.now vouched.now.heights.now frame.now.objects keys.starts keys.positions) result }
 {
+    let (places, heights) = (vouched.places, vouched.heights);
     let mut starts = vec![in alloc; 0; frame.objects as usize]?;
-    let mut positions = Vec::new(alloc);
+    let mut lists = KeySorting::new(alloc, ranks);
     for n in 0..frame.objects {
         if heights[n as usize] > 0 {
-            starts[n as usize] = list_object(alloc, src, frame, places, n, &mut positions)?;
+            starts[n as usize] = list_object(src, frame, places[n as usize] as u64, n, &mut lists)?;
         }
     }
+    let KeySorting { positions, .. } = lists;
     Ok(KeyLists { starts, positions })
 }
 
@@ -97,7 +139,13 @@ fn list_keys_of<S: Source>(
         → Upgrades (λ keys. Listed (S.means src.old).octets frame.now heights.now frame.now.objects keys.starts keys.positions) result }
 {
     let places = places_of(alloc, src, frame)?;
-    list_all(alloc, src, frame, &places, heights)
+    let vouched = Vouched {
+        places: &places,
+        heights,
+    };
+    let named = vouched_keys(alloc, src, frame, &vouched)?;
+    let ranks = ranks_of(alloc, src, frame, &places, named)?;
+    list_all(alloc, src, frame, &vouched, ranks)
 }
 
 /// The certificate of version 2 of a checked file: its heights, and the key lists of the vouched dictionaries one behind

@@ -1,6 +1,5 @@
 -- The frame of a file, and the rules of a file as a whole.
-use Rattle.std.proofs.Common.{◌≡◌, ◌⊎◌, ℕ, ◌<◌, ◌≤◌, List, [], ◌∷◌, length, take, get_or, get_or-take, sym, ◌∙◌, arith, inl, inr, subst, refl}
-use Rattle.std.proofs.lemmas.Bool.{cases_lt}
+use Rattle.std.proofs.Common.{◌≡◌, ℕ, ◌<◌, ◌≤◌, List, [], ◌∷◌, length, take, get_or, get_or-take, sym, ◌∙◌, arith, inl, subst, refl}
 use Rattle.std.proofs.lemmas.List.{ext_get_or, length-take-le}
 use Rattle.bplist_objects.specs.declared.frame.Frame.{Frame}
 use Rattle.bplist_objects.specs.Frame.{header, trailer, IsFrame}
@@ -16,14 +15,6 @@ header_taken f long same =
     let len : length (take 8 f) ≡ 8 = length-take-le 8 f (omega arith) in
     ext_get_or 0 (take 8 f) header len (λ i l. get_or-take 8 f i 0 (omega arith) ∙ same i (omega arith))
 
--- a size below eight bytes, or of eight
-narrow : (size bound n : ℕ) → size ≤ 8 → (size < 8 → n < bound) → (size ≡ 8) ⊎ (n < bound)
-narrow size bound n high h =
-    elim (cases_lt size 8) [
-      | inl a ↦ inr (h a)
-      | inr b ↦ inl (omega arith)
-    ]
-
 -- where all rules are kept the trailer is the frame
 pub trailer_is_frame : (f : List ℕ) → KeepsAll (Keeps f) frame_rules → IsFrame f (trailer f)
 trailer_is_frame f (large, (short, (magic, (objects, (top, (early, (late, (offset, (ref, (whole, (ref_narrow, (offset_narrow, (offsets, _))))))))))))) = record {
@@ -38,8 +29,8 @@ trailer_is_frame f (large, (short, (magic, (objects, (top, (early, (late, (offse
   offset_size = offset;
   ref_size = ref;
   whole = whole;
-  ref_narrow = narrow _ _ _ ref.1 ref_narrow;
-  offset_narrow = narrow _ _ _ offset.1 offset_narrow;
+  ref_narrow = ref_narrow;
+  offset_narrow = offset_narrow;
   offsets = offsets;
 }
 

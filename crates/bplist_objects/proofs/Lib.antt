@@ -28,3 +28,5 @@ pub mod Trying
 pub mod Reaching
 pub mod HeadAnswers
 pub mod Deciding
+pub mod BlockSteps
+pub mod Taking

@@ -1,5 +1,5 @@
 -- A rule that is kept is not broken, a first fault is one, and where there is one the definitions say no.
-use Rattle.std.proofs.Common.{◌≡◌, ◌≢◌, ℕ, ◌<◌, ◌≤◌, ◌+◌, ◌*◌, ◌⊎◌, inl, inr, List, [], ◌∷◌, slice_index, get_or-take, Option, Some, sym, ap, ◌∙◌, subst, arith}
+use Rattle.std.proofs.Common.{◌≡◌, ◌≢◌, ℕ, ◌<◌, ◌≤◌, ◌+◌, ◌*◌, inl, inr, List, [], ◌∷◌, slice_index, get_or-take, Option, Some, sym, ap, ◌∙◌, subst, arith}
 use Rattle.std.proofs.lemmas.Bool.{cases_order}
 use Rattle.bplist_objects.specs.declared.rule.Rule.{Rule}
 use Rattle.bplist_objects.specs.declared.rule.Rule.TheVariants as rules
@@ -23,12 +23,8 @@ use Rattle.bplist_objects.proofs.Ties.{shape_keeps, spells_keeps}
 pub frame_keeps : (f : List ℕ) (F : Frame) → IsFrame f F → KeepsAll (Keeps f) frame_rules
 frame_keeps f F frame = keeps_at (subst (IsFrame f) frame.spelled frame)
   where
-    narrow : (size bound n : ℕ) → (size ≡ 8) ⊎ (n < bound) → size < 8 → n < bound
-    narrow size bound n (inl e) l = absurd (omega (arith, e, l))
-    narrow size bound n (inr h) l = h
-
     keeps_at : IsFrame f (trailer f) → KeepsAll (Keeps f) frame_rules
-    keeps_at h = (h.large, (h.short, (same_header, (h.objects, (h.top, (h.table_early, (h.table_late, (h.offset_size, (h.ref_size, (h.whole, (narrow _ _ _ h.ref_narrow, (narrow _ _ _ h.offset_narrow, (h.offsets, tt)))))))))))))
+    keeps_at h = (h.large, (h.short, (same_header, (h.objects, (h.top, (h.table_early, (h.table_late, (h.offset_size, (h.ref_size, (h.whole, (h.ref_narrow, (h.offset_narrow, (h.offsets, tt)))))))))))))
       where
         same_header : (i : ℕ) → i < 8 → slice_index f i ≡ slice_index header i
         same_header i l = sym (get_or-take 8 f i 0 l) ∙ ap (λ x. slice_index x i) h.magic

@@ -1,5 +1,5 @@
 -- The definitions hold of small files.
-use Rattle.std.proofs.Common.{ℕ, zero, suc, ◌<◌, ◌≤◌, ◌+◌, List, [], ◌∷◌, true, inl, inr, refl, arith, drop}
+use Rattle.std.proofs.Common.{ℕ, zero, suc, ◌<◌, ◌≤◌, ◌+◌, List, [], ◌∷◌, true, inl, refl, arith, drop}
 use Rattle.bplist_octets.specs.Octets.{num}
 use Rattle.bplist_objects.specs.declared.frame.Frame.{Frame}
 use Rattle.bplist_objects.specs.declared.kind.Kind.TheVariants as kinds
@@ -40,8 +40,8 @@ frame_true = record {
   offset_size = omega arith;
   ref_size = omega arith;
   whole = refl;
-  ref_narrow = inr (omega arith);
-  offset_narrow = inr (omega arith);
+  ref_narrow = λ _. omega arith;
+  offset_narrow = λ _. omega arith;
   offsets = true_offsets;
 }
 
@@ -95,8 +95,8 @@ frame_array = record {
   offset_size = omega arith;
   ref_size = omega arith;
   whole = refl;
-  ref_narrow = inr (omega arith);
-  offset_narrow = inr (omega arith);
+  ref_narrow = λ _. omega arith;
+  offset_narrow = λ _. omega arith;
   offsets = array_offsets;
 }
 
@@ -162,8 +162,8 @@ frame_dict = record {
   offset_size = omega arith;
   ref_size = omega arith;
   whole = refl;
-  ref_narrow = inr (omega arith);
-  offset_narrow = inr (omega arith);
+  ref_narrow = λ _. omega arith;
+  offset_narrow = λ _. omega arith;
   offsets = dict_offsets;
 }
 

@@ -8,7 +8,7 @@ use Rattle.bplist_objects.specs.Numbers.{num_at}
 use Rattle.bplist_objects.specs.Frame.{off}
 use Rattle.bplist_objects.specs.Heads.{unit}
 
--- the marker is one of this kind
+-- the byte is a marker of this kind
 abbrev pub Marks : ℕ → Kind → Type 0
 Marks marker kinds.Null = marker ≡ 0
 Marks marker kinds.False = marker ≡ 8
@@ -24,11 +24,11 @@ Marks marker kinds.Array = (160 ≤ marker) × (marker ≤ 175)
 Marks marker kinds.Set = (192 ≤ marker) × (marker ≤ 207)
 Marks marker kinds.Dict = (208 ≤ marker) × (marker ≤ 223)
 
--- the marker is that of an object
+-- the byte is a marker
 abbrev pub IsMarker : ℕ → Type 0
 IsMarker marker = (kind : Kind) × Marks marker kind
 
--- the kinds whose marker has a count in its low half, or says that it stands behind the marker
+-- the kinds whose marker holds a count, or says that it follows
 abbrev pub is_counted : Kind → Bool
 is_counted kinds.Bytes = true
 is_counted kinds.Ascii = true
@@ -48,27 +48,27 @@ least_marker kinds.Set = 192
 least_marker kinds.Dict = 208
 least_marker _ = 0
 
--- the marker says that the count stands behind it
+-- the marker says that the count follows
 abbrev pub IsLong : ℕ → Type 0
 IsLong marker = (kind : Kind) × IsTrue (is_counted kind) × (marker ≡ least_marker kind + 15)
 
--- the byte behind such a marker may stand there: an integer of 1, 2, 4, 8 or 16 bytes follows
+-- the byte behind such a marker is that of an integer of 1 to 16 bytes
 abbrev pub IsCountForm : ℕ → Type 0
 IsCountForm form = (16 ≤ form) × (form ≤ 20)
 
--- a count that stands behind the marker at this place, and the first place after it
+-- the count behind the marker, and the place after it
 abbrev pub HasLongCount : List ℕ → ℕ → ℕ → ℕ → Type 0
 HasLongCount f place count body =
     (w : ℕ) × (w ≤ 4) × (slice_index f (place + 1) ≡ 16 + w) × (count ≡ num_at f (place + 2) (2 ^ w))
     × (body ≡ place + 2 + 2 ^ w)
 
--- the count of an object of a counted kind, and the first place after marker and count
+-- the count of a counted kind, and the place after it
 abbrev pub HasCount : List ℕ → ℕ → Kind → ℕ → ℕ → Type 0
 HasCount f place kind count body =
     ((count < 15) × (slice_index f place ≡ least_marker kind + count) × (body ≡ place + 1))
     ⊎ ((slice_index f place ≡ least_marker kind + 15) × HasLongCount f place count body)
 
--- marker and count announce an object of this kind and count, whose body starts here
+-- marker and count announce this kind, count and body
 abbrev pub Announces : List ℕ → ℕ → Kind → ℕ → ℕ → Type 0
 Announces f place kinds.Null count body = (slice_index f place ≡ 0) × (count ≡ 0) × (body ≡ place + 1)
 Announces f place kinds.False count body = (slice_index f place ≡ 8) × (count ≡ 0) × (body ≡ place + 1)
@@ -82,7 +82,7 @@ Announces f place kinds.Uid count body =
     (1 ≤ count) × (count ≤ 16) × (slice_index f place ≡ 127 + count) × (body ≡ place + 1)
 Announces f place kind count body = HasCount f place kind count body
 
--- marker and count at the place of object n announce this head
+-- marker and count of object n announce this head
 abbrev pub HasHead : List ℕ → Frame → ℕ → Head → Type 0
 HasHead f F n head =
     Announces f (off f F n) head.kind head.count head.body

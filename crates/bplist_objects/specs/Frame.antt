@@ -1,6 +1,6 @@
 -- The frame of a file: the five numbers of its trailer, and what has to hold of them. Source: the format comment of
 -- CFBinaryPList.c.
-use Rattle.std.specs.Prelude.{◌≡◌, ◌⊎◌, ℕ, ◌+◌, ◌-◌, ◌*◌, ◌^◌, ◌<◌, ◌≤◌, List, [], ◌∷◌, length, take}
+use Rattle.std.specs.Prelude.{◌≡◌, ℕ, ◌+◌, ◌-◌, ◌*◌, ◌^◌, ◌<◌, ◌≤◌, List, [], ◌∷◌, length, take}
 use Rattle.bplist_objects.specs.declared.frame.Frame.{Frame}
 use Rattle.bplist_objects.specs.Numbers.{num_at}
 
@@ -8,7 +8,7 @@ use Rattle.bplist_objects.specs.Numbers.{num_at}
 abbrev pub header : List ℕ
 header = 98 ∷ 112 ∷ 108 ∷ 105 ∷ 115 ∷ 116 ∷ 48 ∷ 48 ∷ []
 
--- the five numbers that the last 32 bytes spell
+-- the five numbers of the last 32 bytes
 abbrev pub trailer : List ℕ → Frame
 trailer f = record {
   offset_size = num_at f (length f - 26) 1;
@@ -18,11 +18,11 @@ trailer f = record {
   table = num_at f (length f - 8) 8;
 }
 
--- the place of object n, as entry n of the offset table gives it
+-- the place of object n, from its entry in the offset table
 abbrev pub off : List ℕ → Frame → ℕ → ℕ
 off f F n = num_at f (F.table + n * F.offset_size) F.offset_size
 
--- F is the trailer's five numbers, and none of rules 1 to 13 is broken; one field a rule
+-- F is the trailer's numbers and keeps rules 1 to 13, one field a rule
 pub record IsFrame (f : List ℕ) (F : Frame) : Type 0 where
   pub large : length f ≤ 4294967295
   pub short : 41 ≤ length f
@@ -35,6 +35,6 @@ pub record IsFrame (f : List ℕ) (F : Frame) : Type 0 where
   pub offset_size : (1 ≤ F.offset_size) × (F.offset_size ≤ 8)
   pub ref_size : (1 ≤ F.ref_size) × (F.ref_size ≤ 8)
   pub whole : F.table + F.objects * F.offset_size + 32 ≡ length f
-  pub ref_narrow : (F.ref_size ≡ 8) ⊎ (F.objects < 256 ^ F.ref_size)
-  pub offset_narrow : (F.offset_size ≡ 8) ⊎ (F.table < 256 ^ F.offset_size)
+  pub ref_narrow : F.ref_size < 8 → F.objects < 256 ^ F.ref_size
+  pub offset_narrow : F.offset_size < 8 → F.table < 256 ^ F.offset_size
   pub offsets : (n : ℕ) → n < F.objects → off f F n < F.table

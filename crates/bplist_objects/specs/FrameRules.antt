@@ -9,41 +9,41 @@ use Rattle.bplist_objects.specs.declared.frame.Frame.{Frame}
 use Rattle.bplist_objects.specs.Frame.{header, trailer, off}
 use Rattle.bplist_objects.specs.Rules.{KeepsAll, IsFirstFault}
 
--- every entry of the offset table is below the table's place
+-- each entry of the offset table is below the table's place
 abbrev pub AreEntriesLow : List ℕ → Frame → Type 0
 AreEntriesLow f F = (n : ℕ) → n < F.objects → off f F n < F.table
 
--- the entry of object n is the first one that is not
+-- the entry of object n is the first that is not
 pub record IsFirstHighEntry (f : List ℕ) (F : Frame) (n : ℕ) : Type 0 where
   pub within : n < F.objects
   pub high : F.table ≤ off f F n
   pub before : (k : ℕ) → k < n → off f F k < F.table
 
--- the first entry that is not below the table's place is that of this object, and stands at this place
+-- rule 13 is broken by this object's entry, at this place
 abbrev pub IsEntryFault : List ℕ → Frame → Option ObjectNo → ℕ → Type 0
 IsEntryFault f F object place =
     (n : ℕ) × IsFirstHighEntry f F n × (object ≡ Some (record { 0 = n })) × (place ≡ F.table + n * F.offset_size)
 
--- the first byte of the file that differs from the header's stands at this place
+-- the first byte that differs from the header's is at this place
 pub record IsFirstWrong (f : List ℕ) (place : ℕ) : Type 0 where
   pub within : place < 8
   pub wrong : slice_index f place ≢ slice_index header place
   pub before : (i : ℕ) → i < place → slice_index f i ≡ slice_index header i
 
--- the rules that speak of the trailer's numbers and the length alone, in their order
+-- the rules of length and trailer numbers, in order
 abbrev pub number_rules : List Rule
 number_rules =
     NoObjects ∷ Top ∷ TableEarly ∷ TableLate ∷ OffsetSize ∷ RefSize ∷ Length ∷ RefNarrow ∷ OffsetNarrow ∷ []
 
--- the rules of a file as a whole for which no entry of the offset table is read, in their order
+-- rules 1 to 12 in order
 abbrev pub trailer_rules : List Rule
 trailer_rules = TooLarge ∷ TooShort ∷ Magic ∷ number_rules
 
--- the rules of a file as a whole, in their order
+-- rules 1 to 13 in order
 abbrev pub frame_rules : List Rule
 frame_rules = trailer_rules ++ OffsetHigh ∷ []
 
--- a file keeps a rule of the file as a whole
+-- the file keeps this rule of 1 to 13
 abbrev pub Keeps : List ℕ → Rule → Type 0
 Keeps f TooLarge = length f ≤ 4294967295
 Keeps f TooShort = 41 ≤ length f
@@ -60,7 +60,7 @@ Keeps f OffsetNarrow = (trailer f).offset_size < 8 → (trailer f).table < 256 ^
 Keeps f OffsetHigh = AreEntriesLow f (trailer f)
 Keeps f _ = Unit {0}
 
--- a file breaks a rule of the file as a whole, for this object and at this place
+-- the file breaks this rule of 1 to 13, for this object and at this place
 abbrev pub Breaks : List ℕ → Rule → Option ObjectNo → ℕ → Type 0
 Breaks f TooLarge object place = (4294967295 < length f) × (object ≡ None) × (place ≡ length f)
 Breaks f TooShort object place = (length f < 41) × (object ≡ None) × (place ≡ length f)
@@ -85,14 +85,14 @@ Breaks f OffsetNarrow object place =
 Breaks f OffsetHigh object place = IsEntryFault f (trailer f) object place
 Breaks f _ object place = ⊥
 
--- F is what the trailer gives, and none of the rules before that of the entries is broken
+-- F is the trailer's numbers and keeps rules 1 to 12
 abbrev pub IsTrailer : List ℕ → Frame → Type 0
 IsTrailer f F = (F ≡ trailer f) × KeepsAll (Keeps f) trailer_rules
 
--- the fault is that of the first broken rule before that of the entries
+-- the first broken rule of 1 to 12
 abbrev pub IsTrailerFault : List ℕ → Fault → Type 0
 IsTrailerFault f fault = IsFirstFault (Keeps f) (Breaks f) trailer_rules fault
 
--- the fault is that of the first broken rule of the file as a whole
+-- the first broken rule of 1 to 13
 abbrev pub IsFrameFault : List ℕ → Fault → Type 0
 IsFrameFault f fault = IsFirstFault (Keeps f) (Breaks f) frame_rules fault

@@ -11,13 +11,13 @@ use Rattle.bplist_objects.specs.Numbers.{integer, num_at, nums_at}
 use Rattle.bplist_objects.specs.Frame.{off}
 use Rattle.bplist_objects.specs.Value.{Leaf, null, boolean, int, real, date, bytes, text, uid}
 
--- a marker with this high half and its count: in the low half, or as an integer object behind it
+-- a marker of this high half with its count: in the low half, or in an integer object behind it
 abbrev pub IsCount : ℕ → ℕ → List ℕ → Type 0
 IsCount high count front =
     ((count < 15) × (front ≡ (16 * high + count) ∷ []))
     ⊎ ((w : ℕ) × (l : List ℕ) × (w ≤ 4) × (length l ≡ 2 ^ w) × (num l ≡ count) × (front ≡ (16 * high + 15) ∷ (16 + w) ∷ l))
 
--- what stands before the body of an object of a kind: the marker, and the count where the marker does not hold it
+-- what precedes the body of an object of this kind: marker, and count if the marker does not hold it
 abbrev pub IsFront : Kind → ℕ → List ℕ → Type 0
 IsFront kinds.Null count front = (count ≡ 0) × (front ≡ 0 ∷ [])
 IsFront kinds.False count front = (count ≡ 0) × (front ≡ 8 ∷ [])
@@ -33,7 +33,7 @@ IsFront kinds.Array count front = IsCount 10 count front
 IsFront kinds.Set count front = IsCount 12 count front
 IsFront kinds.Dict count front = IsCount 13 count front
 
--- how many bytes of the body one of the count takes, where a reference takes so many
+-- how many bytes of the body each of the count takes
 abbrev pub unit : ℕ → Kind → ℕ
 unit ref_size kinds.Wide = 2
 unit ref_size kinds.Array = ref_size
@@ -41,14 +41,14 @@ unit ref_size kinds.Set = ref_size
 unit ref_size kinds.Dict = 2 * ref_size
 unit ref_size _ = 1
 
--- what an object spells: a leaf, or a container with the numbers of the objects that it refers to
+-- what an object spells: a leaf, or a container with the numbers of its references
 pub data Content : Type 0 where
   leaf : Leaf → Content
   array : List ℕ → Content
   set : List ℕ → Content
   dict : (keys values : List ℕ) → Content
 
--- these numbers in written order; of a dictionary the keys' first, then the values'
+-- the references in written order; of a dictionary keys first, then values
 abbrev pub refs : Content → List ℕ
 refs (leaf l) = []
 refs (array ms) = ms
@@ -56,7 +56,7 @@ refs (set ms) = ms
 refs (dict ks ms) = ks ++ ms
 
 module _ (f : List ℕ) (F : Frame) where
-  -- marker and count of object n say this head, and all of it lies from place 8 on and before the table: rules 14 to 17
+  -- object n has this head between place 8 and the table: rules 14 to 17
   pub record HasShape (n : ℕ) (head : Head) : Type 0 where
     pub front : List ℕ
     pub rest : List ℕ
@@ -67,7 +67,7 @@ module _ (f : List ℕ) (F : Frame) where
     pub end : head.end ≡ head.body + head.count * unit F.ref_size head.kind
     pub inside : head.end ≤ F.table
 
-  -- what a body of this kind and count means that starts here
+  -- what a body of this kind and count at this place means
   abbrev pub content_of : Kind → ℕ → ℕ → Content
   content_of kinds.Null count body = leaf null
   content_of kinds.False count body = leaf (boolean false)
@@ -83,18 +83,17 @@ module _ (f : List ℕ) (F : Frame) where
   content_of kinds.Set count body = set (nums_at f body F.ref_size count)
   content_of kinds.Dict count body = dict (nums_at f body F.ref_size count) (nums_at f (body + count * F.ref_size) F.ref_size count)
 
-  -- what the body of an object with this head means
+  -- what the body of this head means
   abbrev pub content_at : Head → Content
   content_at head = content_of head.kind head.count head.body
 
-  -- an ASCII text has bytes below 128 and a UID is not too large: rules 18 and 19
+  -- rules 18 and 19: Ascii bytes are below 128, a UID is not too large
   abbrev pub IsProperLeaf : Kind → ℕ → ℕ → Type 0
   IsProperLeaf kinds.Ascii count body = AllByRecursion (λ b. b < 128) (part f body count)
   IsProperLeaf kinds.Uid count body = num_at f body count ≤ 4294967295
   IsProperLeaf _ count body = ⊤
 
-  -- object n spells this content: it has a head, its leaf is proper, the content is what the body means, and each reference
-  -- names an object: rules 14 to 20
+  -- object n spells this content: rules 14 to 20
   pub record Spells (n : ℕ) (content : Content) : Type 0 where
     pub shape : Head
     pub has : HasShape n shape
@@ -102,6 +101,6 @@ module _ (f : List ℕ) (F : Frame) where
     pub means : content ≡ content_at shape
     pub refs : AllByRecursion (λ m. m < F.objects) (refs content)
 
-  -- this is the head of object n, and the object spells what its body means
+  -- object n has this head and spells what its body means
   abbrev pub IsHeadOf : ℕ → Head → Type 0
   IsHeadOf n head = HasShape n head × Spells n (content_at head)

@@ -6,28 +6,27 @@ use Rattle.bplist_objects.specs.declared.frame.Frame.{Frame}
 use Rattle.bplist_objects.specs.Value.{Value, leaf, array, set, dict, Values, no_values, value, Pairs, no_pairs, pair, keys, text}
 use Rattle.bplist_objects.specs.Heads.{Content, Spells}
 
--- no two keys have the same units
+-- the keys have different units
 abbrev pub AreDistinct : List (List ℕ) → Type 0
 AreDistinct xs = AllPairs (λ x y. x ≢ y) xs
 
 module _ (f : List ℕ) (F : Frame) where
   abbrev mutual
-    -- object n holds this value, by induction on the value: a leaf is spelled, members are held by the objects that are
-    -- referred to, keys are texts and differ
+    -- object n holds this value: it spells the leaf, or its references hold the members, and its keys are different texts
     pub Holds : ℕ → Value → Type 0
     Holds n (leaf l) = Spells f F n (Content.leaf l)
     Holds n (array vs) = (ms : List ℕ) × Spells f F n (Content.array ms) × HoldEach ms vs
     Holds n (set vs) = (ms : List ℕ) × Spells f F n (Content.set ms) × HoldEach ms vs
     Holds n (dict ps) = (ks ms : List ℕ) × Spells f F n (Content.dict ks ms) × HoldPairs ks ms ps × AreDistinct (keys ps)
 
-    -- these objects hold these values, one by one
+    -- the objects hold the values, one by one
     pub HoldEach : List ℕ → Values → Type 0
     HoldEach [] no_values = ⊤
     HoldEach [] (value v vs) = ⊥
     HoldEach (m ∷ ms) no_values = ⊥
     HoldEach (m ∷ ms) (value v vs) = Holds m v × HoldEach ms vs
 
-    -- the first objects spell the keys' texts, and the second hold the values
+    -- the first objects spell the keys, the second hold the values
     pub HoldPairs : List ℕ → List ℕ → Pairs → Type 0
     HoldPairs [] [] no_pairs = ⊤
     HoldPairs (k ∷ ks) (m ∷ ms) (pair u v ps) = Spells f F k (Content.leaf (text u)) × Holds m v × HoldPairs ks ms ps

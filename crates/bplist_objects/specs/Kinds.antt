@@ -2,7 +2,7 @@
 use Rattle.bplist_objects.specs.declared.kind.Kind.{Kind}
 use Rattle.bplist_objects.specs.declared.kind.Kind.TheVariants as kinds
 
--- the kinds of leaves: the body holds no references
+-- the kinds without references
 abbrev pub IsLeafKind : Kind → Type 0
 IsLeafKind kinds.Array = ⊥
 IsLeafKind kinds.Set = ⊥

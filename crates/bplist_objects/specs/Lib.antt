@@ -21,3 +21,5 @@ pub mod Units
 pub mod Words
 pub mod Spelled
 pub mod Rows
+pub mod Framed
+pub mod References

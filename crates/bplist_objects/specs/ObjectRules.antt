@@ -15,19 +15,19 @@ use Rattle.bplist_objects.specs.Scan.{AreBelow, IsFirstNotBelow}
 use Rattle.bplist_objects.specs.Safe.{ref_count}
 use Rattle.bplist_objects.specs.Announced.{IsMarker, IsLong, IsCountForm, HasHead}
 
--- the rules of marker and count, in their order
+-- rules 14 to 17 in order
 abbrev pub shape_rules : List Rule
 shape_rules = OffsetLow ∷ Marker ∷ Count ∷ Extent ∷ []
 
--- the rules of a body, in their order
+-- rules 18 to 20 in order
 abbrev pub body_rules : List Rule
 body_rules = NotAscii ∷ UidLarge ∷ RefHigh ∷ []
 
--- the rules of an object by itself, in their order
+-- rules 14 to 20 in order
 abbrev pub object_rules : List Rule
 object_rules = shape_rules ++ body_rules
 
--- object n keeps a rule
+-- object n keeps this rule
 abbrev pub KeepsByObject : List ℕ → Frame → ℕ → Rule → Type 0
 KeepsByObject f F n OffsetLow = 8 ≤ off f F n
 KeepsByObject f F n Marker = IsMarker (slice_index f (off f F n))
@@ -47,7 +47,7 @@ KeepsByObject f F n RefHigh =
     → AreBelow f head.body F.ref_size (ref_count head.kind head.count) F.objects
 KeepsByObject f F n _ = Unit {0}
 
--- object n breaks a rule, and this is the place
+-- object n breaks this rule at this place
 abbrev pub BreaksByObject : List ℕ → Frame → ℕ → Rule → ℕ → Type 0
 BreaksByObject f F n OffsetLow place =
     (off f F n < 8) × (place ≡ F.table + n * F.offset_size)
@@ -72,10 +72,10 @@ BreaksByObject f F n RefHigh place =
     × (place ≡ head.body + i * F.ref_size)
 BreaksByObject f F n _ place = ⊥
 
--- the same, where this is the object that is named
+-- the same, if this is the object named
 abbrev pub BreaksAt : List ℕ → Frame → ℕ → Rule → Option ObjectNo → ℕ → Type 0
 BreaksAt f F n rule object place = (object ≡ Some (record { 0 = n })) × BreaksByObject f F n rule place
 
--- the fault is that of the first of these rules that object n breaks
+-- the first of these rules that object n breaks
 abbrev pub IsObjectFault : List ℕ → Frame → ℕ → List Rule → Fault → Type 0
 IsObjectFault f F n rules fault = IsFirstFault (KeepsByObject f F n) (BreaksAt f F n) rules fault

@@ -3,26 +3,26 @@ use Rattle.std.specs.Prelude.{ℕ, List, [], ◌∷◌, Contains, ⊤}
 use Rattle.bplist_objects.specs.declared.frame.Frame.{Frame}
 use Rattle.bplist_objects.specs.Heads.{Content, refs, Spells}
 
--- no two numbers of a list are the same
+-- the numbers are distinct
 abbrev pub Differ : List ℕ → Type 0
 Differ [] = ⊤
 Differ (x ∷ xs) = (Contains xs x → ⊥) × Differ xs
 
 module _ (f : List ℕ) (F : Frame) where
-  -- object n spells a content that refers to m
+  -- object n refers to m
   abbrev pub Refs : ℕ → ℕ → Type 0
   Refs n m = (c : Content) × Spells f F n c × Contains (refs c) m
 
-  -- the least set with the top object that is closed under references
+  -- object n is reached: the top, and what reached objects refer to
   pub data Reach : ℕ → Type 0 where
     top : Reach F.top.0
     next : {n m : ℕ} → Reach n → Refs n m → Reach m
 
-  -- one or more references lead from one object to another
+  -- a chain of one or more references
   pub data Chain : ℕ → ℕ → Type 0 where
     last : {n m : ℕ} → Refs n m → Chain n m
     more : {n m k : ℕ} → Refs n m → Chain m k → Chain n k
 
-  -- the least set that has an object where the object spells a content and the set has all that it refers to
+  -- object n spells a content, and all its references are founded
   pub data Founded : ℕ → Type 0 where
     founded : {n : ℕ} (c : Content) → Spells f F n c → ((m : ℕ) → Contains (refs c) m → Founded m) → Founded n

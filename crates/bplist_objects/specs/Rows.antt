@@ -2,7 +2,7 @@
 use Rattle.std.specs.Prelude.{ℕ, ◌+◌, List, [], ◌∷◌, ◌++◌, length}
 use Rattle.bplist_objects.specs.Frame.{header}
 
--- a file of these objects and these entries of one byte each, where references have one byte and the top is object 0
+-- a file of these objects, with entries and references of one byte and the top 0
 abbrev pub row : List ℕ → List ℕ → List ℕ
 row objects entries =
     header ++ objects ++ entries
@@ -13,7 +13,7 @@ row objects entries =
 abbrev pub row_true : List ℕ
 row_true = row (9 ∷ []) (8 ∷ [])
 
--- an array that has the one object true twice
+-- an array of the same object true twice
 abbrev pub row_array : List ℕ
 row_array = row (162 ∷ 1 ∷ 1 ∷ 9 ∷ []) (8 ∷ 11 ∷ [])
 

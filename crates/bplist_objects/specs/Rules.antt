@@ -4,12 +4,12 @@ use Rattle.bplist_objects.specs.declared.rule.Rule.{Rule}
 use Rattle.bplist_objects.specs.declared.fault.Fault.{Fault}
 use Rattle.bplist_objects.specs.declared.frame.ObjectNo.{ObjectNo}
 
--- all of these rules are kept
+-- all these rules are kept
 abbrev pub KeepsAll : (Rule → Type 0) → List Rule → Type 0
 KeepsAll keeps [] = Unit {0}
 KeepsAll keeps (rule ∷ rules) = keeps rule × KeepsAll keeps rules
 
--- the fault is that of the first of these rules that is broken, with its object and place
+-- the fault is of the first of these rules that is broken
 abbrev pub IsFirstFault : (Rule → Type 0) → (Rule → Option ObjectNo → ℕ → Type 0) → List Rule → Fault → Type 0
 IsFirstFault keeps breaks [] fault = ⊥
 IsFirstFault keeps breaks (rule ∷ rules) fault =

@@ -6,7 +6,7 @@ use Rattle.bplist_objects.specs.declared.kind.Kind.{Kind}
 use Rattle.bplist_objects.specs.declared.kind.Kind.TheVariants as kinds
 use Rattle.bplist_objects.specs.Heads.{unit}
 
--- with this frame a source of so many bytes can be read: the sizes are 1 to 8, and the table lies within
+-- frame and length allow reading: sizes are 1 to 8, the table lies within
 pub record IsSafe (len : ℕ) (frame : Frame) : Type 0 where
   pub offset_low : 1 ≤ frame.offset_size
   pub offset_high : frame.offset_size ≤ 8
@@ -14,7 +14,7 @@ pub record IsSafe (len : ℕ) (frame : Frame) : Type 0 where
   pub ref_high : frame.ref_size ≤ 8
   pub room : frame.table + frame.objects * frame.offset_size ≤ len
 
--- besides, the top is an object, and there is an object's room before the table
+-- besides, the top is an object, and there is room for one before the table
 pub record IsSafeFrame (len : ℕ) (frame : Frame) : Type 0 where
   pub safe : IsSafe len frame
   pub top : frame.top.0 < frame.objects
@@ -38,13 +38,13 @@ ref_count kinds.Set count = count
 ref_count kinds.Dict count = 2 * count
 ref_count _ count = 0
 
--- with this head the parts of an object can be read under this frame: they lie before the table
+-- the parts of an object with this head lie before the table
 pub record IsSafeHead (frame : Frame) (head : Head) : Type 0 where
   pub may : MayCount head.kind head.count
   pub body : head.body + head.count * unit frame.ref_size head.kind ≤ head.«end»
   pub table : head.«end» ≤ frame.table
 
--- with this head the bytes of an object can be read from a source of so many bytes
+-- the body of this head lies in so many bytes
 pub record IsSafeBody (len : ℕ) (head : Head) : Type 0 where
   pub may : MayCount head.kind head.count
   pub body : head.body + head.count * unit 1 head.kind ≤ head.«end»

@@ -2,19 +2,19 @@
 use Rattle.std.specs.Prelude.{◌≡◌, ℕ, ◌+◌, ◌*◌, ◌<◌, ◌≤◌, List, length, slice_index}
 use Rattle.bplist_objects.specs.Numbers.{num_at}
 
--- the number k of those that stand from a place on, each of so many bytes
+-- number k of consecutive numbers of one size
 abbrev pub nth_number : List ℕ → ℕ → ℕ → ℕ → ℕ
 nth_number f place size k = num_at f (place + k * size) size
 
--- these are the numbers that stand from a place on, each of so many bytes
+-- these are consecutive numbers of one size
 abbrev pub AreNumbers : List ℕ → ℕ → ℕ → List ℕ → Type 0
 AreNumbers f place size xs = (k : ℕ) → k < length xs → slice_index xs k ≡ nth_number f place size k
 
--- the first so many of these numbers are below a bound
+-- the first `count` of these numbers are below a bound
 abbrev pub AreBelow : List ℕ → ℕ → ℕ → ℕ → ℕ → Type 0
 AreBelow f place size count bound = (k : ℕ) → k < count → nth_number f place size k < bound
 
--- number i is the first of them that is not
+-- number i is the first that is not below the bound
 pub record IsFirstNotBelow (f : List ℕ) (place size count bound i : ℕ) : Type 0 where
   pub within : i < count
   pub high : bound ≤ nth_number f place size i

@@ -12,7 +12,7 @@ use Rattle.bplist_objects.specs.Frame.{off}
 use Rattle.bplist_objects.specs.Heads.{Content, unit, refs, content_at}
 use Rattle.bplist_objects.specs.Announced.{least_marker}
 
--- the kind that a marker is of, where it is one
+-- the kind of a marker, if it is one
 unfoldable pub kind_at : ℕ → Kind
 kind_at marker =
     if nat_lt marker 8 then kinds.Null else
@@ -28,12 +28,12 @@ kind_at marker =
     if nat_lt marker 176 then kinds.Array else
     if nat_lt marker 208 then kinds.Set else kinds.Dict
 
--- a marker of a counted kind, and behind it an integer's marker where the count stands there
+-- a marker of a counted kind, and an integer's marker behind it if the count follows
 abbrev pub is_counted_marker : ℕ → ℕ → ℕ → Bool
 is_counted_marker least marker form =
     nat_le least marker && (nat_le marker (least + 15) && (nat_lt marker (least + 15) || (nat_le 16 form && nat_le form 20)))
 
--- a marker and the byte behind it are those of an object of this kind
+-- marker and next byte are those of this kind
 abbrev pub is_marked : ℕ → ℕ → Kind → Bool
 is_marked marker form kinds.Null = nat_eq marker 0
 is_marked marker form kinds.False = nat_eq marker 8
@@ -57,7 +57,7 @@ count_at f place kind =
     if nat_lt (slice_index f place) (least_marker kind + 15) then slice_index f place - least_marker kind
     else num_at f (place + 2) (2 ^ (slice_index f (place + 1) - 16))
 
--- the place of the body of an object of this kind at this place
+-- the body of an object of this kind at this place
 abbrev pub body_at : List ℕ → ℕ → Kind → ℕ
 body_at f place kinds.Null = place + 1
 body_at f place kinds.False = place + 1
@@ -70,7 +70,7 @@ body_at f place kind =
     if nat_lt (slice_index f place) (least_marker kind + 15) then place + 1
     else place + 2 + 2 ^ (slice_index f (place + 1) - 16)
 
--- ASCII texts have bytes below 128 and UIDs are not too large
+-- rules 18 and 19 are kept
 abbrev pub is_proper : List ℕ → Kind → ℕ → ℕ → Bool
 is_proper f kinds.Ascii count body = list_all (λ b. nat_lt b 128) (part f body count)
 is_proper f kinds.Uid count body = nat_le (num_at f body count) 4294967295
@@ -91,28 +91,28 @@ module _ (f : List ℕ) (F : Frame) where
     end = body_at f place kind + count_at f place kind * unit F.ref_size kind;
   }
 
-  -- the head that marker and count of object n announce, if they announce one
+  -- the head that marker and count of object n announce, if any
   unfoldable pub head_found : ℕ → Option Head
   head_found n =
       if is_marked (slice_index f (off f F n)) (slice_index f (off f F n + 1)) (kind_at (slice_index f (off f F n)))
       then Some (head_like (off f F n) (kind_at (slice_index f (off f F n))))
       else None
 
-  -- an object with this head, which marker and count announce, keeps the other rules of 14 to 20
+  -- the object of an announced head keeps rules 14 to 20
   abbrev pub is_spelled : ℕ → Head → Bool
   is_spelled n head =
       nat_le 8 (off f F n) && (nat_le head.body (length f) && (nat_le head.end F.table
       && (is_proper f head.kind head.count head.body && list_all (λ m. nat_lt m F.objects) (refs (content_at f F head)))))
 
-  -- the content of that head, where it is one
+  -- the content of that head, if any
   abbrev pub content_found : ℕ → Option Head → Option Content
   content_found n None = None
   content_found n (Some head) = if is_spelled n head then Some (content_at f F head) else None
 
-  -- what object n spells, if it spells anything
+  -- what object n spells, if anything
   unfoldable pub spelled_at : ℕ → Option Content
   spelled_at n = content_found n (head_found n)
 
-  -- the references of object n, none where it spells nothing
+  -- the references of object n, none if it spells nothing
   unfoldable pub refs_at : ℕ → List ℕ
   refs_at n = refs_found (spelled_at n)

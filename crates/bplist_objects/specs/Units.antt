@@ -15,7 +15,7 @@ IsTextKind kinds.Ascii = Unit {0}
 IsTextKind kinds.Wide = Unit {0}
 IsTextKind _ = ⊥
 
--- so many units of a text of this kind from a place on: a byte is the unit of the same number
+-- consecutive units of a text of this kind; a byte is one unit
 abbrev pub units_at : List ℕ → Kind → ℕ → ℕ → List ℕ
 units_at f kinds.Ascii count at = part f at count
 units_at f kinds.Wide count at = nums_at f at 2 count
@@ -25,6 +25,6 @@ units_at f _ count at = []
 abbrev pub units_of : List ℕ → Head → List ℕ
 units_of f head = units_at f head.kind head.count head.body
 
--- lists of units in their order: unit by unit, and a proper prefix before the longer
+-- the order of texts: unit by unit, a proper prefix first
 abbrev pub compare_units : List ℕ → List ℕ → Ordering
 compare_units us vs = slice_cmp nat_cmp us vs

@@ -2,7 +2,7 @@
 -- an integer how wide it was is this project's choice (profile).
 use Rattle.std.specs.Prelude.{ℕ, ℤ, List, [], ◌∷◌, Bool}
 
--- a value without parts: numbers and dates as their bytes or their number, a text as its UTF-16 units
+-- a value without parts; a text is its UTF-16 units
 pub data Leaf : Type 0 where
   null : Leaf
   boolean : Bool → Leaf
@@ -14,7 +14,7 @@ pub data Leaf : Type 0 where
   uid : ℕ → Leaf
 
 mutual
-  -- a value: a leaf, or a container with its members in the order in which the file lists them
+  -- a leaf, or a container with its members in the file's order
   pub data Value : Type 0 where
     leaf : Leaf → Value
     array : Values → Value
@@ -26,12 +26,12 @@ mutual
     no_values : Values
     value : Value → Values → Values
 
-  -- pairs in order, each of a key's units and its value
+  -- keys, by their units, with their values, in order
   pub data Pairs : Type 0 where
     no_pairs : Pairs
     pair : List ℕ → Value → Pairs → Pairs
 
--- the units of the keys, in order
+-- the units of each key
 abbrev pub keys : Pairs → List (List ℕ)
 keys no_pairs = []
 keys (pair k v ps) = k ∷ keys ps

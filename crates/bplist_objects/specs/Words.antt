@@ -3,7 +3,7 @@ use Rattle.std.specs.Prelude.{ℕ, List, codes}
 use Rattle.bplist_objects.specs.declared.rule.Rule.{Rule}
 use Rattle.bplist_objects.specs.declared.rule.Rule.TheVariants as rules
 
--- the word of a rule, as bytes
+-- the word of a rule
 abbrev pub word_of : Rule → List ℕ
 word_of rules.TooLarge = codes "TooLarge"
 word_of rules.TooShort = codes "TooShort"

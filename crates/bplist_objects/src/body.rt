@@ -1,9 +1,10 @@
 //! The bodies of objects, and heads by all rules of an object by itself.
 
-ghost use Rattle.std.specs.Prelude.{◌≡◌, ◌+◌, ◌*◌, ◌≤◌, ◌<◌, IsTrue, IfOk, length};
-ghost use Rattle.bplist_octets.specs.Meaning.{OnlyReads};
+ghost use Rattle.std.specs.Prelude.{◌≡◌, ◌+◌, ◌*◌, ◌≤◌, ◌<◌, IfOk, length};
+ghost use Rattle.bplist_octets.specs.Meaning.{OnlyReads, Honestly};
+ghost use Rattle.bplist_objects.specs.Framed.{HonestlyBy};
 ghost use Rattle.bplist_objects.specs.Numbers.{num_at};
-ghost use Rattle.bplist_objects.specs.Frame.{off, IsFrame};
+ghost use Rattle.bplist_objects.specs.Frame.{off};
 ghost use Rattle.bplist_objects.specs.Safe.{IsSafe, IsSafeHead, ref_count};
 ghost use Rattle.bplist_objects.specs.Answers.{Gives, Never, read_failed};
 ghost use Rattle.bplist_objects.specs.Rules.{KeepsAll};
@@ -25,12 +26,15 @@ use crate::table::offset_of;
 use bplist_octets::Source;
 
 /// Looks for a byte of 128 or more in a text of one byte a unit.
-fn check_ascii<S: Source>(src: &mut S, n: ObjectNo, head: &Head) -> Result<(), ObjectFault>
+pub(crate) fn check_ascii<S: Source>(
+    src: &mut S,
+    n: ObjectNo,
+    head: &Head,
+) -> Result<(), ObjectFault>
     requires { head.now.body + head.now.count ≤ length (S.means src.old).octets }
     ensures reads { OnlyReads (read_failed result) (S.means src.old) (S.means src.new) }
-    ensures exact { IsTrue (S.means src.old).honest
-        → Gives (λ _. AreBelow (S.means src.old).octets head.now.body 1 head.now.count 128)
-        (IsAsciiFault (S.means src.old).octets n.0 head.now) result }
+    ensures exact { Honestly (S.means src.old) (λ f. Gives
+        (λ _. AreBelow f head.now.body 1 head.now.count 128) (IsAsciiFault f n.0 head.now) result) }
 {
     let _len = src.len();
     match first_high_in(src, head.body, head.count)? {
@@ -40,7 +44,7 @@ fn check_ascii<S: Source>(src: &mut S, n: ObjectNo, head: &Head) -> Result<(), O
 }
 
 /// Looks at the number of a UID that stands at `place`.
-fn check_uid<S: Source>(
+pub(crate) fn check_uid<S: Source>(
     src: &mut S,
     n: ObjectNo,
     place: u64,
@@ -50,9 +54,8 @@ fn check_uid<S: Source>(
     requires few { head.now.count ≤ 16 }
     requires within { head.now.body + head.now.count ≤ length (S.means src.old).octets }
     ensures reads { OnlyReads (read_failed result) (S.means src.old) (S.means src.new) }
-    ensures exact { IsTrue (S.means src.old).honest
-        → Gives (λ _. num_at (S.means src.old).octets head.now.body head.now.count ≤ 4294967295)
-        (IsUidFault (S.means src.old).octets n.0 place head.now) result }
+    ensures exact { Honestly (S.means src.old) (λ f. Gives
+        (λ _. num_at f head.now.body head.now.count ≤ 4294967295) (IsUidFault f n.0 place head.now) result) }
 {
     if wide_in(src, head.body, head.count as u8)? <= 4294967295 {
         Ok(())
@@ -74,10 +77,9 @@ fn check_refs<S: Source>(
     requires within { head.now.body + ref_count head.now.kind head.now.count * frame.now.ref_size
         ≤ length (S.means src.old).octets }
     ensures reads { OnlyReads (read_failed result) (S.means src.old) (S.means src.new) }
-    ensures exact { IsTrue (S.means src.old).honest
-        → Gives (λ _. AreBelow (S.means src.old).octets head.now.body frame.now.ref_size
-        (ref_count head.now.kind head.now.count) frame.now.objects)
-        (IsRefFault (S.means src.old).octets frame.now n.0 head.now) result }
+    ensures exact { Honestly (S.means src.old) (λ f. Gives
+        (λ _. AreBelow f head.now.body frame.now.ref_size (ref_count head.now.kind head.now.count) frame.now.objects)
+        (IsRefFault f frame.now n.0 head.now) result) }
 {
     let _len = src.len();
     let refs = refs_of(head);
@@ -87,8 +89,9 @@ fn check_refs<S: Source>(
     }
 }
 
-/// Looks at the body of an object, by its head.
-fn check_body<S: Source>(
+/// Looks at the body of object `n`, which stands at `place`, by rules 18 to 20, where this is its head as `shape_at` answers
+/// it. `Read` is answered where a read failed.
+pub fn check_body<S: Source>(
     src: &mut S,
     frame: &Frame,
     n: ObjectNo,
@@ -98,10 +101,9 @@ fn check_body<S: Source>(
     requires safe { IsSafe (length (S.means src.old).octets) frame.now }
     requires head { IsSafeHead frame.now head.now }
     ensures reads { OnlyReads (read_failed result) (S.means src.old) (S.means src.new) }
-    ensures exact { IsTrue (S.means src.old).honest → place ≡ off (S.means src.old).octets frame.now n.0
-        → HasHead (S.means src.old).octets frame.now n.0 head.now
-        → Gives (λ _. KeepsAll (KeepsByObject (S.means src.old).octets frame.now n.0) body_rules)
-        (IsObjectFault (S.means src.old).octets frame.now n.0 body_rules) result }
+    ensures exact { Honestly (S.means src.old) (λ f. place ≡ off f frame.now n.0 → HasHead f frame.now n.0 head.now
+        → Gives (λ _. KeepsAll (KeepsByObject f frame.now n.0) body_rules) (IsObjectFault f frame.now n.0 body_rules)
+        result) }
 {
     match head.kind {
         Kind::Ascii => check_ascii(src, n, head),
@@ -121,11 +123,9 @@ fn head_by_rules<S: Source>(
     requires safe { IsSafe (length (S.means src.old).octets) frame.now }
     requires within { n.0 < frame.now.objects }
     ensures reads { OnlyReads (read_failed result) (S.means src.old) (S.means src.new) }
-    ensures rules { IsTrue (S.means src.old).honest → IsFrame (S.means src.old).octets frame.now
-        → place ≡ off (S.means src.old).octets frame.now n.0
-        → Gives (λ head. HasHead (S.means src.old).octets frame.now n.0 head
-        × KeepsAll (KeepsByObject (S.means src.old).octets frame.now n.0) object_rules)
-        (IsObjectFault (S.means src.old).octets frame.now n.0 object_rules) result }
+    ensures rules { HonestlyBy (S.means src.old) frame.now (λ f F. place ≡ off f F n.0
+        → Gives (λ head. HasHead f F n.0 head × KeepsAll (KeepsByObject f F n.0) object_rules)
+        (IsObjectFault f F n.0 object_rules) result) }
     ensures safe { IfOk result (IsSafeHead frame.now) }
     ensures behind { IfOk result (λ head. place < head.body) }
 {
@@ -149,19 +149,13 @@ pub fn head_at<S: Source>(
     requires safe { IsSafe (length (S.means src.old).octets) frame.now }
     requires within { n.0 < frame.now.objects }
     ensures reads { OnlyReads (read_failed result) (S.means src.old) (S.means src.new) }
-    ensures rules { IsTrue (S.means src.old).honest → IsFrame (S.means src.old).octets frame.now
-        → place ≡ off (S.means src.old).octets frame.now n.0
-        → Gives (λ head. HasHead (S.means src.old).octets frame.now n.0 head
-        × KeepsAll (KeepsByObject (S.means src.old).octets frame.now n.0) object_rules)
-        (IsObjectFault (S.means src.old).octets frame.now n.0 object_rules) result }
-    ensures exact { IsTrue (S.means src.old).honest → IsFrame (S.means src.old).octets frame.now
-        → place ≡ off (S.means src.old).octets frame.now n.0
-        → Gives (IsHeadOf (S.means src.old).octets frame.now n.0)
-        (IsObjectFault (S.means src.old).octets frame.now n.0 object_rules) result }
-    ensures spelled { IsTrue (S.means src.old).honest → IsFrame (S.means src.old).octets frame.now
-        → place ≡ off (S.means src.old).octets frame.now n.0
-        → (c : Content) → Spells (S.means src.old).octets frame.now n.0 c
-        → Gives (λ head. c ≡ content_at (S.means src.old).octets frame.now head) Never result }
+    ensures rules { HonestlyBy (S.means src.old) frame.now (λ f F. place ≡ off f F n.0
+        → Gives (λ head. HasHead f F n.0 head × KeepsAll (KeepsByObject f F n.0) object_rules)
+        (IsObjectFault f F n.0 object_rules) result) }
+    ensures exact { HonestlyBy (S.means src.old) frame.now (λ f F. place ≡ off f F n.0
+        → Gives (IsHeadOf f F n.0) (IsObjectFault f F n.0 object_rules) result) }
+    ensures spelled { HonestlyBy (S.means src.old) frame.now (λ f F. place ≡ off f F n.0 → (c : Content)
+        → Spells f F n.0 c → Gives (λ head. c ≡ content_at f F head) Never result) }
     ensures safe { IfOk result (IsSafeHead frame.now) }
     ensures behind { IfOk result (λ head. place < head.body) }
 {
@@ -178,16 +172,12 @@ pub fn head_of<S: Source>(src: &mut S, frame: &Frame, n: ObjectNo) -> Result<Hea
     requires safe { IsSafe (length (S.means src.old).octets) frame.now }
     requires within { n.0 < frame.now.objects }
     ensures reads { OnlyReads (read_failed result) (S.means src.old) (S.means src.new) }
-    ensures rules { IsTrue (S.means src.old).honest → IsFrame (S.means src.old).octets frame.now
-        → Gives (λ head. HasHead (S.means src.old).octets frame.now n.0 head
-        × KeepsAll (KeepsByObject (S.means src.old).octets frame.now n.0) object_rules)
-        (IsObjectFault (S.means src.old).octets frame.now n.0 object_rules) result }
-    ensures exact { IsTrue (S.means src.old).honest → IsFrame (S.means src.old).octets frame.now
-        → Gives (IsHeadOf (S.means src.old).octets frame.now n.0)
-        (IsObjectFault (S.means src.old).octets frame.now n.0 object_rules) result }
-    ensures spelled { IsTrue (S.means src.old).honest → IsFrame (S.means src.old).octets frame.now
-        → (c : Content) → Spells (S.means src.old).octets frame.now n.0 c
-        → Gives (λ head. c ≡ content_at (S.means src.old).octets frame.now head) Never result }
+    ensures rules { HonestlyBy (S.means src.old) frame.now (λ f F. Gives (λ head. HasHead f F n.0 head × KeepsAll (KeepsByObject f F n.0) object_rules)
+        (IsObjectFault f F n.0 object_rules) result) }
+    ensures exact { HonestlyBy (S.means src.old) frame.now
+        (λ f F. Gives (IsHeadOf f F n.0) (IsObjectFault f F n.0 object_rules) result) }
+    ensures spelled { HonestlyBy (S.means src.old) frame.now (λ f F. (c : Content) → Spells f F n.0 c
+        → Gives (λ head. c ≡ content_at f F head) Never result) }
     ensures safe { IfOk result (IsSafeHead frame.now) }
 {
     let place = offset_of(src, frame, n)?;

@@ -1,7 +1,7 @@
 //! The count of an object: in its marker, or as an integer object behind it.
 
-ghost use Rattle.std.specs.Prelude.{◌≡◌, ℕ, ◌+◌, ◌^◌, ◌≤◌, ◌<◌, List, false, IsTrue, IfOk, length, slice_index};
-ghost use Rattle.bplist_octets.specs.Meaning.{OnlyReads};
+ghost use Rattle.std.specs.Prelude.{◌≡◌, ℕ, ◌+◌, ◌^◌, ◌≤◌, ◌<◌, List, false, IfOk, length, slice_index};
+ghost use Rattle.bplist_octets.specs.Meaning.{OnlyReads, Honestly};
 ghost use Rattle.bplist_objects.specs.Answers.{Gives, read_failed};
 ghost use Rattle.bplist_objects.specs.Announced.{Marks, is_counted, HasLongCount, Announces};
 ghost use Rattle.bplist_objects.specs.Safe.{MayCount};
@@ -40,9 +40,8 @@ fn long_count<S: Source>(
     requires inside { place < table }
     requires within { table ≤ length (S.means src.old).octets }
     ensures reads { OnlyReads (read_failed result) (S.means src.old) (S.means src.new) }
-    ensures exact { IsTrue (S.means src.old).honest
-        → Gives (λ found. HasLongCount (S.means src.old).octets place found.0 found.1)
-        (IsLongCountFault (S.means src.old).octets table place n.0) result }
+    ensures exact { Honestly (S.means src.old) (λ f. Gives
+        (λ found. HasLongCount f place found.0 found.1) (IsLongCountFault f table place n.0) result) }
     ensures safe { IfOk result (λ found. (place < found.1) × (found.1 ≤ table)) }
 {
     if table - place <= 1 {
@@ -89,9 +88,8 @@ pub(crate) fn count_of<S: Source>(
     requires inside { place < table }
     requires within { table ≤ length (S.means src.old).octets }
     ensures reads { OnlyReads (read_failed result) (S.means src.old) (S.means src.new) }
-    ensures exact { IsTrue (S.means src.old).honest → slice_index (S.means src.old).octets place ≡ marker
-        → Gives (λ found. Announces (S.means src.old).octets place kind found.0 found.1)
-        (IsCountFault (S.means src.old).octets table place n.0 kind marker) result }
+    ensures exact { Honestly (S.means src.old) (λ f. slice_index f place ≡ marker
+        → Gives (λ found. Announces f place kind found.0 found.1) (IsCountFault f table place n.0 kind marker) result) }
     ensures safe { IfOk result (λ found. (place < found.1) × (found.1 ≤ table)) }
     ensures may { IfOk result (λ found. MayCount kind found.0) }
 {

@@ -1,8 +1,8 @@
 //! The frame of a file: the five numbers of its trailer.
 
-ghost use Rattle.std.specs.Prelude.{◌≡◌, ℕ, ◌^◌, ◌≤◌, ◌<◌, List, length, IsTrue, IfOk, MatchResult};
+ghost use Rattle.std.specs.Prelude.{◌≡◌, ℕ, ◌^◌, ◌≤◌, ◌<◌, List, length, IfOk, MatchResult};
 ghost use Rattle.bplist_octets.specs.Octets.{part, num};
-ghost use Rattle.bplist_octets.specs.Meaning.{OnlyReads};
+ghost use Rattle.bplist_octets.specs.Meaning.{OnlyReads, Honestly};
 ghost use Rattle.bplist_objects.specs.Frame.{trailer as spelled, IsFrame};
 ghost use Rattle.bplist_objects.specs.Rules.{KeepsAll, IsFirstFault};
 ghost use Rattle.bplist_objects.specs.FrameRules.{Keeps, Breaks, IsTrailer, IsTrailerFault, IsFrameFault, number_rules};
@@ -64,8 +64,8 @@ fn fault_at(rule: Rule, place: u64) -> Fault
 fn check_header<S: Source>(src: &mut S) -> Result<(), ObjectFault>
     requires { 8 ≤ length (S.means src.old).octets }
     ensures reads { OnlyReads (read_failed result) (S.means src.old) (S.means src.new) }
-    ensures exact { IsTrue (S.means src.old).honest → Gives (λ _. Keeps (S.means src.old).octets Magic)
-        (λ fault. (fault.rule ≡ Magic) × Breaks (S.means src.old).octets Magic fault.object fault.place) result }
+    ensures exact { Honestly (S.means src.old) (λ f. Gives (λ _. Keeps f Magic) (λ fault. (fault.rule ≡ Magic)
+        × Breaks f Magic fault.object fault.place) result) }
 {
     let mut octets = [0u8; 8];
     src.read_at(0, &mut octets)?;
@@ -156,9 +156,8 @@ fn numbers_of<S: Source>(src: &mut S) -> Result<Frame, ObjectFault>
     requires low { 41 ≤ length (S.means src.old).octets }
     requires high { length (S.means src.old).octets ≤ 4294967295 }
     ensures reads { OnlyReads (read_failed result) (S.means src.old) (S.means src.new) }
-    ensures exact { IsTrue (S.means src.old).honest
-        → Gives (λ x. (x ≡ spelled (S.means src.old).octets) × KeepsAll (Keeps (S.means src.old).octets) number_rules)
-        (IsFirstFault (Keeps (S.means src.old).octets) (Breaks (S.means src.old).octets) number_rules) result }
+    ensures exact { Honestly (S.means src.old) (λ f. Gives (λ x. (x ≡ spelled f)
+        × KeepsAll (Keeps f) number_rules) (IsFirstFault (Keeps f) (Breaks f) number_rules) result) }
     ensures safe { IfOk result (IsSafeFrame (length (S.means src.old).octets)) }
 {
     let len = src.len();
@@ -174,8 +173,7 @@ fn numbers_of<S: Source>(src: &mut S) -> Result<Frame, ObjectFault>
 /// 8, its table lies within, and its top is an object.
 pub fn trailer_of<S: Source>(src: &mut S) -> Result<Frame, ObjectFault>
     ensures reads { OnlyReads (read_failed result) (S.means src.old) (S.means src.new) }
-    ensures exact { IsTrue (S.means src.old).honest
-        → Gives (IsTrailer (S.means src.old).octets) (IsTrailerFault (S.means src.old).octets) result }
+    ensures exact { Honestly (S.means src.old) (λ f. Gives (IsTrailer f) (IsTrailerFault f) result) }
     ensures safe { IfOk result (IsSafeFrame (length (S.means src.old).octets)) }
 {
     let len = src.len();
@@ -196,10 +194,8 @@ pub fn trailer_of<S: Source>(src: &mut S) -> Result<Frame, ObjectFault>
 /// its top is an object.
 pub fn frame_of<S: Source>(src: &mut S) -> Result<Frame, ObjectFault>
     ensures reads { OnlyReads (read_failed result) (S.means src.old) (S.means src.new) }
-    ensures exact { IsTrue (S.means src.old).honest
-        → Gives (IsFrame (S.means src.old).octets) (IsFrameFault (S.means src.old).octets) result }
-    ensures framed { IsTrue (S.means src.old).honest → (x : frame) → IsFrame (S.means src.old).octets x
-        → Gives (λ y. y ≡ x) Never result }
+    ensures exact { Honestly (S.means src.old) (λ f. Gives (IsFrame f) (IsFrameFault f) result) }
+    ensures framed { Honestly (S.means src.old) (λ f. (x : frame) → IsFrame f x → Gives (λ y. y ≡ x) Never result) }
     ensures safe { IfOk result (IsSafeFrame (length (S.means src.old).octets)) }
 {
     let frame = trailer_of(src)?;

@@ -1,8 +1,9 @@
 //! The heads of objects: what marker and count say.
 
-ghost use Rattle.std.specs.Prelude.{◌≡◌, ◌<◌, IsTrue, IfOk, length};
+ghost use Rattle.std.specs.Prelude.{◌≡◌, ◌<◌, IfOk, length};
 ghost use Rattle.bplist_octets.specs.Meaning.{OnlyReads};
-ghost use Rattle.bplist_objects.specs.Frame.{off, IsFrame};
+ghost use Rattle.bplist_objects.specs.Framed.{HonestlyBy};
+ghost use Rattle.bplist_objects.specs.Frame.{off};
 ghost use Rattle.bplist_objects.specs.Safe.{IsSafe, IsSafeHead};
 ghost use Rattle.bplist_objects.specs.Answers.{Gives, Never, read_failed};
 ghost use Rattle.bplist_objects.specs.Rules.{KeepsAll};
@@ -44,11 +45,9 @@ fn shape_by_rules<S: Source>(
     requires safe { IsSafe (length (S.means src.old).octets) frame.now }
     requires within { n.0 < frame.now.objects }
     ensures reads { OnlyReads (read_failed result) (S.means src.old) (S.means src.new) }
-    ensures rules { IsTrue (S.means src.old).honest → IsFrame (S.means src.old).octets frame.now
-        → place ≡ off (S.means src.old).octets frame.now n.0
-        → Gives (λ head. HasHead (S.means src.old).octets frame.now n.0 head
-        × KeepsAll (KeepsByObject (S.means src.old).octets frame.now n.0) shape_rules)
-        (IsObjectFault (S.means src.old).octets frame.now n.0 shape_rules) result }
+    ensures rules { HonestlyBy (S.means src.old) frame.now (λ f F. place ≡ off f F n.0
+        → Gives (λ head. HasHead f F n.0 head × KeepsAll (KeepsByObject f F n.0) shape_rules)
+        (IsObjectFault f F n.0 shape_rules) result) }
     ensures safe { IfOk result (IsSafeHead frame.now) }
     ensures behind { IfOk result (λ head. place < head.body) }
 {
@@ -93,18 +92,13 @@ pub fn shape_at<S: Source>(
     requires safe { IsSafe (length (S.means src.old).octets) frame.now }
     requires within { n.0 < frame.now.objects }
     ensures reads { OnlyReads (read_failed result) (S.means src.old) (S.means src.new) }
-    ensures rules { IsTrue (S.means src.old).honest → IsFrame (S.means src.old).octets frame.now
-        → place ≡ off (S.means src.old).octets frame.now n.0
-        → Gives (λ head. HasHead (S.means src.old).octets frame.now n.0 head
-        × KeepsAll (KeepsByObject (S.means src.old).octets frame.now n.0) shape_rules)
-        (IsObjectFault (S.means src.old).octets frame.now n.0 shape_rules) result }
-    ensures exact { IsTrue (S.means src.old).honest → IsFrame (S.means src.old).octets frame.now
-        → place ≡ off (S.means src.old).octets frame.now n.0
-        → Gives (HasShape (S.means src.old).octets frame.now n.0)
-        (IsObjectFault (S.means src.old).octets frame.now n.0 shape_rules) result }
-    ensures shaped { IsTrue (S.means src.old).honest → IsFrame (S.means src.old).octets frame.now
-        → place ≡ off (S.means src.old).octets frame.now n.0
-        → (x : head) → HasShape (S.means src.old).octets frame.now n.0 x → Gives (λ y. y ≡ x) Never result }
+    ensures rules { HonestlyBy (S.means src.old) frame.now (λ f F. place ≡ off f F n.0
+        → Gives (λ head. HasHead f F n.0 head × KeepsAll (KeepsByObject f F n.0) shape_rules)
+        (IsObjectFault f F n.0 shape_rules) result) }
+    ensures exact { HonestlyBy (S.means src.old) frame.now (λ f F. place ≡ off f F n.0
+        → Gives (HasShape f F n.0) (IsObjectFault f F n.0 shape_rules) result) }
+    ensures shaped { HonestlyBy (S.means src.old) frame.now (λ f F. place ≡ off f F n.0 → (x : head)
+        → HasShape f F n.0 x → Gives (λ y. y ≡ x) Never result) }
     ensures safe { IfOk result (IsSafeHead frame.now) }
     ensures behind { IfOk result (λ head. place < head.body) }
 {
@@ -120,15 +114,12 @@ pub fn shape_of<S: Source>(src: &mut S, frame: &Frame, n: ObjectNo) -> Result<He
     requires safe { IsSafe (length (S.means src.old).octets) frame.now }
     requires within { n.0 < frame.now.objects }
     ensures reads { OnlyReads (read_failed result) (S.means src.old) (S.means src.new) }
-    ensures rules { IsTrue (S.means src.old).honest → IsFrame (S.means src.old).octets frame.now
-        → Gives (λ head. HasHead (S.means src.old).octets frame.now n.0 head
-        × KeepsAll (KeepsByObject (S.means src.old).octets frame.now n.0) shape_rules)
-        (IsObjectFault (S.means src.old).octets frame.now n.0 shape_rules) result }
-    ensures exact { IsTrue (S.means src.old).honest → IsFrame (S.means src.old).octets frame.now
-        → Gives (HasShape (S.means src.old).octets frame.now n.0)
-        (IsObjectFault (S.means src.old).octets frame.now n.0 shape_rules) result }
-    ensures shaped { IsTrue (S.means src.old).honest → IsFrame (S.means src.old).octets frame.now
-        → (x : head) → HasShape (S.means src.old).octets frame.now n.0 x → Gives (λ y. y ≡ x) Never result }
+    ensures rules { HonestlyBy (S.means src.old) frame.now (λ f F. Gives (λ head. HasHead f F n.0 head × KeepsAll (KeepsByObject f F n.0) shape_rules)
+        (IsObjectFault f F n.0 shape_rules) result) }
+    ensures exact { HonestlyBy (S.means src.old) frame.now
+        (λ f F. Gives (HasShape f F n.0) (IsObjectFault f F n.0 shape_rules) result) }
+    ensures shaped { HonestlyBy (S.means src.old) frame.now (λ f F. (x : head) → HasShape f F n.0 x
+        → Gives (λ y. y ≡ x) Never result) }
     ensures safe { IfOk result (IsSafeHead frame.now) }
 {
     let place = offset_of(src, frame, n)?;

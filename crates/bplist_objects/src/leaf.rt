@@ -1,8 +1,8 @@
 //! The values of leaves, read at a head.
 
-ghost use Rattle.std.specs.Prelude.{◌≡◌, ◌⊎◌, ◌+◌, ◌*◌, ◌^◌, ◌%◌, ◌≤◌, length, IsTrue, IfOk, OnOk, is_err};
+ghost use Rattle.std.specs.Prelude.{◌≡◌, ◌⊎◌, ◌+◌, ◌*◌, ◌^◌, ◌%◌, ◌≤◌, length, IfOk, OnOk, is_err};
 ghost use Rattle.bplist_octets.specs.Octets.{part};
-ghost use Rattle.bplist_octets.specs.Meaning.{OnlyReads};
+ghost use Rattle.bplist_octets.specs.Meaning.{OnlyReads, Honestly};
 ghost use Rattle.bplist_objects.specs.Numbers.{integer, num_at};
 ghost use Rattle.bplist_objects.specs.Heads.{unit};
 ghost use Rattle.bplist_objects.specs.Kinds.{IsLeafKind};
@@ -35,8 +35,8 @@ pub fn int_of<S: Source>(src: &mut S, head: &Head) -> Result<i128, ReadFault>
     requires kind { head.now.kind ≡ Int }
     requires head { IsSafeBody (length (S.means src.old).octets) head.now }
     ensures reads { OnlyReads (is_err result) (S.means src.old) (S.means src.new) }
-    ensures value { IfOk result (λ i. IsTrue (S.means src.old).honest
-        → i ≡ integer (part (S.means src.old).octets head.now.body head.now.count)) }
+    ensures value { IfOk result (λ i. Honestly (S.means src.old)
+        (λ f. i ≡ integer (part f head.now.body head.now.count))) }
 {
     let mut octets = [0u8; 16];
     let body = &mut octets[..head.count as usize];
@@ -51,11 +51,10 @@ pub fn uid_of<S: Source>(src: &mut S, head: &Head) -> Result<u32, ReadFault>
     requires kind { head.now.kind ≡ Uid }
     requires head { IsSafeBody (length (S.means src.old).octets) head.now }
     ensures reads { OnlyReads (is_err result) (S.means src.old) (S.means src.new) }
-    ensures low_bits { IfOk result (λ x. IsTrue (S.means src.old).honest
-        → x ≡ num_at (S.means src.old).octets head.now.body head.now.count % 2 ^ 32) }
-    ensures value { IfOk result (λ x. IsTrue (S.means src.old).honest
-        → num_at (S.means src.old).octets head.now.body head.now.count ≤ 4294967295
-        → x ≡ num_at (S.means src.old).octets head.now.body head.now.count) }
+    ensures low_bits { IfOk result (λ x. Honestly (S.means src.old)
+        (λ f. x ≡ num_at f head.now.body head.now.count % 2 ^ 32)) }
+    ensures value { IfOk result (λ x. Honestly (S.means src.old)
+        (λ f. num_at f head.now.body head.now.count ≤ 4294967295 → x ≡ num_at f head.now.body head.now.count)) }
 {
     let octets = wide_in(src, head.body, head.count as u8)?;
     Ok((octets % (1 << 32)) as u32)
@@ -75,8 +74,8 @@ pub fn octets_at<S: Source>(
     requires head { IsSafeBody (length (S.means src.old).octets) head.now }
     requires within { i + length into.old ≤ head.now.count * unit 1 head.now.kind }
     ensures reads { OnlyReads (is_err result) (S.means src.old) (S.means src.new) }
-    ensures filled { OnOk result (IsTrue (S.means src.old).honest
-        → into.new ≡ part (S.means src.old).octets (head.now.body + i) (length into.old)) }
+    ensures filled { OnOk result (Honestly (S.means src.old)
+        (λ f. into.new ≡ part f (head.now.body + i) (length into.old))) }
 {
     src.read_at(head.body + i, into)
 }

@@ -1,8 +1,8 @@
 //! Numbers of one to sixteen bytes at a place of a source.
 
-ghost use Rattle.std.specs.Prelude.{◌≡◌, ◌+◌, ◌*◌, ◌≤◌, ◌<◌, length, IsTrue, IfOk, OnOk, is_err, slice_index};
+ghost use Rattle.std.specs.Prelude.{◌≡◌, ◌+◌, ◌*◌, ◌≤◌, ◌<◌, length, IfOk, OnOk, is_err, slice_index};
 ghost use Rattle.bplist_octets.specs.Octets.{part};
-ghost use Rattle.bplist_octets.specs.Meaning.{OnlyReads};
+ghost use Rattle.bplist_octets.specs.Meaning.{OnlyReads, Honestly};
 ghost use Rattle.bplist_objects.specs.Numbers.{num_at};
 ghost use Rattle.bplist_objects.specs.Scan.{AreNumbers};
 
@@ -27,8 +27,7 @@ pub(crate) fn number_in<S: Source>(src: &mut S, place: u64, size: u8) -> Result<
     requires high { size ≤ 8 }
     requires within { place + size ≤ length (S.means src.old).octets }
     ensures reads { OnlyReads (is_err result) (S.means src.old) (S.means src.new) }
-    ensures value { IfOk result (λ x. IsTrue (S.means src.old).honest
-        → x ≡ num_at (S.means src.old).octets place size) }
+    ensures value { IfOk result (λ x. Honestly (S.means src.old) (λ f. x ≡ num_at f place size)) }
 {
     let mut octets = [0u8; 8];
     let read = &mut octets[..size as usize];
@@ -42,8 +41,7 @@ pub(crate) fn wide_in<S: Source>(src: &mut S, place: u64, size: u8) -> Result<u1
     requires high { size ≤ 16 }
     requires within { place + size ≤ length (S.means src.old).octets }
     ensures reads { OnlyReads (is_err result) (S.means src.old) (S.means src.new) }
-    ensures value { IfOk result (λ x. IsTrue (S.means src.old).honest
-        → x ≡ num_at (S.means src.old).octets place size) }
+    ensures value { IfOk result (λ x. Honestly (S.means src.old) (λ f. x ≡ num_at f place size)) }
 {
     let mut octets = [0u8; 16];
     let read = &mut octets[..size as usize];
@@ -55,8 +53,7 @@ pub(crate) fn wide_in<S: Source>(src: &mut S, place: u64, size: u8) -> Result<u1
 pub(crate) fn octet_in<S: Source>(src: &mut S, place: u64) -> Result<u8, ReadFault>
     requires within { place < length (S.means src.old).octets }
     ensures reads { OnlyReads (is_err result) (S.means src.old) (S.means src.new) }
-    ensures value { IfOk result (λ x. IsTrue (S.means src.old).honest
-        → slice_index (S.means src.old).octets place ≡ x) }
+    ensures value { IfOk result (λ x. Honestly (S.means src.old) (λ f. slice_index f place ≡ x)) }
 {
     let mut octets = [0u8; 1];
     src.read_at(place, &mut octets)?;
@@ -97,8 +94,7 @@ fn read_block<S: Source>(
     requires room { length block.old ≡ length into.old * size }
     requires within { place + length into.old * size ≤ length (S.means src.old).octets }
     ensures reads { OnlyReads (is_err result) (S.means src.old) (S.means src.new) }
-    ensures numbers { OnOk result (IsTrue (S.means src.old).honest
-        → AreNumbers (S.means src.old).octets place size into.new) }
+    ensures numbers { OnOk result (Honestly (S.means src.old) (λ f. AreNumbers f place size into.new)) }
 {
     src.read_at(place, block)?;
     numbers_of_block(block, size as usize, into);
@@ -112,8 +108,7 @@ fn read_few<S: Source>(src: &mut S, place: u64, size: u8, into: &mut [u64]) -> R
     requires few { length into.old ≤ 32 }
     requires within { place + length into.old * size ≤ length (S.means src.old).octets }
     ensures reads { OnlyReads (is_err result) (S.means src.old) (S.means src.new) }
-    ensures numbers { OnOk result (IsTrue (S.means src.old).honest
-        → AreNumbers (S.means src.old).octets place size into.new) }
+    ensures numbers { OnOk result (Honestly (S.means src.old) (λ f. AreNumbers f place size into.new)) }
 {
     let mut buffer = [0u8; FEW_BYTES];
     let block = &mut buffer[..into.len() * size as usize];
@@ -131,8 +126,7 @@ fn read_many<S: Source>(
     requires high { size ≤ 8 }
     requires within { place + length into.old * size ≤ length (S.means src.old).octets }
     ensures reads { OnlyReads (is_err result) (S.means src.old) (S.means src.new) }
-    ensures numbers { OnOk result (IsTrue (S.means src.old).honest
-        → AreNumbers (S.means src.old).octets place size into.new) }
+    ensures numbers { OnOk result (Honestly (S.means src.old) (λ f. AreNumbers f place size into.new)) }
 {
     let _len = src.len();
     let mut buffer = [0u8; BLOCK_BYTES];
@@ -159,8 +153,7 @@ pub(crate) fn numbers_in<S: Source>(
     requires high { size ≤ 8 }
     requires within { place + length into.old * size ≤ length (S.means src.old).octets }
     ensures reads { OnlyReads (is_err result) (S.means src.old) (S.means src.new) }
-    ensures numbers { OnOk result (IsTrue (S.means src.old).honest
-        → AreNumbers (S.means src.old).octets place size into.new) }
+    ensures numbers { OnOk result (Honestly (S.means src.old) (λ f. AreNumbers f place size into.new)) }
 {
     match into.len() as u64 {
         0 => Ok(()),

@@ -1,7 +1,7 @@
 //! The references of arrays, sets and dictionaries.
 
-ghost use Rattle.std.specs.Prelude.{◌≡◌, ℕ, ◌+◌, ◌≤◌, ◌<◌, IsTrue, IfOk, OnOk, is_err, length, slice_index};
-ghost use Rattle.bplist_octets.specs.Meaning.{OnlyReads};
+ghost use Rattle.std.specs.Prelude.{◌≡◌, ℕ, ◌+◌, ◌≤◌, ◌<◌, IfOk, OnOk, is_err, length, slice_index};
+ghost use Rattle.bplist_octets.specs.Meaning.{OnlyReads, Honestly};
 ghost use Rattle.bplist_objects.specs.Safe.{IsSafe, IsSafeHead, ref_count};
 ghost use Rattle.bplist_objects.specs.Scan.{nth_number};
 ghost use Rattle.bplist_objects.specs.Heads.{refs, content_at};
@@ -34,10 +34,10 @@ pub fn ref_at<S: Source>(src: &mut S, frame: &Frame, head: &Head, i: u64) -> Res
     requires head { IsSafeHead frame.now head.now }
     requires within { i < ref_count head.now.kind head.now.count }
     ensures reads { OnlyReads (is_err result) (S.means src.old) (S.means src.new) }
-    ensures value { IfOk result (λ x. IsTrue (S.means src.old).honest
-        → x ≡ nth_number (S.means src.old).octets head.now.body frame.now.ref_size i) }
-    ensures reference { IfOk result (λ x. IsTrue (S.means src.old).honest
-        → slice_index (refs (content_at (S.means src.old).octets frame.now head.now)) i ≡ x) }
+    ensures value { IfOk result (λ x. Honestly (S.means src.old)
+        (λ f. x ≡ nth_number f head.now.body frame.now.ref_size i)) }
+    ensures reference { IfOk result (λ x. Honestly (S.means src.old)
+        (λ f. slice_index (refs (content_at f frame.now head.now)) i ≡ x)) }
 {
     let _len = src.len();
     number_in(src, head.body + i * frame.ref_size as u64, frame.ref_size)
@@ -56,8 +56,8 @@ pub fn read_refs<S: Source>(
     requires head { IsSafeHead frame.now head.now }
     requires within { from + length into.old ≤ ref_count head.now.kind head.now.count }
     ensures reads { OnlyReads (is_err result) (S.means src.old) (S.means src.new) }
-    ensures numbers { OnOk result (IsTrue (S.means src.old).honest → (k : ℕ) → k < length into.new
-        → slice_index into.new k ≡ nth_number (S.means src.old).octets head.now.body frame.now.ref_size (from + k)) }
+    ensures numbers { OnOk result (Honestly (S.means src.old) (λ f. (k : ℕ) → k < length into.new
+        → slice_index into.new k ≡ nth_number f head.now.body frame.now.ref_size (from + k))) }
 {
     let _len = src.len();
     numbers_in(

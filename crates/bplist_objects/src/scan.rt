@@ -1,7 +1,7 @@
 //! The first of many numbers of one size, or of many bytes, that is not below a bound, by blocks.
 
-ghost use Rattle.std.specs.Prelude.{◌≡◌, ◌+◌, ◌*◌, ◌≤◌, ◌<◌, length, IsTrue, IfOk, IfSome, MatchOption, is_err};
-ghost use Rattle.bplist_octets.specs.Meaning.{OnlyReads};
+ghost use Rattle.std.specs.Prelude.{◌≡◌, ◌+◌, ◌*◌, ◌≤◌, ◌<◌, length, IfOk, IfSome, MatchOption, is_err};
+ghost use Rattle.bplist_octets.specs.Meaning.{OnlyReads, Honestly};
 ghost use Rattle.bplist_objects.specs.Scan.{AreBelow, IsFirstNotBelow};
 
 use crate::numbers::{BLOCK, BLOCK_BYTES, FEW, FEW_BYTES, part_of};
@@ -39,10 +39,8 @@ fn search_block<S: Source>(
     requires part { done + now ≤ count }
     requires room { length block.old ≡ now * size }
     ensures reads { OnlyReads (is_err result) (S.means src.old) (S.means src.new) }
-    ensures found { IfOk result (λ found. IsTrue (S.means src.old).honest
-        → AreBelow (S.means src.old).octets place size done bound
-        → MatchOption found (AreBelow (S.means src.old).octets place size (done + now) bound)
-        (IsFirstNotBelow (S.means src.old).octets place size count bound)) }
+    ensures found { IfOk result (λ found. Honestly (S.means src.old) (λ f. AreBelow f place size done bound
+        → MatchOption found (AreBelow f place size (done + now) bound) (IsFirstNotBelow f place size count bound))) }
     ensures inside { IfOk result (λ found. IfSome found (λ i. i < count)) }
 {
     let _len = src.len();
@@ -66,9 +64,8 @@ fn first_of_few<S: Source>(
     requires few { count ≤ 32 }
     requires within { place + count * size ≤ length (S.means src.old).octets }
     ensures reads { OnlyReads (is_err result) (S.means src.old) (S.means src.new) }
-    ensures found { IfOk result (λ found. IsTrue (S.means src.old).honest
-        → MatchOption found (AreBelow (S.means src.old).octets place size count bound)
-        (IsFirstNotBelow (S.means src.old).octets place size count bound)) }
+    ensures found { IfOk result (λ found. Honestly (S.means src.old)
+        (λ f. MatchOption found (AreBelow f place size count bound) (IsFirstNotBelow f place size count bound))) }
     ensures inside { IfOk result (λ found. IfSome found (λ i. i < count)) }
 {
     let mut buffer = [0u8; FEW_BYTES];
@@ -88,9 +85,8 @@ fn first_of_many<S: Source>(
     requires high { size ≤ 8 }
     requires within { place + count * size ≤ length (S.means src.old).octets }
     ensures reads { OnlyReads (is_err result) (S.means src.old) (S.means src.new) }
-    ensures found { IfOk result (λ found. IsTrue (S.means src.old).honest
-        → MatchOption found (AreBelow (S.means src.old).octets place size count bound)
-        (IsFirstNotBelow (S.means src.old).octets place size count bound)) }
+    ensures found { IfOk result (λ found. Honestly (S.means src.old)
+        (λ f. MatchOption found (AreBelow f place size count bound) (IsFirstNotBelow f place size count bound))) }
     ensures inside { IfOk result (λ found. IfSome found (λ i. i < count)) }
 {
     let mut buffer = [0u8; BLOCK_BYTES];
@@ -118,9 +114,8 @@ pub(crate) fn first_not_below<S: Source>(
     requires high { size ≤ 8 }
     requires within { place + count * size ≤ length (S.means src.old).octets }
     ensures reads { OnlyReads (is_err result) (S.means src.old) (S.means src.new) }
-    ensures found { IfOk result (λ found. IsTrue (S.means src.old).honest
-        → MatchOption found (AreBelow (S.means src.old).octets place size count bound)
-        (IsFirstNotBelow (S.means src.old).octets place size count bound)) }
+    ensures found { IfOk result (λ found. Honestly (S.means src.old)
+        (λ f. MatchOption found (AreBelow f place size count bound) (IsFirstNotBelow f place size count bound))) }
     ensures inside { IfOk result (λ found. IfSome found (λ i. i < count)) }
 {
     match count {
@@ -144,10 +139,8 @@ fn search_part<S: Source>(
     requires within { place + count ≤ length (S.means src.old).octets }
     requires part { done + length part.old ≤ count }
     ensures reads { OnlyReads (is_err result) (S.means src.old) (S.means src.new) }
-    ensures found { IfOk result (λ found. IsTrue (S.means src.old).honest
-        → AreBelow (S.means src.old).octets place 1 done 128
-        → MatchOption found (AreBelow (S.means src.old).octets place 1 (done + length part.old) 128)
-        (IsFirstNotBelow (S.means src.old).octets place 1 count 128)) }
+    ensures found { IfOk result (λ found. Honestly (S.means src.old) (λ f. AreBelow f place 1 done 128
+        → MatchOption found (AreBelow f place 1 (done + length part.old) 128) (IsFirstNotBelow f place 1 count 128))) }
     ensures inside { IfOk result (λ found. IfSome found (λ i. i < count)) }
 {
     let _len = src.len();
@@ -166,9 +159,8 @@ pub(crate) fn first_high_in<S: Source>(
 ) -> Result<Option<u64>, ReadFault>
     requires within { place + count ≤ length (S.means src.old).octets }
     ensures reads { OnlyReads (is_err result) (S.means src.old) (S.means src.new) }
-    ensures found { IfOk result (λ found. IsTrue (S.means src.old).honest
-        → MatchOption found (AreBelow (S.means src.old).octets place 1 count 128)
-        (IsFirstNotBelow (S.means src.old).octets place 1 count 128)) }
+    ensures found { IfOk result (λ found. Honestly (S.means src.old)
+        (λ f. MatchOption found (AreBelow f place 1 count 128) (IsFirstNotBelow f place 1 count 128))) }
     ensures inside { IfOk result (λ found. IfSome found (λ i. i < count)) }
 {
     let mut buffer = [0u8; TEXT_PART];

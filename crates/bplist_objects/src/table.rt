@@ -1,7 +1,7 @@
 //! The offset table, whose entries are the places of the objects.
 
-ghost use Rattle.std.specs.Prelude.{◌≡◌, ℕ, ◌+◌, ◌*◌, ◌≤◌, ◌<◌, length, slice_index, IsTrue, IfOk, OnOk, is_err};
-ghost use Rattle.bplist_octets.specs.Meaning.{OnlyReads};
+ghost use Rattle.std.specs.Prelude.{◌≡◌, ℕ, ◌+◌, ◌*◌, ◌≤◌, ◌<◌, length, slice_index, IfOk, OnOk, is_err};
+ghost use Rattle.bplist_octets.specs.Meaning.{OnlyReads, Honestly};
 ghost use Rattle.bplist_objects.specs.Frame.{off};
 ghost use Rattle.bplist_objects.specs.Safe.{IsSafe};
 ghost use Rattle.bplist_objects.specs.FrameRules.{AreEntriesLow, IsEntryFault};
@@ -33,8 +33,7 @@ pub fn offset_of<S: Source>(src: &mut S, frame: &Frame, n: ObjectNo) -> Result<u
     requires safe { IsSafe (length (S.means src.old).octets) frame.now }
     requires within { n.0 < frame.now.objects }
     ensures reads { OnlyReads (is_err result) (S.means src.old) (S.means src.new) }
-    ensures value { IfOk result (λ place. IsTrue (S.means src.old).honest
-        → place ≡ off (S.means src.old).octets frame.now n.0) }
+    ensures value { IfOk result (λ place. Honestly (S.means src.old) (λ f. place ≡ off f frame.now n.0)) }
 {
     let place = entry_place(frame, n.0, src.len());
     number_in(src, place, frame.offset_size)
@@ -51,8 +50,8 @@ pub fn read_offsets<S: Source>(
     requires safe { IsSafe (length (S.means src.old).octets) frame.now }
     requires within { from + length into.old ≤ frame.now.objects }
     ensures reads { OnlyReads (is_err result) (S.means src.old) (S.means src.new) }
-    ensures offsets { OnOk result (IsTrue (S.means src.old).honest → (k : ℕ) → k < length into.new
-        → slice_index into.new k ≡ off (S.means src.old).octets frame.now (from + k)) }
+    ensures offsets { OnOk result (Honestly (S.means src.old) (λ f. (k : ℕ) → k < length into.new
+        → slice_index into.new k ≡ off f frame.now (from + k))) }
 {
     let _len = src.len();
     let place = frame.table + from as u64 * frame.offset_size as u64;
@@ -79,10 +78,8 @@ pub fn high_entry(frame: &Frame, n: ObjectNo, len: u64) -> Fault
 pub(crate) fn check_entries<S: Source>(src: &mut S, frame: &Frame) -> Result<(), ObjectFault>
     requires { IsSafe (length (S.means src.old).octets) frame.now }
     ensures reads { OnlyReads (read_failed result) (S.means src.old) (S.means src.new) }
-    ensures exact { IsTrue (S.means src.old).honest
-        → Gives (λ _. AreEntriesLow (S.means src.old).octets frame.now)
-        (λ fault. (fault.rule ≡ OffsetHigh) × IsEntryFault (S.means src.old).octets frame.now fault.object fault.place)
-        result }
+    ensures exact { Honestly (S.means src.old) (λ f. Gives (λ _. AreEntriesLow f frame.now)
+        (λ fault. (fault.rule ≡ OffsetHigh) × IsEntryFault f frame.now fault.object fault.place) result) }
 {
     let first = first_not_below(
         src,

@@ -1,8 +1,8 @@
 //! The units of texts, read and compared at a head.
 
-ghost use Rattle.std.specs.Prelude.{◌≡◌, ◌+◌, ◌*◌, ◌≤◌, ◌<◌, length, slice_index, min, IsTrue, IfOk, OnOk, is_err};
+ghost use Rattle.std.specs.Prelude.{◌≡◌, ◌+◌, ◌*◌, ◌≤◌, ◌<◌, length, slice_index, min, IfOk, OnOk, is_err};
 ghost use Rattle.bplist_octets.specs.Octets.{part};
-ghost use Rattle.bplist_octets.specs.Meaning.{OnlyReads, last_count};
+ghost use Rattle.bplist_octets.specs.Meaning.{OnlyReads, last_count, Honestly};
 ghost use Rattle.bplist_objects.specs.Scan.{AreNumbers};
 ghost use Rattle.bplist_objects.specs.Safe.{IsSafeBody};
 ghost use Rattle.bplist_objects.specs.Units.{IsTextKind, units_of, compare_units};
@@ -44,8 +44,7 @@ fn read_block<S: Source>(
     requires room { length block.old ≡ length into.old * size }
     requires within { place + length into.old * size ≤ length (S.means src.old).octets }
     ensures reads { OnlyReads (is_err result) (S.means src.old) (S.means src.new) }
-    ensures numbers { OnOk result (IsTrue (S.means src.old).honest
-        → AreNumbers (S.means src.old).octets place size into.new) }
+    ensures numbers { OnOk result (Honestly (S.means src.old) (λ f. AreNumbers f place size into.new)) }
 {
     src.read_at(place, block)?;
     units_of_block(block, size as usize, into);
@@ -58,8 +57,7 @@ fn units_in<S: Source>(src: &mut S, place: u64, size: u8, into: &mut [u16]) -> R
     requires high { size ≤ 2 }
     requires within { place + length into.old * size ≤ length (S.means src.old).octets }
     ensures reads { OnlyReads (is_err result) (S.means src.old) (S.means src.new) }
-    ensures numbers { OnOk result (IsTrue (S.means src.old).honest
-        → AreNumbers (S.means src.old).octets place size into.new) }
+    ensures numbers { OnOk result (Honestly (S.means src.old) (λ f. AreNumbers f place size into.new)) }
 {
     let _len = src.len();
     let mut buffer = [0u8; 2 * BLOCK];
@@ -89,8 +87,8 @@ pub fn read_units<S: Source>(
     requires head { IsSafeBody (length (S.means src.old).octets) head.now }
     requires within { from + length into.old ≤ head.now.count }
     ensures reads { OnlyReads (is_err result) (S.means src.old) (S.means src.new) }
-    ensures units { OnOk result (IsTrue (S.means src.old).honest
-        → into.new ≡ part (units_of (S.means src.old).octets head.now) from (length into.old)) }
+    ensures units { OnOk result (Honestly (S.means src.old)
+        (λ f. into.new ≡ part (units_of f head.now) from (length into.old))) }
 {
     let size = unit_of(head.kind, 1);
     units_in(src, head.body + from * size as u64, size, into)
@@ -105,8 +103,7 @@ pub fn unit_at<S: Source>(src: &mut S, head: &Head, i: u64) -> Result<u16, ReadF
     requires head { IsSafeBody (length (S.means src.old).octets) head.now }
     requires within { i < head.now.count }
     ensures reads { OnlyReads (is_err result) (S.means src.old) (S.means src.new) }
-    ensures value { IfOk result (λ u. IsTrue (S.means src.old).honest
-        → u ≡ slice_index (units_of (S.means src.old).octets head.now) i) }
+    ensures value { IfOk result (λ u. Honestly (S.means src.old) (λ f. u ≡ slice_index (units_of f head.now) i)) }
 {
     let mut unit = [0u16; 1];
     read_units(src, head, i, &mut unit)?;
@@ -122,8 +119,8 @@ fn compare_from_start<S: Source>(
     requires kind { IsTextKind head.now.kind }
     requires head { IsSafeBody (length (S.means src.old).octets) head.now }
     ensures reads { OnlyReads (is_err result) (S.means src.old) (S.means src.new) }
-    ensures value { IfOk result (λ o. IsTrue (S.means src.old).honest
-        → o ≡ compare_units (units_of (S.means src.old).octets head.now) units.now) }
+    ensures value { IfOk result (λ o. Honestly (S.means src.old)
+        (λ f. o ≡ compare_units (units_of f head.now) units.now)) }
 {
     let mut buffer = [0u16; KEY_BLOCK];
     let both = head.count.min(units.len() as u64) as usize;
@@ -158,8 +155,8 @@ pub fn key_cmp<S: Source>(
     requires head { IsSafeBody (length (S.means src.old).octets) head.now }
     ensures reads { OnlyReads (is_err result) (S.means src.old) (S.means src.new) }
     ensures made { made.new ≡ min (made.old + 1) last_count }
-    ensures value { IfOk result (λ o. IsTrue (S.means src.old).honest
-        → o ≡ compare_units (units_of (S.means src.old).octets head.now) units.now) }
+    ensures value { IfOk result (λ o. Honestly (S.means src.old)
+        (λ f. o ≡ compare_units (units_of f head.now) units.now)) }
 {
     *made = made.saturating_add(1);
     compare_from_start(src, head, units)

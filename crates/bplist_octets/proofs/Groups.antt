@@ -1,5 +1,5 @@
 -- Groups of 64 lanes.
-use Rattle.std.proofs.Common.{◌≡◌, ℕ, ◌+◌, ◌%◌, ◌^◌, ◌<◌, ◌≤◌, cond, ltb, List, map, length, get_or, replicate, sym, ap, ◌∙◌, arith, w8}
+use Rattle.std.proofs.Common.{◌≡◌, ℕ, zero, suc, ◌+◌, ◌%◌, ◌^◌, ◌<◌, ◌≤◌, cond, ltb, List, [], ◌∷◌, drop, map, length, get_or, replicate, sym, ap, ◌∙◌, arith, w8}
 use Rattle.std.proofs.lemmas.Bool.{ltb-false}
 use Rattle.std.proofs.lemmas.List.{length-map}
 use Rattle.std.proofs.lemmas.Simd.{tops_compared, zip2_splat_left, mask_l-mod, length-chunk, none_from_empty_mask}
@@ -17,3 +17,10 @@ low_of_mask xs at fits e k lo hi =
     let empty : mask_l (map (λ y. ltb 127 y) part) ≡ 0 = sym whole ∙ ap (λ ms. mask_l ms % 2 ^ 64) (sym lanes) ∙ e in
     let low : get_or xs k 0 ≤ 127 = ltb-false 127 (get_or xs k 0) (none_from_empty_mask (λ y. ltb 127 y) xs at 64 0 fits empty k lo hi) in
     omega (arith, low)
+
+-- a front of low bytes and a low rest
+pub joined_low : (xs : List ℕ) (front : ℕ) → ((k : ℕ) → k < front → get_or xs k 0 < 128) → ((k : ℕ) → k < length (drop front xs) → get_or (drop front xs) k 0 < 128) → (k : ℕ) → k < length xs → get_or xs k 0 < 128
+joined_low xs zero low rest k lt = rest k lt
+joined_low [] (suc front) low rest k lt = low k (omega arith)
+joined_low (x ∷ xs) (suc front) low rest zero lt = low 0 (omega arith)
+joined_low (x ∷ xs) (suc front) low rest (suc k) lt = joined_low xs front (λ j h. low (suc j) (omega arith)) rest k (omega arith)

@@ -1,21 +1,13 @@
--- What a window over a borrowed source holds.
-use Rattle.std.proofs.Common.{◌≡◌, ℕ, ◌+◌, ◌≤◌, Bool, List, sym, ap, ◌∙◌, IsTrue, take, arith}
+-- What a pane holds.
+use Rattle.std.proofs.Common.{◌≡◌, ℕ, ◌+◌, ◌≤◌, Bool, List, sym, ap, ◌∙◌, IsTrue}
 use Rattle.bplist_octets.specs.Octets.{part}
 use Rattle.bplist_octets.proofs.Parts.{range_is_part, window_part}
 use Rattle.bplist_octets.specs.declared.windows.Pane.{Pane}
 use Rattle.bplist_octets.specs.Windows.{IsPane}
 
--- a part of a window's bytes is that part of the source's
+-- a part of a pane's bytes is that part of the source's
 pub pane_part : (f : List ℕ) (honest : Bool) (pane : Pane) (at from n : ℕ) → IsPane f honest pane → pane.start + from ≡ at → from + n ≤ pane.filled → IsTrue honest → part pane.octets from n ≡ part f at n
 pane_part f honest pane at from n is same inside is_honest =
     sym (range_is_part pane.octets from n)
     ∙ window_part pane.octets f pane.start pane.filled from n (is.holds is_honest) inside
     ∙ ap (λ k. part f k n) same
-
--- a window of no bytes
-pub empty_pane : (f : List ℕ) (honest : Bool) (pane : Pane) → pane.start ≡ 0 → pane.filled ≡ 0 → IsPane f honest pane
-empty_pane f honest pane start filled = record {
-  fits = omega (arith, filled);
-  inside = omega (arith, start, filled);
-  holds = λ _. ap (λ n. take n pane.octets) filled ∙ sym (ap (λ n. part f pane.start n) filled);
-}

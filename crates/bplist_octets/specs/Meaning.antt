@@ -1,19 +1,18 @@
 -- What a source of bytes means, and what a run of reads leaves of it. Source of these definitions: profile.
-use Rattle.std.specs.Prelude.{◌≡◌, ℕ, ◌-◌, ◌^◌, ◌≤◌, Bool, true, false, List}
+use Rattle.std.specs.Prelude.{◌≡◌, ℕ, ◌-◌, ◌^◌, ◌≤◌, Bool, true, false, IsTrue, List}
 
--- the bytes, whether reads that succeed give them, how many reads have failed, and what else the source
--- holds that no read changes, as lists of numbers
+-- the bytes, whether successful reads return them, how many reads have failed, and what else the source holds
 pub record Meaning : Type 0 where
   pub octets : List ℕ
   pub honest : Bool
   pub failures : ℕ
   pub beside : List (List ℕ)
 
--- at this number the count of failures stays
+-- the count of failures never exceeds this
 abbrev pub last_count : ℕ
 last_count = 2 ^ 64 - 1
 
--- a read has failed between: all but the count is as it was, and the count is higher, or stands at its last value
+-- a read has failed: only the count of failures changed, and it rose or is at its limit
 pub record ReadFailed (old new : Meaning) : Type 0 where
   pub octets : new.octets ≡ old.octets
   pub honest : new.honest ≡ old.honest
@@ -21,7 +20,11 @@ pub record ReadFailed (old new : Meaning) : Type 0 where
   pub rises : old.failures ≤ new.failures
   pub stays_only_at_last : new.failures ≡ old.failures → old.failures ≡ last_count
 
--- a call that only reads: where it says that a read failed, one did, and else all is as it was
+-- after an answer that tells of a failed read, one has failed; after any other nothing has changed
 abbrev pub OnlyReads : Bool → Meaning → Meaning → Type 0
 OnlyReads false old new = new ≡ old
 OnlyReads true old new = ReadFailed old new
+
+-- P holds of the bytes, if the source is honest
+abbrev pub Honestly : Meaning → (List ℕ → Type 0) → Type 0
+Honestly m P = IsTrue m.honest → P m.octets

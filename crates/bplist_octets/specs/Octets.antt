@@ -2,11 +2,11 @@
 -- which numbers of several bytes are big-endian. Source of the others: profile.
 use Rattle.std.specs.Prelude.{ℕ, ◌+◌, ◌*◌, ◌^◌, ◌<◌, ◌≤◌, List, [], ◌∷◌, length, take, drop, slice_index}
 
--- the n bytes from a place on
+-- n bytes from a place on
 abbrev pub part : List ℕ → ℕ → ℕ → List ℕ
 part octets place n = take n (drop place octets)
 
--- the number that bytes spell, greatest byte first
+-- the big-endian number of these bytes
 unfoldable pub num : List ℕ → ℕ
 num [] = 0
 num (x ∷ xs) = x * 256 ^ length xs + num xs
@@ -15,7 +15,7 @@ num (x ∷ xs) = x * 256 ^ length xs + num xs
 abbrev pub AreLow : List ℕ → Type 0
 AreLow octets = (k : ℕ) → k < length octets → slice_index octets k < 128
 
--- the first byte of 128 or more stands at this place
+-- the first byte of 128 or more is here
 pub record IsFirstHigh (octets : List ℕ) (place : ℕ) : Type 0 where
   pub within : place < length octets
   pub high : 128 ≤ slice_index octets place

@@ -6,17 +6,17 @@ use Rattle.bplist_octets.specs.Meaning.{Meaning}
 use Rattle.bplist_octets.specs.declared.source.ReadFault.{ReadFault}
 use Rattle.bplist_octets.specs.declared.source.ReadFault.TheVariants.{Device, Ended, TooManyTurns}
 
--- bytes with one read that fails: how many reads come before that one, or none where it has come
+-- bytes, and how many reads succeed before the one that fails, if it is still to come
 pub record Faulty : Type 0 where
   pub octets : List ℕ
   pub before : Option ℕ
 
--- how many reads failed, by how many are to come before the one that fails
+-- how many reads have failed so far
 abbrev pub failures_by : Option ℕ → ℕ
 failures_by None = 1
 failures_by (Some n) = 0
 
--- how many reads are to come before the one that fails, after one more read
+-- how many reads still succeed after one more
 abbrev pub before_next : Option ℕ → Option ℕ
 before_next None = None
 before_next (Some zero) = None
@@ -28,22 +28,22 @@ faulty_answer None = Ok tt
 faulty_answer (Some zero) = Err Device
 faulty_answer (Some (suc n)) = Ok tt
 
--- what a source with a failing read means
+-- the meaning of a source with a failing read
 abbrev pub faulty_meaning : Faulty → Meaning
 faulty_meaning s =
     record { octets = s.octets; honest = true; failures = failures_by s.before; beside = [] }
 
--- bytes that change: those of the first reads, those of all later ones, and how many of the first are left
+-- the bytes of the first reads, those of all later ones, and how many first reads are left
 pub record Shifting : Type 0 where
   pub first : List ℕ
   pub second : List ℕ
   pub left : ℕ
 
--- the bytes that the next read shows
+-- what the next read shows
 abbrev pub shown : Shifting → List ℕ
 shown s = elim s.left [ zero ↦ s.second | suc n ↦ s.first ]
 
--- what a source that changes means
+-- the meaning of a source that changes
 abbrev pub shifting_meaning : Shifting → Meaning
 shifting_meaning s = record { octets = s.first; honest = false; failures = 0; beside = [] }
 

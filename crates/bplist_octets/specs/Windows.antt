@@ -1,15 +1,20 @@
--- Windows of bytes over a borrowed source. Source of these definitions: profile.
+-- Panes of bytes over a borrowed source. Source of these definitions: profile.
 use Rattle.std.specs.Prelude.{◌≡◌, ℕ, ◌+◌, ◌≤◌, ◌∷◌, [], Bool, List, length, take, IsTrue}
 use Rattle.bplist_octets.specs.Octets.{part}
 use Rattle.bplist_octets.specs.Meaning.{Meaning}
 use Rattle.bplist_octets.specs.declared.windows.Pane.{Pane}
 
--- a window of these bytes: it lies inside them, and holds them where reads of them are honest
+-- a pane lies inside the bytes, and holds them if the source is honest
 pub record IsPane (f : List ℕ) (honest : Bool) (pane : Pane) : Type 0 where
-  pub fits : pane.filled ≤ 1536
+  pub fits : pane.filled ≤ 8192
   pub inside : pane.start + pane.filled ≤ length f
   pub holds : IsTrue honest → take pane.filled pane.octets ≡ part f pane.start pane.filled
 
--- what a source means that is read through the borrow with this ghost name
+-- a pane of no bytes
+pub record IsEmptyPane (pane : Pane) : Type 0 where
+  pub start : pane.start ≡ 0
+  pub filled : pane.filled ≡ 0
+
+-- the meaning of a source behind the borrow with this ghost name
 abbrev pub borrowed : ℕ → Meaning → Meaning
 borrowed through m = record { octets = m.octets; honest = m.honest; failures = m.failures; beside = (through ∷ []) ∷ m.beside }

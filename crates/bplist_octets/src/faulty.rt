@@ -10,7 +10,7 @@ use crate::source::{ReadFault, Source};
 use std::marker::Model;
 
 /// A source over a slice, one read of which answers `Device`. It is honest. Its count of failures is 0
-/// before that read and 1 after it.
+/// before that read and 1 after it. It is public so that callers can test what they do when a read fails.
 #[derive(Drop)]
 pub struct FaultySource<'a> {
     octets: &'a [u8],

@@ -29,13 +29,27 @@ fn low_front(l: &[u8]) -> usize
     at
 }
 
+/// Whether fewer bytes than a group has are all below 0x80.
+fn is_rest_low(l: &[u8]) -> bool
+    requires { length l.now ≤ 64 }
+    ensures { IsTrue result → AreLow l.now }
+{
+    let mut group = [0; GROUP];
+    group[..l.len()].copy_from_slice(l);
+    is_group_low(&group, 0)
+}
+
 /// The least place of a byte of 0x80 or more, or None where all bytes are below.
 pub fn first_high(l: &[u8]) -> Option<usize>
     ensures { MatchOption result (AreLow l.now) (IsFirstHigh l.now) }
 {
-    // Groups tell only that all of their bytes are low: the rest is looked at byte by byte, from the
-    // first group with a high byte on or after the last whole group.
-    for i in low_front(l)..l.len() {
+    let front = low_front(l);
+    let (_, rest) = l.split_at(front);
+    if rest.len() < GROUP && is_rest_low(rest) {
+        return None;
+    }
+    // Groups tell only that all of their bytes are low: the first high one is found byte by byte.
+    for i in front..l.len() {
         if l[i] >= 0x80 {
             return Some(i);
         }

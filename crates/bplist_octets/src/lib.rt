@@ -1,12 +1,25 @@
-//! Bytes by place: sources that are read at a place, the numbers that bytes spell, and the search for
-//! the first byte that is no ASCII.
+//! Bytes by place: sources that are read at a place, and the numbers that bytes spell.
 //!
-//! - `source`: what a source is, and why a read fails.
-//! - `slice`, `file`: a source over memory and one over a file.
-//! - `window`, `windows`: sources over a source, which read it in larger parts: one window that is its own, or several
-//!   over a source that is lent.
-//! - `faulty`, `shifting`: sources for tests, one with a read that fails and one that changes.
-//! - `numbers`, `lanes`: the numbers that bytes spell, and the first byte of 80 (hexadecimal) or more.
+//! ```
+//! let mut source = SliceSource::new(bytes);
+//! let mut magic = [0u8; 8];
+//! if source.len() >= 8 {
+//!     source.read_at(0, &mut magic)?;
+//! }
+//! ```
+//!
+//! | what | calls |
+//! |---|---|
+//! | a source: a length, and a read at a place that must lie inside | [`Source`], [`ReadFault`] |
+//! | a source over memory | [`SliceSource::new`], `borrow` |
+//! | a source over a file | [`FileSource::open`], [`OpenFault`] |
+//! | larger reads of a source: one window of its own, or panes that the caller lends | [`Window::new`]; [`Windows::new`], [`Pane`] |
+//! | big-endian numbers of up to 8 and 16 bytes | [`sized`], [`wide`] |
+//! | the first byte of 128 or more | [`first_high`] |
+//! | sources for tests: one read fails, the bytes change | [`FaultySource`], [`ShiftingSource`] |
+//!
+//! Each source means a record, `Meaning`: its bytes, whether it is honest, how many reads have failed. What is proved of a call
+//! over an honest source is exact; over any other it still returns and reads inside the length.
 #![tactic(auto)]
 
 mod faulty;
@@ -27,4 +40,4 @@ pub use shifting::ShiftingSource;
 pub use slice::SliceSource;
 pub use source::{ReadFault, Source};
 pub use window::Window;
-pub use windows::Windows;
+pub use windows::{Pane, Windows};

@@ -10,7 +10,8 @@ use crate::source::{ReadFault, Source};
 use std::marker::Model;
 
 /// A source over two slices of one length: its first reads are of the first, all later ones of the
-/// second. It promises no honesty, and no read of it fails.
+/// second. It promises no honesty, and no read of it fails. It is public so that callers can test what they do when a file
+/// changes between two reads.
 #[derive(Drop)]
 pub struct ShiftingSource<'a> {
     first: &'a [u8],

@@ -14,8 +14,8 @@ const WINDOW: usize = 4096;
 ///
 /// A read of bytes that lie in the window asks the source for nothing. Any other read moves the window
 /// to its place; the last window of a file may be shorter. A request longer than the window goes
-/// straight to the source. After a failed read the window is empty. Who goes to and fro between a few places takes
-/// `Windows`.
+/// straight to the source. After a failed read the window is empty. A reader that alternates between a few places
+/// is better served by `Windows`.
 #[derive(Drop)]
 pub struct Window<S: Source> {
     source: S,

@@ -1,90 +1,172 @@
-//! A source over a borrowed source, with several windows of bytes that were read.
+//! A source over a borrowed source, with several panes of bytes that were read.
 //!
-//! Who goes to and fro between a few places, as between an object, the one that refers to it, and its keys, would with
-//! one window read the file at each turn.
+//! A reader that alternates between a few places, such as the offset table, an object and its keys, would read the file
+//! each time with a single window.
 
-ghost use Rattle.std.specs.Prelude.{◌≡◌, ℕ, ◌+◌, ◌≤◌, All, length, OnOk, is_err};
+ghost use Rattle.std.specs.Prelude.{◌≡◌, ℕ, ◌+◌, ◌%◌, ◌<◌, ◌≤◌, All, IsTrue, length, OnOk, is_err};
 ghost use Rattle.bplist_octets.specs.Octets.{part};
 ghost use Rattle.bplist_octets.specs.Meaning.{OnlyReads};
-ghost use Rattle.bplist_octets.specs.Windows.{IsPane, borrowed};
+ghost use Rattle.bplist_octets.specs.Windows.{IsEmptyPane, IsPane, borrowed};
 
 use crate::source::{ReadFault, Source};
 use crate::window::offset_in;
 
-/// How many windows there are.
-const PANES: usize = 32;
+/// How many bytes a pane holds at most.
+const PANE: usize = 8192;
 
-/// The distance between the places at which windows start.
-const STEP: u64 = 1024;
-
-/// How many bytes a window holds at most. It reaches into the next one, so that a request that starts in it ends in it.
-const PANE: usize = 1536;
-
-/// The length of the longest request that a window serves.
-const LONGEST: usize = PANE - STEP as usize;
-
-/// One window of bytes that were read.
+/// Room for 8,192 bytes of a source, which `Windows` is lent.
 #[derive(Clone, Copy, Debug, Drop)]
-struct Pane {
+pub struct Pane {
     start: u64,
     filled: usize,
+    /// The turn in which it was taken last.
+    taken: u64,
     octets: [u8; PANE],
 }
 
-/// Gives the window's bytes from its byte `from` on.
+impl Pane {
+    /// A pane that holds no bytes.
+    pub const EMPTY: Pane = Pane {
+        start: 0,
+        filled: 0,
+        taken: 0,
+        octets: [0; PANE],
+    };
+}
+
+/// Gives the pane's bytes from its byte `from` on.
 fn copy_part(pane: &Pane, from: usize, into: &mut [u8])
-    requires fits { pane.now.filled ≤ 1536 }
+    requires fits { pane.now.filled ≤ 8192 }
     requires inside { from + length into.old ≤ pane.now.filled }
     ensures { into.new ≡ part pane.now.octets from (length into.old) }
 {
     into.copy_from_slice(&pane.octets[from..from + into.len()]);
 }
 
-/// Moves the window to where it serves place `at`: it has the bytes from there on, as many as the longest request wants
-/// and the source has. It is empty after a failed read.
-fn refill<S: Source>(source: &mut S, pane: &mut Pane, at: u64) -> Result<(), ReadFault>
-    requires { at ≤ length (S.means source.old).octets }
+/// Moves a pane that has not all of the `count` bytes from place `at` on to the multiple of 8,192 below. It is empty after
+/// a failed read.
+fn hold<S: Source>(source: &mut S, pane: &mut Pane, at: u64, count: usize) -> Result<(), ReadFault>
+    requires inside { at + count ≤ length (S.means source.old).octets }
+    requires block { at % 8192 + count ≤ 8192 }
+    requires pane { IsPane (S.means source.old).octets (S.means source.old).honest pane.old }
     ensures reads { OnlyReads (is_err result) (S.means source.old) (S.means source.new) }
     ensures pane { IsPane (S.means source.old).octets (S.means source.old).honest pane.new }
-    ensures start { pane.new.start ≤ at }
-    ensures room { OnOk result ((count : ℕ) → count ≤ 512
-        → at + count ≤ length (S.means source.old).octets → at + count ≤ pane.new.start + pane.new.filled) }
+    ensures start { OnOk result (pane.new.start ≤ at) }
+    ensures room { OnOk result (at + count ≤ pane.new.start + pane.new.filled) }
 {
+    if offset_in(pane.start, pane.filled, at, count).is_some() {
+        return Ok(());
+    }
     pane.filled = 0;
-    pane.start = at - at % STEP;
-    let count = (source.len() - pane.start).min(PANE as u64) as usize;
-    source.read_at(pane.start, &mut pane.octets[..count])?;
-    pane.filled = count;
+    pane.start = at - at % PANE as u64;
+    let held = (source.len() - pane.start).min(PANE as u64) as usize;
+    source.read_at(pane.start, &mut pane.octets[..held])?;
+    pane.filled = held;
     Ok(())
 }
 
-/// A source over a borrowed source, with 32 windows of 1,536 bytes. It has the bytes, the honesty and the count of
-/// failures of that source.
+/// A pane that has `count` bytes from place `at` on, or where none has them the one that was taken longest ago.
+fn choose(panes: &[Pane], at: u64, count: usize) -> usize
+    requires { 0 < length panes.now }
+    ensures { result < length panes.now }
+{
+    let mut oldest = 0;
+    for (k, pane) in panes.iter().enumerate() {
+        if offset_in(pane.start, pane.filled, at, count).is_some() {
+            return k;
+        }
+        if pane.taken < panes[oldest].taken {
+            oldest = k;
+        }
+    }
+    oldest
+}
+
+/// Empties panes that may hold bytes of another source.
+fn empty_all(panes: &mut [Pane])
+    ensures { All IsEmptyPane panes.new }
+{
+    for pane in panes.iter_mut() {
+        pane.start = 0;
+        pane.filled = 0;
+        pane.taken = 0;
+    }
+}
+
+/// A source over a borrowed source, with panes of 8,192 bytes that are borrowed too. It has the bytes, the honesty and
+/// the count of failures of that source.
 ///
-/// The place of a request says which window serves it, and that window is read again where it lacks what is asked for. A
-/// request of more than 512 bytes goes straight to the source. After a failed read that window is empty.
+/// A read of bytes that lie in one pane asks the source for nothing. Any other read moves the pane that was used longest
+/// ago. A request of more than 8,192 bytes goes straight to the source. After a failed read that pane is empty.
 #[derive(Drop)]
 pub struct Windows<'a, S: Source> {
     /// The source that is read.
     pub source: &'a mut S,
-    panes: [Pane; PANES],
-    ghost panes_hold: { All (IsPane (S.means source.now).octets (S.means source.now).honest) panes },
+    /// How many bytes the source has.
+    len: u64,
+    panes: &'a mut [Pane],
+    /// The pane that was taken last.
+    last: usize,
+    /// How many panes were taken.
+    turn: u64,
+    ghost panes_hold: { All (IsPane (S.means source.now).octets (S.means source.now).honest) panes.now },
+    ghost whole: { len ≡ length (S.means source.now).octets },
+    ghost last_inside: { last < length panes.now },
 }
 
 impl<'a, S: Source> Windows<'a, S> {
-    /// A source over `source`, with empty windows.
-    pub fn new(source: &'a mut S) -> Windows<'a, S>
+    /// A source over `source`, with these panes, of which there must be one at least. What they held is forgotten.
+    pub fn new(source: &'a mut S, panes: &'a mut [Pane]) -> Windows<'a, S>
+        requires { 0 < length panes.old }
         ensures same_source { result.source.ghost_name ≡ source.entry.ghost_name }
         ensures means { S.means result.source.now ≡ S.means source.old }
     {
+        empty_all(panes);
+        let len = source.len();
         Windows {
             source,
-            panes: [Pane {
-                start: 0,
-                filled: 0,
-                octets: [0; PANE],
-            }; PANES],
+            len,
+            panes,
+            last: 0,
+            turn: 0,
         }
+    }
+
+    /// Gives bytes that do not stand on both sides of a multiple of 8,192.
+    fn read_block(&mut self, at: u64, into: &mut [u8]) -> Result<(), ReadFault>
+        requires inside { at + length into.old ≤ length (S.means self.old.source.now).octets }
+        requires block { at % 8192 + length into.old ≤ 8192 }
+        ensures same_source { self.new.source.ghost_name ≡ self.old.source.ghost_name }
+        ensures reads { OnlyReads (is_err result) (S.means self.old.source.now) (S.means self.new.source.now) }
+        ensures filled { OnOk result (IsTrue (S.means self.old.source.now).honest
+            → into.new ≡ part (S.means self.old.source.now).octets at (length into.old)) }
+    {
+        let panes = &mut *self.panes;
+        self.last = choose(panes, at, into.len());
+        self.turn = self.turn.wrapping_add(1);
+        let pane = &mut panes[self.last];
+        pane.taken = self.turn;
+        hold(self.source, pane, at, into.len())?;
+        copy_part(pane, (at - pane.start) as usize, into);
+        Ok(())
+    }
+
+    /// Gives at most 8,192 bytes: those below a multiple of 8,192, and then those from there on.
+    fn read_blocks(&mut self, at: u64, into: &mut [u8]) -> Result<(), ReadFault>
+        requires inside { at + length into.old ≤ length (S.means self.old.source.now).octets }
+        requires fits { length into.old ≤ 8192 }
+        ensures same_source { self.new.source.ghost_name ≡ self.old.source.ghost_name }
+        ensures reads { OnlyReads (is_err result) (S.means self.old.source.now) (S.means self.new.source.now) }
+        ensures filled { OnOk result (IsTrue (S.means self.old.source.now).honest
+            → into.new ≡ part (S.means self.old.source.now).octets at (length into.old)) }
+    {
+        let room = PANE - (at % PANE as u64) as usize;
+        if into.len() <= room {
+            return self.read_block(at, into);
+        }
+        let (front, back) = into.split_at_mut(room);
+        self.read_block(at, front)?;
+        self.read_block(at + room as u64, back)
     }
 }
 
@@ -92,22 +174,20 @@ impl<S: Source> Source for Windows<'_, S> {
     ghost means = { λ w. borrowed w.source.ghost_name (S.means w.source.now) };
 
     fn len(&self) -> u64 {
-        self.source.len()
+        self.len
     }
 
     fn read_at(&mut self, at: u64, into: &mut [u8]) -> Result<(), ReadFault> {
-        if into.len() > LONGEST {
+        if into.len() > PANE {
             return self.source.read_at(at, into);
         }
-        let k = (at / STEP) as usize % PANES;
-        let pane = &mut self.panes[k];
+        let panes = &mut *self.panes;
+        let pane = &mut panes[self.last];
         if let Some(from) = offset_in(pane.start, pane.filled, at, into.len()) {
             copy_part(pane, from, into);
             return Ok(());
         }
-        refill(self.source, pane, at)?;
-        copy_part(pane, (at - pane.start) as usize, into);
-        Ok(())
+        self.read_blocks(at, into)
     }
 }
 
@@ -130,19 +210,23 @@ mod tests {
     fn reads_of_all_lengths(rt: HostRuntime) {
         let bytes = numbered();
         let mut source = SliceSource::new(&bytes);
-        let mut windows = Windows::new(&mut source);
-        let mut into = [0; 2_000];
+        let mut panes = [Pane::EMPTY; 2];
+        let mut windows = Windows::new(&mut source, &mut panes);
+        let mut into = [0; 9_000];
         for (at, count) in [
             (0, 1),
-            (1_023, 512),
-            (1_024, 512),
-            (33_000, 512),
+            (8_191, 1),
+            (8_191, 2),
+            (8_192, 8_192),
+            (33_000, 8_192),
             (232, 3),
-            (33_000, 513),
+            (33_000, 8_193),
             (69_999, 1),
-            (69_000, 1_000),
+            (61_000, 9_000),
             (70_000, 0),
         ] {
+            assert!(rt; at <= 70_000);
+            assert!(rt; count <= 9_000);
             let part = &mut into[..count];
             assert!(rt; at + count as u64 <= windows.len());
             assert_eq!(rt; windows.read_at(at, part), Ok(()));
@@ -154,13 +238,15 @@ mod tests {
     }
 
     #[test]
-    fn to_and_fro_between_two_places(rt: HostRuntime) {
+    fn each_block_once(rt: HostRuntime) {
         let bytes = numbered();
-        // The third read of the source would fail.
-        let mut source = FaultySource::new(&bytes, 2);
-        let mut windows = Windows::new(&mut source);
+        // The tenth read of the source would fail.
+        let mut source = FaultySource::new(&bytes, 9);
+        let mut panes = [Pane::EMPTY; 2];
+        let mut windows = Windows::new(&mut source, &mut panes);
         let mut into = [0; 100];
-        for at in [0, 50_000, 1_000, 50_100, 5, 0] {
+        for k in 0..700 {
+            let at = k * 100;
             assert!(rt; at + 100 <= windows.len());
             assert_eq!(rt; windows.read_at(at, &mut into), Ok(()), "at {at}");
             assert_eq!(rt; u64::from(into[0]), at % 251, "at {at}");
@@ -168,12 +254,48 @@ mod tests {
     }
 
     #[test]
+    fn the_pane_used_longest_ago_moves(rt: HostRuntime) {
+        let bytes = numbered();
+        // The fifth read of the source fails.
+        let mut source = FaultySource::new(&bytes, 4);
+        let mut panes = [Pane::EMPTY; 3];
+        let mut windows = Windows::new(&mut source, &mut panes);
+        let mut into = [0; 1];
+        for (at, want) in [
+            (0, Ok(())),
+            (10_000, Ok(())),
+            (20_000, Ok(())),
+            (1, Ok(())),
+            (30_000, Ok(())),
+            (2, Ok(())),
+            (20_001, Ok(())),
+            (10_001, Err(ReadFault::Device)),
+        ] {
+            assert!(rt; at < windows.len());
+            assert_eq!(rt; windows.read_at(at, &mut into), want, "at {at}");
+        }
+    }
+
+    #[test]
+    fn panes_that_held_another_source(rt: HostRuntime) {
+        let mut panes = [Pane::EMPTY; 1];
+        for bytes in [b"abc", b"xyz"] {
+            let mut source = SliceSource::new(bytes);
+            let mut windows = Windows::new(&mut source, &mut panes);
+            let mut into = [0; 3];
+            assert!(rt; windows.len() == 3);
+            assert_eq!(rt; windows.read_at(0, &mut into), Ok(()));
+            assert!(rt; into == *bytes);
+        }
+    }
+
+    #[test]
     fn empty_after_a_failed_read(rt: HostRuntime) {
         let bytes = numbered();
         let mut source = FaultySource::new(&bytes, 1);
-        let mut windows = Windows::new(&mut source);
+        let mut panes = [Pane::EMPTY; 1];
+        let mut windows = Windows::new(&mut source, &mut panes);
         let mut into = [0; 2];
-        // Both places are served by the first window.
         for (at, want) in [
             (1, Ok(())),
             (32_769, Err(ReadFault::Device)),

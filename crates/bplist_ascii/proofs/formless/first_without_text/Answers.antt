@@ -1,57 +1,66 @@
-use Rattle.std.proofs.Common.{rules, arith, ◌≡◌, ◌<◌, length, slice_index, refl, sym, ap, ◌∙◌, subst, Some, Err}
+use Rattle.std.proofs.Common.{rules, arith, ◌≡◌, refl, sym, ap, ◌∙◌, subst, Some}
+use Rattle.std.proofs.lemmas.Result.{err_from_is_err_and}
+use Rattle.bplist_objects.specs.Safe.{ref_count}
 use Rattle.bplist_cursor.specs.declared.form.Form.TheVariants.{NoForm}
 use Rattle.bplist_cursor.specs.OldStyle.{value_text}
-use Rattle.bplist_cursor.specs.Forms.{form_of}
-use Rattle.bplist_cursor.specs.Sizes.{form_in}
-use Rattle.bplist_cursor.proofs.CheckedFrames.{frame_of_checked}
-use Rattle.bplist_ascii.proofs.SearchSteps.{no_text_of, some_text_of, texts_start, texts_stop, texts_more, texts_end, here}
+use Rattle.bplist_cursor.specs.Forms.{form_of, form_of_text}
+use Rattle.bplist_cursor.proofs.Taking.{content_of_value}
+use Rattle.bplist_ascii.proofs.WriteSteps.{read_unread}
+use Rattle.bplist_ascii.proofs.WalkSteps.{IsMember, none_from}
+use Rattle.bplist_ascii.proofs.SearchSteps.{no_text_of, passes_start, starts_low, passes_on, passes_few, texts_start, texts_more, kind_is, has_text, not_all, leads}
 use Rattle.bplist_ascii.proofs.formless.first_without_text.Goals as goal
 
-pub loop-i-init : goal.loop-i-init
-loop-i-init g c = record { same = refl; so_far = λ honest ms vs h lacks. texts_start c.args.checked.now.source.octets c.args.checked.now.frame ms vs h.holds lacks }
+pub loop-node-init : goal.loop-node-init
+loop-node-init g c =
+    let head = c.args.head.now in
+    rw c.places-i.ensures (record {
+      same = refl;
+      passes = passes_start head.kind;
+      near = starts_low head.kind (ref_count head.kind head.count);
+      so_far = λ honest n v held shown. texts_start head.kind v (kind_is c.args.checked.now head n v held shown c.requires.container);
+    })
 
-pub returns-in_err-m-clause-exact : goal.returns-in_err-m-clause-exact
-returns-in_err-m-clause-exact g c = λ honest ms vs h lacks.
-    let is : c.from_residual.result ≡ Err c.in_err-m.field-0.0 = search rules in
-    let long = h.long in
-    let l : c.loop-i.i < length ms = omega (arith, long, c.loop-i-test.true) in
-    let framed = frame_of_checked c.args.checked.now c.frame-frame.ensures.checked honest in
-    let at = h.at c.loop-i.i l in
-    rw is ((rw (c.loop-i.invariant.same, c.frame-frame.ensures.frame) at c.in_err-m.ensures.exact) (record { honest = honest; framed = framed }) h.content h.means
-    (subst (λ x. x < c.args.checked.now.frame.objects) (sym at) (h.objects c.loop-i.i l)))
+pub returns-in_err-node-clause-exact : goal.returns-in_err-node-clause-exact
+returns-in_err-node-clause-exact g c = λ honest n v held none shown.
+    let p = err_from_is_err_and c.from_residual.result c.from_residual.ensures.1 in
+    let s = content_of_value c.args.checked.now.source.octets c.args.checked.now.frame v n held.1 in
+    rw (p.1, p.2) (read_unread c.in_err-node.field-0.0 ((rw c.loop-node.invariant.same at c.in_err-node.ensures.reference) honest n held.0 s.0 s.1 (shown s.0 s.1)))
 
 pub returns-then-has_no_form-clause-exact : goal.returns-then-has_no_form-clause-exact
-returns-then-has_no_form-clause-exact g c = λ honest ms vs h lacks.
-    let f = c.args.checked.now.source.octets in
-    let F = c.args.checked.now.frame in
-    let long = h.long in
-    let l : c.loop-i.i < length ms = omega (arith, long, c.loop-i-test.true) in
-    let framed = frame_of_checked c.args.checked.now c.frame-frame.ensures.checked honest in
-    let at = h.at c.loop-i.i l in
-    let m : c.in_ok-m.m.0 ≡ slice_index ms c.loop-i.i = (rw (c.loop-i.invariant.same, c.frame-frame.ensures.frame) at c.in_ok-m.ensures.exact) (record { honest = honest; framed = framed }) h.content h.means
-    (subst (λ x. x < F.objects) (sym at) (h.objects c.loop-i.i l)) ∙ at in
-    let w = here f F ms vs c.loop-i.i l (c.loop-i.invariant.so_far honest ms vs h lacks) in
-    let form = (c.requires.measured honest).form (slice_index ms c.loop-i.i) w.value (h.vouched c.loop-i.i l) w.holds in
-    let none : Some NoForm ≡ Some (form_of w.value) = sym (c.if-has_no_form.ensures.0 refl) ∙ ap (form_in c.args.measures.now) m ∙ form in
-    texts_stop f F ms vs c.loop-i.i c.in_ok-m.m.0 l m w (no_text_of (value_text w.value) (cc none))
+returns-then-has_no_form-clause-exact g c = λ honest n v held none shown.
+    let file = c.args.checked.now in
+    let head = c.args.head.now in
+    let node = c.in-Some.node in
+    let member = subst (IsMember file head c.loop-node.i) c.in-Some.is ((rw c.loop-node.invariant.same at c.in_ok-node.ensures.reference) honest) in
+    let vouched = rw (c.in-Some.is, c.loop-node.invariant.same) at c.in_ok-node.ensures.vouched in
+    leads file head n v held shown c.requires.container c.frame.ensures.checked honest c.loop-node.i node member vouched (c.loop-node.invariant.so_far honest n v held shown)
+    (λ w h.
+    let form = (c.requires.measured honest).form node.object.0 w vouched h in
+    let both : Some NoForm ≡ Some (form_of w) = sym (c.if-has_no_form.ensures.0 refl) ∙ form in
+    no_text_of (value_text w) (cc both))
 
-pub loop-i-preserved : goal.loop-i-preserved
-loop-i-preserved g c = record {
+pub loop-node-preserved : goal.loop-node-preserved
+loop-node-preserved g c = record {
   same = search rules;
-  so_far = λ honest ms vs h lacks.
-      let f = c.args.checked.now.source.octets in
-      let F = c.args.checked.now.frame in
-      let long = h.long in
-      let l : c.loop-i.i < length ms = omega (arith, long, c.loop-i-test.true) in
-      let framed = frame_of_checked c.args.checked.now c.frame-frame.ensures.checked honest in
-      let at = h.at c.loop-i.i l in
-      let m : c.in_ok-m.m.0 ≡ slice_index ms c.loop-i.i = (rw (c.loop-i.invariant.same, c.frame-frame.ensures.frame) at c.in_ok-m.ensures.exact) (record { honest = honest; framed = framed }) h.content h.means
-      (subst (λ x. x < F.objects) (sym at) (h.objects c.loop-i.i l)) ∙ at in
-      let w = here f F ms vs c.loop-i.i l (c.loop-i.invariant.so_far honest ms vs h lacks) in
-      let form = (c.requires.measured honest).form (slice_index ms c.loop-i.i) w.value (h.vouched c.loop-i.i l) w.holds in
-      let t = some_text_of (value_text w.value) (λ none. let e = c.if-has_no_form.ensures.1 (ap (form_in c.args.measures.now) m ∙ form ∙ ap Some none) in cc e) in
-      texts_more f F ms vs c.loop-i.i t.0 w t.1;
+  passes = passes_on c.args.head.now.kind c.loop-node.i c.places-i.result.1 c.loop-node.invariant.passes;
+  near =
+      let within = rw c.in-Some.is at c.in_ok-node.ensures.within in
+      let few = passes_few c.args.head.now.kind c.loop-node.i c.places-i.result.1 c.loop-node.invariant.passes in
+      omega (arith, within, few.1);
+  so_far = λ honest n v held shown.
+      let file = c.args.checked.now in
+      let head = c.args.head.now in
+      let node = c.in-Some.node in
+      let member = subst (IsMember file head c.loop-node.i) c.in-Some.is ((rw c.loop-node.invariant.same at c.in_ok-node.ensures.reference) honest) in
+      let vouched = rw (c.in-Some.is, c.loop-node.invariant.same) at c.in_ok-node.ensures.vouched in
+      texts_more head.kind v c.loop-node.i c.places-i.result.1 (kind_is file head n v held shown c.requires.container) c.loop-node.invariant.passes (c.loop-node.invariant.so_far honest n v held shown)
+      (has_text file head n v held shown c.requires.container c.loop-node.i node member
+      (λ w h none. let e = c.if-has_no_form.ensures.1 ((c.requires.measured honest).form node.object.0 w vouched h ∙ ap (λ t. Some (form_of_text t)) none) in cc e));
 }
 
 pub returns-clause-exact : goal.returns-clause-exact
-returns-clause-exact g c = λ honest ms vs h lacks. texts_end c.args.checked.now.source.octets c.args.checked.now.frame ms vs c.loop-i.i (let long = h.long in omega (arith, long, c.loop-i-test.false)) (c.loop-i.invariant.so_far honest ms vs h lacks)
+returns-clause-exact g c = λ honest n v held none shown.
+    let file = c.args.checked.now in
+    let head = c.args.head.now in
+    let member = subst (IsMember file head c.loop-node.i) (none_from c.in_ok-node.field-0 c.in_default.not-Some) ((rw c.loop-node.invariant.same at c.in_ok-node.ensures.reference) honest) in
+    not_all file head n v held shown c.requires.container c.loop-node.i member (c.loop-node.invariant.so_far honest n v held shown) none

@@ -1,13 +1,22 @@
-use Rattle.std.proofs.Common.{◌≡◌, List, ℕ, IsTrue}
-use Rattle.bplist_objects.specs.Value.{Values}
-use Rattle.bplist_ascii.specs.Searching.{LacksText, HaveMembers, HaveTexts}
+use Rattle.std.proofs.Common.{◌≡◌, ◌≤◌, ◌-◌, ◌+◌, ℕ, IsTrue}
+use Rattle.bplist_objects.specs.Value.{Value}
+use Rattle.bplist_objects.specs.Heads.{Content, Spells, content_at}
+use Rattle.bplist_objects.specs.Safe.{ref_count}
+use Rattle.bplist_cursor.specs.Found.{IsHeld}
+use Rattle.bplist_ascii.specs.Searching.{HaveTexts}
+use Rattle.bplist_ascii.proofs.SearchSteps.{Passes}
 use Rattle.bplist_ascii.proofs.formless.first_without_text.Given as goal
 
 -- the file is as it was, and the members so far have texts
-abbrev pub invariant-loop-i : goal.invariant-loop-i
-invariant-loop-i g l = record {
+abbrev pub invariant-loop-node : goal.invariant-loop-node
+invariant-loop-node g l = record {
   same : l.checked ≡ l.fn.checked;
-  so_far : IsTrue l.fn.checked.source.honest → (ms : List ℕ) (vs : Values)
-      → HaveMembers l.fn.checked.source.octets l.fn.checked.frame l.fn.checked.certificate.heights l.head l.first ms vs → LacksText vs
-      → HaveTexts l.fn.checked.source.octets l.fn.checked.frame ms vs l.i;
+  passes : Passes l.head.kind l.i l.distance;
+  near : l.i ≤ ref_count l.head.kind l.head.count + 1;
+  so_far : IsTrue l.fn.checked.source.honest → (n : ℕ) (v : Value) → IsHeld l.fn.checked n v
+      → ((c : Content) → Spells l.fn.checked.source.octets l.fn.checked.frame n c → c ≡ content_at l.fn.checked.source.octets l.fn.checked.frame l.head)
+      → HaveTexts v l.i;
 }
+
+abbrev pub decreases-loop-node : goal.decreases-loop-node
+decreases-loop-node g l = (ref_count l.head.kind l.head.count + 1) - l.i

@@ -12,8 +12,8 @@ use Rattle.bplist_ascii.proofs.leaves.write_text_body.Goals as goal
 pub returns-in_err-read_units-clause-fails : goal.returns-in_err-read_units-clause-fails
 returns-in_err-read_units-clause-fails g c =
     let is : c.from_residual.result ≡ Err (Read c.in_err-read_units.field-0.0) = search rules in
-    let us = units_of (g.S.Source.means c.args.src.now).octets c.args.head.now in
-    rw is (λ honest all low. adds_some _ (text_adds c.loop-done.invariant.so_far honest) (flat_parts (styled c.args.style) us c.loop-done.done 0))
+    let us = units_of (g.S.Source.means c.args.src.now).octets c.args.text.now.head in
+    rw is (λ honest all low. adds_some _ (text_adds c.loop-done.invariant.so_far honest) (flat_parts (styled c.args.text.now.style) us c.loop-done.done 0))
 
 pub returns-in_err-read_units-clause-bounded : goal.returns-in_err-read_units-clause-bounded
 returns-in_err-read_units-clause-bounded g c = on_err c.from_residual.result (adds_fit c.loop-done.invariant.so_far.adds)
@@ -21,15 +21,15 @@ returns-in_err-read_units-clause-bounded g c = on_err c.from_residual.result (ad
 pub returns-in_err-write_units-clause-fails : goal.returns-in_err-write_units-clause-fails
 returns-in_err-write_units-clause-fails g c =
     let is : c.from_residual-in_err-write_units.result ≡ Err c.in_err-write_units.field-0.0 = search rules in
-    let us = units_of (g.S.Source.means c.args.src.now).octets c.args.head.now in
-    let f = styled c.args.style in
+    let us = units_of (g.S.Source.means c.args.src.now).octets c.args.text.now.head in
+    let f = styled c.args.text.now.style in
     let len : length (take c.min-now.result c.loop-done.buffer) ≡ c.min-now.result = length-take-le c.min-now.result c.loop-done.buffer (omega arith) in
     let read : IsTrue (g.S.Source.means c.args.src.now).honest → c.read_units.new.into ≡ part us c.loop-done.done c.min-now.result =
     λ honest. (rw c.loop-done.invariant.same at c.in_ok-read_units.ensures.units) honest ∙ ap (part us c.loop-done.done) len in
     rw is (λ honest all low.
     let whole = flat_parts f us c.loop-done.done c.min-now.result in
     adds_fail _ _ _ (flat_map f (part us c.loop-done.done c.min-now.result)) _ (flat_map f us) _ (text_adds c.loop-done.invariant.so_far honest)
-    ((rw (read honest) at c.in_err-write_units.ensures.fails) (all_in_part (fits c.args.style) us c.loop-done.done c.min-now.result all)) whole low)
+    ((rw (read honest) at c.in_err-write_units.ensures.fails) (all_in_part (fits c.args.text.now.style) us c.loop-done.done c.min-now.result all)) whole low)
 
 pub returns-in_err-write_units-clause-bounded : goal.returns-in_err-write_units-clause-bounded
 returns-in_err-write_units-clause-bounded g c =
@@ -38,15 +38,15 @@ returns-in_err-write_units-clause-bounded g c =
 
 pub loop-done-preserved : goal.loop-done-preserved
 loop-done-preserved g c =
-    let us = units_of (g.S.Source.means c.args.src.now).octets c.args.head.now in
+    let us = units_of (g.S.Source.means c.args.src.now).octets c.args.text.now.head in
     let len : length (take c.min-now.result c.loop-done.buffer) ≡ c.min-now.result = length-take-le c.min-now.result c.loop-done.buffer (omega arith) in
     record {
       same = search rules;
       reached = omega arith;
       so_far = text_more _ _ c.loop-done.invariant.so_far c.in_ok-write_units.ensures.adds (λ honest.
-          ap (λ x. flat_map (styled c.args.style) (take c.loop-done.done us) ++ flat_map (styled c.args.style) x)
+          ap (λ x. flat_map (styled c.args.text.now.style) (take c.loop-done.done us) ++ flat_map (styled c.args.text.now.style) x)
           ((rw c.loop-done.invariant.same at c.in_ok-read_units.ensures.units) honest ∙ ap (part us c.loop-done.done) len)
-          ∙ flat_part (styled c.args.style) us c.loop-done.done c.min-now.result);
+          ∙ flat_part (styled c.args.text.now.style) us c.loop-done.done c.min-now.result);
       falls = λ bare.
           let counted = (rw bare at c.in_ok-write_units.ensures.adds).counted in
           let before = c.loop-done.invariant.falls bare in
@@ -57,6 +57,6 @@ loop-done-preserved g c =
 pub returns-clause-adds : goal.returns-clause-adds
 returns-clause-adds g c =
     let f = (g.S.Source.means c.args.src.now).octets in
-    let us = units_of f c.args.head.now in
-    let long = length-units_at f c.args.head.now.kind c.args.head.now.count c.args.head.now.body c.requires.kind (omega arith) in
-    text_under (λ _. ap (flat_map (styled c.args.style)) (take_all c.loop-done.done us (omega (arith, long)))) c.loop-done.invariant.so_far
+    let us = units_of f c.args.text.now.head in
+    let long = length-units_at f c.args.text.now.head.kind c.args.text.now.head.count c.args.text.now.head.body c.requires.kind (omega arith) in
+    text_under (λ _. ap (flat_map (styled c.args.text.now.style)) (take_all c.loop-done.done us (omega (arith, long)))) c.loop-done.invariant.so_far

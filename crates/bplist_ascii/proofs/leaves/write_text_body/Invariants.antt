@@ -11,11 +11,11 @@ invariant-loop-done g l =
     let means = g.S.Source.means in
     record {
       same : means l.src ≡ means l.fn.src;
-      reached : l.done ≤ l.head.count;
+      reached : l.done ≤ l.text.head.count;
       so_far : AddsText (g.W.Write.contents l.fn.out) (g.W.Write.contents l.out) l.fn.sink l.sink l.fn.room l.room
-          (IsTrue (means l.fn.src).honest) (flat_map (styled l.style) (take l.done (units_of (means l.fn.src).octets l.head)));
-      falls : l.style ≡ Bare → l.room + l.done ≤ l.fn.room;
+          (IsTrue (means l.fn.src).honest) (flat_map (styled l.text.style) (take l.done (units_of (means l.fn.src).octets l.text.head)));
+      falls : l.text.style ≡ Bare → l.room + l.done ≤ l.fn.room;
     }
 
 abbrev pub decreases-loop-done : goal.decreases-loop-done
-decreases-loop-done g l = l.head.count - l.done
+decreases-loop-done g l = l.text.head.count - l.done

@@ -2,7 +2,6 @@ use Rattle.std.proofs.Common.{rules, arith, ◌≡◌, ◌<◌, ◌≤◌, inl, 
 use Rattle.bplist_cursor.specs.declared.form.Form.TheVariants.{NoForm, Length}
 use Rattle.bplist_cursor.specs.Forms.{form_of}
 use Rattle.bplist_cursor.specs.OldStyle.{value_text}
-use Rattle.bplist_cursor.proofs.CheckedFrames.{frame_of_checked}
 use Rattle.bplist_cursor.proofs.Forming.{text_formed}
 use Rattle.bplist_ascii.specs.Sending.{Takes}
 use Rattle.bplist_ascii.specs.Printed.{IsTooLong}
@@ -17,14 +16,14 @@ returns-in_err-part-in-Some-NoForm-clause-exact g c = λ honest vouched v h.
     let form = (c.requires.measured honest).form c.args.node.object.0 v vouched h in
     let both : Some NoForm ≡ Some (form_of v) = ap Some (sym c.in-Some-NoForm.field-0-is) ∙ c.in-Some-NoForm.ensures ∙ form in
     let none = no_text_of (value_text v) (cc both) in
-    rw is (read_prints _ c.args.sink.now _ _ _ v _ c.in_err-part-in-Some-NoForm.field-0.0 none (c.in_err-part-in-Some-NoForm.ensures.exact honest vouched v h none))
+    rw is (read_prints _ c.args.sink.now _ _ _ v _ c.in_err-part-in-Some-NoForm.field-0.0 none (c.in_err-part-in-Some-NoForm.ensures.exact honest v (vouched, h) none))
 
 pub returns-in_ok-part-in-Some-NoForm-clause-exact : goal.returns-in_ok-part-in-Some-NoForm-clause-exact
 returns-in_ok-part-in-Some-NoForm-clause-exact g c = λ honest vouched v h.
     let form = (c.requires.measured honest).form c.args.node.object.0 v vouched h in
     let both : Some NoForm ≡ Some (form_of v) = ap Some (sym c.in-Some-NoForm.field-0-is) ∙ c.in-Some-NoForm.ensures ∙ form in
     let none = no_text_of (value_text v) (cc both) in
-    (none, c.in_ok-part-in-Some-NoForm.ensures.exact honest vouched v h none, Keeps-refl (g.W.Write.contents c.args.out.now), refl)
+    (none, c.in_ok-part-in-Some-NoForm.ensures.exact honest v (vouched, h) none, (Keeps-refl (g.W.Write.contents c.args.out.now), refl))
 
 pub returns-in-None-clause-exact : goal.returns-in-None-clause-exact
 returns-in-None-clause-exact g c = λ honest vouched v h.
@@ -39,7 +38,7 @@ returns-then-length-limit-clause-exact g c = λ honest vouched v h.
     let t = text_of_length (value_text v) c.in-Some-Length.length (cc both) in
     let capped = t.2 in
     let long : IsTooLong c.args.limit t.0 = elim c.then-length-limit.either [ inl a ↦ inl (omega (arith, a, capped)) | inr b ↦ inr (omega (arith, b, capped)) ] in
-    (t.0, t.1, long, Keeps-refl (g.W.Write.contents c.args.out.now), refl)
+    (t.0, t.1, long, (Keeps-refl (g.W.Write.contents c.args.out.now), refl))
 
 pub returns-in_err-write_value-in-Some-Length-clause-exact : goal.returns-in_err-write_value-in-Some-Length-clause-exact
 returns-in_err-write_value-in-Some-Length-clause-exact g c = λ honest vouched v h.
@@ -51,9 +50,8 @@ returns-in_err-write_value-in-Some-Length-clause-exact g c = λ honest vouched v
     let low : length t.0 ≤ c.args.limit = omega (arith, capped, c.if-length-limit.false, c.if-length.false) in
     let few : length t.0 < 18446744073709551615 = omega (arith, capped, c.if-length-limit.false, c.if-length.false) in
     let formed = text_formed v t.0 t.1 in
-    let framed = frame_of_checked c.args.checked.now c.frame-frame.ensures.checked honest in
     rw is (walk_fails _ _ c.args.sink.now c.write_value.new.sink _ _ _ v c.args.limit c.in_err-write_value-in-Some-Length.field-0.0 t.0 t.1 formed.1 (low, few)
-    ((rw c.frame-frame.ensures.frame at c.in_err-write_value-in-Some-Length.ensures.fails) (record { honest = honest; framed = framed }) v h formed.0))
+    ((rw c.new.ensures.room at c.in_err-write_value-in-Some-Length.ensures.fails) honest v (vouched, h) formed.0))
 
 pub returns-in_ok-write_value-in-Some-Length-clause-exact : goal.returns-in_ok-write_value-in-Some-Length-clause-exact
 returns-in_ok-write_value-in-Some-Length-clause-exact g c = λ honest vouched v h.
@@ -63,11 +61,10 @@ returns-in_ok-write_value-in-Some-Length-clause-exact g c = λ honest vouched v 
     let capped = t.2 in
     let low : length t.0 ≤ c.args.limit = omega (arith, capped, c.if-length-limit.false, c.if-length.false) in
     let few : length t.0 < 18446744073709551615 = omega (arith, capped, c.if-length-limit.false, c.if-length.false) in
-    let formed = text_formed v t.0 t.1 in
-    let framed = frame_of_checked c.args.checked.now c.frame-frame.ensures.checked honest in (
+    let formed = text_formed v t.0 t.1 in (
       t.0,
       t.1,
       (low, few),
       subst (Takes (g.W.Write.contents c.args.out.now) (g.W.Write.contents c.write_value.new.out) c.args.sink.now c.write_value.new.sink) formed.1
-          ((rw c.frame-frame.ensures.frame at c.in_ok-write_value-in-Some-Length.ensures.exact) (record { honest = honest; framed = framed }) v h formed.0),
+          (c.in_ok-write_value-in-Some-Length.ensures.exact honest v (vouched, h) formed.0),
     )

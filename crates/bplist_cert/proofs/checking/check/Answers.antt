@@ -22,8 +22,7 @@ pub new-requires : goal.new-requires
 new-requires g c = subst (λ m. IsChecked (record { source = m; frame = c.in-Ok.frame; certificate = c.args.cert })) (sym c.in-Ok.ensures.reads) record {
   safe = c.in-Ok.ensures.safe.0;
   count = c.in-Ok.ensures.safe.1;
-  spelled = λ honest. (c.in-Ok.ensures.exact honest).framed.spelled;
-  large = λ honest. (c.in-Ok.ensures.exact honest).framed.large;
+  framed = λ honest. (c.in-Ok.ensures.exact honest).framed;
   accepted = λ honest. merely (accepted (g.S.Source.means c.args.src).octets c.in-Ok.frame c.args.cert (c.in-Ok.ensures.exact honest));
 }
 

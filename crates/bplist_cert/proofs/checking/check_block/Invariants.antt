@@ -10,8 +10,8 @@ invariant-loop-i g l =
     let means = g.S.Source.means in
     record {
       same : means l.src ≡ means l.fn.src;
-      running : IsTrue (means l.fn.src).honest → IsFrame (means l.fn.src).octets l.frame
-          → ((k : ℕ) → k < length l.places → slice_index l.places k ≡ off (means l.fn.src).octets l.frame (l.from + k))
-          → Running (means l.fn.src).octets l.frame (lists l.heights l.keys) l.from l.fn.used
-          → Running (means l.fn.src).octets l.frame (lists l.heights l.keys) (l.from + l.i) l.used;
+      running : IsTrue (means l.fn.src).honest → IsFrame (means l.fn.src).octets l.walk.frame
+          → ((k : ℕ) → k < length l.places → slice_index l.places k ≡ off (means l.fn.src).octets l.walk.frame (l.from + k))
+          → Running (means l.fn.src).octets l.walk.frame (lists l.walk.heights.now l.walk.keys.now) l.walk.look l.from l.fn.used
+          → Running (means l.fn.src).octets l.walk.frame (lists l.walk.heights.now l.walk.keys.now) l.walk.look (l.from + l.i) l.used;
     }

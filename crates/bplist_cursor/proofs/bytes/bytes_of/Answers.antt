@@ -6,13 +6,12 @@ use Rattle.bplist_objects.specs.Answers.{read_failed}
 use Rattle.bplist_objects.specs.declared.head.Head.{Head}
 use Rattle.bplist_cert.specs.Valid.{IsVouchedBy}
 use Rattle.bplist_cursor.specs.Lent.{IsByteKind}
-use Rattle.bplist_cursor.proofs.CheckedFrames.{frame_of_checked}
 use Rattle.bplist_cursor.proofs.LentBodies.{spells_bytes, other_head, no_error}
 use Rattle.bplist_cursor.proofs.bytes.bytes_of.Goals as goal
 
 pub returns-in_default : goal.returns-in_default
 returns-in_default c = λ bytes vouched s.
-    let is = frame_of_checked c.args.checked.now c.frame-frame.ensures.checked c.octets.ensures.honest in
+    let is = c.frame-frame.ensures.checked.framed c.octets.ensures.honest in
     let octets : c.new-source.result.octets.now ≡ c.args.checked.now.source.octets = c.new-source.ensures ∙ c.octets.ensures.octets in
     let shaped = rw (c.frame-frame.ensures.frame, octets) at c.shape_of.ensures.shaped in
     let sound = slice_never_fails (read_failed c.shape_of.result) c.new-source.result c.shape_of.new.src c.shape_of.ensures.reads in
@@ -20,7 +19,7 @@ returns-in_default c = λ bytes vouched s.
 
 pub returns-in_default-kind : goal.returns-in_default-kind
 returns-in_default-kind c = λ bytes vouched s.
-    let is = frame_of_checked c.args.checked.now c.frame-frame.ensures.checked c.octets.ensures.honest in
+    let is = c.frame-frame.ensures.checked.framed c.octets.ensures.honest in
     let octets : c.new-source.result.octets.now ≡ c.args.checked.now.source.octets = c.new-source.ensures ∙ c.octets.ensures.octets in
     let has = (rw (c.frame-frame.ensures.frame, octets) at c.in-Ok.ensures.exact) refl is in
     other_head c.args.checked.now.source.octets c.args.checked.now.frame c.args.node.object.0 c.in-Ok.head has
@@ -28,7 +27,7 @@ returns-in_default-kind c = λ bytes vouched s.
 
 pub returns-in-Bytes : goal.returns-in-Bytes
 returns-in-Bytes c =
-    let is = frame_of_checked c.args.checked.now c.frame-frame.ensures.checked c.octets.ensures.honest in
+    let is = c.frame-frame.ensures.checked.framed c.octets.ensures.honest in
     let octets : c.new-source.result.octets.now ≡ c.args.checked.now.source.octets = c.new-source.ensures ∙ c.octets.ensures.octets in
     let has = (rw (c.frame-frame.ensures.frame, octets) at c.in-Ok.ensures.exact) refl is in
     let vouched : IsVouchedBy c.args.checked.now.certificate.heights c.args.node.object.0 = omega arith in

@@ -1,8 +1,5 @@
-use Rattle.std.proofs.Common.{arith, ◌∙◌, ap, slice_index}
 use Rattle.std.proofs.lemmas.Result.{err_from_is_err_and}
-use Rattle.bplist_cursor.proofs.Membership.{node_of_number, no_node, number_below}
 use Rattle.bplist_cursor.proofs.Causes.{unread_excused}
-use Rattle.bplist_cursor.proofs.Vouching.{vouched_reference}
 use Rattle.bplist_cursor.proofs.members.member_by_reference.Goals as goal
 
 pub returns-in_err-head-clause-reference : goal.returns-in_err-head-clause-reference
@@ -10,33 +7,13 @@ returns-in_err-head-clause-reference g c = λ honest vouched content s.
     let p = err_from_is_err_and c.from_residual.result c.from_residual.ensures.1 in
     rw (p.1, p.2) (unread_excused c.in_err-head.field-0.0 (c.in_err-head.ensures.exact honest vouched content s))
 
-pub returns-in_default-clause-reference : goal.returns-in_default-clause-reference
-returns-in_default-clause-reference g c = λ honest vouched content s.
-    let head = c.in_ok-head.head in
-    no_node c.args.checked.now.source.octets c.args.checked.now.frame head.kind head.count head.body content (c.in_ok-head.ensures.exact honest vouched content s)
-    c.args.i c.in_default.ensures.number
-
-pub returns-in_err-object-clause-reference : goal.returns-in_err-object-clause-reference
-returns-in_err-object-clause-reference g c = λ honest vouched content s.
+pub returns-in_err-member_by_head-clause-reference : goal.returns-in_err-member_by_head-clause-reference
+returns-in_err-member_by_head-clause-reference g c = λ honest vouched content s.
     let same = c.in_ok-head.ensures.exact honest vouched content s in
-    let p = err_from_is_err_and c.from_residual-in_err-object.result c.from_residual-in_err-object.ensures.1 in
-    rw (p.1, p.2) (unread_excused c.in_err-object.field-0.0 ((rw c.in_ok-head.ensures.reads at c.in_err-object.ensures.exact) honest c.args.node.object.0 content s same))
-
-pub returns-then-height-eq0-clause-reference : goal.returns-then-height-eq0-clause-reference
-returns-then-height-eq0-clause-reference g c = λ honest vouched content s.
-    let head = c.in_ok-head.head in
-    let same = c.in_ok-head.ensures.exact honest vouched content s in
-    let is = (rw c.in_ok-head.ensures.reads at c.in_ok-object.ensures.exact) honest c.args.node.object.0 content s same in
-    let below = number_below c.args.checked.now.source.octets c.args.checked.now.frame head.kind head.count head.body content same c.in-Some.k c.in-Some.ensures.within in
-    let there = vouched_reference c.args.checked.now c.frame-frame.ensures.checked honest c.args.node.object.0 vouched content s c.in-Some.k below in
-    let height = rw (c.in_ok-object.ensures.reads ∙ c.in_ok-head.ensures.reads) at c.height.ensures in
-    let at = ap (slice_index c.args.checked.now.certificate.heights) is in
-    omega (arith, there, height, at)
+    let p = err_from_is_err_and c.from_residual-in_err-member_by_head.result c.from_residual-in_err-member_by_head.ensures.1 in
+    rw (p.1, p.2) (unread_excused c.in_err-member_by_head.field-0.0 ((rw c.in_ok-head.ensures.reads at c.in_err-member_by_head.ensures.reference) honest c.args.node.object.0 vouched content s same))
 
 pub returns-clause-reference : goal.returns-clause-reference
 returns-clause-reference g c = λ honest vouched content s.
-    let head = c.in_ok-head.head in
     let same = c.in_ok-head.ensures.exact honest vouched content s in
-    let is = (rw c.in_ok-head.ensures.reads at c.in_ok-object.ensures.exact) honest c.args.node.object.0 content s same in
-    node_of_number c.args.checked.now.source.octets c.args.checked.now.frame head.kind head.count head.body content same
-    c.args.i c.in-Some.k c.in_ok-object.object.0 c.in-Some.ensures.number.0 c.in-Some.ensures.number.1 is
+    (rw c.in_ok-head.ensures.reads at c.in_ok-member_by_head.ensures.reference) honest c.args.node.object.0 vouched content s same

@@ -12,7 +12,7 @@ walk-init g c =
       reads = cc;
       inside = c.requires.top;
       placed = rw (all_new, c.new-trail.ensures.items, ← c.requires.all_heights) (placed_none _);
-      leading = λ honest. rw c.new-trail.ensures.items (leading_start _ _ _ (c.requires.heights honest) c.requires.circular);
+      leading = λ honest whole. rw c.new-trail.ensures.items (leading_start _ _ _ (c.requires.heights honest) c.requires.circular);
     }
 
 pub walk-preserved : goal.walk-preserved
@@ -26,21 +26,21 @@ walk-preserved g c =
       reads = c.in_ok-m.ensures.reads ∙ c.walk.invariant.reads;
       inside = inside;
       placed = rw c.in_ok-push.ensures.items (placed_more _ _ _ _ p c.walk.invariant.inside new);
-      leading = λ honest.
-          let l = c.walk.invariant.leading honest in
-          let n = is_next _ _ _ _ _ (c.requires.heights honest) l.reached (first honest) in
+      leading = λ honest whole.
+          let l = c.walk.invariant.leading honest whole in
+          let n = is_next _ _ _ _ _ (c.requires.heights honest) l.reached (first honest (whole _ l.reached)) in
           rw c.in_ok-push.ensures.items (leading_more _ _ _ _ _ l n.0 n.1);
     }
 
 pub returns-clause-circle : goal.returns-clause-circle
-returns-clause-circle g c = λ honest.
-    let l = c.walk.invariant.leading honest in
+returns-clause-circle g c = λ honest whole.
+    let l = c.walk.invariant.leading honest whole in
     let p = c.walk.invariant.placed in
     elim c.walk-test.branch [
       | else-walk-test w ↦
           let found = rw (c.deref.ensures.value, w.trail-is) at c.in_ok-trail_from.ensures in
           rw found.2 (is_circle _ _ _ _ _ _ _ p l found.1)
       | then-walk-test+in_ok-push+in_ok-m+in-None w ↦
-          let have = (rw w.in-None.is at (rw (c.walk.invariant.same, c.walk.invariant.reads) at w.in_ok-m.ensures.first)) honest in
+          let have = (rw w.in-None.is at (rw (c.walk.invariant.same, c.walk.invariant.reads) at w.in_ok-m.ensures.first)) honest (whole _ l.reached) in
           absurd (l.not_founded (founded_all _ _ _ _ (c.requires.heights honest) have))
     ]

@@ -1,4 +1,5 @@
 use Rattle.std.proofs.Common.{◌≡◌, IsTrue}
+use Rattle.bplist_lint.specs.Graph.{IsWhole}
 use Rattle.bplist_lint.specs.Trail.{AllHave}
 use Rattle.bplist_lint.proofs.circling.first_without.Given as goal
 
@@ -6,5 +7,5 @@ abbrev pub invariant-loop-i : goal.invariant-loop-i
 invariant-loop-i g l = record {
   same : g.R.References.graph l.graph ≡ g.R.References.graph l.fn.graph;
   reads : g.R.References.means l.graph ≡ g.R.References.means l.fn.graph;
-  have : IsTrue (g.R.References.means l.fn.graph).honest → AllHave l.heights ((g.R.References.graph l.fn.graph).refs l.n) l.i;
+  have : IsTrue (g.R.References.means l.fn.graph).honest → IsWhole (g.R.References.graph l.fn.graph) l.n → AllHave l.heights ((g.R.References.graph l.fn.graph).refs l.n) l.i;
 }

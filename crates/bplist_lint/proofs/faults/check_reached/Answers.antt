@@ -7,10 +7,8 @@ use Rattle.bplist_lint.proofs.faults.check_reached.Goals.{then-marks-n+in_ok-tal
 pub loop-n-init : goal.loop-n-init
 loop-n-init g c = record {
   reads = cc;
-  few = omega arith;
-  room = omega (arith, c.requires.table);
-  references = omega arith;
-  exact = λ honest framed placed marked. tallied_none _ _ _;
+  roomy = rw c.new-tally.ensures (record { room = omega (arith, c.requires.table); reached = omega arith; references = omega arith });
+  exact = λ honest framed placed marked. rw c.new-tally.ensures (tallied_none _ _ _);
 }
 
 pub loop-n-preserved : goal.loop-n-preserved
@@ -22,18 +20,14 @@ loop-n-preserved g c =
           let marked = w.if-marks-n.true in
           record {
             reads = rw w.src-is (w.in_ok-tally.ensures.reads ∙ v.reads);
-            few = rw w.tally-is (omega (arith, w.in_ok-tally.ensures.few, v.few));
-            room = rw w.tally-is w.in_ok-tally.ensures.room;
-            references = rw w.tally-is w.in_ok-tally.ensures.references;
+            roomy = rw w.tally-is w.in_ok-tally.ensures.roomy;
             exact = λ honest framed placed marks. rw w.tally-is ((rw v.reads at w.in_ok-tally.ensures.exact) honest framed (placed _ c.loop-n-test.true) _ marked ((marks _).0 marked) (v.exact honest framed placed marks));
           }
       | else-marks-n w ↦
           let unmarked = w.if-marks-n.false in
           record {
             reads = rw w.src-is v.reads;
-            few = rw w.tally-is (omega (arith, v.few));
-            room = rw w.tally-is v.room;
-            references = rw w.tally-is v.references;
+            roomy = rw w.tally-is v.roomy;
             exact = λ honest framed placed marks. rw w.tally-is (tallied_over _ _ _ _ _ unmarked (λ r. absurd (false≢true (sym unmarked ∙ (marks _).1 r))) (v.exact honest framed placed marks));
           }
     ]

@@ -1,4 +1,4 @@
-use Rattle.std.proofs.Common.{◌≡◌, ◌-◌, inl, inr, arith, rules, false, replicate, ◌∙◌}
+use Rattle.std.proofs.Common.{◌≡◌, ◌-◌, arith, rules, false, replicate, ◌∙◌, inl, inr}
 use Rattle.std.proofs.lemmas.Grind.{common_steps}
 use Rattle.std.proofs.lemmas.Bool.{cases_eq}
 use Rattle.bplist_lint.proofs.ReachSteps.{marked_within}
@@ -16,11 +16,11 @@ loop-n-init g c =
       empty = grind (arith, common_steps);
       standing = rw (← c.requires.size, all_new, all_low) (standing_none _);
       sees = λ m h is. absurd (let low = marked_within c.args.marks.now m is in omega (arith, low, h, c.requires.all_marks));
-      walking = λ honest top reached. rw (all_new, all_low) (walking_none _ _ _);
+      walking = λ honest top whole reached. rw (all_new, all_low) (walking_none _ _ _);
     }
 
-pub loop-n-preserved-then-not-index : goal.loop-n-preserved-then-not-index
-loop-n-preserved-then-not-index g c =
+pub loop-n-preserved-in-Continue-branch-3 : goal.loop-n-preserved-in-Continue-branch-3
+loop-n-preserved-in-Continue-branch-3 g c =
     let i = c.loop-n.invariant in
     let walked = c.in_ok-walk_from.ensures in
     record {
@@ -32,10 +32,10 @@ loop-n-preserved-then-not-index g c =
         | inl e ↦ rw e walked.sees
         | inr ne ↦ walked.keeps m (i.sees m (omega (arith, h, ne)) is)
       ];
-      walking = λ honest top reached. (rw (i.same, i.reads) at walked.walking) honest top (reached _ c.if-marks-n.true) (i.walking honest top reached);
+      walking = λ honest top whole reached. (rw (i.same, i.reads) at walked.walking) honest top whole (reached _ c.if-marks-n.true) (i.walking honest top whole reached);
     }
 
 pub returns-clause-exact : goal.returns-clause-exact
-returns-clause-exact g c = λ honest top marked.
+returns-clause-exact g c = λ honest top whole marked.
     let i = c.loop-n.invariant in
-    are_least _ _ _ _ (i.walking honest top (λ m. (marked m).0)) (λ m reached. i.sees m (omega arith) ((marked m).1 reached)) i.standing.known
+    are_least _ _ _ _ (i.walking honest top whole (λ m. (marked m).0)) (λ m reached. i.sees m (omega arith) ((marked m).1 reached)) i.standing.known

@@ -5,17 +5,26 @@ use Rattle.bplist_lint.proofs.VisitSteps.{seen-set, standing_open}
 use Rattle.bplist_lint.proofs.WalkSteps.{walking_begin}
 use Rattle.bplist_lint.proofs.heights.walk_from.Goals as goal
 
+pub returns-then-see_bare-clause-standing : goal.returns-then-see_bare-clause-standing
+returns-then-see_bare-clause-standing g c = c.see_bare.ensures.standing [] c.requires.standing
+
+pub returns-then-see_bare-clause-walking : goal.returns-then-see_bare-clause-walking
+returns-then-see_bare-clause-walking g c = λ honest top whole reached w. c.see_bare.ensures.walking honest top [] reached w
+
 pub loop-visit-init : goal.loop-visit-init
 loop-visit-init g c =
     let none : c.args.stack.now.items ≡ [] = grind (arith, common_steps) in
-    let within : c.args.n < length c.args.seen.now.items = omega (arith, c.requires.standing.all_seen, c.requires.n_in) in
+    let b = c.see_bare.ensures in
+    let s = b.standing [] c.requires.standing in
+    let fresh = b.unseen c.if-see_bare.false in
+    let within : c.args.n < length c.see_bare.new.seen.items = omega (arith, s.all_seen, c.requires.n_in) in
     record {
       same = c.count.ensures.same;
       reads = c.in_ok-count.ensures.reads;
-      standing = rw (c.in_ok-push.ensures.items, none) (standing_open _ _ _ [] c.args.n c.in_ok-count.count c.requires.standing c.requires.n_in c.requires.fresh);
-      sees = get_or-set_same c.args.seen.now.items c.args.n true false within;
-      keeps = λ m h. seen-set _ _ m within h;
-      walking = λ honest top reached w. rw (c.in_ok-push.ensures.items, none) (walking_begin _ _ _ _ c.args.n c.in_ok-count.count w reached within (c.in_ok-count.ensures.value honest));
+      standing = rw (c.in_ok-push.ensures.items, none) (standing_open _ _ _ [] c.args.n c.in_ok-count.count s c.requires.n_in fresh);
+      sees = get_or-set_same c.see_bare.new.seen.items c.args.n true false within;
+      keeps = λ m h. seen-set _ _ m within (b.keeps m h);
+      walking = λ honest top whole reached w. rw (c.in_ok-push.ensures.items, none) (walking_begin _ _ _ _ c.args.n c.in_ok-count.count (b.walking honest top [] reached w) reached within (c.in_ok-count.ensures.value honest (whole _ reached)));
     }
 
 pub loop-visit-preserved : goal.loop-visit-preserved
@@ -27,7 +36,7 @@ loop-visit-preserved g c =
       standing = rw i.same at c.in_ok-step.ensures.standing;
       sees = c.in_ok-step.ensures.keeps _ i.sees;
       keeps = λ m h. c.in_ok-step.ensures.keeps m (i.keeps m h);
-      walking = λ honest top reached w. (rw (i.same, i.reads) at c.in_ok-step.ensures.walking) honest top (rw c.in-Some.ensures.items at (i.walking honest top reached w));
+      walking = λ honest top whole reached w. (rw (i.same, i.reads) at c.in_ok-step.ensures.walking) honest top whole (rw c.in-Some.ensures.items at (i.walking honest top whole reached w));
     }
 
 pub returns-clause-standing : goal.returns-clause-standing
@@ -36,6 +45,6 @@ returns-clause-standing g c =
     rw empty at c.loop-visit.invariant.standing
 
 pub returns-clause-walking : goal.returns-clause-walking
-returns-clause-walking g c = λ honest top reached w.
+returns-clause-walking g c = λ honest top whole reached w.
     let empty : c.loop-visit.stack.items ≡ [] = grind (arith, common_steps) in
-    rw empty at (c.loop-visit.invariant.walking honest top reached w)
+    rw empty at (c.loop-visit.invariant.walking honest top whole reached w)

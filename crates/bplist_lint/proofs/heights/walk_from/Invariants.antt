@@ -1,5 +1,5 @@
 use Rattle.std.proofs.Common.{◌≡◌, ℕ, [], IsTrue}
-use Rattle.bplist_lint.specs.Graph.{Reaches}
+use Rattle.bplist_lint.specs.Graph.{Reaches, AreWhole}
 use Rattle.bplist_lint.specs.Reaching.{IsMarked}
 use Rattle.bplist_lint.specs.Visits.{Standing, Walking, work}
 use Rattle.bplist_lint.proofs.heights.walk_from.Given as goal
@@ -11,7 +11,7 @@ invariant-loop-visit g l = record {
   standing : Standing (g.R.References.graph l.fn.graph).size l.seen.items l.heights.items l.stack.items;
   sees : IsMarked l.seen.items l.n;
   keeps : (m : ℕ) → IsMarked l.fn.seen.items m → IsMarked l.seen.items m;
-  walking : IsTrue (g.R.References.means l.fn.graph).honest → (top : ℕ) → Reaches (g.R.References.graph l.fn.graph).refs top l.n → Walking (g.R.References.graph l.fn.graph).refs top l.fn.seen.items l.fn.heights.items [] → Walking (g.R.References.graph l.fn.graph).refs top l.seen.items l.heights.items l.stack.items;
+  walking : IsTrue (g.R.References.means l.fn.graph).honest → (top : ℕ) → AreWhole (g.R.References.graph l.fn.graph) top → Reaches (g.R.References.graph l.fn.graph).refs top l.n → Walking (g.R.References.graph l.fn.graph).refs top l.fn.seen.items l.fn.heights.items [] → Walking (g.R.References.graph l.fn.graph).refs top l.seen.items l.heights.items l.stack.items;
 }
 
 abbrev pub decreases-loop-visit : goal.decreases-loop-visit

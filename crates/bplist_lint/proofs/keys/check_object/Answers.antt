@@ -1,31 +1,38 @@
+use Rattle.std.proofs.Common.{arith}
 use Rattle.std.proofs.lemmas.Result.{err_from_is_err_and}
 use Rattle.bplist_cert.proofs.Texts.{shape_kept}
-use Rattle.bplist_lint.proofs.Fingerprinting.{sound_keys}
-use Rattle.bplist_lint.proofs.KeySteps.{object_refused, kept_other}
+use Rattle.bplist_lint.proofs.KeySteps.{object_refused, kept_keys}
+use Rattle.bplist_cert.proofs.KeyClassing.{keys_inside, classed_texts, apart_differ}
+use Rattle.bplist_lint.proofs.KeyClassing.{wrong_fault}
 use Rattle.bplist_lint.proofs.keys.check_object.Goals as goal
 
 pub returns-in_err-head-clause-exact : goal.returns-in_err-head-clause-exact
-returns-in_err-head-clause-exact g c = λ honest sound known.
-    let f = (g.S.Source.means c.args.src.now).octets in
+returns-in_err-head-clause-exact g c = λ honest framed place kept keys low.
     let p = err_from_is_err_and c.from_residual.result c.from_residual.ensures.1 in
-    let kept = sound.kept c.args.n c.requires.marked in
-    rw (p.1, p.2) (object_refused _ _ c.in_err-head.field-0.0 (λ fault h. absurd (shape_kept f c.args.frame.now c.args.n fault kept h)) (c.in_err-head.ensures.rules honest sound.framed (sound.placed c.args.n c.requires.within)))
+    rw (p.1, p.2) (object_refused _ _ c.in_err-head.field-0.0 (λ fault h. absurd (shape_kept (g.S.Source.means c.args.src.now).octets c.args.frame.now c.args.n fault kept h)) (c.in_err-head.ensures.rules honest framed place))
 
-pub returns-in-Dict-clause-exact : goal.returns-in-Dict-clause-exact
-returns-in-Dict-clause-exact g c = λ honest sound known.
-    let has = (c.in_ok-head.ensures.rules honest sound.framed (sound.placed c.args.n c.requires.within)).0 in
-    let keys = sound_keys (g.S.Source.means c.args.src.now).octets c.args.frame.now c.args.places.now c.args.marks.now sound c.args.n c.requires.within c.requires.marked c.in_ok-head.head has c.in-Dict.is in
-    (rw c.in_ok-head.ensures.reads at c.check_dict.ensures.exact) honest sound known keys has
+pub returns-in-None-clause-exact : goal.returns-in-None-clause-exact
+returns-in-None-clause-exact g c = λ honest framed place kept keys low.
+    let f = (g.S.Source.means c.args.src.now).octets in
+    let F = c.args.frame.now in
+    let n = c.args.n in
+    let head = c.in_ok-head.head in
+    let classes = c.args.table.now.classes.table.items in
+    let has = (c.in_ok-head.ensures.rules honest framed place).0 in
+    let known = keys head has c.in-Dict.is in
+    let inside = keys_inside f F n kept head has c.in-Dict.is in
+    let good = (rw (c.in_ok-head.ensures.reads, c.in-None.is) at c.in_ok-first_wrong-in-Dict.ensures.exact) honest low in
+    kept_keys f F n head has (classed_texts f F framed head classes known.0 known.1 inside head.count (omega arith) good.0) (apart_differ f F framed head classes known.0 known.1 inside head.count (omega arith) good.1)
 
-pub returns-in-Dict-clause-known : goal.returns-in-Dict-clause-known
-returns-in-Dict-clause-known g c = rw c.in_ok-head.ensures.reads at c.check_dict.ensures.known
-
-pub returns-in_default : goal.returns-in_default
-returns-in_default g c = record {
-  reads = c.in_ok-head.ensures.reads;
-  rows = c.requires.rows;
-  known = λ honest sound known. known;
-  exact = λ honest sound known.
-      let has = (c.in_ok-head.ensures.rules honest sound.framed (sound.placed c.args.n c.requires.within)).0 in
-      kept_other (g.S.Source.means c.args.src.now).octets c.args.frame.now c.args.n c.in_ok-head.head has c.in_default.not-Dict;
-}
+pub returns-in-Some-clause-exact : goal.returns-in-Some-clause-exact
+returns-in-Some-clause-exact g c = λ honest framed place kept keys low.
+    let f = (g.S.Source.means c.args.src.now).octets in
+    let F = c.args.frame.now in
+    let n = c.args.n in
+    let head = c.in_ok-head.head in
+    let classes = c.args.table.now.classes.table.items in
+    let has = (c.in_ok-head.ensures.rules honest framed place).0 in
+    let known = keys head has c.in-Dict.is in
+    let inside = keys_inside f F n kept head has c.in-Dict.is in
+    let wrong = (rw (c.in_ok-head.ensures.reads, c.in-Some.is) at c.in_ok-first_wrong-in-Dict.ensures.exact) honest low in
+    wrong_fault f F framed head classes known.0 known.1 inside (record { 0 = n }) has c.in-Dict.is c.in-Some.wrong c.key_fault.result wrong c.key_fault.ensures

@@ -1,14 +1,20 @@
-use Rattle.bplist_lint.proofs.Composing.{lints_mean, fault_decides, circle_decides, fault_never, circle_never}
+use Rattle.std.proofs.lemmas.Result.{err_from_is_err_and}
+use Rattle.bplist_lint.proofs.Composing.{refusal_means, fault_decides, circle_decides, fault_never, circle_never}
 use Rattle.bplist_lint.proofs.linting.lint.Goals as goal
 
-pub returns-clause-decisive : goal.returns-clause-decisive
-returns-clause-decisive g c = λ honest.
+pub returns-in_err-lint-clause-decisive : goal.returns-in_err-lint-clause-decisive
+returns-in_err-lint-clause-decisive g c = λ honest.
     let f = (g.S.Source.means c.args.src.now).octets in
-    let here = (rw c.new-windows.ensures.means at c.lint_through.ensures.exact) honest in
-    lints_mean _ _ _ _ _ _ c.lint_through.result (λ x h. tt) (fault_decides f) (circle_decides f) here
+    let p = err_from_is_err_and c.from_residual.result c.from_residual.ensures.1 in
+    rw (p.1, p.2) (refusal_means _ _ _ _ c.in_err-lint.field-0.0 (fault_decides f) (circle_decides f) (c.in_err-lint.ensures.exact honest))
 
-pub returns-clause-never : goal.returns-clause-never
-returns-clause-never g c = λ honest v holds.
+pub returns-in_err-lint-clause-never : goal.returns-in_err-lint-clause-never
+returns-in_err-lint-clause-never g c = λ honest v holds.
     let f = (g.S.Source.means c.args.src.now).octets in
-    let here = (rw c.new-windows.ensures.means at c.lint_through.ensures.exact) honest in
-    lints_mean _ _ _ _ _ _ c.lint_through.result (λ x h. tt) (fault_never f v holds) (circle_never f v holds) here
+    let p = err_from_is_err_and c.from_residual.result c.from_residual.ensures.1 in
+    rw (p.1, p.2) (refusal_means _ _ _ _ c.in_err-lint.field-0.0 (fault_never f v holds) (circle_never f v holds) (c.in_err-lint.ensures.exact honest))
+
+pub returns-clause-exact : goal.returns-clause-exact
+returns-clause-exact g c = λ honest.
+    let h = c.in_ok-lint.ensures.exact honest in
+    (h.0, h.1, h.2)

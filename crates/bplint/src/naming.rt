@@ -1,0 +1,18 @@
+//! File names as lines show them.
+use std::alloc::{AllocError, Global};
+
+/// What a line of several files begins with: the name, in which `\xHH` stands for a control character so that a line
+/// stays a line, and `: `.
+pub fn prefix_of(alloc: Global, name: &str) -> Result<String, AllocError> {
+    let mut prefix = String::new(alloc);
+    for c in name.chars() {
+        if c.is_control() {
+            let code = c as u32;
+            write!(prefix, "\\x{code:02x}")?;
+        } else {
+            prefix.push(c)?;
+        }
+    }
+    prefix.push_str(": ")?;
+    Ok(prefix)
+}

@@ -1,0 +1,152 @@
+-- What `show` and `ls` say, from the linter's certificate and the answers of the cursor.
+use Rattle.std.proofs.Common.{◌≡◌, ℕ, List, [], ◌∷◌, map, Option, None, Result, Ok, Err, sym, ap, subst}
+use Rattle.std.proofs.Math.Logic.{∥∥₁_map}
+use Rattle.std.proofs.lemmas.Grind.{not_there}
+use Rattle.bplist_objects.specs.declared.frame.Frame.{Frame}
+use Rattle.bplist_objects.specs.Frame.{IsFrame}
+use Rattle.bplist_objects.specs.Value.{Value}
+use Rattle.bplist_objects.specs.Holds.{Holds}
+use Rattle.bplist_cert.specs.Encoding.{octets_of}
+use Rattle.bplist_cert.specs.Lists.{Lists, IsCertificate}
+use Rattle.bplist_cert.specs.Sorted.{AreListed, IsAccepted}
+use Rattle.bplist_cursor.specs.declared.reply.Query.{Query}
+use Rattle.bplist_cursor.specs.declared.reply.Query.TheVariants.{Get}
+use Rattle.bplist_cursor.specs.Look.{look}
+use Rattle.bplist_cursor.specs.Replies.{reply}
+use Rattle.bplist_lint.specs.declared.answer.Lint.{Lint}
+use Rattle.bplist_lint.specs.declared.refusal.LintRefusal.{LintRefusal}
+use Rattle.bplist_lint.specs.declared.refusal.LintRefusal.TheVariants as lint_refusals
+use Rattle.bplist_lint.specs.FileFault.{IsFileFault, IsFileCircle}
+use Rattle.bplist_lint.specs.Linted.{IsLinted, IsLintedBy}
+use Rattle.bplist_lint.specs.Refusals.{Refuses}
+use Rattle.bplint_engine.specs.declared.fault.RunFault.{RunFault}
+use Rattle.bplint_engine.specs.declared.fault.RunFault.TheVariants as faults
+use Rattle.bplint_engine.specs.declared.output.Output.{Output}
+use Rattle.bplint_engine.specs.declared.said.Said.{Said}
+use Rattle.bplint_engine.specs.Answers.{Answer, gives, refuses, Answers, IsRefusal, Leaves, LeavesBy}
+use Rattle.bplint_engine.specs.Asking.{AreQueries}
+use Rattle.bplint_engine.specs.Faults.{Gives, IsExcused, lint_fault}
+use Rattle.bplint_engine.specs.Getting.{said_of, reply_lines}
+use Rattle.bplint_engine.specs.Linting.{LintSays, IsLintFault}
+use Rattle.bplint_engine.specs.Listing.{ListGives, ListSays}
+use Rattle.bplint_engine.specs.Printing.{PathSays}
+use Rattle.bplint_engine.specs.Showing.{IsShowFault, ShowSays, TextSays}
+use Rattle.bplint_engine.specs.Vouching.{IsLeastFor}
+use Rattle.bplint_engine.proofs.GetAnswers.{excused_refused}
+use Rattle.bplint_engine.proofs.Leaving.{said_as}
+use Rattle.bplint_engine.proofs.PrintAnswers.{path_to_print}
+
+-- the file holds no value
+pub least_refused : (f : List ℕ) (refusal : LintRefusal) → Refuses (IsFileFault f) (IsFileCircle f) refusal
+    → IsRefusal (LintSays f) (lint_fault refusal)
+least_refused f (lint_refusals.Fault fault) h = h
+least_refused f (lint_refusals.Circle ns) h = h
+least_refused f (lint_refusals.Read _) h = tt
+least_refused f lint_refusals.Memory h = tt
+
+-- the check accepts the linter's certificate
+pub least_for : (f : List ℕ) (G : Frame) (lint : Lint) (lists : Lists) → IsLinted f lint → lists ≡ lint.certificate
+    → (lint.certificate.keys ≡ None → IsCertificate lint.certificate)
+    → ((F : Frame) → IsAccepted f F lint.certificate → G ≡ F) → ∥ IsAccepted f G lint.certificate ∥₁ → IsLeastFor f G lists
+least_for f G lint lists (F, is, by) same fits frames agreed =
+    let listed : AreListed f F lint.certificate.heights lint.certificate.keys =
+    subst (λ keys. AreListed f F lint.certificate.heights keys) (sym by.version) tt in
+    let frame = frames F (record { valid = by.valid; listed = listed }) in
+    record {
+      lint = lint;
+      frame = subst (λ X. IsFrame f X) (sym frame) is;
+      linted = subst (λ X. IsLintedBy f X lint) (sym frame) by;
+      same = same;
+      vouched = record {
+        certificate = subst (λ l. IsCertificate l) (sym same) (fits by.version);
+        spelled = ap octets_of (sym same);
+        accepted = subst (λ l. ∥ IsAccepted f G l ∥₁) (sym same) agreed;
+      };
+    }
+
+-- the first fault of the file is one of `show` and `ls`
+pub show_fault : (f : List ℕ) (texts : List (List ℕ)) (queries : List Query) (fault : RunFault) → AreQueries texts queries
+    → IsLintFault f fault → IsShowFault f texts fault
+show_fault f texts queries (faults.Fault fault) are h = (queries, are, h)
+show_fault f texts queries (faults.Circle ns) are h = (queries, are, h)
+show_fault f texts queries _ are h = absurd h
+
+-- the same as a refusal, whatever the answer without one is
+pub refused_as : (f : List ℕ) (Says : Answer → Type 0) (fault : RunFault) → ((x : RunFault) → IsLintFault f x → Says (refuses x))
+    → IsRefusal (LintSays f) fault → IsRefusal Says fault
+refused_as f Says (faults.Fault fault) to h = to (faults.Fault fault) h
+refused_as f Says (faults.Circle ns) to h = to (faults.Circle ns) h
+refused_as f Says (faults.Read _) to h = tt
+refused_as f Says faults.Memory to h = tt
+refused_as f Says _ to h = absurd h
+
+-- and one of `show --text`
+pub text_fault : (f text : List ℕ) (limit : ℕ) (queries : List Query) (fault : RunFault) → AreQueries (text ∷ []) queries
+    → IsLintFault f fault → TextSays f text limit (refuses fault)
+text_fault f text limit queries (faults.Fault fault) are h = (queries, are, h)
+text_fault f text limit queries (faults.Circle ns) are h = (queries, are, h)
+text_fault f text limit queries _ are h = absurd h
+
+-- the queries of `show` were answered
+pub show_says : (f : List ℕ) (texts : List (List ℕ)) (queries : List Query) (F : Frame) (lists : Lists) (made : Result Output RunFault)
+    → AreQueries texts queries → IsLeastFor f F lists
+    → Gives (λ output. (v : Value) → Holds f F F.top.0 v
+    → (output.said ≡ said_of (map (reply v) queries)) × (output.bytes.items ≡ reply_lines (map (reply v) queries))) made
+    → Answers (ShowSays f texts) made
+show_says f texts queries F lists (Ok output) are least told =
+    (F, least.lint, least.frame, least.linted, (queries, F, lists, are, least.vouched, told))
+show_says f texts queries F lists (Err fault) are least told = excused_refused (ShowSays f texts) fault told
+
+-- a fault that is excused where a value is there is excused
+excused_there : {X : Type 0} (fault : RunFault) → ∥ X ∥₁ → (X → IsExcused fault) → IsExcused fault
+excused_there (faults.Read _) there told = tt
+excused_there faults.Memory there told = tt
+excused_there (faults.Fault _) there told = not_there there told
+excused_there (faults.Circle _) there told = not_there there told
+excused_there (faults.Path _) there told = not_there there told
+excused_there (faults.NoAsciiForm _) there told = not_there there told
+excused_there faults.TooLong there told = not_there there told
+excused_there faults.Hex there told = not_there there told
+excused_there faults.Changed there told = not_there there told
+excused_there (faults.Write _) there told = not_there there told
+excused_there faults.Open there told = not_there there told
+excused_there faults.InputTooLong there told = not_there there told
+
+-- the members under the path of `ls` were listed
+pub list_says : (f text : List ℕ) (steps : List (List ℕ)) (F : Frame) (lists : Lists) (made : Result Output RunFault)
+    → AreQueries (text ∷ []) (Get steps ∷ []) → IsLeastFor f F lists → ∥ ((v : Value) × Holds f F F.top.0 v) ∥₁
+    → ((v : Value) → Holds f F F.top.0 v → Gives (λ output. ListGives text (look v steps) output.said output.bytes.items) made)
+    → Answers (ListSays f text) made
+list_says f text steps F lists (Ok output) are least value told = (steps, F, least.lint, are, least.frame, least.linted, told)
+list_says f text steps F lists (Err fault) are least value told =
+    excused_refused (ListSays f text) fault (excused_there fault value (λ h. told h.0 h.1))
+
+-- the answer for the value that the file holds is that of `show --text`
+path_to_text : (f text : List ℕ) (limit : ℕ) (steps : List (List ℕ)) (F : Frame) (lists : Lists) (v : Value)
+    → AreQueries (text ∷ []) (Get steps ∷ []) → IsLeastFor f F lists → Holds f F F.top.0 v
+    → (a : Answer) → PathSays f F limit steps v a → TextSays f text limit a
+path_to_text f text limit steps F lists v are l holds (gives said bytes) h =
+    (F, l.lint, l.frame, l.linted, path_to_print f (octets_of l.lint.certificate) (text ∷ []) limit steps F lists v are l.vouched holds (gives said bytes) h)
+path_to_text f text limit steps F lists v are l holds (refuses (faults.NoAsciiForm part)) h =
+    (F, l.lint, l.frame, l.linted, path_to_print f (octets_of l.lint.certificate) (text ∷ []) limit steps F lists v are l.vouched holds (refuses (faults.NoAsciiForm part)) h)
+path_to_text f text limit steps F lists v are l holds (refuses faults.TooLong) h =
+    (F, l.lint, l.frame, l.linted, path_to_print f (octets_of l.lint.certificate) (text ∷ []) limit steps F lists v are l.vouched holds (refuses faults.TooLong) h)
+path_to_text f text limit steps F lists v are l holds (refuses (faults.Fault fault)) (n, w, leads, is, h) = absurd h
+path_to_text f text limit steps F lists v are l holds (refuses (faults.Circle ns)) (n, w, leads, is, h) = absurd h
+path_to_text f text limit steps F lists v are l holds (refuses (faults.Path place)) (n, w, leads, is, h) = absurd h
+path_to_text f text limit steps F lists v are l holds (refuses (faults.Read fault)) (n, w, leads, is, h) = absurd h
+path_to_text f text limit steps F lists v are l holds (refuses faults.Hex) (n, w, leads, is, h) = absurd h
+path_to_text f text limit steps F lists v are l holds (refuses faults.Changed) (n, w, leads, is, h) = absurd h
+path_to_text f text limit steps F lists v are l holds (refuses (faults.Write sent)) (n, w, leads, is, h) = absurd h
+path_to_text f text limit steps F lists v are l holds (refuses faults.Memory) (n, w, leads, is, h) = absurd h
+path_to_text f text limit steps F lists v are l holds (refuses faults.Open) (n, w, leads, is, h) = absurd h
+path_to_text f text limit steps F lists v are l holds (refuses faults.InputTooLong) (n, w, leads, is, h) = absurd h
+
+pub text_leaves : (f text : List ℕ) (limit : ℕ) (steps : List (List ℕ)) (F : Frame) (lists : Lists) (old new : Option (List ℕ))
+    (result : Result Said RunFault) → AreQueries (text ∷ []) (Get steps ∷ []) → IsLeastFor f F lists
+    → ∥ ((v : Value) × Holds f F F.top.0 v) ∥₁
+    → ((v : Value) → Holds f F F.top.0 v → LeavesBy (PathSays f F limit steps v) limit old new result)
+    → Leaves (TextSays f text limit) limit old new result
+text_leaves f text limit steps F lists old new result are least value left =
+    ∥∥₁_map value (λ h. said_as (PathSays f F limit steps h.0) (TextSays f text limit) limit old new result
+    (path_to_text f text limit steps F lists h.0 are least h.1) (left h.0 h.1))

@@ -1,0 +1,159 @@
+//! Files that are cut or changed, and a file that changes while it is read.
+
+ghost use Rattle.bplint_engine.specs.Commands.{PrintsOnePath};
+
+use crate::runs::{certificate_of, plain, told, with_path};
+use bplint_engine::{Command, Verb, run_on, run_over};
+use bplist_octets::ShiftingSource;
+use bplist_samples::{SMALLEST_FILE, TWO_TRUES, small, tested_rows};
+use std::alloc::Global;
+use std::test::Fail;
+
+fn is_accepted(alloc: Global, file: &[u8], cert: &[u8]) -> bool {
+    let mut out = Vec::new(alloc);
+    run_over(alloc, &plain(alloc, Verb::Check), file, cert, &mut out).is_ok()
+}
+
+/// Where `certify` says yes to the file `check` takes its certificate, and else refuses that of the unchanged file.
+fn agrees(alloc: Global, file: &[u8], unchanged: &[u8]) -> bool {
+    match certificate_of(alloc, file) {
+        Some(cert) => is_accepted(alloc, file, &cert),
+        None => !is_accepted(alloc, file, unchanged),
+    }
+}
+
+#[test]
+fn every_cut(rt: HostRuntime) -> Result<(), Fail> {
+    let alloc = rt.alloc();
+    for row in tested_rows(alloc)? {
+        for length in 0..row.octets.len() {
+            let cut = &row.octets[..length];
+            let is_refused = certificate_of(alloc, cut).is_none()
+                && !is_accepted(alloc, cut, &row.certificate);
+            let name = row.name;
+            assert!(rt; is_refused, "{name} cut to {length}");
+        }
+    }
+    Ok(())
+}
+
+#[test]
+fn every_change_of_one_byte(rt: HostRuntime) -> Result<(), Fail> {
+    let alloc = rt.alloc();
+    for row in tested_rows(alloc)?
+        .iter()
+        .filter(|row| row.octets.len() < 100)
+    {
+        let mut changed = row.octets.to_vec(alloc)?;
+        for i in 0..changed.len() {
+            let kept = changed[i];
+            for value in 0..=255 {
+                changed[i] = value;
+                let name = row.name;
+                assert!(rt;
+                    agrees(alloc, &changed, &row.certificate),
+                    "{name} at {i} {value}"
+                );
+            }
+            changed[i] = kept;
+        }
+    }
+    Ok(())
+}
+
+/// How the lines that `lint` says of changes of the smallest file begin, and how many of them do. There are 10,710.
+const LINES: [(&str, u32); 13] = [
+    ("0 ok ", 1545),
+    ("1 fault Magic ", 2040),
+    ("1 fault NoObjects ", 1),
+    ("1 fault Top ", 2040),
+    ("1 fault TableEarly ", 9),
+    ("1 fault TableLate ", 2031),
+    ("1 fault OffsetSize ", 248),
+    ("1 fault RefSize ", 248),
+    ("1 fault Length ", 2046),
+    ("1 fault OffsetHigh ", 247),
+    ("1 fault OffsetLow ", 8),
+    ("1 fault Marker ", 133),
+    ("1 fault Extent ", 114),
+];
+
+/// Which of these lines begins as the one that `lint` gives of a file; their number where none does.
+fn line_of(alloc: Global, file: &[u8]) -> Result<usize, Fail> {
+    let mut out = Vec::new(alloc);
+    let answer = run_over(alloc, &plain(alloc, Verb::Lint), file, b"", &mut out);
+    let line = told(alloc, answer, &out)?;
+    let known = LINES
+        .iter()
+        .position(|(beginning, _)| line.as_str().starts_with(*beginning));
+    Ok(known.unwrap_or(LINES.len()))
+}
+
+#[test]
+fn changes_of_one_byte_by_counts(rt: HostRuntime) -> Result<(), Fail> {
+    let alloc = rt.alloc();
+    let (objects, table) = SMALLEST_FILE;
+    let mut file = small(alloc, objects, table)?;
+    let mut counts: [u32; 14] = [0; 14];
+    for i in 0..file.len() {
+        let kept = file[i];
+        for other in 0..=255 {
+            if other != kept {
+                file[i] = other;
+                let line = line_of(alloc, &file)?;
+                if let Some(count) = counts.get_mut(line) {
+                    *count = count.saturating_add(1);
+                }
+            }
+        }
+        file[i] = kept;
+    }
+    for (count, (line, want)) in counts.iter().zip(LINES.iter()) {
+        assert_eq!(rt; *count, *want, "{line}");
+    }
+    assert_eq!(rt; counts[13], 0);
+    Ok(())
+}
+
+/// Runs a command over a file that after so many reads is another one of its length.
+fn told_of_shifting(
+    alloc: Global,
+    command: &Command,
+    file: &[u8],
+    other: &[u8],
+    reads: u64,
+    cert: &[u8],
+) -> Result<String, Fail>
+    requires { PrintsOnePath command.now }
+{
+    if file.len() != other.len() {
+        return Err(Fail::from("a file of another length"));
+    }
+    let source = ShiftingSource::new(file, other, reads);
+    let mut out = Vec::new(alloc);
+    let (answer, _source) = run_on(alloc, command, source, cert, &mut out);
+    told(alloc, answer, &out)
+}
+
+#[test]
+fn file_that_changes(rt: HostRuntime) -> Result<(), Fail> {
+    let alloc = rt.alloc();
+    let (objects, table) = TWO_TRUES;
+    let file = small(alloc, objects, table)?;
+    let other = small(alloc, objects, &[0, 11])?;
+    let Some(cert) = certificate_of(alloc, &file) else {
+        return Err(Fail::from("no certificate"));
+    };
+    let command = with_path(alloc, Verb::Get, "/0")?;
+    let mut changes = 0u32;
+    for reads in 0..100 {
+        let line = told_of_shifting(alloc, &command, &file, &other, reads, &cert)?;
+        if line.as_str() == "3 changed\n" {
+            changes = changes.saturating_add(1);
+        }
+    }
+    assert!(rt; changes > 0);
+    let line = told_of_shifting(alloc, &command, &file, &other, 100, &cert)?;
+    assert_eq!(rt; line.as_str(), "0 true\n");
+    Ok(())
+}

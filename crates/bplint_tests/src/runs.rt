@@ -1,0 +1,63 @@
+//! Runs of the engine.
+
+ghost use Rattle.std.specs.Prelude.{◌≢◌, IfOk};
+ghost use Rattle.bplint_engine.specs.Commands.{PrintsOnePath};
+
+use bplint_engine::{Command, RunFault, Said, Verb, run_over};
+use std::alloc::{AllocError, Global};
+use std::test::Fail;
+
+/// The command of a verb that has no operands of its own.
+pub(crate) fn plain(alloc: Global, verb: Verb) -> Command
+    requires { verb ≢ Verb.Print }
+    ensures { PrintsOnePath result }
+{
+    Command {
+        verb,
+        paths: Vec::new(alloc),
+        limit: 0,
+        hex: false,
+        sorted: false,
+    }
+}
+
+/// The command of a verb with this path, and the limit 10.
+pub(crate) fn with_path(alloc: Global, verb: Verb, path: &str) -> Result<Command, AllocError>
+    ensures { IfOk result PrintsOnePath }
+{
+    let path = String::from_str(alloc, path)?;
+    Ok(Command {
+        verb,
+        paths: vec![in alloc; path]?,
+        limit: 10,
+        hex: false,
+        sorted: false,
+    })
+}
+
+/// What was written, or the line of the fault, with its status before it.
+pub(crate) fn told(
+    alloc: Global,
+    answer: Result<Said, RunFault>,
+    written: &[u8],
+) -> Result<String, Fail> {
+    match answer {
+        Ok(Said::All) => Ok(format!(in alloc; "0 {}", String::from_utf8_lossy(alloc, written)?)?),
+        Ok(Said::SomeMissing) => Ok(format!(in alloc;
+            "1 {}",
+            String::from_utf8_lossy(alloc, written)?
+        )?),
+        Err(fault) => {
+            let status = fault.status();
+            let line = fault.line(alloc)?;
+            Ok(format!(in alloc; "{status} {line}\n")?)
+        }
+    }
+}
+
+/// The certificate of a file, made by `certify`. None of a file that it refuses.
+pub(crate) fn certificate_of(alloc: Global, file: &[u8]) -> Option<Vec<u8>> {
+    let mut out = Vec::new(alloc);
+    let answer = run_over(alloc, &plain(alloc, Verb::Certify), file, b"", &mut out);
+    answer.ok().map(|_| out)
+}

@@ -1,0 +1,78 @@
+-- The head of an object that a checked file vouches for, from call to call.
+use Rattle.std.proofs.Common.{arith, ◌≡◌, ◌≤◌, ℕ, IsTrue, false, Result, Ok, Err, ap, inl, inr}
+use Rattle.std.proofs.lemmas.Bool.{cases_lt}
+use Rattle.std.proofs.lemmas.Grind.{not_there}
+use Rattle.bplist_objects.specs.declared.fault.ObjectFault.{ObjectFault}
+use Rattle.bplist_objects.specs.declared.fault.ObjectFault.TheVariants as errors
+use Rattle.bplist_objects.specs.declared.frame.Frame.{Frame}
+use Rattle.bplist_objects.specs.declared.head.Head.{Head}
+use Rattle.bplist_objects.specs.Answers.{Gives, Never, read_failed}
+use Rattle.bplist_objects.specs.Heads.{HasShape}
+use Rattle.bplist_cert.specs.CheckedFile.{CheckedFile, IsChecked}
+use Rattle.bplist_cert.specs.Valid.{IsVouchedBy}
+use Rattle.bplist_c.specs.Reading.{HeadSays, kind_number}
+use Rattle.bplist_c.specs.declared.status.Status.{Status}
+use Rattle.bplist_c.specs.declared.status.Status.TheVariants as statuses
+use Rattle.bplist_c.specs.declared.verdict.Top.{Top}
+
+-- this is the head of a vouched object
+abbrev pub IsHead : CheckedFile → ℕ → Result Head Status → Type 0
+IsHead checked n answer = HeadSays checked n (λ head found. found ≡ Ok head) answer
+
+-- where no read fails and no rule is broken there is an answer
+pub never_refused : {X : Type 0} (P : X → Type 0) (r : Result X ObjectFault) (e : ObjectFault) → read_failed r ≡ false → Gives P Never r → r ≡ Err e → ⊥
+never_refused P (Ok x) e read given is = cc is
+never_refused P (Err (errors.Fault x)) e read given is = given
+never_refused P (Err (errors.Read x)) e read given is = cc read
+
+module _ (checked : CheckedFile) (n : ℕ) where
+  -- a head was found
+  pub head_found : (h : Head) → IsVouchedBy checked.certificate.heights n
+      → ((x : Head) → HasShape checked.source.octets checked.frame n x → h ≡ x) → IsHead checked n (Ok h)
+  head_found h vouched one = record {
+    none = λ no. absurd (no vouched);
+    head = λ v head is. ap Ok (one head is.0);
+  }
+
+  -- a vouched object has no head that can't be found
+  pub head_lost : (why : Status) → IsVouchedBy checked.certificate.heights n
+      → ((x : Head) → HasShape checked.source.octets checked.frame n x → ⊥) → IsHead checked n (Err why)
+  head_lost why vouched no_head = record {
+    none = λ no. absurd (no vouched);
+    head = λ v head is. absurd (no_head head is.0);
+  }
+
+  module _ {X : Type 0} (Says : Head → Result X Status → Type 0) where
+    -- what is said of the head that was found is said of the object
+    pub by_head : (h : Head) (answer : Result X Status) → IsHead checked n (Ok h) → Says h answer → HeadSays checked n Says answer
+    by_head h answer known said = record {
+      none = λ no. let e = known.none no in cc;
+      head = λ vouched head is. let e : h ≡ head = let f = known.head vouched head is in cc in subst_says e said;
+    }
+      where
+        subst_says : {k : Head} → h ≡ k → Says h answer → Says k answer
+        subst_says e s = rw e at s
+
+    -- no head was found
+    pub by_none : (why : Status) → IsHead checked n (Err why) → HeadSays checked n Says (Err why)
+    by_none why known = record {
+      none = λ no. let e = known.none no in let same : why ≡ statuses.NoObject = cc in ap Err same;
+      head = λ vouched head is. absurd (let e = known.head vouched head is in cc);
+    }
+
+-- numbers that can't but be in order are
+stable_le : (a b : ℕ) → ((a ≤ b → ⊥) → ⊥) → a ≤ b
+stable_le a b h = elim (cases_lt b a) [
+  | inl bad ↦ absurd (h (λ l. omega (arith, l, bad)))
+  | inr ok ↦ omega (arith, ok)
+]
+
+-- the certificate vouches for the top
+pub top_vouched : (checked : CheckedFile) → IsChecked checked → IsTrue checked.source.honest → IsVouchedBy checked.certificate.heights checked.frame.top.0
+top_vouched checked is honest = stable_le _ _ (λ bad. not_there (is.accepted honest) (λ a. bad a.valid.top))
+
+-- the numbers of a top
+pub same_top : (F G : Frame) (h k : Head) (kind height : ℕ) → F ≡ G → h ≡ k → kind ≡ kind_number h.kind
+    → let top : Top = record { objects = F.objects; object = F.top.0; kind = kind; height = height } in
+    top ≡ record { objects = G.objects; object = G.top.0; kind = kind_number k.kind; height = height }
+same_top F G h k kind height e d is = cc

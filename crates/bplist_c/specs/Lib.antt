@@ -1,0 +1,9 @@
+pub mod Finding
+pub mod Held
+pub mod Opening
+pub mod Reading
+pub mod Sessions
+pub mod Sizing
+pub mod Statuses
+pub mod Texts
+pub mod Verdicts

@@ -1,0 +1,66 @@
+-- What C is told of the text of a value. Source: profile.
+use Rattle.std.specs.Prelude.{◌≡◌, ℕ, List, length, Option, Some, None, Result, Ok, Err, Vec}
+use Rattle.std.specs.Global.{Global}
+use Rattle.bplist_objects.specs.Holds.{Holds}
+use Rattle.bplist_objects.specs.Value.{Value}
+use Rattle.bplist_objects.specs.declared.frame.Frame.{Frame}
+use Rattle.bplist_cert.specs.CheckedFile.{CheckedFile}
+use Rattle.bplist_cert.specs.Valid.{IsVouchedBy}
+use Rattle.bplist_cursor.specs.declared.form.Form.{Form}
+use Rattle.bplist_cursor.specs.declared.form.Form.TheVariants.{NoForm, Length}
+use Rattle.bplist_cursor.specs.Formless.{IsFormless}
+use Rattle.bplist_cursor.specs.Nodes.{cap}
+use Rattle.bplist_cursor.specs.OldStyle.{value_text}
+use Rattle.bplist_cursor.specs.Sizes.{Table, form_in}
+use Rattle.bplist_ascii.specs.Printed.{FitsLimit, IsTooLong}
+use Rattle.bplist_ascii.specs.declared.print_fault.PrintFault.{PrintFault}
+use Rattle.bplist_ascii.specs.declared.print_fault.PrintFault.TheVariants as faults
+use Rattle.bplist_c.specs.declared.status.Status.{Status}
+use Rattle.bplist_c.specs.declared.status.Status.TheVariants as statuses
+use Rattle.bplist_c.specs.declared.text.BplistWritten.{BplistWritten}
+use Rattle.bplist_c.specs.declared.text.Text.{Text}
+use Rattle.bplist_c.specs.declared.text.Text.TheVariants.{Fits, TooLong, Formless}
+use Rattle.bplist_c.specs.Statuses.{PutsAll, number_of}
+
+-- the length that a form tells, 0 where there is none
+abbrev pub length_in : Option Form → ℕ
+length_in (Some (Length n)) = n
+length_in (Some NoForm) = 0
+length_in None = 0
+
+-- the length of the text of object n by the table
+abbrev pub text_length : Table → ℕ → ℕ
+text_length sizes n = length_in (form_in sizes n)
+
+-- what became of a text that was to be printed: these bytes, too long a text of this length, or the first part without one
+abbrev pub printed_as : Result (Unit {0}) PrintFault → Vec ℕ Global → ℕ → Result Text Status
+printed_as (Ok _) text told = Ok (Fits text)
+printed_as (Err (faults.NoAsciiForm part)) text told = Ok (Formless part)
+printed_as (Err faults.TooLong) text told = Ok (TooLong told)
+printed_as (Err (faults.Write _)) text told = Err statuses.Memory
+printed_as (Err (faults.Read _)) text told = Err statuses.Memory
+printed_as (Err faults.Changed) text told = Err statuses.Memory
+printed_as (Err faults.Memory) text told = Err statuses.Memory
+
+-- the text of v if it fits `room`, else its length; or the first part without a text, or refused memory
+abbrev pub IsTextOf : List ℕ → Frame → ℕ → Value → ℕ → Result Text Status → Type 0
+IsTextOf f F n v room (Ok (Fits text)) = (value_text v ≡ Some text.items) × FitsLimit room text.items
+IsTextOf f F n v room (Ok (TooLong told)) =
+    (text : List ℕ) × (value_text v ≡ Some text) × IsTooLong room text × (told ≡ cap (length text))
+IsTextOf f F n v room (Ok (Formless part)) = (value_text v ≡ None) × IsFormless f F n v part.0
+IsTextOf f F n v room (Err why) = why ≡ statuses.Memory
+
+-- the text of an object's value, none if it is not vouched for
+pub record TextSays (checked : CheckedFile) (n room : ℕ) (answer : Result Text Status) : Type 0 where
+  pub none : (IsVouchedBy checked.certificate.heights n → ⊥) → answer ≡ Err statuses.NoObject
+  pub text : IsVouchedBy checked.certificate.heights n → (v : Value) → Holds checked.source.octets checked.frame n v
+      → IsTextOf checked.source.octets checked.frame n v room answer
+
+-- buffer, output and status tell the answer
+abbrev pub TellsText : Result Text Status → List ℕ → List ℕ → BplistWritten → BplistWritten → ℕ → Type 0
+TellsText (Ok (Fits text)) old new before after status = PutsAll text.items old new after.length status × (after.object ≡ 0)
+TellsText (Ok (TooLong told)) old new before after status =
+    (status ≡ 14) × (new ≡ old) × (after ≡ record { length = told; object = 0 })
+TellsText (Ok (Formless part)) old new before after status =
+    (status ≡ 15) × (new ≡ old) × (after ≡ record { length = 0; object = part.0 })
+TellsText (Err why) old new before after status = (status ≡ number_of why) × (new ≡ old) × (after ≡ before)

@@ -1,0 +1,36 @@
+//! The C library: `include/bplist.h` documents each call and what C has to uphold.
+//!
+//! ```c
+//! bplist_handle handle = {0};
+//! bplist_verdict verdict;
+//! bplist_found found;
+//! if (bplist_open(&handle, file, length, false, &verdict) == BPLIST_OK) {
+//!     bplist_find(&handle, file, length, "/jobs/0/id", 10, &found);
+//!     bplist_close(&handle);
+//! }
+//! ```
+//!
+//! | module | exports |
+//! |---|---|
+//! | `linting` | `bplist_lint`, `bplist_circle`, `bplist_rule_name` |
+//! | `opening` | `bplist_open`, `bplist_open_certified`, `bplist_close`, `bplist_certificate` |
+//! | `finding` | `bplist_find`, `bplist_find_key` |
+//! | `reading` | `bplist_face`, `bplist_int`, `bplist_uid`, `bplist_member`, `bplist_units` |
+//! | `sizing`, `text` | `bplist_size`, `bplist_text` |
+//!
+//! A handle (`handle`) owns a `session`: frame and certificate of a file without its bytes. Each call takes the bytes again and
+//! makes the `Checked` of both by moves (`lending`). `status` and `verdict` turn answers into numbers.
+#![tactic(auto)]
+
+mod finding;
+mod handle;
+mod lending;
+mod linting;
+mod loose;
+mod opening;
+mod reading;
+mod session;
+mod sizing;
+mod status;
+mod text;
+mod verdict;

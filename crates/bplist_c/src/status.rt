@@ -1,0 +1,89 @@
+//! What a call returns, and how it tells its answer.
+
+ghost use Rattle.std.specs.Prelude.{◌≡◌};
+ghost use Rattle.bplist_c.specs.Statuses.{number_of, Puts, PutsAll, Tells};
+
+/// Why a call has no answer. A variant's number is that of the header.
+#[derive(Clone, Copy, Debug, PartialEq, Eq, Drop)]
+pub(crate) enum Status {
+    /// A rule is broken.
+    Fault = 1,
+    /// A growth was refused.
+    Memory,
+    /// The handle is closed.
+    Closed,
+    /// The handle that was to be opened is open.
+    Opened,
+    /// The file is not the one that was opened.
+    OtherFile,
+    /// The certificate does not vouch for the object.
+    NoObject,
+    /// The object is of another kind.
+    OtherKind,
+    /// The object has no such member.
+    NoMember,
+    /// The dictionary has no such key.
+    NoKey,
+    /// The step is no index of the array.
+    NoIndex,
+    /// The value is neither a dictionary nor an array.
+    NotSteppable,
+    /// The path is not written as a path is.
+    PathText,
+    /// The path is not UTF-8.
+    NotUtf8,
+    /// The buffer is too short.
+    Short,
+    /// The value has no old-style text.
+    NoText,
+    /// There is no rule with that number.
+    NoRule,
+}
+
+impl Status {
+    /// The number that C is told.
+    pub(crate) fn number(self) -> u32
+        ensures { result ≡ number_of self }
+    {
+        self as u32
+    }
+}
+
+/// Tells C the answer of a call: 0 and what was found, or why nothing was, and then `out` is as it was.
+pub(crate) fn tell<T: Drop>(answer: Result<T, Status>, out: &mut T) -> u32
+    ensures { Tells answer out.old out.new result }
+{
+    match answer {
+        Ok(found) => {
+            *out = found;
+            0
+        }
+        Err(status) => status.number(),
+    }
+}
+
+/// Puts all items at the front of a buffer, where it is long enough, and tells how many there are.
+pub(crate) fn put_all<T: Copy>(items: &[T], buffer: &mut [T], count: &mut u64) -> u32
+    ensures { PutsAll items.now buffer.old buffer.new count.new result }
+{
+    *count = items.len() as u64;
+    if items.len() > buffer.len() {
+        return Status::Short.number();
+    }
+    buffer[..items.len()].copy_from_slice(items);
+    0
+}
+
+/// Puts what a call found into a buffer, or tells why nothing was found, and then all is as it was.
+pub(crate) fn put_answer<T: Copy>(
+    answer: &Result<Vec<T>, Status>,
+    buffer: &mut [T],
+    count: &mut u64,
+) -> u32
+    ensures { Puts answer.now buffer.old buffer.new count.old count.new result }
+{
+    match answer {
+        Ok(items) => put_all(items, buffer, count),
+        Err(status) => status.number(),
+    }
+}

@@ -1,0 +1,149 @@
+//! The old-style texts of values.
+
+ghost use Rattle.std.specs.Prelude.{◌≡◌, Result, length};
+ghost use Rattle.bplist_c.specs.declared.status.Status.{Status as status};
+ghost use Rattle.bplist_c.specs.declared.text.Text.{Text as text};
+ghost use Rattle.bplist_c.specs.Sessions.{IsFileOf, IsSame, OnHandle};
+ghost use Rattle.bplist_c.specs.Statuses.{PutsAll};
+ghost use Rattle.bplist_c.specs.Texts.{TellsText, TextSays, printed_as, text_length};
+
+use crate::handle::BplistHandle;
+use crate::lending::{give_back, lend};
+use crate::sizing::measures_of;
+use crate::status::{Status, put_all};
+use bplist_ascii::{PrintFault, print};
+use bplist_cert::Checked;
+use bplist_cursor::{Form, Measures, Node};
+use bplist_objects::ObjectNo;
+use bplist_octets::SliceSource;
+use std::alloc::Global;
+
+/// What became of a text.
+#[repr(C)]
+#[derive(Clone, Copy, Debug, Drop)]
+pub struct BplistWritten {
+    /// How many bytes the text has.
+    pub length: u64,
+    /// The first object, in the order of writing, whose kind has no text.
+    pub object: u32,
+}
+
+/// A text that fits, the length of one that does not, or the first object that keeps a value from having one.
+#[derive(Drop)]
+pub(crate) enum Text {
+    Fits(Vec<u8>),
+    TooLong(u64),
+    Formless(ObjectNo),
+}
+
+/// The text of the value of an object, where it has at most `room` bytes.
+fn text_of(
+    alloc: Global,
+    checked: &mut Checked<SliceSource<'_>>,
+    object: u32,
+    room: u64,
+) -> Result<Text, Status>
+    ensures same { checked.new ≡ checked.old }
+    ensures exact { TextSays checked.old object room result }
+{
+    let n = ObjectNo(object);
+    if checked.height(n) == 0 {
+        return Err(Status::NoObject);
+    }
+    let Some(measures) = measures_of(alloc, checked) else {
+        return Err(Status::Memory);
+    };
+    let length = length_of(&measures, n);
+    let mut text = Vec::new(alloc);
+    let _before = checked.octets();
+    let printed = print(
+        alloc,
+        checked,
+        &measures,
+        Node { object: n },
+        room,
+        &mut text,
+    );
+    let _after = checked.octets();
+    told(printed, text, length)
+}
+
+/// What became of a text that was to be printed into an empty list.
+fn told(printed: Result<(), PrintFault>, text: Vec<u8>, length: u64) -> Result<Text, Status>
+    ensures { result ≡ printed_as printed text length }
+{
+    match printed {
+        Ok(()) => Ok(Text::Fits(text)),
+        Err(PrintFault::NoAsciiForm(object)) => Ok(Text::Formless(object)),
+        Err(PrintFault::TooLong) => Ok(Text::TooLong(length)),
+        Err(_) => Err(Status::Memory),
+    }
+}
+
+/// The length of the text of an object's value.
+fn length_of(measures: &Measures, n: ObjectNo) -> u64
+    ensures { result ≡ text_length measures.now n.0 }
+{
+    match measures.form(n) {
+        Some(Form::Length(length)) => length,
+        _ => 0,
+    }
+}
+
+/// Tells C what became of a text, and puts it into the buffer where it fits.
+fn tell(answer: Result<Text, Status>, buffer: &mut [u8], out: &mut BplistWritten) -> u32
+    ensures { TellsText answer buffer.old buffer.new out.old out.new result }
+{
+    match answer {
+        Ok(Text::Fits(text)) => put(&text, buffer, out),
+        Ok(Text::TooLong(length)) => {
+            *out = BplistWritten { length, object: 0 };
+            Status::Short.number()
+        }
+        Ok(Text::Formless(object)) => {
+            *out = BplistWritten {
+                length: 0,
+                object: object.0,
+            };
+            Status::NoText.number()
+        }
+        Err(status) => status.number(),
+    }
+}
+
+/// Puts a text into the buffer, and tells its length.
+fn put(text: &[u8], buffer: &mut [u8], out: &mut BplistWritten) -> u32
+    ensures puts { PutsAll text.now buffer.old buffer.new out.new.length result }
+    ensures none { out.new.object ≡ 0 }
+{
+    out.object = 0;
+    put_all(text, buffer, &mut out.length)
+}
+
+/// The old-style text of the value of an object.
+#[unsafe(no_mangle)]
+pub extern "C" fn bplist_text(
+    alloc: Global,
+    handle: &mut BplistHandle,
+    file: &[u8],
+    object: u32,
+    buffer: &mut [u8],
+    out: &mut BplistWritten,
+) -> u32
+    requires same { IsFileOf file.now handle.old }
+    ensures kept { IsSame handle.old handle.new }
+    ensures exact { (answer : Result text status) × TellsText answer buffer.old buffer.new out.old out.new result
+        × OnHandle file.now handle.old (λ checked. TextSays checked object (length buffer.old)) answer }
+{
+    let room = buffer.len() as u64;
+    let answer = match lend(alloc, handle, file) {
+        Ok(lent) => {
+            let mut lent = lent;
+            let answer = text_of(alloc, &mut lent.checked, object, room);
+            give_back(handle, lent);
+            answer
+        }
+        Err(status) => Err(status),
+    };
+    tell(answer, buffer, out)
+}

@@ -1,0 +1,137 @@
+//! What was found of a file, for C.
+
+ghost use Rattle.std.specs.Prelude.{◌≡◌};
+ghost use Rattle.bplist_c.specs.Verdicts.{circle_verdict, fault_verdict, lint_refusal, no_verdict, rule_number, top_verdict};
+
+use crate::status::Status;
+use bplist_lint::{LintRefusal, ObjectNos};
+use bplist_objects::{Fault, Rule};
+
+/// What was found of a file. Numbers of which nothing is said are 0.
+#[repr(C)]
+#[derive(Clone, Copy, Debug, Drop)]
+pub struct BplistVerdict {
+    /// The number of the broken rule.
+    pub rule: u32,
+    /// 1 where an object breaks the rule, else 0.
+    pub has_object: u32,
+    /// The object that breaks it, of a circle the first.
+    pub object: u32,
+    /// The top object.
+    pub top: u32,
+    /// The kind of the top.
+    pub top_kind: u32,
+    /// The height of the top.
+    pub height: u32,
+    /// The place of the fault.
+    pub place: u64,
+    /// How many objects the circle has.
+    pub circle: u64,
+    /// How many objects the file has.
+    pub objects: u64,
+    /// How many objects the top reaches.
+    pub reached: u64,
+    /// How many references these have.
+    pub references: u64,
+}
+
+/// The top of a file.
+#[derive(Clone, Copy, Debug, Drop)]
+pub(crate) struct Top {
+    /// How many objects the file has.
+    pub(crate) objects: u32,
+    /// The number of the top object.
+    pub(crate) object: u32,
+    /// The number of its kind.
+    pub(crate) kind: u32,
+    /// Its height.
+    pub(crate) height: u32,
+}
+
+/// The number of a rule.
+pub(crate) fn number_of(rule: Rule) -> u32
+    ensures { result ≡ rule_number rule }
+{
+    rule as u32
+}
+
+impl BplistVerdict {
+    /// A verdict that says nothing.
+    pub(crate) fn nothing() -> BplistVerdict
+        ensures { result ≡ no_verdict }
+    {
+        BplistVerdict {
+            rule: 0,
+            has_object: 0,
+            object: 0,
+            top: 0,
+            top_kind: 0,
+            height: 0,
+            place: 0,
+            circle: 0,
+            objects: 0,
+            reached: 0,
+            references: 0,
+        }
+    }
+
+    /// The verdict on a file with this top, which reaches so many objects with so many references.
+    pub(crate) fn of_top(top: Top, reached: u64, references: u64) -> BplistVerdict
+        ensures { result ≡ top_verdict top reached references }
+    {
+        BplistVerdict {
+            top: top.object,
+            top_kind: top.kind,
+            height: top.height,
+            objects: top.objects as u64,
+            reached,
+            references,
+            ..BplistVerdict::nothing()
+        }
+    }
+
+    /// The verdict on a file with this fault.
+    pub(crate) fn of_fault(fault: Fault) -> BplistVerdict
+        ensures { result ≡ fault_verdict fault }
+    {
+        let (has_object, object) = match fault.object {
+            Some(object) => (1, object.0),
+            None => (0, 0),
+        };
+        BplistVerdict {
+            rule: number_of(fault.rule),
+            has_object,
+            object,
+            place: fault.place,
+            ..BplistVerdict::nothing()
+        }
+    }
+
+    /// The verdict on a file with this circle.
+    fn of_circle(circle: &ObjectNos) -> BplistVerdict
+        ensures { result ≡ circle_verdict circle.now }
+    {
+        let objects = circle.as_slice();
+        BplistVerdict {
+            rule: 23,
+            has_object: 1,
+            object: match objects.first() {
+                Some(first) => first.0,
+                None => 0,
+            },
+            circle: objects.len() as u64,
+            ..BplistVerdict::nothing()
+        }
+    }
+}
+
+/// What C is told of a file that the linter refuses.
+pub(crate) fn refused(refusal: &LintRefusal) -> (Status, BplistVerdict)
+    ensures { result ≡ lint_refusal refusal.now }
+{
+    match refusal {
+        LintRefusal::Fault(fault) => (Status::Fault, BplistVerdict::of_fault(*fault)),
+        LintRefusal::Circle(circle) => (Status::Fault, BplistVerdict::of_circle(circle)),
+        LintRefusal::Read(_) | LintRefusal::Memory => (Status::Memory, BplistVerdict::nothing()),
+    }
+}

@@ -1,0 +1,39 @@
+use Rattle.std.proofs.Common.{◌≡◌, ◌∙◌, length, subst, arith}
+use Rattle.std.proofs.lemmas.Bool.{false≢true}
+use Rattle.bplist_cert.proofs.KeyPairing.{AscendTo, ascend_none, ascend_more, shapes_all, in_order_all}
+use Rattle.bplist_cert.proofs.key_lists.is_ascending.Goals as goal
+
+pub returns-in_default-clause-exact : goal.returns-in_default-clause-exact
+returns-in_default-clause-exact g c = λ honest framed pairs. (c.loop-position.invariant.pairs honest framed pairs, λ never. absurd (false≢true never))
+
+pub returns-then-not-branch-clause-exact : goal.returns-then-not-branch-clause-exact
+returns-then-not-branch-clause-exact g c = λ honest framed pairs.
+    let v = c.loop-position.invariant in
+    let here = (rw (c.in_ok-m.ensures.reads, v.same) at c.in_ok-follows.ensures.exact) honest framed (v.pairs honest framed pairs) in
+    (here.0, λ never. absurd (false≢true never))
+
+pub loop-position-preserved : goal.loop-position-preserved
+loop-position-preserved g c =
+    let f = (g.S.Source.means c.args.src.now).octets in
+    let F = c.args.frame.now in
+    let v = c.loop-position.invariant in
+    let inside = rw c.in-Some.is at c.in_ok-m.ensures.inside in
+    record {
+      same = c.in_ok-follows.ensures.reads ∙ c.in_ok-m.ensures.reads ∙ v.same;
+      inside = inside.1;
+      pairs = λ honest framed pairs. ((rw (c.in_ok-m.ensures.reads, v.same) at c.in_ok-follows.ensures.exact) honest framed (v.pairs honest framed pairs)).0;
+      ascend = λ honest framed pairs.
+          let here = (rw (c.in_ok-m.ensures.reads, v.same) at c.in_ok-follows.ensures.exact) honest framed (v.pairs honest framed pairs) in
+          let is = (rw (c.in-Some.is, v.same) at c.in_ok-m.ensures.exact) honest framed in
+          ascend_more f F c.args.head.now c.args.list.now c.loop-position.position-index c.loop-position.before c.in-Some.m (v.ascend honest framed pairs) inside.0 is (v.last honest framed) (here.1 c.if-not-branch.false);
+      last = λ honest framed. (c.loop-position.position-index, omega arith, (rw (c.in-Some.is, v.same) at c.in_ok-m.ensures.exact) honest framed);
+    }
+
+pub returns-clause-exact : goal.returns-clause-exact
+returns-clause-exact g c = λ honest framed pairs.
+    let f = (g.S.Source.means c.args.src.now).octets in
+    let F = c.args.frame.now in
+    let v = c.loop-position.invariant in
+    let e : c.loop-position.position-index ≡ c.args.head.now.count = omega (arith, c.requires.whole, c.loop-position-test.false, c.loop-position.auto.position-index-end) in
+    let so = subst (AscendTo f F c.args.head.now c.args.list.now) e (v.ascend honest framed pairs) in
+    (v.pairs honest framed pairs, λ _. (shapes_all f F c.args.head.now c.args.list.now so, in_order_all f F c.args.head.now c.args.list.now so))

@@ -1,0 +1,9 @@
+use Rattle.std.proofs.Common.{set, sym, subst, arith}
+use Rattle.bplist_cert.specs.KeyPairs.{ArePairs}
+use Rattle.bplist_cert.proofs.KeyPairing.{pairs_more}
+use Rattle.bplist_cert.proofs.key_pairs.OrderedPairs.insert.Goals as goal
+
+pub returns : goal.returns
+returns c = λ f F pairs asc.
+    subst (λ p. ArePairs f F (set c.args.self.now.rows c.row_of.result p)) (sym c.pair_of-pair.ensures)
+    (pairs_more f F c.args.self.now.rows c.row_of.result c.args.a c.args.b (omega (arith, c.row_of.ensures)) c.ranges.b.fits pairs asc)

@@ -1,0 +1,5 @@
+use Rattle.bplist_cert.proofs.Repeating.{repeated_unlisted}
+use Rattle.bplist_cert.proofs.laws.repeated_key_has_no_list.Goals as goal
+
+pub returns : goal.returns
+returns c = repeated_unlisted

@@ -1,0 +1,58 @@
+//! Pairs of texts that were found in order, so that dictionaries which share keys do not compare them again.
+
+ghost use Rattle.std.specs.Prelude.{◌≡◌, ◌+◌, ◌*◌, ◌<◌, ℕ, List, IsTrue, replicate};
+ghost use Rattle.bplist_objects.specs.declared.frame.Frame.{Frame as frame};
+
+/// How many pairs are kept: a prime, so that pairs with near numbers have rows of their own.
+const ROWS: usize = 2039;
+
+/// Pairs of objects that are texts, of which the first comes before the second: as many as fit a table of 16 KiB, in which a
+/// pair takes the row of another. A pair is kept as one number, and 0 is none.
+#[derive(Drop)]
+pub(crate) struct OrderedPairs {
+    pub rows: [u64; ROWS],
+}
+
+/// Two numbers as one.
+fn pair_of(a: u32, b: u32) -> u64
+    ensures { result ≡ a * 4294967296 + b }
+{
+    a as u64 * 4_294_967_296 + b as u64
+}
+
+/// The row of a pair.
+fn row_of(pair: u64) -> usize
+    ensures { result < 2039 }
+{
+    (pair % ROWS as u64) as usize
+}
+
+impl OrderedPairs {
+    ghost use Rattle.bplist_cert.specs.KeyPairs.{Ascends, ArePairs};
+
+    /// No pairs yet.
+    pub(crate) fn new() -> OrderedPairs
+        ensures { result.rows ≡ replicate 2039 0 }
+    {
+        OrderedPairs { rows: [0; ROWS] }
+    }
+
+    /// Whether objects `a` and `b` were found to be texts in this order.
+    pub(crate) fn has(&self, a: u32, b: u32) -> bool
+        ensures { (f : List ℕ) (F : frame) → ArePairs f F self.now.rows → IsTrue result → Ascends f F a b }
+    {
+        let pair = pair_of(a, b);
+        if pair == 0 || self.rows[row_of(pair)] != pair {
+            return false;
+        }
+        true
+    }
+
+    /// Keeps that objects `a` and `b` are texts in this order.
+    pub(crate) fn insert(&mut self, a: u32, b: u32)
+        ensures { (f : List ℕ) (F : frame) → ArePairs f F self.old.rows → Ascends f F a b → ArePairs f F self.new.rows }
+    {
+        let pair = pair_of(a, b);
+        self.rows[row_of(pair)] = pair;
+    }
+}

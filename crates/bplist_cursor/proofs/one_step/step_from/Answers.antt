@@ -1,0 +1,20 @@
+use Rattle.std.proofs.Common.{refl, subst}
+use Rattle.std.proofs.lemmas.Result.{err_from_is_err_and}
+use Rattle.bplist_cursor.specs.Steps.{IsStep}
+use Rattle.bplist_cursor.proofs.Causes.{unread_excused}
+use Rattle.bplist_cursor.proofs.one_step.step_from.Goals as goal
+
+pub returns-in_err-object-clause-exact : goal.returns-in_err-object-clause-exact
+returns-in_err-object-clause-exact g c = λ honest vouched v holds.
+    let p = err_from_is_err_and c.from_residual.result c.from_residual.ensures.1 in
+    rw (p.1, p.2) (unread_excused c.in_err-object.field-0.0 (c.in_err-object.ensures.exact honest vouched v holds))
+
+pub returns-in-On-clause-exact : goal.returns-in-On-clause-exact
+returns-in-On-clause-exact g c = λ honest vouched v holds.
+    let checked = c.args.checked.now in
+    subst (IsStep checked.source.octets checked.frame c.args.node.object.0 v c.args.units.now) c.in-On.is (c.in_ok-object.ensures.exact honest vouched v holds)
+
+pub returns-in-Not-clause-exact : goal.returns-in-Not-clause-exact
+returns-in-Not-clause-exact g c = λ honest vouched v holds.
+    let checked = c.args.checked.now in
+    (refl, subst (IsStep checked.source.octets checked.frame c.args.node.object.0 v c.args.units.now) c.in-Not.is (c.in_ok-object.ensures.exact honest vouched v holds))

@@ -1,0 +1,45 @@
+//! One step from a node.
+
+ghost use Rattle.std.specs.Prelude.{◌≡◌, IsTrue, Err};
+ghost use Rattle.bplist_objects.specs.Value.{Value};
+ghost use Rattle.bplist_objects.specs.Holds.{Holds};
+ghost use Rattle.bplist_cert.specs.Valid.{IsVouchedBy};
+ghost use Rattle.bplist_cursor.specs.Causes.{GivesCursor, TakesNoMemory, cursor_read};
+ghost use Rattle.bplist_cursor.specs.Kept.{Keeps};
+ghost use Rattle.bplist_cursor.specs.OneStep.{IsStepFound};
+ghost use Rattle.bplist_cursor.specs.declared.faults.CursorFault.TheVariants.{Changed};
+
+use crate::faults::CursorFault;
+use crate::found::{Found, Node};
+use crate::stepping::{Step, step_at};
+use bplist_cert::Checked;
+use bplist_octets::Source;
+
+/// Where one step leads from a node: to the value for the key with these units, or to the member whose index they spell.
+/// It is for keys that no path text can name; `step` of `Missing` is 0.
+///
+/// A key is looked for as by [`locate`](crate::locate). The call takes no memory. `Changed`: the certificate does not vouch
+/// for the object, or the source gives other bytes than those that were checked. `Read`: a read of the source failed. A
+/// refusal leaves the `Checked` as it was, save the count of failures of its source.
+pub fn step_from<S: Source>(
+    checked: &mut Checked<S>,
+    node: Node,
+    units: &[u16],
+) -> Result<Found, CursorFault>
+    ensures reads { Keeps (cursor_read result) checked.old checked.new }
+    ensures exact { IsTrue checked.old.source.honest → IsVouchedBy checked.old.certificate.heights node.object.0 → (v : Value)
+        → Holds checked.old.source.octets checked.old.frame node.object.0 v
+        → GivesCursor (IsStepFound checked.old.source.octets checked.old.frame node.object.0 v units.now) result }
+    ensures unvouched { (IsVouchedBy checked.old.certificate.heights node.object.0 → ⊥) → result ≡ Err Changed }
+    ensures memory { TakesNoMemory result }
+{
+    let _frame = checked.frame();
+    if checked.height(node.object) == 0 {
+        return Err(CursorFault::Changed);
+    }
+    let mut made = 0u64;
+    match step_at(checked, node.object, units, &mut made)? {
+        Step::On(object) => Ok(Found::At(Node { object })),
+        Step::Not(why) => Ok(Found::Missing { step: 0, why }),
+    }
+}

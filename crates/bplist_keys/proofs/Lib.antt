@@ -1,0 +1,12 @@
+pub mod Ordering
+pub mod Merging
+pub mod Halving
+pub mod NumberSteps
+pub mod Agreeing
+pub mod Folding
+pub mod WeightSteps
+pub mod Listing
+pub mod Ranking
+pub mod RankLaws
+pub mod Seeing
+pub mod PlaceSteps

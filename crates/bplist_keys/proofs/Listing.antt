@@ -1,0 +1,139 @@
+-- Which objects have a weight, and which of them are listed, while they are weighed one by one.
+use Rattle.std.proofs.Common.{◌≡◌, ◌≢◌, ℕ, ◌+◌, ◌<◌, ◌≤◌, List, [], ◌∷◌, ◌++◌, length, slice_index, set, All, Contains, refl, sym, ◌∙◌, subst, inl, inr, arith}
+use Rattle.std.proofs.lemmas.Bool.{cases_eq, cases_lt}
+use Rattle.std.proofs.lemmas.List.{get_or-set_same, get_or-set_other, get_or_past, get_or_append_left, get_or_push, length_push}
+use Rattle.std.proofs.lemmas.List.Elements.{All-from_get_or}
+use Rattle.bplist_objects.specs.declared.frame.Frame.{Frame}
+use Rattle.bplist_keys.specs.declared.weight.Weight.{Weight}
+use Rattle.bplist_keys.specs.Weights.{Weighs, AreWeighed}
+
+-- those below n are weighed and listed
+pub record AreListed (n : ℕ) (named weights texts : List ℕ) : Type 0 where
+  pub weighed : (k : ℕ) → k < length texts → (slice_index texts k < n) × (0 < slice_index weights (slice_index texts k))
+  pub listed : (m : ℕ) → m < n → 0 < slice_index weights m → Contains texts m
+  pub few : length texts ≤ n
+  pub later : (m : ℕ) → n ≤ m → slice_index weights m ≡ slice_index named m
+  pub named_too : (m : ℕ) → 0 < slice_index weights m → 0 < slice_index named m
+
+pub listed_none : (named texts : List ℕ) → length texts ≡ 0 → AreListed 0 named named texts
+listed_none named texts none = record {
+  weighed = λ k l. absurd (omega (arith, none, l));
+  listed = λ m l. absurd (omega (arith, l));
+  few = omega (arith, none);
+  later = λ m _. refl;
+  named_too = λ m some. some;
+}
+
+module _ (n : ℕ) (named weights texts : List ℕ) (l : AreListed n named weights texts) where
+  -- an object that is not named
+  pub listed_over : slice_index weights n ≡ 0 → AreListed (n + 1) named weights texts
+  listed_over none = record {
+    weighed = λ k low. let t = l.weighed k low in (omega (arith, t.0), t.1);
+    listed = λ m low some. elim (cases_eq m n) [
+      | inl e ↦ absurd (let s = rw e at some in omega (arith, s, none))
+      | inr d ↦ l.listed m (omega (arith, low, d)) some
+    ];
+    few = omega (arith, l.few);
+    later = λ m low. l.later m (omega (arith, low));
+    named_too = l.named_too;
+  }
+
+  module _ (room : n < length weights) (some_named : 0 < slice_index weights n) where
+    new : (w : ℕ) → slice_index (set weights n w) n ≡ w
+    new w = get_or-set_same weights n w 0 room
+
+    old : (w m : ℕ) → m ≢ n → slice_index (set weights n w) m ≡ slice_index weights m
+    old w m d = get_or-set_other weights n m w 0 d
+
+    later_too : (w m : ℕ) → n + 1 ≤ m → slice_index (set weights n w) m ≡ slice_index named m
+    later_too w m low = let d : m ≢ n = omega arith in rw (old w m d) (l.later m (omega (arith, low)))
+
+    named_yet : (w m : ℕ) → 0 < slice_index (set weights n w) m → 0 < slice_index named m
+    named_yet w m some = elim (cases_eq m n) [
+      | inl e ↦ subst (λ k. 0 < slice_index named k) (sym e) (l.named_too n some_named)
+      | inr d ↦ l.named_too m (rw (old w m d) at some)
+    ]
+
+    texts_too : (w k : ℕ) → k < length texts → (slice_index texts k < n + 1) × (0 < slice_index (set weights n w) (slice_index texts k))
+    texts_too w k low =
+        let t = l.weighed k low in
+        let d : slice_index texts k ≢ n = omega (arith, t.0) in
+        (omega (arith, t.0), rw (old w (slice_index texts k) d) t.1)
+
+    -- one that is no text
+    pub listed_out : AreListed (n + 1) named (set weights n 0) texts
+    listed_out = record {
+      weighed = texts_too 0;
+      listed = λ m low some. elim (cases_eq m n) [
+        | inl e ↦ absurd (let s = rw (e, new 0) at some in omega (arith, s))
+        | inr d ↦ l.listed m (omega (arith, low, d)) (rw (old 0 m d) at some)
+      ];
+      few = omega (arith, l.few);
+      later = later_too 0;
+      named_too = named_yet 0;
+    }
+
+    -- one that is
+    pub listed_in : (w : ℕ) → 0 < w → AreListed (n + 1) named (set weights n w) (texts ++ n ∷ [])
+    listed_in w some = record {
+      weighed = λ k low. elim (cases_lt k (length texts)) [
+        | inl l' ↦ rw (get_or_append_left texts (n ∷ []) 0 k l') (texts_too w k l')
+        | inr ge ↦
+            let last : length texts ≡ k = omega (arith, ge, low, length_push texts n) in
+            rw (get_or_push texts n 0 k last, new w) (omega arith, some)
+      ];
+      listed = λ m low some'. elim (cases_eq m n) [
+        | inl e ↦ (length texts, omega (arith, length_push texts n), get_or_push texts n m (length texts) refl ∙ sym e)
+        | inr d ↦
+            let c = l.listed m (omega (arith, low, d)) (rw (old w m d) at some') in
+            (c.0, omega (arith, c.1, length_push texts n), get_or_append_left texts (n ∷ []) m c.0 c.1 ∙ c.2)
+      ];
+      few = omega (arith, l.few, length_push texts n);
+      later = later_too w;
+      named_too = named_yet w;
+    }
+
+    -- either of them
+    pub listed_put : (w : ℕ) (after : List ℕ) → (w ≡ 0 → after ≡ texts) → (0 < w → after ≡ texts ++ n ∷ []) → AreListed (n + 1) named (set weights n w) after
+    listed_put w after other text = elim (cases_lt 0 w) [
+      | inl some ↦ subst (AreListed (n + 1) named (set weights n w)) (sym (text some)) (listed_in w some)
+      | inr none ↦
+          let zero : w ≡ 0 = omega (arith, none) in
+          subst (λ v. AreListed (n + 1) named (set weights n v) after) (sym zero) (subst (AreListed (n + 1) named (set weights n 0)) (sym (other zero)) listed_out)
+    ]
+
+-- the texts that are listed have a weight
+pub texts_weigh : (n : ℕ) (named weights texts : List ℕ) → AreListed n named weights texts → All (λ m. 0 < slice_index weights m) texts
+texts_weigh n named weights texts l = All-from_get_or (λ m. 0 < slice_index weights m) texts 0 (λ k low. (l.weighed k low).1)
+
+module _ (f : List ℕ) (F : Frame) (by : Weight) (named : List ℕ) where
+  -- those below n that are named have their weights
+  abbrev pub WeighBelow : ℕ → List ℕ → Type 0
+  WeighBelow n weights = (m : ℕ) → m < n → 0 < slice_index named m → Weighs f F by m (slice_index weights m)
+
+  pub weigh_over : (n : ℕ) (weights texts : List ℕ) → AreListed n named weights texts → slice_index weights n ≡ 0 → WeighBelow n weights → WeighBelow (n + 1) weights
+  weigh_over n weights texts l none below m low some = elim (cases_eq m n) [
+    | inl e ↦ absurd (let s = rw e at some in let same = l.later n (omega arith) in omega (arith, s, none, same))
+    | inr d ↦ below m (omega (arith, low, d)) some
+  ]
+
+  pub weigh_more : (n w : ℕ) (weights : List ℕ) → n < length weights → Weighs f F by n w → WeighBelow n weights → WeighBelow (n + 1) (set weights n w)
+  weigh_more n w weights room here below m low some = elim (cases_eq m n) [
+    | inl e ↦ rw (e, get_or-set_same weights n w 0 room) here
+    | inr d ↦ rw (get_or-set_other weights n m w 0 d) (below m (omega (arith, low, d)) some)
+  ]
+
+  pub all_weighed : (n : ℕ) (weights texts : List ℕ) → length named ≡ n → length weights ≡ n → AreListed n named weights texts → WeighBelow n weights → AreWeighed f F by named weights
+  all_weighed n weights texts many all l below = record {
+    only = λ m some.
+        let some' = l.named_too m some in
+        let w = (below m (within weights m all some) some').0 some in
+        (some', w.0, w.1);
+    all = λ m some shape. (below m (within named m many some) some).1 shape;
+  }
+    where
+      within : (xs : List ℕ) (m : ℕ) → length xs ≡ n → 0 < slice_index xs m → m < n
+      within xs m e some = elim (cases_lt m n) [
+        | inl low ↦ low
+        | inr high ↦ absurd (let past = get_or_past xs m 0 (omega (arith, e, high)) in omega (arith, past, some))
+      ]

@@ -1,0 +1,23 @@
+-- Weights of texts.
+use Rattle.std.proofs.Common.{◌≡◌, ℕ, ◌<◌, max, List, slice_index, sym, ap, ◌∙◌, subst, arith}
+use Rattle.bplist_objects.specs.declared.frame.Frame.{Frame}
+use Rattle.bplist_objects.specs.declared.head.Head.{Head}
+use Rattle.bplist_objects.specs.Units.{units_of}
+use Rattle.bplist_objects.proofs.Spelling.{head_is_found}
+use Rattle.bplist_objects.proofs.Ties.{shape_announced}
+use Rattle.bplist_keys.specs.declared.weight.Weight.TheVariants.{Fingerprint, Prefix}
+use Rattle.bplist_keys.specs.Texts.{IsTextHead, units_found, text_units}
+use Rattle.bplist_keys.specs.Weights.{fingerprint, prefix, Weighs}
+
+module _ (f : List ℕ) (F : Frame) (m : ℕ) (key : Head) (text : IsTextHead f F m key) where
+  -- the units of a text are those of its head
+  pub text_units-head : text_units f F m ≡ units_of f key
+  text_units-head = ap (units_found f) (head_is_found f F m key (shape_announced f F m key text.0))
+
+  pub weighs-fingerprint : (x : ℕ) → x ≡ fingerprint (units_of f key) → Weighs f F Fingerprint m (max x 1)
+  weighs-fingerprint x is =
+      (λ _. ((key, text), ap (λ y. max y 1) (is ∙ ap fingerprint (sym text_units-head))), λ _. omega arith)
+
+  pub weighs-prefix : (x : ℕ) → (x ≡ prefix (units_of f key)) × (slice_index (units_of f key) 1 < 65536) → Weighs f F Prefix m (max x 1)
+  weighs-prefix x is =
+      (λ _. ((key, text), (ap (λ y. max y 1) (is.0 ∙ ap prefix (sym text_units-head)), subst (λ us. slice_index us 1 < 65536) (sym text_units-head) is.1)), λ _. omega arith)

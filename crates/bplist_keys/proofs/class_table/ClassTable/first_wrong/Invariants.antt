@@ -1,0 +1,21 @@
+use Rattle.std.proofs.Common.{◌≡◌, ℕ, ◌<◌, ◌≤◌, ◌-◌, slice_index, IfSome, IsTrue}
+use Rattle.bplist_keys.specs.Classes.{key_ref}
+use Rattle.bplist_keys.specs.Classes.{AreSeen}
+use Rattle.bplist_keys.proofs.class_table.ClassTable.first_wrong.Given as goal
+
+abbrev pub invariant-loop-done : goal.invariant-loop-done
+invariant-loop-done g l =
+    let means = g.S.Source.means in
+    let f = (means l.fn.src).octets in
+    let classes = l.fn.self.classes.table.items in
+    record {
+      reads : means l.src ≡ means l.fn.src;
+      same : l.self.classes.table.items ≡ classes;
+      reached : l.done ≤ l.count;
+      again : IfSome l.again (λ j. j < l.done);
+      seen : IsTrue (means l.fn.src).honest → ((x : ℕ) → slice_index l.fn.self.seen.items x ≤ l.n)
+          → AreSeen (key_ref f l.frame l.head) classes l.n l.self.seen.items l.done l.again;
+    }
+
+abbrev pub decreases-loop-done : goal.decreases-loop-done
+decreases-loop-done g l = l.count - l.done

@@ -1,0 +1,6 @@
+use Rattle.bplist_objects.proofs.Refusing.{no_shape}
+use Rattle.bplist_keys.proofs.text.text_head.Goals as goal
+
+pub returns-in-Err-Fault-clause-exact : goal.returns-in-Err-Fault-clause-exact
+returns-in-Err-Fault-clause-exact g c = λ honest framed place t.
+    no_shape _ _ _ _ t.0 (rw c.in-Err-Fault.field-0-is at (c.in-Err-Fault.ensures.exact honest framed place)) t.1.0

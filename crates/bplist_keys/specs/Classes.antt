@@ -1,0 +1,73 @@
+-- The keys of dictionaries by the classes of their texts. Source: profile.
+use Rattle.std.specs.Prelude.{◌≡◌, ◌≢◌, ◌↔◌, ℕ, ◌+◌, ◌-◌, ◌<◌, ◌≤◌, List, length, set, slice_index, Option, MatchOption}
+use Rattle.bplist_objects.specs.declared.frame.Frame.{Frame}
+use Rattle.bplist_objects.specs.declared.head.Head.{Head}
+use Rattle.bplist_objects.specs.declared.kind.Kind.TheVariants.{Dict}
+use Rattle.bplist_objects.specs.Announced.{HasHead}
+use Rattle.bplist_objects.specs.Scan.{nth_number}
+use Rattle.bplist_keys.specs.Texts.{HasTextShape, text_units}
+use Rattle.bplist_keys.specs.declared.class_table.Found.{Found}
+use Rattle.bplist_keys.specs.declared.class_table.Found.TheVariants as founds
+use Rattle.bplist_keys.specs.declared.class_table.Wrong.{Wrong}
+use Rattle.bplist_keys.specs.declared.class_table.Wrong.TheVariants as wrongs
+
+-- key reference i of a dictionary with this head
+abbrev pub key_ref : List ℕ → Frame → Head → ℕ → ℕ
+key_ref f F head i = nth_number f head.body F.ref_size i
+
+module _ (f : List ℕ) (F : Frame) where
+  -- the keys of object n, if it is a dictionary, are named
+  abbrev pub HasNamedKeys : List ℕ → ℕ → Type 0
+  HasNamedKeys named n = (head : Head) → HasHead f F n head → head.kind ≡ Dict → (k : ℕ) → k < head.count → 0 < slice_index named (key_ref f F head k)
+
+  -- the keys of a dictionary with this head have these classes: those alone that are texts by marker and count, and two
+  -- have the same one exactly where their units are the same
+  pub record AreClassed (classes : List ℕ) (head : Head) : Type 0 where
+    pub only : (k : ℕ) → k < head.count → 0 < slice_index classes (key_ref f F head k) → HasTextShape f F (key_ref f F head k)
+    pub all : (k : ℕ) → k < head.count → HasTextShape f F (key_ref f F head k) → 0 < slice_index classes (key_ref f F head k)
+    pub same : (i j : ℕ) → i < head.count → j < head.count
+        → 0 < slice_index classes (key_ref f F head i) → 0 < slice_index classes (key_ref f F head j)
+        → (slice_index classes (key_ref f F head i) ≡ slice_index classes (key_ref f F head j)) ↔ (text_units f F (key_ref f F head i) ≡ text_units f F (key_ref f F head j))
+
+-- what is found of a key m of dictionary n, and what becomes of the numbers of the dictionaries that each class was seen in last
+abbrev pub IsFound : List ℕ → ℕ → ℕ → List ℕ → Found → List ℕ → Type 0
+IsFound classes n m seen founds.NoText seen' = (slice_index classes m ≡ 0) × (seen' ≡ seen)
+IsFound classes n m seen founds.First seen' =
+    (0 < slice_index classes m) × (slice_index seen (slice_index classes m - 1) ≢ n + 1)
+    × (slice_index classes m - 1 < length seen) × (seen' ≡ set seen (slice_index classes m - 1) (n + 1))
+IsFound classes n m seen founds.Again seen' =
+    (0 < slice_index classes m) × (slice_index seen (slice_index classes m - 1) ≡ n + 1) × (seen' ≡ seen)
+
+module _ (key : ℕ → ℕ) (classes : List ℕ) where
+  -- the first so many keys are of different classes
+  abbrev pub AreApart : ℕ → Type 0
+  AreApart count = (i j : ℕ) → i < j → j < count → slice_index classes (key i) ≢ slice_index classes (key j)
+
+  -- the first so many keys have a class
+  abbrev pub HaveClasses : ℕ → Type 0
+  HaveClasses count = (i : ℕ) → i < count → 0 < slice_index classes (key i)
+
+  -- key j is the first that has the class of an earlier one
+  pub record IsFirstAgain (j : ℕ) : Type 0 where
+    pub earlier : ℕ
+    pub order : earlier < j
+    pub same : slice_index classes (key earlier) ≡ slice_index classes (key j)
+    pub before : AreApart j
+
+  -- the first so many keys of dictionary n have been looked at
+  pub record AreSeen (n : ℕ) (seen : List ℕ) (count : ℕ) (again : Option ℕ) : Type 0 where
+    pub texts : HaveClasses count
+    pub stamped : (i : ℕ) → i < count → slice_index seen (slice_index classes (key i) - 1) ≡ n + 1
+    pub only : (x : ℕ) → slice_index seen x ≡ n + 1 → (i : ℕ) × (i < count) × (slice_index classes (key i) ≡ x + 1)
+    pub low : (x : ℕ) → slice_index seen x ≤ n + 1
+    pub first : MatchOption again (AreApart count) (λ j. (j < count) × IsFirstAgain j)
+
+  -- what is wrong with so many keys
+  abbrev pub IsWrong : ℕ → Wrong → Type 0
+  IsWrong count (wrongs.NoText i) = (i < count) × (slice_index classes (key i) ≡ 0) × HaveClasses i
+  IsWrong count (wrongs.Again j) = (j < count) × HaveClasses count × IsFirstAgain j
+
+-- the number of the key that is wrong
+abbrev pub wrong_key : Wrong → ℕ
+wrong_key (wrongs.NoText i) = i
+wrong_key (wrongs.Again j) = j

@@ -1,0 +1,9 @@
+pub mod Order
+pub mod Texts
+pub mod Weights
+pub mod Weighted
+pub mod Ranks
+pub mod Faults
+pub mod Classes
+pub mod Places
+pub mod Notes

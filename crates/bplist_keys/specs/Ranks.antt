@@ -1,0 +1,33 @@
+-- Classes and ranks of the texts that are named as keys. Source: profile.
+use Rattle.std.specs.Prelude.{◌≡◌, ℕ, ◌<◌, ◌↔◌, List, slice_index}
+use Rattle.std.specs.declared.cmp.Ordering.TheVariants.{Less}
+use Rattle.bplist_objects.specs.declared.frame.Frame.{Frame}
+use Rattle.bplist_objects.specs.Units.{compare_units}
+use Rattle.bplist_keys.specs.declared.weight.Weight.{Weight}
+use Rattle.bplist_keys.specs.Texts.{HasTextShape, text_units}
+use Rattle.bplist_keys.specs.Weights.{AreWeighed}
+use Rattle.bplist_keys.specs.Weighted.{AreOrdered}
+
+module _ (f : List ℕ) (F : Frame) (named numbers : List ℕ) where
+  -- exactly the named objects with the head of a text have a number above 0
+  pub record AreGiven : Type 0 where
+    pub only : (m : ℕ) → 0 < slice_index numbers m → (0 < slice_index named m) × HasTextShape f F m
+    pub all : (m : ℕ) → 0 < slice_index named m → HasTextShape f F m → 0 < slice_index numbers m
+
+  -- besides, two numbers are equal exactly where the units are
+  pub record AreClasses : Type 0 where
+    pub given : AreGiven
+    pub same : (a b : ℕ) → 0 < slice_index numbers a → 0 < slice_index numbers b
+        → (slice_index numbers a ≡ slice_index numbers b) ↔ (text_units f F a ≡ text_units f F b)
+
+  -- besides, numbers are ordered as the units are
+  pub record AreRanks : Type 0 where
+    pub given : AreGiven
+    pub order : (a b : ℕ) → 0 < slice_index numbers a → 0 < slice_index numbers b
+        → (slice_index numbers a < slice_index numbers b) ↔ (compare_units (text_units f F a) (text_units f F b) ≡ Less)
+
+  -- the numbers are in the order of weights of this kind and of units
+  pub record AreRankedBy (by : Weight) : Type 0 where
+    pub weights : List ℕ
+    pub weighed : AreWeighed f F by named weights
+    pub ordered : AreOrdered f F weights numbers

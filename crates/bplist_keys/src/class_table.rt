@@ -1,0 +1,157 @@
+//! The classes of the texts that are named as keys, and in which dictionary each was seen last.
+
+ghost use Rattle.std.specs.Prelude.{◌≡◌, ◌+◌, ◌-◌, ◌≤◌, ◌<◌, ◌^◌, ℕ, IsTrue, IfOk, IfSome, MatchOption, is_err, length, slice_index};
+ghost use Rattle.bplist_octets.specs.Meaning.{OnlyReads};
+ghost use Rattle.bplist_objects.specs.Safe.{IsSafe, IsSafeHead};
+ghost use Rattle.bplist_objects.specs.declared.kind.Kind.TheVariants.{Dict};
+ghost use Rattle.bplist_keys.specs.Classes.{key_ref};
+
+use crate::named::BLOCK;
+use crate::ranks::Ranks;
+use bplist_objects::{Frame, Head, read_refs};
+use bplist_octets::{ReadFault, Source};
+use std::alloc::{AllocError, Global};
+
+/// What is found of a key of a dictionary.
+#[derive(Clone, Copy, Debug)]
+pub(crate) enum Found {
+    /// It is no text.
+    NoText,
+    /// It is a text whose units no key before it has.
+    First,
+    /// It is a text with the units of a key before it.
+    Again,
+}
+
+/// What is wrong with the keys of a dictionary first.
+#[derive(Clone, Copy, Debug)]
+pub enum Wrong {
+    /// The key of this number is the first that is no text.
+    NoText(u64),
+    /// All are texts, and the key of this number is the first with the units of an earlier one.
+    Again(u64),
+}
+
+/// The classes of keys, and for each the dictionary that it was seen in last: its number and 1, or 0 for none.
+#[derive(Drop)]
+pub struct ClassTable {
+    pub classes: Ranks,
+    pub seen: Vec<u32>,
+    pub ghost all: { length seen.items ≡ classes.greatest },
+}
+
+/// The number that was found before, or this one where there is none.
+fn earlier(found: Option<u64>, k: u64) -> u64
+    ensures { MatchOption found (result ≡ k) (λ j. result ≡ j) }
+{
+    match found {
+        Some(j) => j,
+        None => k,
+    }
+}
+
+impl ClassTable {
+    ghost use Rattle.bplist_keys.specs.declared.class_table.Wrong.TheVariants.{NoText};
+    ghost use Rattle.bplist_keys.specs.Classes.{IsFound, AreSeen, HaveClasses, AreApart, IsWrong, wrong_key};
+
+    /// None of these classes was seen yet.
+    pub fn new(alloc: Global, classes: Ranks) -> Result<ClassTable, AllocError>
+        ensures classes { IfOk result (λ table. table.classes.table.items ≡ classes.table.items) }
+        ensures none { IfOk result (λ table. (x : ℕ) → slice_index table.seen.items x ≡ 0) }
+    {
+        let seen = vec![in alloc; 0; classes.greatest as usize]?;
+        Ok(ClassTable { classes, seen })
+    }
+
+    /// Looks up a key of dictionary `n`: object `m`.
+    fn look_up(&mut self, n: u32, m: u64) -> Found
+        requires { n < 2 ^ 32 - 1 }
+        ensures same { self.new.classes.table.items ≡ self.old.classes.table.items }
+        ensures found { IsFound self.old.classes.table.items n m self.old.seen.items result self.new.seen.items }
+    {
+        if m >= self.classes.table.len() as u64 {
+            return Found::NoText;
+        }
+        let class = self.classes.table[m as usize];
+        if class == 0 {
+            return Found::NoText;
+        }
+        let row = class as usize - 1;
+        if self.seen[row] == n + 1 {
+            return Found::Again;
+        }
+        self.seen[row] = n + 1;
+        Found::First
+    }
+
+    /// Looks up a block of the keys of dictionary `n`, of which the first so many were looked up. The number of the first
+    /// that is no text. `again` is that of the first which has the units of an earlier one.
+    fn look_up_block(
+        &mut self,
+        n: u32,
+        numbers: &[u64],
+        done: u64,
+        again: &mut Option<u64>,
+    ) -> Option<u64>
+        requires few { n < 2 ^ 32 - 1 }
+        requires fits { done + length numbers.now < 2 ^ 64 }
+        ensures same { self.new.classes.table.items ≡ self.old.classes.table.items }
+        ensures inside { IfSome result (λ i. i < done + length numbers.now) }
+        ensures again { IfSome again.old (λ j. j < done) → IfSome again.new (λ j. j < done + length numbers.now) }
+        ensures seen { (key : ℕ → ℕ) → ((k : ℕ) → k < length numbers.now → slice_index numbers.now k ≡ key (done + k))
+            → AreSeen key self.old.classes.table.items n self.old.seen.items done again.old
+            → MatchOption result
+            (AreSeen key self.old.classes.table.items n self.new.seen.items (done + length numbers.now) again.new)
+            (λ i. IsWrong key self.old.classes.table.items (done + length numbers.now) (NoText i)) }
+    {
+        for (k, m) in numbers.iter().enumerate() {
+            match self.look_up(n, *m) {
+                Found::NoText => return Some(done + k as u64),
+                Found::First => {}
+                Found::Again => *again = Some(earlier(*again, done + k as u64)),
+            }
+        }
+        None
+    }
+
+    /// What is wrong with the keys of dictionary `n` first.
+    pub fn first_wrong<S: Source>(
+        &mut self,
+        src: &mut S,
+        frame: &Frame,
+        n: u32,
+        head: &Head,
+    ) -> Result<Option<Wrong>, ReadFault>
+        requires safe { IsSafe (length (S.means src.old).octets) frame.now }
+        requires head { IsSafeHead frame.now head.now }
+        requires dict { head.now.kind ≡ Dict }
+        requires few { n < 2 ^ 32 - 1 }
+        ensures reads { OnlyReads (is_err result) (S.means src.old) (S.means src.new) }
+        ensures same { self.new.classes.table.items ≡ self.old.classes.table.items }
+        ensures inside { IfOk result (λ found. IfSome found (λ wrong. wrong_key wrong < head.now.count)) }
+        ensures exact { IsTrue (S.means src.old).honest → ((x : ℕ) → slice_index self.old.seen.items x ≤ n)
+            → IfOk result (λ found. MatchOption found
+            (HaveClasses (key_ref (S.means src.old).octets frame.now head.now) self.old.classes.table.items head.now.count
+            × AreApart (key_ref (S.means src.old).octets frame.now head.now) self.old.classes.table.items head.now.count
+            × ((x : ℕ) → slice_index self.new.seen.items x ≤ n + 1))
+            (IsWrong (key_ref (S.means src.old).octets frame.now head.now) self.old.classes.table.items head.now.count)) }
+    {
+        let count = head.count;
+        let mut buffer = [0u64; BLOCK];
+        let mut again: Option<u64> = None;
+        let mut done = 0u64;
+        while done < count {
+            let now = (count - done).min(BLOCK as u64) as usize;
+            let numbers = &mut buffer[..now];
+            read_refs(src, frame, head, done, numbers)?;
+            if let Some(i) = self.look_up_block(n, numbers, done, &mut again) {
+                return Ok(Some(Wrong::NoText(i)));
+            }
+            done += now as u64;
+        }
+        match again {
+            Some(j) => Ok(Some(Wrong::Again(j))),
+            None => Ok(None),
+        }
+    }
+}

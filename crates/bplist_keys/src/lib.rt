@@ -1,0 +1,41 @@
+//! Numbers for the texts that dictionaries name as keys, so that keys are compared as numbers.
+//!
+//! ```
+//! let mut named = NamedKeys::new(alloc, frame.objects)?;
+//! named.insert(key);                                       // each object that is named as a key
+//! let classes = classes_of(alloc, &mut source, &frame, &places, named)?;
+//! let same = classes.table[a] == classes.table[b];         // exactly where the units are the same
+//! ```
+//!
+//! | what | calls |
+//! |---|---|
+//! | the objects that are named as keys | [`NamedKeys::new`], `insert` |
+//! | a class for each: equal exactly where the units are equal | [`classes_of`], [`Ranks`] |
+//! | a rank for each: ordered as the units are | [`ranks_of`], [`Ranks`] |
+//! | a failed read or refused memory | [`KeysFault`] |
+//!
+//! A text is read once, for a fingerprint or its first units, and again only where these are equal. Keys that are no texts have
+//! the number
+//! 0. The linter uses classes (rule 22), `upgrade` uses ranks (sorted key lists).
+#![tactic(auto)]
+
+mod class_table;
+mod fault;
+mod named;
+mod notes;
+mod numbering;
+mod ordered;
+mod places;
+mod ranks;
+mod sorting;
+mod text;
+mod weighing;
+mod weight;
+mod weighted;
+
+pub use class_table::{ClassTable, Wrong};
+pub use fault::KeysFault;
+pub use named::{NamedKeys, name_keys};
+pub use places::places_of;
+pub use ranks::{Ranks, classes_of, ranks_of};
+pub use text::{text_head, text_order};

@@ -1,0 +1,111 @@
+//! The objects that are named as keys.
+
+ghost use Rattle.std.specs.Prelude.{◌≡◌, ◌≤◌, ◌<◌, ◌^◌, ℕ, IsTrue, IfOk, OnOk, is_err, length, set, replicate, slice_index};
+ghost use Rattle.bplist_octets.specs.Meaning.{OnlyReads};
+ghost use Rattle.bplist_objects.specs.Safe.{IsSafe, IsSafeHead};
+ghost use Rattle.bplist_objects.specs.declared.kind.Kind.TheVariants.{Dict};
+ghost use Rattle.bplist_keys.specs.Classes.{key_ref};
+
+use bplist_objects::{Frame, Head, read_refs};
+use bplist_octets::{ReadFault, Source};
+use std::alloc::{AllocError, Global};
+
+/// How many references are read at once at most. They are few, since most dictionaries are small, and the block
+/// is set up for each of them.
+pub(crate) const BLOCK: usize = 32;
+
+/// The objects of a file that are named as keys: a number for each object, which is not 0 where it is named.
+#[derive(Drop)]
+pub struct NamedKeys {
+    pub table: Vec<u32>,
+}
+
+impl NamedKeys {
+    /// Of so many objects none is named yet.
+    pub fn new(alloc: Global, objects: u32) -> Result<NamedKeys, AllocError>
+        ensures { IfOk result (λ named. named.table.items ≡ replicate objects 0) }
+    {
+        Ok(NamedKeys {
+            table: vec![in alloc; 0; objects as usize]?,
+        })
+    }
+
+    /// Object `m` is named as a key.
+    pub fn insert(&mut self, m: u32)
+        requires { m < length self.old.table.items }
+        ensures { self.new.table.items ≡ set self.old.table.items m 1 }
+    {
+        self.table[m as usize] = 1;
+    }
+}
+
+/// Puts those of the numbers that are objects among the named.
+fn insert_all(named: &mut NamedKeys, numbers: &[u64])
+    requires { length named.old.table.items < 2 ^ 32 }
+    ensures all { length named.new.table.items ≡ length named.old.table.items }
+    ensures keeps { (m : ℕ) → 0 < slice_index named.old.table.items m → 0 < slice_index named.new.table.items m }
+    ensures named { (k : ℕ) → k < length numbers.now → slice_index numbers.now k < length named.new.table.items
+        → 0 < slice_index named.new.table.items (slice_index numbers.now k) }
+{
+    let objects = named.table.len() as u64;
+    for m in numbers {
+        if *m < objects {
+            named.insert(*m as u32);
+        }
+    }
+}
+
+/// Names a block of the keys of a dictionary, from number `from` on. The number of the key after it.
+fn name_block<S: Source>(
+    src: &mut S,
+    frame: &Frame,
+    head: &Head,
+    from: u64,
+    named: &mut NamedKeys,
+) -> Result<u64, ReadFault>
+    requires safe { IsSafe (length (S.means src.old).octets) frame.now }
+    requires head { IsSafeHead frame.now head.now }
+    requires dict { head.now.kind ≡ Dict }
+    requires more { from < head.now.count }
+    requires all { length named.old.table.items ≡ frame.now.objects }
+    ensures reads { OnlyReads (is_err result) (S.means src.old) (S.means src.new) }
+    ensures all { length named.new.table.items ≡ frame.now.objects }
+    ensures next { IfOk result (λ next. (from < next) × (next ≤ head.now.count)) }
+    ensures keeps { (m : ℕ) → 0 < slice_index named.old.table.items m → 0 < slice_index named.new.table.items m }
+    ensures named { IfOk result (λ next. IsTrue (S.means src.old).honest → (k : ℕ) → from ≤ k → k < next
+        → key_ref (S.means src.old).octets frame.now head.now k < frame.now.objects
+        → 0 < slice_index named.new.table.items (key_ref (S.means src.old).octets frame.now head.now k)) }
+{
+    let count = (head.count - from).min(BLOCK as u64);
+    let _objects = frame.objects;
+    let mut buffer = [0u64; BLOCK];
+    let numbers = &mut buffer[..count as usize];
+    read_refs(src, frame, head, from, numbers)?;
+    insert_all(named, numbers);
+    Ok(from + count)
+}
+
+/// Names the keys of a dictionary.
+pub fn name_keys<S: Source>(
+    src: &mut S,
+    frame: &Frame,
+    head: &Head,
+    named: &mut NamedKeys,
+) -> Result<(), ReadFault>
+    requires safe { IsSafe (length (S.means src.old).octets) frame.now }
+    requires head { IsSafeHead frame.now head.now }
+    requires dict { head.now.kind ≡ Dict }
+    requires all { length named.old.table.items ≡ frame.now.objects }
+    ensures reads { OnlyReads (is_err result) (S.means src.old) (S.means src.new) }
+    ensures all { length named.new.table.items ≡ frame.now.objects }
+    ensures keeps { (m : ℕ) → 0 < slice_index named.old.table.items m → 0 < slice_index named.new.table.items m }
+    ensures named { OnOk result (IsTrue (S.means src.old).honest → (k : ℕ) → k < head.now.count
+        → key_ref (S.means src.old).octets frame.now head.now k < frame.now.objects
+        → 0 < slice_index named.new.table.items (key_ref (S.means src.old).octets frame.now head.now k)) }
+{
+    let mut done = 0u64;
+    while done < head.count {
+        done = name_block(src, frame, head, done, named)?;
+    }
+    Ok(())
+}

@@ -1,0 +1,98 @@
+//! Weights of texts: numbers that are compared before the units are.
+//!
+//! Most texts that differ have different weights, so that few are read a second time.
+
+ghost use Rattle.std.specs.Prelude.{◌≡◌, ◌<◌, IsTrue, IfOk, is_err, length, fold, slice_index};
+ghost use Rattle.bplist_octets.specs.Meaning.{OnlyReads};
+ghost use Rattle.bplist_objects.specs.Frame.{off, IsFrame};
+ghost use Rattle.bplist_objects.specs.Safe.{IsSafe, IsSafeBody};
+ghost use Rattle.bplist_objects.specs.Units.{IsTextKind, units_of};
+ghost use Rattle.bplist_keys.specs.Weights.{mix, fingerprint, prefix, Weighs};
+
+use crate::text::{BLOCK, text_head};
+use bplist_objects::{Frame, Head, read_units};
+use bplist_octets::{ReadFault, Source};
+
+/// The odd factor by which a fingerprint is spread before a unit is added.
+const FACTOR: u32 = 16_777_619;
+
+/// What texts are compared by before their units.
+#[derive(Clone, Copy, Debug, PartialEq, Eq)]
+pub(crate) enum Weight {
+    /// A number that all units go into. Texts with different ones differ, and nothing is said of which comes first.
+    Fingerprint,
+    /// The first two units. Texts with different ones stand in their order.
+    Prefix,
+}
+
+/// A number with these units mixed in.
+fn mix_units(start: u32, units: &[u16]) -> u32
+    ensures { result ≡ fold mix start units.now }
+{
+    let mut mixed = start;
+    for unit in units {
+        mixed = mixed.wrapping_mul(FACTOR).wrapping_add(*unit as u32);
+    }
+    mixed
+}
+
+/// The fingerprint of the text with this head, whose body lies in the source.
+fn fingerprint_of<S: Source>(src: &mut S, key: &Head) -> Result<u32, ReadFault>
+    requires kind { IsTextKind key.now.kind }
+    requires head { IsSafeBody (length (S.means src.old).octets) key.now }
+    ensures reads { OnlyReads (is_err result) (S.means src.old) (S.means src.new) }
+    ensures value { IfOk result (λ x. IsTrue (S.means src.old).honest
+        → x ≡ fingerprint (units_of (S.means src.old).octets key.now)) }
+{
+    let mut buffer = [0u16; BLOCK];
+    let mut mixed = (key.count % 0x1_0000_0000) as u32;
+    let mut done = 0u64;
+    while done < key.count {
+        let now = (key.count - done).min(BLOCK as u64) as usize;
+        let block = &mut buffer[..now];
+        read_units(src, key, done, block)?;
+        mixed = mix_units(mixed, block);
+        done += now as u64;
+    }
+    Ok(mixed)
+}
+
+/// The first two units of the text with this head, whose body lies in the source, as one number.
+fn prefix_of<S: Source>(src: &mut S, key: &Head) -> Result<u32, ReadFault>
+    requires kind { IsTextKind key.now.kind }
+    requires head { IsSafeBody (length (S.means src.old).octets) key.now }
+    ensures reads { OnlyReads (is_err result) (S.means src.old) (S.means src.new) }
+    ensures value { IfOk result (λ x. IsTrue (S.means src.old).honest
+        → (x ≡ prefix (units_of (S.means src.old).octets key.now))
+        × (slice_index (units_of (S.means src.old).octets key.now) 1 < 65536)) }
+{
+    let mut units = [0u16; 2];
+    let count = key.count.min(2) as usize;
+    read_units(src, key, 0, &mut units[..count])?;
+    Ok(units[0] as u32 * 0x1_0000 + units[1] as u32)
+}
+
+/// The weight of object `m`, which stands at `place`: 0 where its marker and count are not those of a text.
+pub(crate) fn weigh<S: Source>(
+    src: &mut S,
+    frame: &Frame,
+    m: u32,
+    place: u64,
+    by: Weight,
+) -> Result<u32, ReadFault>
+    requires safe { IsSafe (length (S.means src.old).octets) frame.now }
+    requires within { m < frame.now.objects }
+    ensures reads { OnlyReads (is_err result) (S.means src.old) (S.means src.new) }
+    ensures exact { IsTrue (S.means src.old).honest → IsFrame (S.means src.old).octets frame.now
+        → place ≡ off (S.means src.old).octets frame.now m
+        → IfOk result (Weighs (S.means src.old).octets frame.now by m) }
+{
+    let Some(key) = text_head(src, frame, m, place)? else {
+        return Ok(0);
+    };
+    let number = match by {
+        Weight::Fingerprint => fingerprint_of(src, &key)?,
+        Weight::Prefix => prefix_of(src, &key)?,
+    };
+    Ok(number.max(1))
+}

@@ -1,0 +1,291 @@
+-- What the one walk over the reached objects knows between two visits, and at its end.
+use Rattle.std.proofs.Common.{◌≡◌, ◌≢◌, ◌↔◌, ℕ, zero, suc, ◌+◌, ◌-◌, ◌<◌, ◌≤◌, inl, inr, Bool, true, false, cond, List, [], ◌∷◌, ◌++◌, length, get_or, set, replicate, refl, sym, ap, ◌∙◌, subst, arith}
+use Rattle.std.proofs.lemmas.Bool.{cases_eq, false≢true}
+use Rattle.std.proofs.lemmas.List.{get_or-set_same, get_or-set_other, length-set, length-replicate, get_or_default}
+use Rattle.std.proofs.lemmas.List.Elements.{Contains-append_left, Contains-push, Contains-push_cases}
+use Rattle.bplist_objects.specs.declared.frame.Frame.{Frame}
+use Rattle.bplist_objects.specs.declared.head.Head.{Head}
+use Rattle.bplist_objects.specs.Announced.{HasHead}
+use Rattle.bplist_objects.specs.Frame.{off, IsFrame}
+use Rattle.bplist_objects.specs.ObjectRules.{KeepsByObject, object_rules}
+use Rattle.bplist_objects.specs.Reach.{Reach, top, next}
+use Rattle.bplist_objects.specs.Rules.{KeepsAll}
+use Rattle.bplist_objects.specs.Safe.{ref_count}
+use Rattle.bplist_objects.specs.Spelled.{refs_at}
+use Rattle.bplist_objects.specs.Heads.{content_at}
+use Rattle.bplist_objects.proofs.Reaching.{refs_iff, refs_spelled}
+use Rattle.bplist_objects.proofs.References.{length-refs}
+use Rattle.bplist_objects.proofs.Spelling.{head_is_found}
+use Rattle.bplist_objects.proofs.Ties.{head_tie}
+use Rattle.bplist_lint.specs.declared.tally.Tally.{Tally}
+use Rattle.bplist_lint.specs.declared.walking.Reached.{Reached}
+use Rattle.bplist_lint.specs.Reaching.{IsMarked}
+use Rattle.bplist_lint.specs.Referring.{AreBare}
+use Rattle.bplist_lint.specs.ReachRules.{sum_below, number_below, references_below, is_marked, Sums, Tallied}
+use Rattle.bplist_lint.specs.Tallies.{IsTalliedWith}
+use Rattle.bplist_lint.specs.Walks.{Noted, extent_by, extent, extents_below, IsVisited, IsWalkState, IsWalked}
+use Rattle.bplist_lint.proofs.Noting.{apart_none, apart_push, apart_front, apart_last, fresh-set}
+use Rattle.bplist_lint.proofs.ReachSteps.{marked_within, none_contained}
+use Rattle.bplist_lint.proofs.Tallying.{tallied_none, tallied_over, tallied_more, next_is}
+use Rattle.bplist_lint.proofs.VisitSteps.{seen-set, unwritten}
+
+-- ---- sums below a number
+sum_of_none : (g : ℕ → ℕ) (n : ℕ) → ((m : ℕ) → g m ≡ 0) → sum_below g n ≡ 0
+sum_of_none g zero none = refl
+sum_of_none g (suc n) none = let before = sum_of_none g n none in let here = none n in omega arith
+
+sum_alike : (g k : ℕ → ℕ) (n : ℕ) → ((m : ℕ) → m < n → g m ≡ k m) → sum_below g n ≡ sum_below k n
+sum_alike g k zero same = refl
+sum_alike g k (suc n) same =
+    let before = sum_alike g k n (λ m low. same m (omega arith)) in
+    let here = same n (omega arith) in
+    omega arith
+
+-- a sum of fewer is no greater
+sum_grows : (g : ℕ → ℕ) (n m : ℕ) → n ≤ m → sum_below g n ≤ sum_below g m
+sum_grows g n zero low = let z : n ≡ 0 = omega arith in rw z (omega arith)
+sum_grows g n (suc m) low = elim (cases_eq n (suc m)) [
+  | inl e ↦ rw e (omega arith)
+  | inr ne ↦ let before = sum_grows g n m (omega arith) in omega arith
+]
+
+-- one number more of which something is added
+sum_turned : (g k : ℕ → ℕ) (n i : ℕ) → i < n → ((m : ℕ) → m ≢ i → g m ≡ k m) → k i ≡ 0 → sum_below g n ≡ sum_below k n + g i
+sum_turned g k zero i low same none = absurd (omega arith)
+sum_turned g k (suc n) i low same none = elim (cases_eq i n) [
+  | inl e ↦
+      let before = sum_alike g k n (λ m l. same m (omega arith)) in
+      let here : k n ≡ 0 = rw e at none in
+      rw e (omega arith)
+  | inr ne ↦
+      let before = sum_turned g k n i (omega arith) same none in
+      let here = same n (λ q. ne (sym q)) in
+      omega arith
+]
+
+-- the sum over what is marked, with one mark more
+sum_marked : (g : ℕ → ℕ) (marks : List Bool) (n i : ℕ) → i < n → i < length marks → (IsMarked marks i → ⊥) → sum_below (λ m. cond (is_marked (set marks i true) m) (g m) 0) n ≡ sum_below (λ m. cond (is_marked marks m) (g m) 0) n + g i
+sum_marked g marks n i low within new =
+    let here : get_or (set marks i true) i false ≡ true = get_or-set_same marks i true false within in
+    let before : get_or marks i false ≡ false = unmarked (get_or marks i false) new in
+    let one = sum_turned (λ m. cond (is_marked (set marks i true) m) (g m) 0) (λ m. cond (is_marked marks m) (g m) 0) n i low
+    (λ m other. ap (λ b. cond b (g m) 0) (get_or-set_other marks i m true false other)) (ap (λ b. cond b (g i) 0) before) in
+    let last : cond (is_marked (set marks i true) i) (g i) 0 ≡ g i = ap (λ b. cond b (g i) 0) here in
+    omega (arith, one, last)
+  where
+    unmarked : (b : Bool) → (b ≡ true → ⊥) → b ≡ false
+    unmarked true no1 = absurd (no1 refl)
+    unmarked false no1 = refl
+
+same_mark : (a b : Bool) → (a ≡ true → b ≡ true) → (b ≡ true → a ≡ true) → a ≡ b
+same_mark true b to from = sym (to refl)
+same_mark false true to from = absurd (false≢true (from refl))
+same_mark false false to from = refl
+
+-- where both mark the same the sums are the same
+sum_as_marked : (g : ℕ → ℕ) (marks visited : List Bool) (n : ℕ) → ((m : ℕ) → IsMarked marks m ↔ IsMarked visited m) → sum_below (λ m. cond (is_marked visited m) (g m) 0) n ≡ sum_below (λ m. cond (is_marked marks m) (g m) 0) n
+sum_as_marked g marks visited n same = sum_alike _ _ n (λ m low. ap (λ b. cond b (g m) 0) (same_mark (is_marked visited m) (is_marked marks m) (same m).1 (same m).0))
+
+module _ (f : List ℕ) (F : Frame) where
+  extent_is : (n : ℕ) (head : Head) → HasHead f F n head → extent f F n ≡ head.«end» - off f F n
+  extent_is n head has = ap (extent_by (off f F n)) (head_is_found f F n head has)
+
+  -- ---- the beginning
+  pub walking_start : F.top.0 < F.objects → IsWalkState f F 0 [] (set (replicate F.objects false) F.top.0 true) (replicate F.objects false) (record { reached = 0; used = 0; references = 0 })
+  walking_start within =
+      let none : (m : ℕ) → is_marked (replicate F.objects false) m ≡ false = λ m. unwritten F.objects m false in
+      let no1 : (m : ℕ) → IsMarked (replicate F.objects false) m → ⊥ = λ m h. false≢true (sym (none m) ∙ h) in
+      let sum : (g : ℕ → ℕ) → sum_below (λ m. cond (is_marked (replicate F.objects false) m) (g m) 0) F.objects ≡ 0 =
+      λ g. sum_of_none _ F.objects (λ m. ap (λ b. cond b (g m) 0) (none m)) in
+      record {
+        visited = replicate F.objects false;
+        all_visited = length-replicate F.objects false;
+        begun = get_or-set_same (replicate F.objects false) F.top.0 true false (rw length-replicate within);
+        sound = λ m h. elim (fresh-set (replicate F.objects false) F.top.0 m h) [
+          | inl old ↦ absurd (no1 m old)
+          | inr e ↦ rw e top
+        ];
+        waiting = λ m c. absurd (none_contained m c);
+        apart = apart_none;
+        closed = λ m h. inl (omega arith);
+        each = λ m h. absurd (no1 m h);
+        bare_known = λ m h. absurd (no1 m h);
+        reached = sym (sum (λ m. 1));
+        used = sym (sum (extent f F));
+        references = sym (sum (λ m. length (refs_at f F m)));
+      }
+
+  -- ---- between visits
+  -- a later mark leaves what was visited so
+  visited_more : (marks marks' : List Bool) (n : ℕ) → ((m : ℕ) → IsMarked marks m → IsMarked marks' m) → IsVisited f F marks n → IsVisited f F marks' n
+  visited_more marks marks' n keeps v = record { head = v.head; has = v.has; kept = v.kept; all = λ i low. keeps _ (v.all i low) }
+
+  module _ (n : ℕ) (marks bare : List Bool) (tally : Tally) (w : IsWalkState f F n [] marks bare tally) where
+    -- object n, which is not marked, is passed over
+    pub walking_over : get_or marks n false ≡ false → IsWalkState f F (n + 1) [] marks bare tally
+    walking_over unmarked = record {
+      visited = w.visited;
+      all_visited = w.all_visited;
+      begun = w.begun;
+      sound = w.sound;
+      waiting = λ m c. absurd (none_contained m c);
+      apart = w.apart;
+      closed = λ m h. elim (w.closed m h) [
+        | inl from ↦ elim (cases_eq m n) [
+          | inl e ↦ absurd (false≢true (sym unmarked ∙ rw e at h))
+          | inr ne ↦ inl (omega arith)
+        ]
+        | inr later ↦ inr later
+      ];
+      each = λ m h. let v = w.each m h in (v.0, (let l = v.1 in omega arith), v.2);
+      bare_known = w.bare_known;
+      reached = w.reached;
+      used = w.used;
+      references = w.references;
+    }
+
+    -- object n, which is marked, is about to be visited
+    pub walking_on : IsMarked marks n → IsWalkState f F (n + 1) ([] ++ n ∷ []) marks bare tally
+    walking_on marked = record {
+      visited = w.visited;
+      all_visited = w.all_visited;
+      begun = w.begun;
+      sound = w.sound;
+      waiting = λ m c. elim (Contains-push_cases [] n m c) [
+        | inl none ↦ absurd (none_contained m none)
+        | inr e ↦ rw (← e) (marked, (λ h. let l = (w.each n h).1 in omega arith), omega arith)
+      ];
+      apart = apart_push [] n apart_none (none_contained n);
+      closed = λ m h. elim (w.closed m h) [
+        | inl from ↦ elim (cases_eq m n) [
+          | inl e ↦ inr (inl (rw e (Contains-push [] n)))
+          | inr ne ↦ inl (omega arith)
+        ]
+        | inr later ↦ elim later [ inl on ↦ absurd (none_contained m on) | inr visited ↦ inr (inr visited) ]
+      ];
+      each = λ m h. let v = w.each m h in (v.0, (let l = v.1 in omega arith), v.2);
+      bare_known = w.bare_known;
+      reached = w.reached;
+      used = w.used;
+      references = w.references;
+    }
+
+  -- object n of the stack is visited
+  module _ (frame : IsFrame f F) (next0 n : ℕ) (within : n < F.objects) (stack : List ℕ) (marks bare : List Bool) (tally : Tally) (w : IsWalkState f F next0 (stack ++ n ∷ []) marks bare tally) where
+    pub walking_visit : (head : Head) → HasHead f F n head → KeepsAll (KeepsByObject f F n) object_rules → (stack' : List ℕ) (marks' bare' : List Bool) (tally' : Tally)
+        → Noted (refs_at f F n) next0 (length (refs_at f F n)) marks stack marks' stack'
+        → AreBare f F bare' → IsTalliedWith tally (off f F n) head tally' → IsWalkState f F next0 stack' marks' bare' tally'
+    walking_visit head has kept stack' marks' bare' tally' s known t =
+        let here : n < length w.visited = omega (arith, w.all_visited) in
+        let on = w.waiting n (Contains-push stack n) in
+        let at_n : Reach f F n = w.sound n on.0 in
+        let spelled = (head_tie f F n frame within head).0 (has, kept) in
+        let references : length (refs_at f F n) ≡ ref_count head.kind head.count = ap length (refs_spelled f F n (content_at f F head) spelled.1) ∙ length-refs f F head.kind head.count head.body in
+        let own : IsVisited f F marks' n = record { head = head; has = has; kept = kept; all = s.all } in
+        record {
+          visited = set w.visited n true;
+          all_visited = length-set w.visited n true ∙ w.all_visited;
+          begun = s.keeps_marks F.top.0 w.begun;
+          sound = λ m h. elim (s.fresh m h) [ inl old ↦ w.sound m old | inr new ↦ next at_n ((refs_iff f F n m).1 new.0) ];
+          waiting = λ m c. elim (s.waiting m c) [
+            | inl old ↦
+                let v = w.waiting m (Contains-append_left stack (n ∷ []) m old) in
+                (s.keeps_marks m v.0, (λ h. elim (fresh-set w.visited n m h) [ inl before ↦ v.1 before | inr e ↦ apart_last stack n m w.apart old e ]), v.2)
+            | inr new ↦ (new.0, (λ h. elim (fresh-set w.visited n m h) [ inl before ↦ new.1 (w.each m before).0 | inr e ↦ new.1 (rw e on.0) ]), new.2)
+          ];
+          apart = s.apart (λ m c. (w.waiting m (Contains-append_left stack (n ∷ []) m c)).0) (apart_front stack n w.apart);
+          closed = λ m h. elim (s.fresh m h) [
+            | inl old ↦ elim (w.closed m old) [
+              | inl above ↦ inl above
+              | inr later ↦ elim later [
+                | inl waits ↦ elim (Contains-push_cases stack n m waits) [
+                  | inl rest ↦ inr (inl (s.keeps_stack m rest))
+                  | inr e ↦ inr (inr (rw (← e) (get_or-set_same w.visited n true false here)))
+                ]
+                | inr before ↦ inr (inr (seen-set w.visited n m here before))
+              ]
+            ]
+            | inr new ↦ elim new.1 [ inl above ↦ inl above | inr waits ↦ inr (inl waits) ]
+          ];
+          each = λ m h. elim (fresh-set w.visited n m h) [
+            | inl before ↦ let v = w.each m before in (s.keeps_marks m v.0, v.1, visited_more _ _ m s.keeps_marks v.2)
+            | inr e ↦ rw e (s.keeps_marks n on.0, on.2, own)
+          ];
+          bare_known = known;
+          reached = let sum = sum_marked (λ m. 1) w.visited F.objects n within here on.1 in omega (arith, sum, t.reached, w.reached);
+          used = let sum = sum_marked (extent f F) w.visited F.objects n within here on.1 in let one = extent_is n head has in omega (arith, sum, one, t.used, w.used);
+          references = let sum = sum_marked (λ m. length (refs_at f F m)) w.visited F.objects n within here on.1 in omega (arith, sum, references, t.references, w.references);
+        }
+
+  -- ---- the end
+  module _ (frame : IsFrame f F) (reached : Reached) (all_marks : length reached.marks.items ≡ F.objects) (w : IsWalkState f F F.objects [] reached.marks.items reached.bare.items reached.tally) (room : reached.tally.used + 8 ≤ F.table) where
+    visited_as : (m : ℕ) → IsMarked reached.marks.items m → IsMarked w.visited m
+    visited_as m h = elim (w.closed m h) [
+      | inl above ↦ absurd (let low = marked_within reached.marks.items m h in omega arith)
+      | inr later ↦ elim later [ inl on ↦ absurd (none_contained m on) | inr visited ↦ visited ]
+    ]
+
+    reach_marked : (n : ℕ) → Reach f F n → IsMarked reached.marks.items n
+    reach_marked n top = w.begun
+    reach_marked n (next {n = k} r e) =
+        let v = (w.each k (visited_as k (reach_marked k r))).2 in
+        let c = (refs_iff f F k n).0 e in
+        rw (← c.2) (rw (get_or_default (refs_at f F k) c.0 n 0 c.1) (v.all c.0 c.1))
+
+    same_sum : (g : ℕ → ℕ) → sum_below (λ m. cond (is_marked w.visited m) (g m) 0) F.objects ≡ sum_below (λ m. cond (is_marked reached.marks.items m) (g m) 0) F.objects
+    same_sum g = sum_as_marked g reached.marks.items w.visited F.objects (λ m. (visited_as m, λ h. (w.each m h).0))
+
+    used_below : (n : ℕ) → n ≤ F.objects → extents_below f F (is_marked reached.marks.items) n + 8 ≤ F.table
+    used_below n low =
+        let part = sum_grows (λ m. cond (is_marked reached.marks.items m) (extent f F m) 0) n F.objects low in
+        let whole = same_sum (extent f F) in
+        omega (arith, part, whole, w.used, room)
+
+    -- one object more of those in their order
+    tallied_next : (n : ℕ) → n < F.objects → (before t : Tally) → before.reached ≡ number_below (is_marked reached.marks.items) n → before.used ≡ extents_below f F (is_marked reached.marks.items) n
+        → before.references ≡ references_below f F (is_marked reached.marks.items) n → t.reached ≡ number_below (is_marked reached.marks.items) (suc n) → t.used ≡ extents_below f F (is_marked reached.marks.items) (suc n)
+        → t.references ≡ references_below f F (is_marked reached.marks.items) (suc n) → Tallied f F reached.marks.items n before → (b : Bool) → is_marked reached.marks.items n ≡ b → Tallied f F reached.marks.items (n + 1) t
+    tallied_next n low before t one0 bytes0 more0 one bytes more so_far true marked =
+        let v = (w.each n (visited_as n marked)).2 in
+        let has : HasHead f F n v.head = v.has in
+        let is : extent f F n ≡ v.head.«end» - off f F n = extent_is n v.head has in
+        let bound = rw marked at (used_below (suc n) low) in
+        let spelled = (head_tie f F n frame low v.head).0 (has, v.kept) in
+        let references : length (refs_at f F n) ≡ ref_count v.head.kind v.head.count = ap length (refs_spelled f F n (content_at f F v.head) spelled.1) ∙ length-refs f F v.head.kind v.head.count v.head.body in
+        let one1 = rw marked at one in
+        let bytes1 = rw marked at bytes in
+        let more1 = rw marked at more in
+        tallied_more f F frame n low (w.sound n marked) reached.marks.items before so_far v.head has v.kept marked
+        (omega (arith, bound, is, bytes0)) t (omega (arith, one1, one0)) (omega (arith, bytes1, bytes0, is)) (omega (arith, more1, more0, references))
+    tallied_next n low before t one0 bytes0 more0 one bytes more so_far false unmarked =
+        let over = tallied_over f F reached.marks.items n before unmarked (λ r. false≢true (sym unmarked ∙ reach_marked n r)) so_far in
+        let one1 = rw unmarked at one in
+        let bytes1 = rw unmarked at bytes in
+        let more1 = rw unmarked at more in
+        let same : t.used ≡ before.used = omega (arith, bytes1, bytes0) in
+        let one2 : t.reached ≡ before.reached = omega (arith, one1, one0) in
+        let more2 : t.references ≡ before.references = omega (arith, more1, more0) in
+        record {
+          kept = over.kept;
+          sums = subst (Sums f F (Reach f F) (n + 1)) (sym same) over.sums;
+          reached = one2 ∙ over.reached;
+          references = more2 ∙ over.references;
+        }
+
+    -- the objects below n, in their order
+    tallied_to : (n : ℕ) → n ≤ F.objects → (t : Tally) → t.reached ≡ number_below (is_marked reached.marks.items) n → t.used ≡ extents_below f F (is_marked reached.marks.items) n
+        → t.references ≡ references_below f F (is_marked reached.marks.items) n → Tallied f F reached.marks.items n t
+    tallied_to zero low t one bytes more =
+        let none = tallied_none f F reached.marks.items in
+        record { kept = none.kept; sums = subst (Sums f F (Reach f F) 0) (sym bytes) none.sums; reached = one; references = more }
+    tallied_to (suc n) low t one bytes more =
+        let before : Tally = record { reached = number_below (is_marked reached.marks.items) n; used = extents_below f F (is_marked reached.marks.items) n; references = references_below f F (is_marked reached.marks.items) n } in
+        subst (λ k. Tallied f F reached.marks.items k t) (sym (next_is n))
+        (tallied_next n (omega (arith, low)) before t refl refl refl one bytes more (tallied_to n (omega (arith, low)) before refl refl refl) (is_marked reached.marks.items n) refl)
+
+    pub walking_end : IsWalked f F reached
+    walking_end = record {
+      marked = λ n. (w.sound n, reach_marked n);
+      bare = w.bare_known;
+      tallied = tallied_to F.objects (omega arith) reached.tally (w.reached ∙ same_sum (λ m. 1)) (w.used ∙ same_sum (extent f F)) (w.references ∙ same_sum (λ m. length (refs_at f F m)));
+    }

@@ -1,0 +1,16 @@
+-- Sets of numbers as bits, in blocks of 512, and what is skipped in them. Source: profile.
+use Rattle.std.specs.Prelude.{◌≡◌, ℕ, ◌*◌, ◌/◌, ◌%◌, ◌<◌, ◌≤◌, List, length, slice_index}
+use Rattle.std.specs.Int.{bit_at}
+
+-- number k is in the set with these bits
+abbrev pub IsIn : List ℕ → ℕ → Type 0
+IsIn words k = bit_at (slice_index words (k / 64)) (k % 64) ≡ 1
+
+-- all numbers of the blocks from b up to c are in the set
+abbrev pub AreFull : List ℕ → ℕ → ℕ → Type 0
+AreFull words b c = (k : ℕ) → 512 * b ≤ k → k < 512 * c → IsIn words k
+
+-- each block leads to one that is not before it, and the blocks between are full
+abbrev pub AreSkips : List ℕ → List ℕ → Type 0
+AreSkips words skips =
+    (b : ℕ) → b < length skips → (b ≤ slice_index skips b) × (slice_index skips b ≤ length skips) × AreFull words b (slice_index skips b)

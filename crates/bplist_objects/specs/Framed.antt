@@ -1,0 +1,37 @@
+-- What holds over honest sources, and what a source means that knows its frame. Source: profile.
+use Rattle.std.specs.Prelude.{ℕ, List, [], ◌∷◌, length, IsTrue}
+use Rattle.bplist_octets.specs.Meaning.{Meaning}
+use Rattle.bplist_objects.specs.declared.frame.Frame.{Frame}
+use Rattle.bplist_objects.specs.Frame.{IsFrame}
+use Rattle.bplist_objects.specs.Safe.{IsSafeFrame, frame_numbers}
+
+-- P holds of the bytes and this frame, if the source is honest and the frame the bytes' own
+abbrev pub HonestlyBy : Meaning → Frame → (List ℕ → Frame → Type 0) → Type 0
+HonestlyBy m F P = IsTrue m.honest → IsFrame m.octets F → P m.octets F
+
+-- the frame with these numbers
+abbrev pub frame_by : List ℕ → Frame
+frame_by (a ∷ b ∷ c ∷ d ∷ e ∷ _) = record { offset_size = a; ref_size = b; objects = c; top = record { 0 = d }; table = e }
+frame_by _ = record { offset_size = 0; ref_size = 0; objects = 0; top = record { 0 = 0 }; table = 0 }
+
+-- the frame in the first of these lists
+abbrev pub frame_beside : List (List ℕ) → Frame
+frame_beside [] = frame_by []
+frame_beside (ns ∷ _) = frame_by ns
+
+-- the frame that a source holds
+abbrev pub frame_in : Meaning → Frame
+frame_in m = frame_beside m.beside
+
+-- the meaning of a source that also holds this frame
+abbrev pub with_frame : Frame → Meaning → Meaning
+with_frame F m = record m { beside = frame_numbers F ∷ m.beside }
+
+-- the source can be read with its frame, which is the bytes' own if it is honest
+pub record IsFramed (m : Meaning) : Type 0 where
+  pub safe : IsSafeFrame (length m.octets) (frame_in m)
+  pub framed : IsTrue m.honest → IsFrame m.octets (frame_in m)
+
+-- P holds of the bytes and the source's frame, if it is honest
+abbrev pub HonestlyIn : Meaning → (List ℕ → Frame → Type 0) → Type 0
+HonestlyIn m P = IsTrue m.honest → P m.octets (frame_in m)

@@ -1,0 +1,59 @@
+//! Sources that know their frame.
+
+ghost use Rattle.std.specs.Prelude.{◌≡◌, length, IsTrue};
+ghost use Rattle.bplist_octets.specs.Windows.{borrowed};
+ghost use Rattle.bplist_objects.specs.Frame.{IsFrame};
+ghost use Rattle.bplist_objects.specs.Safe.{IsSafeFrame};
+ghost use Rattle.bplist_objects.specs.Framed.{IsFramed, frame_in, with_frame};
+
+use crate::frame::Frame;
+use bplist_octets::{ReadFault, Source};
+
+/// A source that holds its frame: the one of its bytes, where it is honest. Over any source its parts can be read with it.
+pub trait Framed: Source {
+    /// The frame.
+    fn frame(&self) -> Frame
+        ensures frame { result ≡ frame_in (Self.means self.now) }
+        ensures framed { IsFramed (Self.means self.now) };
+}
+
+/// A source that is lent, with its frame.
+#[derive(Drop)]
+pub struct Plist<'a, S: Source> {
+    /// The source that is read.
+    pub source: &'a mut S,
+    frame: Frame,
+    pub ghost safe: { IsSafeFrame (length (S.means source.now).octets) frame },
+    pub ghost framed: { IsTrue (S.means source.now).honest → IsFrame (S.means source.now).octets frame },
+}
+
+impl<'a, S: Source> Plist<'a, S> {
+    /// A source with its frame, as `frame_of` answers it.
+    pub fn new(source: &'a mut S, frame: Frame) -> Plist<'a, S>
+        requires safe { IsSafeFrame (length (S.means source.old).octets) frame }
+        requires framed { IsTrue (S.means source.old).honest → IsFrame (S.means source.old).octets frame }
+        ensures same_source { result.source.ghost_name ≡ source.entry.ghost_name }
+        ensures means { S.means result.source.now ≡ S.means source.old }
+        ensures frame { result.frame ≡ frame }
+    {
+        Plist { source, frame }
+    }
+}
+
+impl<S: Source> Source for Plist<'_, S> {
+    ghost means = { λ p. with_frame p.frame (borrowed p.source.ghost_name (S.means p.source.now)) };
+
+    fn len(&self) -> u64 {
+        self.source.len()
+    }
+
+    fn read_at(&mut self, at: u64, into: &mut [u8]) -> Result<(), ReadFault> {
+        self.source.read_at(at, into)
+    }
+}
+
+impl<S: Source> Framed for Plist<'_, S> {
+    fn frame(&self) -> Frame {
+        self.frame
+    }
+}

@@ -1,0 +1,102 @@
+//! What stands in a file, by a source that knows its frame.
+
+ghost use Rattle.std.specs.Prelude.{◌≡◌, ℕ, ◌+◌, ◌*◌, ◌≤◌, ◌<◌, IfOk, OnOk, length, is_err, slice_index};
+ghost use Rattle.bplist_octets.specs.Meaning.{OnlyReads};
+ghost use Rattle.bplist_objects.specs.Framed.{frame_in, HonestlyIn};
+ghost use Rattle.bplist_objects.specs.Frame.{off};
+ghost use Rattle.bplist_objects.specs.Answers.{Gives, read_failed};
+ghost use Rattle.bplist_objects.specs.Safe.{IsSafeHead, ref_count};
+ghost use Rattle.bplist_objects.specs.Scan.{nth_number};
+ghost use Rattle.bplist_objects.specs.Heads.{IsHeadOf, HasShape};
+ghost use Rattle.bplist_objects.specs.Announced.{HasHead};
+ghost use Rattle.bplist_objects.specs.Rules.{KeepsAll};
+ghost use Rattle.bplist_objects.specs.ObjectRules.{KeepsByObject, IsObjectFault, object_rules, shape_rules};
+
+use crate::body::head_at;
+use crate::fault::ObjectFault;
+use crate::frame::ObjectNo;
+use crate::framed::Framed;
+use crate::head::{Head, shape_at};
+use crate::refs::read_refs;
+use crate::table::{offset_of, read_offsets};
+use bplist_octets::ReadFault;
+
+/// The place of object `n`, as `offset_of` answers it.
+pub fn offset_in<P: Framed>(src: &mut P, n: ObjectNo) -> Result<u64, ReadFault>
+    requires { n.0 < (frame_in (P.means src.old)).objects }
+    ensures reads { OnlyReads (is_err result) (P.means src.old) (P.means src.new) }
+    ensures value { HonestlyIn (P.means src.old) (λ f F. IfOk result (λ place. place ≡ off f F n.0)) }
+{
+    let frame = src.frame();
+    offset_of(src, &frame, n)
+}
+
+/// Fills `into` with the places of the objects from number `from` on, as `read_offsets` does.
+pub fn read_offsets_in<P: Framed>(src: &mut P, from: u32, into: &mut [u64]) -> Result<(), ReadFault>
+    requires { from + length into.old ≤ (frame_in (P.means src.old)).objects }
+    ensures reads { OnlyReads (is_err result) (P.means src.old) (P.means src.new) }
+    ensures offsets { HonestlyIn (P.means src.old) (λ f F. OnOk result ((k : ℕ) → k < length into.new
+        → slice_index into.new k ≡ off f F (from + k))) }
+{
+    let frame = src.frame();
+    read_offsets(src, &frame, from, into)
+}
+
+/// The head of object `n`, which stands at `place`, by marker and count alone, as `shape_at` answers it.
+pub fn shape_in<P: Framed>(src: &mut P, n: ObjectNo, place: u64) -> Result<Head, ObjectFault>
+    requires { n.0 < (frame_in (P.means src.old)).objects }
+    ensures reads { OnlyReads (read_failed result) (P.means src.old) (P.means src.new) }
+    ensures rules { HonestlyIn (P.means src.old) (λ f F. place ≡ off f F n.0
+        → Gives (λ head. HasHead f F n.0 head × KeepsAll (KeepsByObject f F n.0) shape_rules)
+        (IsObjectFault f F n.0 shape_rules) result) }
+    ensures exact { HonestlyIn (P.means src.old) (λ f F. place ≡ off f F n.0
+        → Gives (HasShape f F n.0) (IsObjectFault f F n.0 shape_rules) result) }
+    ensures safe { IfOk result (IsSafeHead (frame_in (P.means src.old))) }
+    ensures behind { IfOk result (λ head. place < head.body) }
+{
+    let frame = src.frame();
+    shape_at(src, &frame, n, place)
+}
+
+/// The head of object `n`, which stands at `place`, as `head_at` answers it.
+pub fn head_in<P: Framed>(src: &mut P, n: ObjectNo, place: u64) -> Result<Head, ObjectFault>
+    requires { n.0 < (frame_in (P.means src.old)).objects }
+    ensures reads { OnlyReads (read_failed result) (P.means src.old) (P.means src.new) }
+    ensures rules { HonestlyIn (P.means src.old) (λ f F. place ≡ off f F n.0
+        → Gives (λ head. HasHead f F n.0 head × KeepsAll (KeepsByObject f F n.0) object_rules)
+        (IsObjectFault f F n.0 object_rules) result) }
+    ensures exact { HonestlyIn (P.means src.old) (λ f F. place ≡ off f F n.0
+        → Gives (IsHeadOf f F n.0) (IsObjectFault f F n.0 object_rules) result) }
+    ensures safe { IfOk result (IsSafeHead (frame_in (P.means src.old))) }
+    ensures behind { IfOk result (λ head. place < head.body) }
+{
+    let frame = src.frame();
+    head_at(src, &frame, n, place)
+}
+
+/// Fills `into` with the numbers of the references from number `from` on, as `read_refs` does.
+pub fn read_refs_in<P: Framed>(
+    src: &mut P,
+    head: &Head,
+    from: u64,
+    into: &mut [u64],
+) -> Result<(), ReadFault>
+    requires head { IsSafeHead (frame_in (P.means src.old)) head.now }
+    requires within { from + length into.old ≤ ref_count head.now.kind head.now.count }
+    ensures reads { OnlyReads (is_err result) (P.means src.old) (P.means src.new) }
+    ensures numbers { HonestlyIn (P.means src.old) (λ f F. OnOk result ((k : ℕ) → k < length into.new
+        → slice_index into.new k ≡ nth_number f head.now.body F.ref_size (from + k))) }
+{
+    let frame = src.frame();
+    read_refs(src, &frame, head, from, into)
+}
+
+/// The place of reference `i` of an object with this head, counted from the file's first byte.
+pub fn ref_place<P: Framed>(src: &P, head: &Head, i: u64) -> u64
+    requires head { IsSafeHead (frame_in (P.means src.now)) head.now }
+    requires within { i < ref_count head.now.kind head.now.count }
+    ensures { result ≡ head.now.body + i * (frame_in (P.means src.now)).ref_size }
+{
+    let _len = src.len();
+    head.body + i * src.frame().ref_size as u64
+}

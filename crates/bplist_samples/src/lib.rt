@@ -1,0 +1,37 @@
+//! Samples that the test crates share. It is no part of the library: its functions are proved to be safe and to end, and only its
+//! sources have clauses.
+//!
+//! ```
+//! for row in tested_rows(alloc)? {
+//!     let mut checked = row.checked(alloc, SliceSource::new(&row.octets))?;
+//!     for call in all_calls(alloc)? {
+//!         let answer = call.told(alloc, &mut checked)?;
+//!     }
+//! }
+//! ```
+//!
+//! | what | calls |
+//! |---|---|
+//! | small files as bytes | [`SMALLEST_FILE`], [`TWO_TRUES`], [`A_TO_ONE`], [`THREE_KEYS`], [`small`] |
+//! | dictionaries with and without a text | [`PRINTABLE_DICT`], [`UNPRINTABLE_DICT`] |
+//! | a file whose tree is too large to walk | [`doubling`] |
+//! | files with their certificates | [`Row`], [`tested_rows`], [`thousand_keys`] |
+//! | a call of each kind, with its answer as text | [`Call`], [`all_calls`], [`Answer`], [`checked_text`] |
+//! | a source that counts what is asked of it | [`CountingSource`], [`Counts`] |
+//! | a writer with little room, or that is interrupted | [`ShortWriter`], [`Last`] |
+#![tactic(auto)]
+
+mod calls;
+mod counting;
+mod files;
+mod rows;
+mod writers;
+
+pub use calls::{Answer, Call, all_calls, checked_text};
+pub use counting::{CountingSource, Counts};
+pub use files::{
+    A_TO_ONE, PRINTABLE_DICT, Parts, SMALLEST_FILE, THREE_KEYS, TWO_TRUES, UNPRINTABLE_DICT,
+    doubling, small,
+};
+pub use rows::{Row, tested_rows, thousand_keys};
+pub use writers::{Last, ShortWriter};

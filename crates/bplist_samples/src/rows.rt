@@ -1,0 +1,87 @@
+//! Files with certificates.
+
+use crate::files::{
+    A_TO_ONE, PRINTABLE_DICT, THREE_KEYS, TWO_TRUES, UNPRINTABLE_DICT, doubling, keys_by_number,
+    small,
+};
+use bplist_cert::{CertRefusal, Certificate, Checked, check};
+use bplist_lint::{lint, upgrade};
+use bplist_octets::{SliceSource, Source};
+use std::alloc::Global;
+use std::test::Fail;
+
+/// A file with its name and the bytes of a certificate for it.
+#[derive(Drop)]
+pub struct Row {
+    pub name: &'static str,
+    pub octets: Vec<u8>,
+    pub certificate: Vec<u8>,
+}
+
+impl Row {
+    /// A file with the certificate that `lint` gives it.
+    pub fn new(alloc: Global, name: &'static str, octets: Vec<u8>) -> Result<Row, Fail> {
+        let lint = lint(alloc, &mut SliceSource::new(&octets)).map_err(|_| Fail::new(name))?;
+        let certificate = lint.certificate.to_octets(alloc)?;
+        Ok(Row {
+            name,
+            octets,
+            certificate,
+        })
+    }
+
+    /// The same file with its certificate of version 2.
+    pub fn sorted(self, alloc: Global) -> Result<Row, Fail> {
+        let certificate = self.sorted_certificate(alloc)?;
+        Ok(Row {
+            name: self.name,
+            octets: self.octets,
+            certificate,
+        })
+    }
+
+    fn sorted_certificate(&self, alloc: Global) -> Result<Vec<u8>, Fail> {
+        let mut checked = self.checked(alloc, SliceSource::new(&self.octets))?;
+        let certificate = upgrade(alloc, &mut checked)?;
+        Ok(certificate.to_octets(alloc)?)
+    }
+
+    /// The row's certificate.
+    pub fn certificate(&self, alloc: Global) -> Result<Certificate, CertRefusal> {
+        Certificate::from_octets(alloc, &self.certificate)
+    }
+
+    /// A source of the row's bytes, checked with the row's certificate.
+    pub fn checked<S: Source + Drop>(&self, alloc: Global, source: S) -> Result<Checked<S>, Fail> {
+        match check(alloc, source, self.certificate(alloc)?) {
+            Ok(checked) => Ok(checked),
+            Err(_) => Err(Fail::new(self.name)),
+        }
+    }
+}
+
+/// The files on which reads are made to fail and bytes are changed.
+pub fn tested_rows(alloc: Global) -> Result<Vec<Row>, Fail> {
+    let mut rows = Vec::new(alloc);
+    for (name, leaf) in [
+        ("doubling-64", b"\x09".as_slice()),
+        ("doubling-64-text", b"\x51a"),
+    ] {
+        rows.push(Row::new(alloc, name, doubling(alloc, leaf)?)?)?;
+    }
+    for (name, (objects, table)) in [
+        ("two-trues", TWO_TRUES),
+        ("three-keys", THREE_KEYS),
+        ("printable-dict", PRINTABLE_DICT),
+        ("unprintable-dict", UNPRINTABLE_DICT),
+        ("a-to-one", A_TO_ONE),
+    ] {
+        rows.push(Row::new(alloc, name, small(alloc, objects, table)?)?)?;
+    }
+    Ok(rows)
+}
+
+/// A dictionary of the keys `0000` to `0999`.
+pub fn thousand_keys(alloc: Global) -> Result<Row, Fail> {
+    Row::new(alloc, "thousand-keys", keys_by_number(alloc)?)
+}

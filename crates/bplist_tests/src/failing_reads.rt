@@ -1,0 +1,127 @@
+//! One failing read at each turn: in the first run read number 0 fails, in the next one read number 1, and so on up to
+//! the first run in which none fails. The same call made again then answers as over a slice.
+
+use bplist_cert::check;
+use bplist_octets::{FaultySource, SliceSource};
+use bplist_samples::{Call, Row, all_calls, checked_text, tested_rows};
+use std::alloc::Global;
+use std::process::Abort;
+use std::test::Fail;
+
+/// More reads than any of the calls makes.
+const MOST_READS: u64 = 100_000;
+
+/// What a call said where a read may have failed, and what the same call said when it was made again.
+#[derive(Drop)]
+struct Turn {
+    first: String,
+    again: String,
+}
+
+/// A check over a source whose read number `fails` fails, and another of what it hands back.
+fn check_turn(alloc: Global, row: &Row, fails: u64) -> Result<Turn, Fail> {
+    let source = FaultySource::new(&row.octets, fails);
+    match check(alloc, source, row.certificate(alloc)?) {
+        Ok(checked) => Ok(Turn {
+            first: checked_text(alloc, &checked)?,
+            again: String::new(alloc),
+        }),
+        Err((refusal, source, certificate)) => {
+            let first = format!(in alloc; "Err({refusal:?})")?;
+            match check(alloc, source, certificate) {
+                Ok(checked) => Ok(Turn {
+                    first,
+                    again: checked_text(alloc, &checked)?,
+                }),
+                Err(_) => Err(Fail::new(row.name)),
+            }
+        }
+    }
+}
+
+/// A call on a file that is checked over a source whose read number `fails` fails, made twice.
+fn call_turn(alloc: Global, row: &Row, call: &Call, fails: u64) -> Result<Turn, Fail> {
+    let mut checked = row.checked(alloc, FaultySource::new(&row.octets, fails))?;
+    let first = call.told(alloc, &mut checked)?;
+    let again = call.told(alloc, &mut checked)?;
+    Ok(Turn { first, again })
+}
+
+/// Whether the first call of a turn met no failing read.
+fn is_whole(rt: &impl Abort, row: &Row, turn: &Turn, want: &str) -> bool {
+    if turn.first.as_str() == want {
+        return true;
+    }
+    assert_eq!(rt;
+        turn.first.as_str(),
+        "Err(Read(Device))",
+        "row {}",
+        row.name
+    );
+    assert_eq!(rt; turn.again.as_str(), want, "row {}", row.name);
+    false
+}
+
+/// How many reads a check makes.
+fn check_at_each_turn(rt: &impl Abort, alloc: Global, row: &Row) -> Result<u64, Fail> {
+    let whole = row.checked(alloc, SliceSource::new(&row.octets))?;
+    let want = checked_text(alloc, &whole)?;
+    for fails in 0..MOST_READS {
+        if is_whole(rt, row, &check_turn(alloc, row, fails)?, &want) {
+            return Ok(fails);
+        }
+    }
+    Err(Fail::new(row.name))
+}
+
+/// How many reads a call makes on a file whose check makes so many.
+fn call_at_each_turn(
+    rt: &impl Abort,
+    alloc: Global,
+    row: &Row,
+    call: &Call,
+    checking: u64,
+) -> Result<u64, Fail> {
+    let mut whole = row.checked(alloc, SliceSource::new(&row.octets))?;
+    let want = call.told(alloc, &mut whole)?;
+    for turn in 0..MOST_READS {
+        let fails = checking.saturating_add(turn);
+        if is_whole(rt, row, &call_turn(alloc, row, call, fails)?, &want) {
+            return Ok(turn);
+        }
+    }
+    Err(Fail::new(row.name))
+}
+
+fn row_at_each_turn(rt: &impl Abort, alloc: Global, row: &Row, calls: &[Call]) -> Result<(), Fail> {
+    let checking = check_at_each_turn(rt, alloc, row)?;
+    assert!(rt; checking > 0);
+    let mut reads = 0u64;
+    for call in calls {
+        reads = reads.saturating_add(call_at_each_turn(rt, alloc, row, call, checking)?);
+    }
+    assert!(rt; reads > 0);
+    Ok(())
+}
+
+/// By certificates of version 1.
+#[test]
+fn each_read_of_each_call(rt: HostRuntime) -> Result<(), Fail> {
+    let alloc = rt.alloc();
+    let calls = all_calls(alloc)?;
+    for row in tested_rows(alloc)? {
+        row_at_each_turn(&rt, alloc, &row, &calls)?;
+    }
+    Ok(())
+}
+
+/// By certificates of version 2.
+#[test]
+fn each_read_of_each_call_with_key_lists(rt: HostRuntime) -> Result<(), Fail> {
+    let alloc = rt.alloc();
+    let calls = all_calls(alloc)?;
+    for row in tested_rows(alloc)? {
+        row_at_each_turn(&rt, alloc, &row.sorted(alloc)?, &calls)?;
+    }
+    Ok(())
+}

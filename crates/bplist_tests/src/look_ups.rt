@@ -1,0 +1,43 @@
+//! How many comparisons, and how many reads of the source, the look-up of a key among a thousand takes.
+
+use bplist_cursor::{Found, Node, Path, Why, locate_counted};
+use bplist_objects::ObjectNo;
+use bplist_samples::{CountingSource, Counts, thousand_keys};
+use std::cell::Cell;
+use std::test::Fail;
+
+/// The greatest number of comparisons and of reads.
+const MOST: (u64, u64) = (10, 400);
+
+#[test]
+fn thousand_keys_by_halving(rt: HostRuntime) -> Result<(), Fail> {
+    let alloc = rt.alloc();
+    let row = thousand_keys(alloc)?.sorted(alloc)?;
+    assert_eq!(rt; row.octets.len(), 11049);
+    let counts = Cell::new(Counts::default());
+    let source = CountingSource::new(&row.octets, &counts);
+    let mut checked = row.checked(alloc, source)?;
+    for key in 0..1001 {
+        let want = if key < 1000 {
+            Found::At(Node {
+                object: ObjectNo(1001),
+            })
+        } else {
+            Found::Missing {
+                step: 0,
+                why: Why::NoKey,
+            }
+        };
+        let path = Path::parse(alloc, &format!(in alloc; "/{key:04}")?)?;
+        counts.set(Counts::default());
+        let (found, compared) = locate_counted(&mut checked, &path)?;
+        assert_eq!(rt; found, want, "key {key}");
+        assert!(rt;
+            compared >= 1 && compared <= MOST.0,
+            "key {key} takes {compared}"
+        );
+        let Counts { reads, .. } = counts.get();
+        assert!(rt; reads <= MOST.1, "key {key} reads {reads}");
+    }
+    Ok(())
+}

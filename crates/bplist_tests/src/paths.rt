@@ -1,0 +1,48 @@
+//! Path texts, and the steps that they spell.
+
+use bplist_cursor::Path;
+use std::alloc::{AllocError, Global};
+use std::test::Fail;
+
+/// Path texts and their steps.
+const TEXTS: &[(&str, &[&[u16]])] = &[
+    ("", &[]),
+    ("/", &[&[]]),
+    ("/a~1b", &[&[0x61, 0x2F, 0x62]]),
+    ("/~01", &[&[0x7E, 0x31]]),
+    ("/a/0//b", &[&[0x61], &[0x30], &[], &[0x62]]),
+    ("/é/", &[&[0xE9], &[]]),
+    (
+        "/x\u{10000}\u{10FFFF}",
+        &[&[0x78, 0xD800, 0xDC00, 0xDBFF, 0xDFFF]],
+    ),
+    ("/\u{FFFF}~0", &[&[0xFFFF, 0x7E]]),
+];
+
+/// The path of these steps.
+fn path_of(alloc: Global, steps: &[&[u16]]) -> Result<Path, AllocError> {
+    let mut own = Vec::new(alloc);
+    for step in steps {
+        own.push(Vec::from_slice(alloc, step)?)?;
+    }
+    Ok(Path::from_steps(own))
+}
+
+/// The path as `Debug` writes it.
+fn shown(alloc: Global, path: &Path) -> Result<String, AllocError> {
+    format!(in alloc; "{path:?}")
+}
+
+/// The path of a text and that of the steps are the same.
+#[test]
+fn texts(rt: HostRuntime) -> Result<(), Fail> {
+    let alloc = rt.alloc();
+    for (text, steps) in TEXTS {
+        let want = format!(in alloc; "Path {{ steps: {steps:?} }}")?;
+        let parsed = shown(alloc, &Path::parse(alloc, text)?)?;
+        assert_eq!(rt; parsed.as_str(), want.as_str(), "at {text}");
+        let made = shown(alloc, &path_of(alloc, steps)?)?;
+        assert_eq!(rt; made.as_str(), want.as_str(), "at {text}");
+    }
+    Ok(())
+}

@@ -1,0 +1,127 @@
+//! Sinks and printed values over writers that fail or are interrupted.
+
+use arrayvec::ArrayVec;
+use bplist_ascii::{PrintFault, Sink, WriteFault, print};
+use bplist_cursor::{Node, measure};
+use bplist_objects::ObjectNo;
+use bplist_octets::SliceSource;
+use bplist_samples::{Last, PRINTABLE_DICT, Row, ShortWriter, small};
+use std::test::Fail;
+
+fn send_all(sink: &mut Sink, out: &mut ShortWriter, pieces: &[&[u8]]) -> Result<(), WriteFault> {
+    for piece in pieces {
+        sink.put(out, piece)?;
+    }
+    sink.flush(out)
+}
+
+const DICT: &[&[u8]] = &[b"{", b"a", b"=", b"\"b c\"", b";", b"}", b"\n"];
+
+/// Interrupted writes, the most bytes of a write, the room, and what comes then; and what it says of `DICT` and holds.
+const WRITERS: &[(u64, usize, usize, Last, Result<(), WriteFault>, &[u8])] = &[
+    (0, 100, 100, Last::Fails, Ok(()), b"{a=\"b c\";}\n"),
+    (
+        0,
+        100,
+        4,
+        Last::Fails,
+        Err(WriteFault { sent: 4 }),
+        b"{a=\"",
+    ),
+    (
+        0,
+        100,
+        4,
+        Last::TakesNothing,
+        Err(WriteFault { sent: 4 }),
+        b"{a=\"",
+    ),
+    (
+        0,
+        1,
+        10,
+        Last::Fails,
+        Err(WriteFault { sent: 10 }),
+        b"{a=\"b c\";}",
+    ),
+    (
+        0,
+        100,
+        10,
+        Last::Fails,
+        Err(WriteFault { sent: 10 }),
+        b"{a=\"b c\";}",
+    ),
+    (0, 100, 0, Last::Fails, Err(WriteFault { sent: 0 }), b""),
+    (64, 1, 100, Last::Fails, Ok(()), b"{a=\"b c\";}\n"),
+    (65, 100, 100, Last::Fails, Err(WriteFault { sent: 0 }), b""),
+];
+
+#[test]
+fn writers_that_fail(rt: HostRuntime) -> Result<(), Fail> {
+    for (interrupts, step, room, last, want, held) in WRITERS {
+        let mut out = ShortWriter {
+            interrupts: *interrupts,
+            step: *step,
+            room: *room,
+            last: *last,
+            held: ArrayVec::new(),
+        };
+        assert_eq!(rt; send_all(&mut Sink::new(), &mut out, DICT), *want);
+        assert_eq!(rt; out.held.as_slice(), *held);
+    }
+    Ok(())
+}
+
+/// One sink counts the interrupted writes of all that goes through it.
+#[test]
+fn interrupts_are_counted_over_the_whole_sink(rt: HostRuntime) -> Result<(), Fail> {
+    let mut sink = Sink::new();
+    let mut out = ShortWriter::with_room(100);
+    out.interrupts = 40;
+    assert_eq!(rt; send_all(&mut sink, &mut out, &[b"true\n"]), Ok(()));
+    out.interrupts = 25;
+    let fault = WriteFault { sent: 5 };
+    assert_eq!(rt; send_all(&mut sink, &mut out, &[b"null\n"]), Err(fault));
+    assert_eq!(rt; out.held.as_slice(), b"true\n".as_slice());
+    Ok(())
+}
+
+#[test]
+fn long_texts_go_past_the_buffer(rt: HostRuntime) -> Result<(), Fail> {
+    let long = [0x61; 5000];
+    let mut out = Vec::new(rt.alloc());
+    let mut sink = Sink::new();
+    for n in [3000, 1096, 1, 4096, 5000, 0, 4097, 7] {
+        sink.put(&mut out, &long[..n])?;
+    }
+    sink.flush(&mut out)?;
+    assert_eq!(rt; out.len(), 3000 + 1096 + 1 + 4096 + 5000 + 4097 + 7);
+    assert!(rt; out.iter().all(|byte| *byte == 0x61));
+    Ok(())
+}
+
+/// How much room a writer has for the text of the printable dictionary, what print says, and what that writer holds.
+const ROOMS: &[(usize, Result<(), PrintFault>, &[u8])] = &[
+    (4, Err(PrintFault::Write { sent: 4 }), b"{a=\""),
+    (10, Ok(()), b"{a=\"b c\";}"),
+];
+
+#[test]
+fn values(rt: HostRuntime) -> Result<(), Fail> {
+    let alloc = rt.alloc();
+    let (objects, table) = PRINTABLE_DICT;
+    let row = Row::new(alloc, "printable-dict", small(alloc, objects, table)?)?;
+    let mut checked = row.checked(alloc, SliceSource::new(&row.octets))?;
+    let top = Node {
+        object: ObjectNo(0),
+    };
+    for (room, want, held) in ROOMS {
+        let measures = measure(alloc, &mut checked)?;
+        let mut out = ShortWriter::with_room(*room);
+        let said = print(alloc, &mut checked, &measures, top, 10, &mut out);
+        assert_eq!(rt; said, *want, "with room for {room}");
+        assert_eq!(rt; out.held.as_slice(), *held, "with room for {room}");
+    }
+    Ok(())
+}

@@ -1,0 +1,220 @@
+/*
+ * print_value FILE [PATH]: prints the value that PATH (a JSON Pointer) leads to in a binary property list,
+ * or what keeps the file from holding one. A container is printed as its kind and how many members it has.
+ *
+ *     cc -o print_value print_value.c $(pkg-config --cflags --libs bplist)
+ */
+#include <bplist.h>
+
+#include <inttypes.h>
+#include <stdio.h>
+#include <stdlib.h>
+#include <string.h>
+
+struct file {
+    uint8_t *bytes;
+    size_t length;
+};
+
+static bool read_file(const char *name, struct file *file)
+{
+    FILE *in = fopen(name, "rb");
+    long end;
+    bool whole;
+
+    if (in == NULL)
+        return false;
+    if (fseek(in, 0, SEEK_END) != 0 || (end = ftell(in)) < 0 || fseek(in, 0, SEEK_SET) != 0) {
+        fclose(in);
+        return false;
+    }
+    file->length = (size_t)end;
+    file->bytes = malloc(file->length + 1);
+    whole = file->bytes != NULL && fread(file->bytes, 1, file->length, in) == file->length;
+    fclose(in);
+    return whole;
+}
+
+static int refuse(const char *name, bplist_status status, const bplist_verdict *verdict)
+{
+    char rule[16] = {0};
+    uint64_t count;
+
+    if (status != BPLIST_FAULT) {
+        fprintf(stderr, "%s: out of memory\n", name);
+        return 4;
+    }
+    bplist_rule_name(verdict->rule, rule, sizeof rule, &count);
+    fprintf(stderr, "%s: breaks rule %" PRIu32 " (%s)", name, verdict->rule, rule);
+    if (verdict->has_object)
+        fprintf(stderr, " at object %" PRIu32, verdict->object);
+    fprintf(stderr, ", place %" PRIu64 "\n", verdict->place);
+    return 1;
+}
+
+static void print_hex(const uint8_t *bytes, uint64_t length)
+{
+    for (uint64_t i = 0; i < length; i++)
+        printf("%02x", bytes[i]);
+}
+
+/* The number of a real or a date, whose greatest byte comes first. */
+static double number_of(const uint8_t *bytes, uint64_t length)
+{
+    uint64_t bits = 0;
+    uint32_t half;
+    double wide;
+    float narrow;
+
+    for (uint64_t i = 0; i < length; i++)
+        bits = bits << 8 | bytes[i];
+    if (length == 8) {
+        memcpy(&wide, &bits, sizeof wide);
+        return wide;
+    }
+    half = (uint32_t)bits;
+    memcpy(&narrow, &half, sizeof narrow);
+    return narrow;
+}
+
+/* A text of two bytes a unit as UTF-8; a surrogate that stands alone is printed as U+FFFD. */
+static bool print_units(bplist_handle *handle, const struct file *file, uint32_t object)
+{
+    uint16_t units[256];
+    uint64_t from = 0;
+    uint64_t count;
+    uint32_t high = 0;
+
+    do {
+        if (bplist_units(handle, file->bytes, file->length, object, from, units, 256, &count) != BPLIST_OK)
+            return false;
+        for (uint64_t i = 0; i < count; i++) {
+            uint32_t unit = units[i];
+            bool pairs = high != 0 && (unit & 0xfc00) == 0xdc00;
+
+            if (high != 0 && !pairs)
+                fputs("\xef\xbf\xbd", stdout);
+            if (pairs)
+                unit = 0x10000 + ((high & 0x3ff) << 10 | (unit & 0x3ff));
+            high = 0;
+            if ((unit & 0xfffffc00) == 0xd800)
+                high = unit;
+            else if ((unit & 0xfffffc00) == 0xdc00)
+                fputs("\xef\xbf\xbd", stdout);
+            else if (unit < 0x80)
+                printf("%c", (int)unit);
+            else if (unit < 0x800)
+                printf("%c%c", (int)(0xc0 | unit >> 6), (int)(0x80 | (unit & 0x3f)));
+            else if (unit < 0x10000)
+                printf("%c%c%c", (int)(0xe0 | unit >> 12), (int)(0x80 | (unit >> 6 & 0x3f)), (int)(0x80 | (unit & 0x3f)));
+            else
+                printf("%c%c%c%c", (int)(0xf0 | unit >> 18), (int)(0x80 | (unit >> 12 & 0x3f)),
+                       (int)(0x80 | (unit >> 6 & 0x3f)), (int)(0x80 | (unit & 0x3f)));
+        }
+        from += count;
+    } while (count == 256);
+    if (high != 0)
+        fputs("\xef\xbf\xbd", stdout);
+    return true;
+}
+
+static bool print_value(bplist_handle *handle, const struct file *file, uint32_t object)
+{
+    bplist_body body;
+    bplist_integer number;
+    uint32_t uid;
+
+    if (bplist_face(handle, file->bytes, file->length, object, &body) != BPLIST_OK)
+        return false;
+    switch (body.kind) {
+    case BPLIST_NULL:
+        fputs("null", stdout);
+        break;
+    case BPLIST_FALSE:
+        fputs("false", stdout);
+        break;
+    case BPLIST_TRUE:
+        fputs("true", stdout);
+        break;
+    case BPLIST_INT:
+        if (bplist_int(handle, file->bytes, file->length, object, &number) != BPLIST_OK)
+            return false;
+        if (number.high == 0)
+            printf("%" PRIu64, number.low);
+        else if (number.high == UINT64_MAX && number.low >> 63 == 1)
+            printf("%" PRId64, (int64_t)number.low);
+        else
+            printf("0x%016" PRIx64 "%016" PRIx64, number.high, number.low);
+        break;
+    case BPLIST_REAL:
+        printf("%.17g", number_of(file->bytes + body.place, body.length));
+        break;
+    case BPLIST_DATE:
+        printf("%.17g seconds after 2001-01-01 00:00:00 UTC", number_of(file->bytes + body.place, body.length));
+        break;
+    case BPLIST_DATA:
+        print_hex(file->bytes + body.place, body.length);
+        break;
+    case BPLIST_ASCII:
+        fwrite(file->bytes + body.place, 1, (size_t)body.length, stdout);
+        break;
+    case BPLIST_WIDE:
+        if (!print_units(handle, file, object))
+            return false;
+        break;
+    case BPLIST_UID:
+        if (bplist_uid(handle, file->bytes, file->length, object, &uid) != BPLIST_OK)
+            return false;
+        printf("uid %" PRIu32, uid);
+        break;
+    case BPLIST_ARRAY:
+        printf("array of %" PRIu64, body.count);
+        break;
+    case BPLIST_SET:
+        printf("set of %" PRIu64, body.count);
+        break;
+    default:
+        printf("dictionary of %" PRIu64, body.count);
+        break;
+    }
+    putchar('\n');
+    return true;
+}
+
+int main(int argc, char **argv)
+{
+    struct file file;
+    bplist_handle handle = {0};
+    bplist_verdict verdict;
+    bplist_found found;
+    bplist_status status;
+    const char *path = argc > 2 ? argv[2] : "";
+    int answer = 0;
+
+    if (argc < 2 || argc > 3) {
+        fputs("usage: print_value FILE [PATH]\n", stderr);
+        return 2;
+    }
+    if (!read_file(argv[1], &file)) {
+        perror(argv[1]);
+        return 3;
+    }
+    status = bplist_open(&handle, file.bytes, file.length, false, &verdict);
+    if (status != BPLIST_OK) {
+        free(file.bytes);
+        return refuse(argv[1], status, &verdict);
+    }
+    status = bplist_find(&handle, file.bytes, file.length, path, strlen(path), &found);
+    if (status == BPLIST_OK) {
+        answer = print_value(&handle, &file, found.object) ? 0 : 4;
+    } else if (status >= BPLIST_NO_KEY && status <= BPLIST_NOT_STEPPABLE) {
+        fprintf(stderr, "%s: no value at step %" PRIu64 " of %s\n", argv[1], found.step, path);
+        answer = 1;
+    } else {
+        fprintf(stderr, "%s: %s\n", path, status == BPLIST_MEMORY ? "out of memory" : "not a path");
+        answer = status == BPLIST_MEMORY ? 4 : 2;
+    }
+    bplist_close(&handle);
+    free(file.bytes);
+    return answer;
+}

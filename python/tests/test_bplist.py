@@ -1,0 +1,399 @@
+"""Tests of the package over libbplist: `python3 -m unittest` in python/, with BPLIST_LIBRARY where the library is not installed.
+
+The files are those of the repository's tables (tests/vectors) and of other writers (tests/sample_files.py).
+"""
+import collections.abc
+import contextlib
+import datetime
+import gc
+import io
+import math
+import mmap
+import os
+import pathlib
+import plistlib
+import random
+import runpy
+import sys
+import tempfile
+import threading
+import unittest
+from unittest import mock
+
+import bplist
+
+ROOT = pathlib.Path(__file__).resolve().parents[2]
+sys.path.insert(0, str(ROOT / "tests"))
+
+from run_vectors import doubling  # noqa: E402
+from sample_files import table_files, written_files  # noqa: E402
+
+# What plistlib reads wrong: a count of 16 bytes as one of 1 byte.
+READ_WRONG = ".w4."
+MOST_NODES = 10_000
+
+
+def by_plistlib(file):
+    """plistlib's tree. Where there is none: plistlib has no sets, no lone surrogates, no dates beyond datetime's."""
+    try:
+        return [plistlib.loads(file, fmt=plistlib.FMT_BINARY)]
+    except Exception:
+        return []
+
+
+def plain_of(value):
+    """A lazy value as a tree, by nothing but its public calls."""
+    if isinstance(value, bplist.Dict):
+        return {key: plain_of(member) for key, member in value.items()}
+    if isinstance(value, (bplist.Array, bplist.Set)):
+        return [plain_of(member) for member in value]
+    return value
+
+
+class Tables(unittest.TestCase):
+    def test_verdicts(self):
+        """Each file of the tables is opened, or refused with rule, object and place."""
+        for sample in table_files():
+            if sample.line is None:
+                continue
+            line = sample.line.decode()
+            with self.subTest(sample.name):
+                if line.startswith("ok "):
+                    with bplist.loads(sample.octets) as plist:
+                        self.assertEqual(plist.closed, False)
+                    continue
+                with self.assertRaises(bplist.Refused) as caught:
+                    bplist.loads(sample.octets)
+                self.see_fault(caught.exception, line.split())
+
+    def see_fault(self, fault, words):
+        if words[0] == "circle":
+            self.assertEqual((fault.rule, fault.number, fault.place), ("Circle", 23, None))
+            self.assertEqual(fault.circle, tuple(map(int, words[1:])))
+            return
+        self.assertEqual(words[:2], ["fault", fault.rule])
+        self.assertEqual(words[3], "none" if fault.object is None else str(fault.object))
+        self.assertEqual(words[5], str(fault.place))
+        self.assertEqual(fault.circle, ())
+
+    def test_trees(self):
+        """Each sound file of the tables that plistlib reads right gives plistlib's tree."""
+        seen = 0
+        for sample in table_files():
+            sound = sample.line is not None and sample.line.startswith(b"ok ")
+            if not sound or len(sample.octets) > 100_000 or READ_WRONG in sample.name:
+                continue
+            with self.subTest(sample.name), bplist.loads(sample.octets) as plist:
+                if plist.size > MOST_NODES:
+                    continue
+                for want in by_plistlib(sample.octets):
+                    seen += 1
+                    self.assertEqual(plist.plain(), want)
+                    self.assertEqual(plain_of(plist.value), want)
+        self.assertGreater(seen, 20)
+
+    def test_other_writers(self):
+        """Each file of another writer gives the tree that it was given, which plistlib reads too."""
+        with tempfile.TemporaryDirectory() as folder:
+            for sample in written_files(folder):
+                for is_sorted in (False, True):
+                    with self.subTest(sample.name), bplist.loads(sample.octets, sorted=is_sorted) as plist:
+                        self.assertEqual(plistlib.loads(sample.octets), sample.value)
+                        self.assertEqual(plist.plain(), sample.value)
+                        self.assertEqual(plain_of(plist.value), sample.value)
+
+    def test_rules(self):
+        """The sentence of a rule is the one of docs/RULES.md."""
+        section = (ROOT / "docs/RULES.md").read_text(encoding="utf-8").split("## The rules in plain words")[1].split("\n## ")[0]
+        cells = [line.strip("| ").split(" | ") for line in section.split("\n") if line[:3].strip("| ").isdigit()]
+        self.assertEqual(len(cells), 32)
+        for number, word, sentence, *_ in cells:
+            fault = bplist.Refused(int(number), None, 0)
+            self.assertEqual((fault.rule, fault.sentence), (word, sentence))
+
+
+class Values(unittest.TestCase):
+    tree = {
+        "text": "plain",
+        "wide": "\u00e9\U0001f600",
+        "number": -(2**63),
+        "large": 2**64 - 1,
+        "real": 1.5,
+        "yes": True,
+        "data": b"\x00\xff",
+        "when": datetime.datetime(2020, 2, 29, 12, 30),
+        "uid": plistlib.UID(7),
+        "list": [1, [2, {"a": 3}], []],
+        "": {"~/": 1},
+    }
+
+    def setUp(self):
+        self.plist = bplist.loads(plistlib.dumps(self.tree, fmt=plistlib.FMT_BINARY))
+
+    def test_lazy(self):
+        value = self.plist.value
+        self.assertIsInstance(value, collections.abc.Mapping)
+        self.assertIsInstance(value["list"], collections.abc.Sequence)
+        self.assertEqual(len(value), len(self.tree))
+        self.assertEqual(set(value), set(self.tree))
+        self.assertEqual(plain_of(value), self.tree)
+        self.assertEqual(value["list"][-1].plain(), [])
+        self.assertEqual(value["list"][0:1], [1])
+        self.assertIn("wide", value)
+        self.assertNotIn("none", value)
+        self.assertNotIn(3, value)
+        self.assertEqual(value.get("none", 5), 5)
+        with self.assertRaises(KeyError):
+            value["none"]
+        with self.assertRaises(IndexError):
+            value["list"][3]
+
+    def test_paths(self):
+        self.assertEqual(self.plist.at("/list/1/1/a"), 3)
+        self.assertEqual(self.plist.at("//~0~1"), 1)
+        self.assertEqual(self.plist.at("/wide"), self.tree["wide"])
+        with self.assertRaises(KeyError):
+            self.plist.at("/none")
+        with self.assertRaises(IndexError):
+            self.plist.at("/list/03")
+        with self.assertRaises(TypeError):
+            self.plist.at("/text/0")
+        with self.assertRaises(bplist.PathError) as caught:
+            self.plist.at("/a~2")
+        self.assertEqual(caught.exception.place, 2)
+        with self.assertRaises(UnicodeEncodeError):
+            self.plist.at("/\ud800")
+
+    def test_sizes(self):
+        """The number of nodes is looked up before anything is built."""
+        self.assertEqual(self.plist.at("/list").size, 8)
+        self.assertEqual(self.plist.plain(limit=self.plist.size), self.tree)
+        limit = self.plist.size - 1
+        with mock.patch("bplist.plist._Builder", side_effect=AssertionError("something was built")):
+            with self.assertRaises(bplist.TooLarge) as caught:
+                self.plist.plain(limit=limit)
+        self.assertEqual((caught.exception.size, caught.exception.limit), (limit + 1, limit))
+
+    def test_text(self):
+        with bplist.loads(plistlib.dumps({"a": ["b", b"\x01"]}, fmt=plistlib.FMT_BINARY)) as plist:
+            self.assertEqual(plist.text(), "{a=(b,<01>);}")
+            with self.assertRaises(bplist.TooLarge):
+                plist.text(limit=5)
+        with self.assertRaises(ValueError):
+            self.plist.text()
+
+    def test_certificates(self):
+        file = plistlib.dumps(self.tree, fmt=plistlib.FMT_BINARY)
+        for is_sorted in (False, True):
+            with bplist.loads(file, sorted=is_sorted) as plist:
+                certificate = plist.certificate
+            with bplist.loads(file, certificate=certificate) as plist:
+                self.assertEqual(plist.certificate, certificate)
+                self.assertEqual(plist.plain(), self.tree)
+        with self.assertRaises(bplist.Refused) as caught:
+            bplist.loads(file, certificate=b"bplcert3")
+        self.assertEqual((caught.exception.rule, caught.exception.number), ("CertMagic", 24))
+
+
+class Edges(unittest.TestCase):
+    def value_of(self, object, count=1):
+        """The value of the top object of a file of so many objects, the first of which has these bytes."""
+        table = 8 + len(object)
+        trailer = bytes(6) + b"\x01\x01" + count.to_bytes(8, "big") + bytes(8) + table.to_bytes(8, "big")
+        return bplist.loads(b"bplist00" + object + b"\x08" * count + trailer).value
+
+    def test_lone_surrogate(self):
+        self.assertEqual(self.value_of(b"\x61\xd8\x00"), "\ud800")
+
+    def test_keys_of_lone_surrogates(self):
+        file = b"bplist00" + b"\xd1\x01\x02" + b"\x61\xdc\x00" + b"\x09" + b"\x08\x0b\x0e"
+        file += bytes(6) + b"\x01\x01" + (3).to_bytes(8, "big") + bytes(8) + (15).to_bytes(8, "big")
+        with bplist.loads(file) as plist:
+            self.assertEqual(list(plist.value), ["\udc00"])
+            self.assertIs(plist.value["\udc00"], True)
+
+    def test_far_dates(self):
+        far = self.value_of(b"\x33" + b"\x7f\xef" + b"\xff" * 6)
+        self.assertIsInstance(far, bplist.Date)
+        self.assertGreater(far, 1e300)
+        self.assertTrue(math.isnan(self.value_of(b"\x33\x7f\xf8" + bytes(6))))
+
+    def test_long_integers(self):
+        self.assertEqual(self.value_of(b"\x14" + b"\x7f" + b"\xff" * 15), 2**127 - 1)
+        self.assertEqual(self.value_of(b"\x14" + b"\x80" + bytes(15)), -(2**127))
+        self.assertEqual(self.value_of(b"\x12\xff\xff\xff\xff"), 2**32 - 1)
+        self.assertEqual(self.value_of(b"\x13" + b"\xff" * 8), -1)
+
+    def test_null(self):
+        self.assertIsNone(self.value_of(b"\x00"))
+
+    def test_shared_beyond_all_memory(self):
+        """A file of 298 bytes whose tree has 2^65 - 1 nodes: opened, sized and walked to its leaf."""
+        file = doubling(64, b"\x09")
+        self.assertEqual(len(file), 298)
+        with bplist.loads(file) as plist:
+            self.assertEqual(plist.size, 2**64 - 1)
+            self.assertIs(plist.at("/0" * 64), True)
+            value = plist.value
+            while isinstance(value, bplist.Array):
+                value = value[-1]
+            self.assertIs(value, True)
+            with self.assertRaises(bplist.TooLarge) as caught:
+                plist.plain()
+            self.assertEqual(caught.exception.size, 2**64 - 1)
+
+    def test_circle(self):
+        file = b"bplist00" + b"\xa1\x00" + b"\x08" + bytes(6) + b"\x01\x01" + (1).to_bytes(8, "big") + bytes(8)
+        with self.assertRaises(bplist.Refused) as caught:
+            bplist.loads(file + (10).to_bytes(8, "big"))
+        self.assertEqual((caught.exception.rule, caught.exception.circle), ("Circle", (0,)))
+
+    def test_deep(self):
+        """A chain of arrays deeper than Python recurses."""
+        links = 20_000
+        body = b"".join(b"\xa1" + n.to_bytes(4, "big") for n in range(1, links + 1)) + b"\x09"
+        offsets = b"".join((8 + 5 * n).to_bytes(4, "big") for n in range(links + 1))
+        trailer = bytes(6) + b"\x04\x04" + (links + 1).to_bytes(8, "big") + bytes(8) + (8 + len(body)).to_bytes(8, "big")
+        with bplist.loads(b"bplist00" + body + offsets + trailer) as plist:
+            value, depth = plist.plain(), 0
+            while isinstance(value, list):
+                value, depth = value[0], depth + 1
+            self.assertEqual(depth, links)
+
+
+class Files(unittest.TestCase):
+    def setUp(self):
+        self.folder = tempfile.TemporaryDirectory()
+        self.addCleanup(self.folder.cleanup)
+        self.path = os.path.join(self.folder.name, "file with blanks.plist")
+        with open(self.path, "wb") as file:
+            plistlib.dump({"a": [1, 2]}, file, fmt=plistlib.FMT_BINARY)
+
+    def test_open(self):
+        with bplist.open(self.path) as plist:
+            self.assertEqual(plist.at("/a/1"), 2)
+            members = plist.value["a"]
+        with self.assertRaises(bplist.Closed):
+            members[0]
+        plist.close()
+        self.assertTrue(plist.closed)
+
+    def test_mapped(self):
+        """A file is mapped and not read; the mapping ends with the handle, and not before."""
+        plist = bplist.open(self.path)
+        mapped = plist._octets.given
+        self.assertIsInstance(mapped, mmap.mmap)
+        self.assertEqual(plist.at("/a/0"), 1)
+        self.assertFalse(mapped.closed)
+        plist.close()
+        self.assertTrue(mapped.closed)
+        with self.assertRaises(bplist.Closed):
+            plist.at("/a/0")
+
+    def test_refused_is_let_go(self):
+        """The mapping of a file that is refused ends at once."""
+        with open(self.path, "r+b") as file:
+            file.write(b"B")
+        mapped = []
+        made = bplist.plist._octets
+
+        def kept(path):
+            octets = made(path)
+            mapped.append(octets.given)
+            return octets
+
+        with mock.patch("bplist.plist._octets", kept), self.assertRaises(bplist.Refused):
+            bplist.open(self.path)
+        self.assertTrue(mapped[0].closed)
+
+    def test_lint(self):
+        verdict = bplist.lint(self.path)
+        self.assertTrue(verdict.ok)
+        self.assertEqual((verdict.objects, verdict.reached, verdict.height), (5, 5, 3))
+        with open(self.path, "wb"):
+            pass
+        self.assertEqual(bplist.lint(self.path).fault.rule, "TooShort")
+        with self.assertRaises(OSError):
+            bplist.lint(self.path + " of no name")
+
+    def test_collected(self):
+        """A container keeps its file open; without one the file is closed."""
+        members = bplist.open(self.path).value["a"]
+        gc.collect()
+        self.assertEqual(list(members), [1, 2])
+        plist = members._plist
+        closer = plist._closer
+        del members, plist
+        gc.collect()
+        self.assertFalse(closer.alive)
+
+    def test_threads(self):
+        """Threads that share a property list, one of which closes it: an answer, or Closed."""
+        plist = bplist.open(self.path)
+        strange = []
+
+        def read():
+            try:
+                for _ in range(300):
+                    if plist.at("/a/0") != 1:
+                        strange.append("another value")
+            except bplist.Closed:
+                pass
+
+        threads = [threading.Thread(target=read) for _ in range(4)]
+        for thread in threads:
+            thread.start()
+        plist.close()
+        for thread in threads:
+            thread.join()
+        self.assertEqual(strange, [])
+
+    def test_threads_apart(self):
+        """Threads that each open the same file."""
+        seen = []
+
+        def read():
+            for _ in range(50):
+                with bplist.open(self.path, sorted=True) as plist:
+                    seen.append((plist.at("/a/1"), plist.size))
+
+        threads = [threading.Thread(target=read) for _ in range(4)]
+        for thread in threads:
+            thread.start()
+        for thread in threads:
+            thread.join()
+        self.assertEqual(seen, [(2, 5)] * 200)
+
+    def test_walk_backup(self):
+        """The example lists each file of a folder that is not sound, and the value of those that are."""
+        broken = os.path.join(self.folder.name, "broken")
+        with open(broken, "wb") as file:
+            file.write(b"bplist00")
+        printed = io.StringIO()
+        words = ["walk_backup.py", self.folder.name, "/a/1"]
+        with mock.patch.object(sys, "argv", words), contextlib.redirect_stdout(printed):
+            runpy.run_path(str(ROOT / "examples/walk_backup.py"), run_name="__main__")
+        short = "fault TooShort object none place 8: "
+        lines = sorted(printed.getvalue().splitlines())
+        self.assertEqual(lines[1], f"{self.path}: 2")
+        self.assertTrue(lines[0].startswith(f"{broken}: {short}"), lines[0])
+
+
+class Changes(unittest.TestCase):
+    def test_changed_files(self):
+        """Ten thousand changes of one byte: a value or an exception of the package."""
+        given = random.Random(1)
+        files = [plistlib.dumps(Values.tree, fmt=plistlib.FMT_BINARY), doubling(8, b"\x51a")]
+        for _ in range(10_000):
+            file = bytearray(given.choice(files))
+            file[given.randrange(len(file))] = given.randrange(256)
+            try:
+                with bplist.loads(file) as plist:
+                    if plist.size < 10_000:
+                        plain_of(plist.value)
+            except bplist.Refused:
+                pass
+
+
+if __name__ == "__main__":
+    unittest.main()

@@ -1,0 +1,214 @@
+#!/usr/bin/env python3
+"""edits.py [--table] CRATE [EDIT..]
+
+Tries the must-fail edits of a crate, all or those named, and says what refuses each. One line an edit: the edit, its
+function, the verdict and the goals. The verdicts:
+
+  false    the prover found values at which a goal of the edited function does not hold
+  open     a goal that the prover decides by itself stays open
+  answer   the answer that a proof file gives to a goal does not show it any longer; its names still fit
+  stale    names of a proof file no longer fit, which says nothing of the contract
+  PROVED   nothing refuses it
+
+With --table the rows of these edits in docs/EDITS.md are written anew: the edit, what it turns, what refuses it. The status
+is 1 where an edit is stale or proved.
+
+Edits of different functions are tried together, in a copy of the crate over what its last check kept, so a crate takes a
+few checks. `rt must-fail` tries each alone. The crate must be checked (`rt check`) and the crates below it built.
+"""
+import dataclasses
+import importlib.machinery
+import importlib.util
+import os
+import pathlib
+import re
+import shutil
+import sys
+import tempfile
+
+ROOT = pathlib.Path(__file__).resolve().parent.parent
+FUNCTION = re.compile(r"(?: {4})?(?:pub(?:\(crate\))? )?(?:const )?(?:extern \"C\" )?fn (\w+)")
+OPEN = re.compile(r"note: (?:\./)?(\S+?):(\d+):\d+: (?:it is not proved that .*?|`search` found no proof )\(`([^`]+)`\)(.*)")
+ANSWER = re.compile(r"\./proofs/(\S+)/(?:Answers|Invariants|Proof)\.antt:\d+:\d+: error: (?:`([^`]+)`: )?(.*)")
+NAMES = re.compile(r"has no field|is not in scope|has no `|is no name|was not admitted")
+
+
+def kit():
+    """The kit's `rt` as a module, for its way to check an edited copy of a crate."""
+    loader = importlib.machinery.SourceFileLoader("rt", os.path.realpath(shutil.which("rt")))
+    module = importlib.util.module_from_spec(importlib.util.spec_from_loader("rt", loader))
+    loader.exec_module(module)
+    return module
+
+
+@dataclasses.dataclass
+class Edit:
+    name: str
+    pairs: list  # (file, old, new)
+    file: str = ""
+    first: int = 0  # the lines of the function in which it stands
+    last: int = 0
+    function: str = ""
+    path: str = ""  # the function, or its module, as rattle names it below the crate
+
+    def place(self, folder):
+        """Finds the function in which the first change of a body stands, else the file."""
+        for file, old, _ in self.pairs:
+            lines = (folder / file).read_text().split("\n")
+            at = next(i for i, line in enumerate(lines) if old in line)
+            starts = [i for i, line in enumerate(lines) if FUNCTION.match(line)]
+            first = max((i for i in starts if i <= at), default=None)
+            if file.startswith("src/") and first is not None:
+                closing = re.match(r" *", lines[first])[0] + "}"
+                last = next(i for i in range(first, len(lines)) if lines[i] == closing)
+                if at <= last:
+                    self.file, self.first, self.last = file, first + 1, last + 1
+                    self.function = f"{file[4:-3]}::{FUNCTION.match(lines[first])[1]}"
+                    self.path = self.function if lines[first][0] != " " else self.inside(lines[:first])
+                    # A goal of the whole function is told at its first attribute.
+                    while lines[self.first - 2].lstrip().startswith("#["):
+                        self.first -= 1
+                    return
+        self.file, self.first, self.last = self.pairs[0][0], 1, sys.maxsize
+
+    def inside(self, before):
+        """The path of a function of an impl, whose head is the last of the lines before it that begin an impl."""
+        module, name = self.function.split("::")
+        head = next(line for line in reversed(before) if line.startswith("impl"))
+        found = re.match(r"impl(?:<[^>]*>)? (?:(\w+) for )?(\w+)", head)
+        return f"{module}::{found[2]}{found[1] or ''}::{name}" if found and "From<" not in head else module
+
+    def goals(self, lines):
+        """The (verdict, goal) that the lines of a check have for the function."""
+        module = self.file[4:-3]
+        for line in lines:
+            if found := OPEN.match(line):
+                file, at, goal, rest = found.groups()
+                if file == self.file and self.first <= int(at) <= self.last:
+                    yield ("false" if "is false" in rest else "open"), goal
+            elif found := ANSWER.match(line):
+                path, goal, why = found.groups()
+                if path.startswith(module + "/") and path.endswith("/" + self.function.rpartition("::")[2]):
+                    yield ("stale" if NAMES.search(why) else "answer"), goal or "-"
+
+
+def read_edit(path):
+    pairs, file, old = [], "", ""
+    for line in path.read_text().split("\n"):
+        word, _, text = line.partition(": ")
+        if word == "file":
+            file = text
+        elif word == "old":
+            old = text
+        elif word.rstrip(":") == "new":
+            pairs.append((file, old, text))
+    return Edit(path.stem, pairs)
+
+
+def rounds(edits):
+    """Groups of edits that can be tried together: one for each function."""
+    groups = []
+    for edit in edits:
+        group = next((it for it in groups if all(edit.function != other.function for other in it)), None)
+        if group is None or not edit.function:
+            groups.append([edit])
+        else:
+            group.append(edit)
+    return groups
+
+
+def turned(edits, folder):
+    """The texts of the files that the edits change."""
+    texts = {}
+    for edit in edits:
+        for file, old, new in edit.pairs:
+            text = texts.get(file) or (folder / file).read_text()
+            if text.count(old) != 1:
+                sys.exit(f"{edit.name}: its old text is in {file} {text.count(old)} times")
+            texts[file] = text.replace(old, new)
+    return texts
+
+
+def verdict(goals):
+    """The verdict over all goals of a function: names that no longer fit spoil the others."""
+    kinds = {kind for kind, _ in goals}
+    return next((it for it in ("stale", "false", "open", "answer") if it in kinds), "PROVED")
+
+
+def clause(goal):
+    """What a goal is of, in the words of the contract."""
+    if found := re.search(r"clause-(\w+)$", goal):
+        return f"`{found[1]}`"
+    if goal.startswith("returns"):
+        return "its clause"
+    if goal.startswith("loop-"):
+        return "the loop's measure" if "-smaller" in goal else "the loop's invariant"
+    return "the struct's invariant" if goal.startswith("invariant_of") else f"`{goal}`"
+
+
+def line(edit, goals):
+    return f"{edit.name}: {edit.function or edit.file}: {verdict(goals)}: {', '.join(sorted({goal for _, goal in goals}))}"
+
+
+def row(edit, goals):
+    kind = verdict(goals)
+    what = ", ".join(sorted({clause(goal) for found, goal in goals if found == kind}))
+    turns = "; ".join(turn(old.strip(), new.strip()) for _, old, new in edit.pairs)
+    return f"| {edit.name} | {edit.file[4:]}: {turns} | {kind}: {what} |"
+
+
+def turn(old, new):
+    said = f"`{new[: -len(old)].strip()}` before `{old}`" if new.endswith(old) else f"`{old}` is `{new}`"
+    return said.replace("|", "\\|")
+
+
+def write_table(crate, rows):
+    """Puts the rows, by their edits, into the table below the crate's heading in docs/EDITS.md. Rows of edits that are gone go."""
+    path = ROOT / "docs/EDITS.md"
+    before, heading, rest = path.read_text().partition(f"\n## {crate.name}\n")
+    body, further, after = rest.partition("\n## ")
+    kept = {it.split(" | ")[0].lstrip("| "): it for it in body.split("\n") if it.startswith("| ")}
+    names = sorted(it.stem for it in pathlib.Path(crate.folder, "must-fail").glob("*.edit"))
+    table = [it for name in names if (it := {**kept, **rows}.get(name))]
+    text = "\n".join(["", "| edit | what it turns | what refuses it |", "|---|---|---|", *table, ""])
+    path.write_text(before + heading + text + further + after)
+
+
+def main(words):
+    table = "--table" in words
+    words = [it for it in words if it != "--table"]
+    if not words:
+        sys.exit(__doc__)
+    rows = {}
+    os.chdir(ROOT)
+    rt = kit()
+    rt.rtlib.guarded()
+    crate = next(it for it in rt.rtlib.crates_below(str(ROOT)) if it.name == words[0])
+    folder = pathlib.Path(crate.folder)
+    paths = sorted((folder / "must-fail").glob("*.edit"))
+    edits = [read_edit(it) for it in paths if not words[1:] or it.stem in words[1:]]
+    for edit in edits:
+        edit.place(folder)
+    bad = 0
+    with tempfile.TemporaryDirectory(prefix="edits-") as kept:
+        shutil.copytree(folder / "out/incremental", kept, dirs_exist_ok=True)
+        for group in rounds(edits):
+            flags = ["--jobs", "1", "--allow-holes"]
+            for edit in group:
+                flags += ["--only", edit.path] if edit.path else []
+            ran = rt.checked(crate, turned(group, folder), flags, kept)
+            lines = ran.stdout.split("\n")
+            if not any(line.startswith("only=") for line in lines):
+                sys.exit("\n".join(["the prover did not read these edits:", *[it for it in lines if "error" in it][:5]]))
+            for edit in group:
+                goals = list(edit.goals(lines))
+                bad += verdict(goals) in ("stale", "PROVED")
+                print(line(edit, goals), flush=True)
+                rows[edit.name] = row(edit, goals)
+    if table:
+        write_table(crate, rows)
+    return 1 if bad else 0
+
+
+if __name__ == "__main__":
+    sys.exit(main(sys.argv[1:]))

@@ -1,0 +1,95 @@
+#!/usr/bin/env python3
+"""readme.py BPLINT [--write]
+
+Runs the session on README.md's first screen: each line behind `$ ` by a shell, in a folder that holds the files which the session
+speaks of, with BPLINT as `bplint`; and compares what it prints, standard error included. The library in use has to stand word
+for word in crates/examples. With --write the session is written anew. The last line printed is `N passed, M failed`, one test
+for each command and one for the library in use.
+"""
+import os
+import pathlib
+import plistlib
+import subprocess
+import sys
+import tempfile
+
+ROOT = pathlib.Path(__file__).resolve().parent.parent
+README = ROOT / "README.md"
+EXAMPLE = ROOT / "crates/examples/src/main.rt"
+FENCE = "```"
+PROMPT = "$ "
+
+
+def files():
+    """The files of the session: a sound one, and one in which a key stands twice."""
+    sound = plistlib.dumps(
+        {
+            "CFBundleName": "Notes",
+            "CFBundleVersion": "4.2",
+            "UIRequiredDeviceCapabilities": ["arm64", "metal"],
+            "WindowSize": {"width": 640, "height": 480},
+        },
+        fmt=plistlib.FMT_BINARY,
+        sort_keys=False,
+    )
+    twice = bytes.fromhex("62706c6973743030" "d201020304" "51615161" "0908" "080d0f1112")
+    twice += bytes(6) + b"\x01\x01" + (5).to_bytes(8, "big") + bytes(8) + (19).to_bytes(8, "big")
+    return {"Info.plist": sound, "broken.plist": twice}
+
+
+def session(text):
+    """Where the first fenced block begins and ends, and its commands with what each prints."""
+    begin = text.index(FENCE) + text[text.index(FENCE) :].index("\n") + 1
+    end = text.index(FENCE, begin)
+    commands = []
+    for line in text[begin:end].splitlines():
+        if line.startswith(PROMPT):
+            commands.append((line[len(PROMPT) :], []))
+        else:
+            commands[-1][1].append(line)
+    return begin, end, commands
+
+
+def printed(command, folder):
+    """The lines that a command prints."""
+    path = f"{folder}/bin:{os.environ['PATH']}"
+    given = {**os.environ, "PATH": path, "LC_ALL": "C.UTF-8"}
+    ran = subprocess.run(
+        command, shell=True, cwd=folder, env=given, stdout=subprocess.PIPE, stderr=subprocess.STDOUT, check=False
+    )
+    return ran.stdout.decode().splitlines()
+
+
+def is_example(text):
+    """Whether the library in use is what the crate of examples has."""
+    code = text.split(f"{FENCE}rust\n")[1].split(FENCE)[0]
+    return code in EXAMPLE.read_text()
+
+
+def main():
+    program = pathlib.Path(sys.argv[1]).resolve()
+    text = README.read_text()
+    begin, end, commands = session(text)
+    failed, written = 0, []
+    with tempfile.TemporaryDirectory() as folder:
+        os.mkdir(f"{folder}/bin")
+        os.symlink(program, f"{folder}/bin/bplint")
+        for name, content in files().items():
+            pathlib.Path(folder, name).write_bytes(content)
+        for command, want in commands:
+            got = printed(command, folder)
+            written += [PROMPT + command, *got]
+            if got != want:
+                failed += 1
+                print(f"README.md: {command}\n  says   {want}\n  prints {got}")
+    if not is_example(text):
+        failed += 1
+        print(f"README.md: the library in use is not what {EXAMPLE.relative_to(ROOT)} has")
+    if "--write" in sys.argv[2:]:
+        README.write_text(text[:begin] + "".join(f"{line}\n" for line in written) + text[end:])
+    print(f"{len(commands) + 1 - failed} passed, {failed} failed")
+    return 1 if failed else 0
+
+
+if __name__ == "__main__":
+    sys.exit(main())
