@@ -101,7 +101,7 @@ pub struct Reached {
 }
 
 /// How many references are read at once.
-const BLOCK: usize = 128;
+const BLOCK: usize = 32;
 
 /// Marks the objects with these numbers. One that was not marked and that the walk does not come to later goes onto the
 /// stack.

@@ -91,6 +91,7 @@ fn check_refs<S: Source>(
 
 /// Looks at the body of object `n`, which stands at `place`, by rules 18 to 20, where this is its head as `shape_at` answers
 /// it. `Read` is answered where a read failed.
+#[inline(always)]
 pub fn check_body<S: Source>(
     src: &mut S,
     frame: &Frame,

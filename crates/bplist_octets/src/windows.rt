@@ -177,6 +177,8 @@ impl<S: Source> Source for Windows<'_, S> {
         self.len
     }
 
+    // Inlined, so that a read of one byte is no call where a pane has it.
+    #[inline(always)]
     fn read_at(&mut self, at: u64, into: &mut [u8]) -> Result<(), ReadFault> {
         if into.len() > PANE {
             return self.source.read_at(at, into);

@@ -4,7 +4,7 @@ use Rattle.bplist_lint.proofs.objects.objects_in.Given as goal
 
 abbrev pub invariant-loop-k : goal.invariant-loop-k
 invariant-loop-k l = record {
-  room : length l.objects ≡ 128;
+  room : length l.objects ≡ 32;
   inside : AreObjects l.frame.objects l.k l.objects;
   same : (k : ℕ) → k < l.k → slice_index l.numbers k < l.frame.objects → slice_index l.objects k ≡ slice_index l.numbers k;
 }

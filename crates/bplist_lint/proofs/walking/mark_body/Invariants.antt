@@ -8,7 +8,7 @@ abbrev pub invariant-loop-done : goal.invariant-loop-done
 invariant-loop-done g l = record {
   reads : g.S.Source.means l.src ≡ g.S.Source.means l.fn.src;
   few : l.done ≤ l.count;
-  room : length l.numbers ≡ 128;
+  room : length l.numbers ≡ 32;
   steady : IsSteady l.frame.objects l.worklist;
   current : l.worklist.current ≡ l.fn.worklist.current;
   work : count_by not l.worklist.marks.items + vec_len l.worklist.stack ≤ count_by not l.fn.worklist.marks.items + vec_len l.fn.worklist.stack;
