@@ -19,3 +19,5 @@ pub mod Unique
 pub mod KeyClassing
 pub mod KeyPairing
 pub mod Repeating
+pub mod DecidedKeys
+pub mod Decided

@@ -1,6 +1,6 @@
 //! Laws of the definitions: each is the contract of a function that does nothing.
 
-ghost use Rattle.std.specs.Prelude.{◌≡◌, ℕ, ◌<◌, List, length, slice_index, Bool};
+ghost use Rattle.std.specs.Prelude.{◌≡◌, ◌⊎◌, ℕ, ◌<◌, List, length, slice_index, Bool};
 ghost use Rattle.bplist_octets.specs.Meaning.{OnlyReads};
 ghost use Rattle.bplist_objects.specs.declared.fault.Fault.{Fault as fault};
 ghost use Rattle.bplist_objects.specs.declared.frame.Frame.{Frame as frame};
@@ -66,6 +66,13 @@ pub fn pair_fault_excludes()
 /// The first fault of a file and a certificate is one, with its rule, its object and its place.
 pub fn one_pair_fault()
     ensures { (f : List ℕ) (certificate : Lists) (a b : fault) → IsPairFault f certificate a → IsPairFault f certificate b → a ≡ b }
+{}
+
+/// A file and a certificate have a yes or a first fault. With `pair_fault_excludes` and `one_pair_fault` it is exactly one of
+/// the two.
+pub fn yes_or_fault()
+    ensures { (f : List ℕ) (certificate : Lists) → ((F : frame) × IsAccepted f F certificate)
+        ⊎ ((a : fault) × IsPairFault f certificate a) }
 {}
 
 /// A call that only reads a checked file leaves its frame and its certificate, and only reads its source.

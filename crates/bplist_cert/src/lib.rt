@@ -50,7 +50,7 @@ pub use checking::check;
 pub use key_names::name_object;
 pub use laws::{
     checked_stays, one_certificate, one_pair_fault, ordered_keys_differ, pair_fault_excludes,
-    reached_objects, repeated_key_has_no_list, vouched_references, vouched_values,
+    reached_objects, repeated_key_has_no_list, vouched_references, vouched_values, yes_or_fault,
 };
 pub use places::Places;
 pub use refusal::Refusal;
