@@ -75,13 +75,6 @@ module _ (f : List ℕ) (F : Frame) (heights : List ℕ) (keys : Option Keyed) (
   abbrev Broken : Fault → Type 0
   Broken fault = IsCheckFault f F (lists heights keys) n (check_rules keys) fault
 
-  -- what an exact look finds is found by any look
-  pub told : (look : Look) (e : Refusal) → GivesRefusal Broken e → GivesRefusal (IsShownFault f F (lists heights keys) look n) e
-  told Exact e h = h
-  told Quick (refusals.Fault fault) h = tt
-  told Quick (refusals.Read r) h = tt
-  told Quick refusals.Memory h = tt
-
   -- a fault of the object by itself
   pub object_fault : (e : ObjectFault) → GivesFault (IsObjectFault f F n object_rules) e → GivesRefusal Broken (refusal_of e)
   object_fault (errors.Fault fault) h = first_fault_among Keeps Breaks object_rules (vouched_rules keys) fault h
