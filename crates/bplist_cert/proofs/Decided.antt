@@ -20,7 +20,7 @@ use Rattle.bplist_objects.proofs.Deciding.{frame_kept_or_fault, object_kept_or_f
 use Rattle.bplist_objects.proofs.FrameTies.{trailer_is_frame}
 use Rattle.bplist_objects.proofs.Ties.{kept_announces}
 use Rattle.bplist_cert.specs.declared.heights.Wanted.{Wanted}
-use Rattle.bplist_cert.specs.declared.heights.Wanted.TheVariants.{Vouched, Below}
+use Rattle.bplist_cert.specs.declared.heights.Wanted.TheVariants.{Vouched, Below, VouchedBelow}
 use Rattle.bplist_cert.specs.declared.checking.Look.TheVariants.{Exact}
 use Rattle.bplist_cert.specs.declared.refusal.Refusal.TheVariants as refusals
 use Rattle.bplist_cert.specs.Lists.{Keyed, Lists, lists}
@@ -46,6 +46,13 @@ meets_decided Vouched height = elim (cases_lt height 1) [
 meets_decided (Below bound) height = elim (cases_lt height bound) [
   | inl low ↦ inl low
   | inr high ↦ inr (λ m. omega (arith, high, m))
+]
+meets_decided (VouchedBelow bound) height = elim (cases_lt height 1) [
+  | inl low ↦ inr (λ m. omega (arith, low, m.0))
+  | inr high ↦ elim (cases_lt height bound) [
+    | inl low ↦ inl (high, low)
+    | inr over ↦ inr (λ m. omega (arith, over, m.1))
+  ]
 ]
 
 -- the fault of object n by this rule at this place

@@ -5,6 +5,7 @@ pub mod Texts
 pub mod Placing
 pub mod Ordered
 pub mod Walking
+pub mod Seeing
 pub mod SortedKeys
 pub mod Leasts
 pub mod Scanning

@@ -34,10 +34,10 @@ use Rattle.bplist_cert.specs.Keys.{HaveTexts, KeysDiffer}
 use Rattle.bplist_cert.specs.CheckRules.{KeepsByCheck, BreaksAtCheck, IsCheckFault, check_rules, vouched_rules, last_rule, HasOrder, KeepsLast, IsLastFault, IsKeysFault}
 use Rattle.bplist_cert.specs.declared.checking.Look.{Look}
 use Rattle.bplist_cert.specs.declared.checking.Look.TheVariants.{Quick, Exact}
-use Rattle.bplist_cert.specs.Looks.{IsSeen, AreSeen, IsShown, IsShownFault}
+use Rattle.bplist_cert.specs.Looks.{IsShown, IsShownFault}
 use Rattle.bplist_cert.specs.KeyClasses.{HasGoodKeys}
 use Rattle.bplist_cert.specs.KeyPairs.{HasGoodList}
-use Rattle.bplist_cert.specs.PairFault.{Sums, IsHeld, Running, IsWalkFault, IsVouchedFault, IsPairFault}
+use Rattle.bplist_cert.specs.PairFault.{Sums, IsHeld, Running, IsWalkFault, IsPairFault}
 use Rattle.bplist_cert.specs.Refusals.{GivesRefusal, Judges, refusal_of}
 
 -- the rule of keys beside rule 21, by the head
@@ -74,13 +74,6 @@ module _ (f : List ℕ) (F : Frame) (heights : List ℕ) (keys : Option Keyed) (
 
   abbrev Broken : Fault → Type 0
   Broken fault = IsCheckFault f F (lists heights keys) n (check_rules keys) fault
-
-  -- what an exact look finds is found by any look
-  pub told : (look : Look) (e : Refusal) → GivesRefusal Broken e → GivesRefusal (IsShownFault f F (lists heights keys) look n) e
-  told Exact e h = h
-  told Quick (refusals.Fault fault) h = tt
-  told Quick (refusals.Read r) h = tt
-  told Quick refusals.Memory h = tt
 
   -- a fault of the object by itself
   pub object_fault : (e : ObjectFault) → GivesFault (IsObjectFault f F n object_rules) e → GivesRefusal Broken (refusal_of e)

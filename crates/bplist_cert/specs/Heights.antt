@@ -8,7 +8,7 @@ use Rattle.bplist_objects.specs.declared.head.Head.{Head}
 use Rattle.bplist_objects.specs.Safe.{ref_count}
 use Rattle.bplist_objects.specs.Scan.{nth_number}
 use Rattle.bplist_cert.specs.declared.heights.Wanted.{Wanted}
-use Rattle.bplist_cert.specs.declared.heights.Wanted.TheVariants.{Vouched, Below}
+use Rattle.bplist_cert.specs.declared.heights.Wanted.TheVariants.{Vouched, Below, VouchedBelow}
 
 -- reference i of an object with this head
 abbrev pub ref : List ℕ → Frame → Head → ℕ → ℕ
@@ -18,10 +18,17 @@ ref f F head i = nth_number f head.body F.ref_size i
 abbrev pub Meets : Wanted → ℕ → Type 0
 Meets Vouched height = 1 ≤ height
 Meets (Below bound) height = height < bound
+Meets (VouchedBelow bound) height = (1 ≤ height) × (height < bound)
 
 -- the first `count` references have heights as wanted
 abbrev pub AreMet : List ℕ → Frame → List ℕ → Head → Wanted → ℕ → Type 0
 AreMet f F heights head wanted count = (k : ℕ) → k < count → Meets wanted (slice_index heights (ref f F head k))
+
+-- the references of object n are vouched for and lower
+abbrev pub AreLower : List ℕ → Frame → List ℕ → ℕ → Head → Type 0
+AreLower f F heights n head =
+    AreMet f F heights head Vouched (ref_count head.kind head.count)
+    × AreMet f F heights head (Below (slice_index heights n)) (ref_count head.kind head.count)
 
 -- reference i is the first whose height is not as wanted
 pub record IsFirstUnmet (f : List ℕ) (F : Frame) (heights : List ℕ) (head : Head) (wanted : Wanted) (i : ℕ) : Type 0 where
@@ -39,10 +46,11 @@ pub record IsFirstUnmetBy (heights : List ℕ) (wanted : Wanted) (refs : List �
   pub unmet : Meets wanted (slice_index heights (slice_index refs i)) → ⊥
   pub before : AreMetBy heights wanted refs i
 
--- the rule that is broken by a height which is not as it is wanted
+-- the rule for a height that is not as it is wanted: for both together rule 29, whichever of them is broken
 abbrev pub rule_of : Wanted → Rule
 rule_of Vouched = rules.ChildNotVouched
 rule_of (Below bound) = rules.HeightNotLess
+rule_of (VouchedBelow bound) = rules.HeightNotLess
 
 -- the fault of the first reference of object n whose height is not as it is wanted
 abbrev pub IsUnmetFault : List ℕ → Frame → List ℕ → ℕ → Head → Wanted → Fault → Type 0

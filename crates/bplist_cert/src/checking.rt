@@ -5,9 +5,13 @@ ghost use Rattle.bplist_octets.specs.Meaning.{OnlyReads, Honestly};
 ghost use Rattle.bplist_objects.specs.Framed.{HonestlyBy};
 ghost use Rattle.bplist_objects.specs.Frame.{off};
 ghost use Rattle.bplist_objects.specs.Safe.{IsSafe, IsSafeHead, IsSafeFrame};
+ghost use Rattle.bplist_objects.specs.Rules.{KeepsAll};
+ghost use Rattle.bplist_objects.specs.Announced.{HasHead};
+ghost use Rattle.bplist_objects.specs.ObjectRules.{KeepsByObject, body_rules};
 ghost use Rattle.bplist_objects.specs.declared.kind.Kind.TheVariants.{Dict};
 ghost use Rattle.bplist_cert.specs.Lists.{Keyed, lists, HasStarts};
 ghost use Rattle.bplist_cert.specs.Valid.{IsVouchedBy, HoldsOneValue};
+ghost use Rattle.bplist_cert.specs.Heights.{AreLower};
 ghost use Rattle.bplist_cert.specs.Keys.{HaveTexts};
 ghost use Rattle.bplist_cert.specs.CheckRules.{KeepsLast, IsLastFault, IsKeysFault};
 ghost use Rattle.bplist_cert.specs.Looks.{IsShownFault};
@@ -15,7 +19,7 @@ ghost use Rattle.bplist_cert.specs.declared.checking.Look.TheVariants.{Quick as 
 ghost use Rattle.bplist_cert.specs.PairFault.{Sums, IsHeld, Running, IsWalkFault, IsVouchedFault, IsCountFault, IsTopFault, IsKept, IsPairFault};
 ghost use Rattle.bplist_cert.specs.Refusals.{Judges, GivesRefusal, is_read, refused_read, MayRefuse};
 ghost use Rattle.bplist_cert.specs.Sorted.{IsAccepted};
-ghost use Rattle.bplist_objects.specs.Answers.{Never};
+ghost use Rattle.bplist_objects.specs.Answers.{Never, read_failed};
 ghost use Rattle.bplist_objects.specs.Reach.{Reach, Chain};
 ghost use Rattle.bplist_objects.specs.Heads.{Content, Spells, refs};
 ghost use Rattle.std.specs.List.{AllByRecursion};
@@ -24,7 +28,7 @@ ghost use Rattle.bplist_objects.specs.declared.frame.Frame.{Frame as frame};
 use crate::certificate::{Certificate, KeyLists};
 use crate::checked::Checked;
 use crate::extents::check_extent;
-use crate::heights::{check_heights, height_at};
+use crate::heights::{Wanted, check_heights, check_refs, height_at};
 use crate::key_classes::have_good_keys;
 use crate::key_equality::check_twice;
 use crate::key_lists::have_good_lists;
@@ -32,7 +36,10 @@ use crate::key_order::check_order;
 use crate::keys::check_texts;
 use crate::places::Places;
 use crate::refusal::Refusal;
-use bplist_objects::{Fault, Frame, Head, Kind, ObjectNo, Rule, frame_of, head_at, read_offsets};
+use bplist_objects::{
+    Fault, Frame, Head, Kind, ObjectFault, ObjectNo, Rule, check_body, frame_of, head_at,
+    read_offsets, refs_of, shape_at,
+};
 use bplist_octets::Source;
 use std::alloc::Global;
 
@@ -98,6 +105,82 @@ fn check_keys<S: Source>(src: &mut S, walk: &Walk, n: ObjectNo, head: &Head) -> 
     }
 }
 
+/// Looks at the body of object `n`, which stands at `place` and has this head: at a leaf's by rules 18 and 19, and at references
+/// by rules 20, 28 and 29 at once, since objects alone have heights. A fault does not say which of them is broken.
+fn check_contents<S: Source>(
+    src: &mut S,
+    walk: &Walk,
+    n: ObjectNo,
+    place: u64,
+    head: &Head,
+) -> Result<(), ObjectFault>
+    requires safe { IsSafe (length (S.means src.old).octets) walk.now.frame }
+    requires head { IsSafeHead walk.now.frame head.now }
+    ensures reads { OnlyReads (read_failed result) (S.means src.old) (S.means src.new) }
+    ensures kept { HonestlyBy (S.means src.old) walk.now.frame (λ f F. place ≡ off f F n.0 → HasHead f F n.0 head.now
+        → IfOk result (λ _. KeepsAll (KeepsByObject f F n.0) body_rules × AreLower f F walk.now.heights.now n.0 head.now)) }
+{
+    if refs_of(head) == 0 {
+        return check_body(src, &walk.frame, n, place, head);
+    }
+    let own = height_at(walk.heights, n.0 as u64);
+    check_refs(
+        src,
+        &walk.frame,
+        walk.heights,
+        n,
+        head,
+        Wanted::VouchedBelow(own),
+    )
+}
+
+/// Looks at object `n` as `check_object` does, by the rules before those of keys, and reads no byte twice.
+fn look_quickly<S: Source>(
+    src: &mut S,
+    walk: &Walk,
+    n: ObjectNo,
+    place: u64,
+    used: u64,
+) -> Result<u64, Refusal>
+    requires safe { IsSafe (length (S.means src.old).octets) walk.now.frame }
+    requires within { n.0 < walk.now.frame.objects }
+    ensures reads { OnlyReads (refused_read result) (S.means src.old) (S.means src.new) }
+    ensures memory { IfErr result (MayRefuse walk.now.keys.now) }
+    ensures exact { HonestlyBy (S.means src.old) walk.now.frame (λ f F. place ≡ off f F n.0
+        → IsVouchedBy walk.now.heights.now n.0 → Sums f F walk.now.heights.now n.0 used
+        → Judges (IsHeld f F (lists walk.now.heights.now walk.now.keys.now) quick n.0)
+        (IsShownFault f F (lists walk.now.heights.now walk.now.keys.now) quick n.0) result) }
+{
+    let head = shape_at(src, &walk.frame, n, place)?;
+    let now = check_extent(&walk.frame, n, &head, place, used)?;
+    check_contents(src, walk, n, place, &head)?;
+    Ok(now)
+}
+
+/// Looks at object `n` as `check_object` does, by all rules in their order.
+fn look_exactly<S: Source>(
+    src: &mut S,
+    walk: &Walk,
+    n: ObjectNo,
+    place: u64,
+    used: u64,
+) -> Result<u64, Refusal>
+    requires safe { IsSafe (length (S.means src.old).octets) walk.now.frame }
+    requires within { n.0 < walk.now.frame.objects }
+    ensures reads { OnlyReads (refused_read result) (S.means src.old) (S.means src.new) }
+    ensures memory { IfErr result (MayRefuse walk.now.keys.now) }
+    ensures exact { HonestlyBy (S.means src.old) walk.now.frame (λ f F. place ≡ off f F n.0
+        → IsVouchedBy walk.now.heights.now n.0 → Sums f F walk.now.heights.now n.0 used
+        → Judges (IsHeld f F (lists walk.now.heights.now walk.now.keys.now) exact n.0)
+        (IsShownFault f F (lists walk.now.heights.now walk.now.keys.now) exact n.0) result) }
+{
+    let head = head_at(src, &walk.frame, n, place)?;
+    let now = check_extent(&walk.frame, n, &head, place, used)?;
+    check_heights(src, &walk.frame, walk.heights, n, &head)?;
+    check_keys(src, walk, n, &head)?;
+    Ok(now)
+}
+
 /// Looks at object `n`, which is vouched for and stands at `place`, where the vouched objects before it take
 /// `used` bytes, and answers how many they take with it.
 fn check_object<S: Source>(
@@ -116,15 +199,9 @@ fn check_object<S: Source>(
         → Judges (IsHeld f F (lists walk.now.heights.now walk.now.keys.now) walk.now.look n.0)
         (IsShownFault f F (lists walk.now.heights.now walk.now.keys.now) walk.now.look n.0) result) }
 {
-    let head = head_at(src, &walk.frame, n, place)?;
-    let now = check_extent(&walk.frame, n, &head, place, used)?;
-    check_heights(src, &walk.frame, walk.heights, n, &head)?;
     match walk.look {
-        Look::Quick => Ok(now),
-        Look::Exact => {
-            check_keys(src, walk, n, &head)?;
-            Ok(now)
-        }
+        Look::Quick => look_quickly(src, walk, n, place, used),
+        Look::Exact => look_exactly(src, walk, n, place, used),
     }
 }
 

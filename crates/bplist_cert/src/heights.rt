@@ -4,14 +4,13 @@ ghost use Rattle.std.specs.Prelude.{◌≡◌, ◌↔◌, ◌+◌, ◌*◌, ◌�
 ghost use Rattle.bplist_octets.specs.Meaning.{OnlyReads, Honestly};
 ghost use Rattle.bplist_objects.specs.Safe.{IsSafe, IsSafeHead, ref_count};
 ghost use Rattle.bplist_objects.specs.Answers.{Gives, read_failed};
-ghost use Rattle.bplist_cert.specs.Heights.{Meets, AreMet, AreMetBy, IsFirstUnmet, IsFirstUnmetBy, IsUnmetFault, IsHeightFault, rule_of};
-ghost use Rattle.bplist_cert.specs.declared.heights.Wanted.TheVariants.{Vouched, Below};
+ghost use Rattle.bplist_cert.specs.Heights.{Meets, AreMet, AreMetBy, AreLower, IsFirstUnmet, IsFirstUnmetBy, IsUnmetFault, IsHeightFault, rule_of};
 
 use bplist_objects::{Fault, Frame, Head, ObjectFault, ObjectNo, Rule, read_refs, refs_of};
 use bplist_octets::{ReadFault, Source};
 
-/// How many references are read at once at most.
-const BLOCK: usize = 512;
+/// How many references are read at once at most: few, as room for a block is cleared for each container.
+const BLOCK: usize = 32;
 
 /// What the height of a reference has to be.
 #[derive(Clone, Copy, Debug, PartialEq, Eq, Drop)]
@@ -20,6 +19,8 @@ pub(crate) enum Wanted {
     Vouched,
     /// Below that of the object.
     Below(u32),
+    /// Both.
+    VouchedBelow(u32),
 }
 
 impl Wanted {
@@ -30,16 +31,17 @@ impl Wanted {
         match self {
             Wanted::Vouched => height >= 1,
             Wanted::Below(bound) => height < bound,
+            Wanted::VouchedBelow(bound) => height >= 1 && height < bound,
         }
     }
 
-    /// The rule that is broken by a height which does not meet this.
+    /// The rule for a height that does not meet this: for both together rule 29, whichever of them is broken.
     fn rule(self) -> Rule
         ensures { result ≡ rule_of self }
     {
         match self {
             Wanted::Vouched => Rule::ChildNotVouched,
-            Wanted::Below(_) => Rule::HeightNotLess,
+            Wanted::Below(_) | Wanted::VouchedBelow(_) => Rule::HeightNotLess,
         }
     }
 }
@@ -128,7 +130,7 @@ fn first_unmet<S: Source>(
 }
 
 /// Looks for a reference of object `n` whose height is not as it is wanted.
-fn check_refs<S: Source>(
+pub(crate) fn check_refs<S: Source>(
     src: &mut S,
     frame: &Frame,
     heights: &[u32],
@@ -175,9 +177,7 @@ pub(crate) fn check_heights<S: Source>(
     requires head { IsSafeHead frame.now head.now }
     ensures reads { OnlyReads (read_failed result) (S.means src.old) (S.means src.new) }
     ensures exact { Honestly (S.means src.old) (λ f. Gives
-        (λ _. AreMet f frame.now heights.now head.now Vouched (ref_count head.now.kind head.now.count)
-        × AreMet f frame.now heights.now head.now (Below (slice_index heights.now n.0)) (ref_count head.now.kind
-        head.now.count)) (IsHeightFault f frame.now heights.now n.0 head.now) result) }
+        (λ _. AreLower f frame.now heights.now n.0 head.now) (IsHeightFault f frame.now heights.now n.0 head.now) result) }
 {
     check_refs(src, frame, heights, n, head, Wanted::Vouched)?;
     let own = height_at(heights, n.0 as u64);
