@@ -2,9 +2,10 @@
 //! the first run in which none fails. The same call made again then answers as over a slice.
 
 use bplist_cert::check;
-use bplist_octets::{FaultySource, SliceSource};
-use bplist_samples::{Call, Row, all_calls, checked_text, tested_rows};
-use std::alloc::Global;
+use bplist_lint::lint;
+use bplist_octets::{FaultySource, SliceSource, Source};
+use bplist_samples::{Call, Parts, Row, all_calls, checked_text, small, tested_rows};
+use std::alloc::{AllocError, Global};
 use std::process::Abort;
 use std::test::Fail;
 
@@ -48,17 +49,12 @@ fn call_turn(alloc: Global, row: &Row, call: &Call, fails: u64) -> Result<Turn, 
 }
 
 /// Whether the first call of a turn met no failing read.
-fn is_whole(rt: &impl Abort, row: &Row, turn: &Turn, want: &str) -> bool {
+fn is_whole(rt: &impl Abort, name: &str, turn: &Turn, want: &str) -> bool {
     if turn.first.as_str() == want {
         return true;
     }
-    assert_eq!(rt;
-        turn.first.as_str(),
-        "Err(Read(Device))",
-        "row {}",
-        row.name
-    );
-    assert_eq!(rt; turn.again.as_str(), want, "row {}", row.name);
+    assert_eq!(rt; turn.first.as_str(), "Err(Read(Device))", "{name}");
+    assert_eq!(rt; turn.again.as_str(), want, "{name}");
     false
 }
 
@@ -67,7 +63,7 @@ fn check_at_each_turn(rt: &impl Abort, alloc: Global, row: &Row) -> Result<u64, 
     let whole = row.checked(alloc, SliceSource::new(&row.octets))?;
     let want = checked_text(alloc, &whole)?;
     for fails in 0..MOST_READS {
-        if is_whole(rt, row, &check_turn(alloc, row, fails)?, &want) {
+        if is_whole(rt, row.name, &check_turn(alloc, row, fails)?, &want) {
             return Ok(fails);
         }
     }
@@ -86,7 +82,7 @@ fn call_at_each_turn(
     let want = call.told(alloc, &mut whole)?;
     for turn in 0..MOST_READS {
         let fails = checking.saturating_add(turn);
-        if is_whole(rt, row, &call_turn(alloc, row, call, fails)?, &want) {
+        if is_whole(rt, row.name, &call_turn(alloc, row, call, fails)?, &want) {
             return Ok(turn);
         }
     }
@@ -122,6 +118,55 @@ fn each_read_of_each_call_with_key_lists(rt: HostRuntime) -> Result<(), Fail> {
     let calls = all_calls(alloc)?;
     for row in tested_rows(alloc)? {
         row_at_each_turn(&rt, alloc, &row.sorted(alloc)?, &calls)?;
+    }
+    Ok(())
+}
+
+/// Files that `lint` refuses, and why.
+const REFUSED: &[(&str, Parts)] = &[
+    ("Marker", (&[0xa1, 1, 0x7f], &[8, 10])),
+    ("Overfull", (&[0xa2, 1, 2, 0x52, 0x61, 0x62], &[8, 11, 11])),
+    ("KeyTwice", (&[0xd2, 1, 1, 1, 1, 0x51, 0x61], &[8, 13])),
+    ("circle", (&[0xa1, 1, 0xa2, 2, 2, 9, 9], &[8, 10, 8])),
+];
+
+/// Why the linter refuses what this source gives.
+fn refusal<S: Source>(alloc: Global, source: &mut S) -> Result<String, AllocError> {
+    let refused = lint(alloc, source).map(|_| ());
+    format!(in alloc; "{refused:?}")
+}
+
+/// What the linter says, over a source whose read number `fails` fails, and then once more.
+fn lint_turn(alloc: Global, octets: &[u8], fails: u64) -> Result<Turn, AllocError> {
+    let mut source = FaultySource::new(octets, fails);
+    let first = refusal(alloc, &mut source)?;
+    let again = refusal(alloc, &mut source)?;
+    Ok(Turn { first, again })
+}
+
+/// How many reads the linter makes of a file that it refuses.
+fn lint_at_each_turn(
+    rt: &impl Abort,
+    alloc: Global,
+    name: &'static str,
+    octets: &[u8],
+) -> Result<u64, Fail> {
+    let want = refusal(alloc, &mut SliceSource::new(octets))?;
+    for fails in 0..MOST_READS {
+        if is_whole(rt, name, &lint_turn(alloc, octets, fails)?, &want) {
+            return Ok(fails);
+        }
+    }
+    Err(Fail::new(name))
+}
+
+/// By the linter, also on the way that it goes to find the first fault.
+#[test]
+fn each_read_of_the_linter(rt: HostRuntime) -> Result<(), Fail> {
+    let alloc = rt.alloc();
+    for (name, (objects, table)) in REFUSED {
+        let reads = lint_at_each_turn(&rt, alloc, name, &small(alloc, objects, table)?)?;
+        assert!(rt; reads > 0);
     }
     Ok(())
 }
