@@ -8,10 +8,11 @@ function, the verdict and the goals. The verdicts:
   open     a goal that the prover decides by itself stays open
   answer   the answer that a proof file gives to a goal does not show it any longer; its names still fit
   stale    names of a proof file no longer fit, which says nothing of the contract
+  unread   the prover could not take the function at all, which says nothing either
   PROVED   nothing refuses it
 
 With --table the rows of these edits in docs/EDITS.md are written anew: the edit, what it turns, what refuses it. The status
-is 1 where an edit is stale or proved.
+is 1 where an edit is unread, stale or proved.
 
 Edits of different functions are tried together, in a copy of the crate over what its last check kept, so a crate takes a
 few checks. `rt must-fail` tries each alone. The crate must be checked (`rt check`) and the crates below it built.
@@ -31,6 +32,7 @@ FUNCTION = re.compile(r"(?: {4})?(?:pub(?:\(crate\))? )?(?:const )?(?:extern \"C
 IMPL = re.compile(r"impl(?:<[^>]*>)? (?:(\w+)(?:<(\w+).*>)? for )?(\w+)(?:<(\w+))?")
 OPEN = re.compile(r"note: (?:\./)?(\S+?):(\d+):\d+: (?:it is not proved that .*?|`search` found no proof )\(`([^`]+)`\)(.*)")
 ANSWER = re.compile(r"\./proofs/(\S+)/(?:Answers|Invariants|Proof)\.antt:\d+:\d+: error: (?:`([^`]+)`: )?(.*)")
+UNPROVED = re.compile(r"fn (\S+): no proof: (.*)")
 NAMES = re.compile(r"has no field|is not in scope|has no `|is no name|was not admitted")
 
 
@@ -95,6 +97,9 @@ class Edit:
                 path, goal, why = found.groups()
                 if f"/{self.crate}/{path}".endswith(folder):
                     yield ("stale" if NAMES.search(why) else "answer"), goal or "-"
+            elif (found := UNPROVED.match(line)) and "/Answers.antt" not in found[2]:
+                if found[1].replace("::", "/").endswith(folder):
+                    yield "unread", found[2]
 
 
 def read_edit(path):
@@ -135,9 +140,9 @@ def turned(edits, folder):
 
 
 def verdict(goals):
-    """The verdict over all goals of a function: names that no longer fit spoil the others."""
+    """The verdict over all goals of a function: what was not read, and names that no longer fit, spoil the others."""
     kinds = {kind for kind, _ in goals}
-    return next((it for it in ("stale", "false", "open", "answer") if it in kinds), "PROVED")
+    return next((it for it in ("unread", "stale", "false", "open", "answer") if it in kinds), "PROVED")
 
 
 def clause(goal):
@@ -220,7 +225,7 @@ def main(words):
         edit.place(folder)
     bad = 0
     for edit, goals in tried(rt, crate, edits):
-        bad += verdict(goals) in ("stale", "PROVED")
+        bad += verdict(goals) in ("unread", "stale", "PROVED")
         print(line(edit, goals), flush=True)
         rows[edit.name] = row(edit, goals)
     if table:
