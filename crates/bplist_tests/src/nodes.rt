@@ -1,4 +1,4 @@
-//! Nodes that a certificate does not vouch for, or that are of no file, and what is lent and where it stands.
+//! Nodes that a certificate does not vouch for, or that are of no file, and what is lent.
 
 use bplist_ascii::{PrintFault, print};
 use bplist_cert::Checked;
@@ -7,7 +7,6 @@ use bplist_objects::ObjectNo;
 use bplist_octets::SliceSource;
 use bplist_samples::{Parts, Row, ShortWriter, THREE_KEYS, small};
 use std::alloc::Global;
-use std::ptr;
 use std::test::Fail;
 
 /// Whether every call on a node answers `Changed`, and no bytes are lent.
@@ -47,29 +46,6 @@ fn no_nodes(rt: HostRuntime) -> Result<(), Fail> {
             is_no_node(alloc, &mut checked, node),
             "object {n} of {objects:?}"
         );
-    }
-    Ok(())
-}
-
-/// Two equal texts and two equal bodies of data in an array.
-const EQUAL_LEAVES: Parts = (
-    &[0xa4, 1, 2, 3, 4, 0x51, 0x61, 0x51, 0x61, 0x41, 7, 0x41, 7],
-    &[8, 13, 15, 17, 19],
-);
-
-#[test]
-fn lent_where_it_stands(rt: HostRuntime) -> Result<(), Fail> {
-    let (objects, table) = EQUAL_LEAVES;
-    let row = Row::new(rt.alloc(), "equal", small(rt.alloc(), objects, table)?)?;
-    let checked = row.checked(rt.alloc(), SliceSource::new(&row.octets))?;
-    for (n, place) in [(1, 14), (2, 16), (3, 18), (4, 20)] {
-        let node = Node {
-            object: ObjectNo(n),
-        };
-        match (bytes_of(&checked, node), row.octets.get(place)) {
-            (Some([lent]), Some(octet)) => assert!(rt; ptr::eq(lent, octet), "object {n}"),
-            _ => return Err(Fail::from("no byte is lent")),
-        }
     }
     Ok(())
 }
