@@ -8,10 +8,11 @@ function, the verdict and the goals. The verdicts:
   open     a goal that the prover decides by itself stays open
   answer   the answer that a proof file gives to a goal does not show it any longer; its names still fit
   stale    names of a proof file no longer fit, which says nothing of the contract
+  unread   the prover could not take the function at all, which says nothing either
   PROVED   nothing refuses it
 
 With --table the rows of these edits in docs/EDITS.md are written anew: the edit, what it turns, what refuses it. The status
-is 1 where an edit is stale or proved.
+is 1 where an edit is unread, stale or proved.
 
 Edits of different functions are tried together, in a copy of the crate over what its last check kept, so a crate takes a
 few checks. `rt must-fail` tries each alone. The crate must be checked (`rt check`) and the crates below it built.
@@ -28,8 +29,10 @@ import tempfile
 
 ROOT = pathlib.Path(__file__).resolve().parent.parent
 FUNCTION = re.compile(r"(?: {4})?(?:pub(?:\(crate\))? )?(?:const )?(?:extern \"C\" )?fn (\w+)")
+IMPL = re.compile(r"impl(?:<[^>]*>)? (?:(\w+)(?:<(\w+).*>)? for )?(\w+)(?:<(\w+))?")
 OPEN = re.compile(r"note: (?:\./)?(\S+?):(\d+):\d+: (?:it is not proved that .*?|`search` found no proof )\(`([^`]+)`\)(.*)")
 ANSWER = re.compile(r"\./proofs/(\S+)/(?:Answers|Invariants|Proof)\.antt:\d+:\d+: error: (?:`([^`]+)`: )?(.*)")
+UNPROVED = re.compile(r"fn (\S+): no proof: (.*)")
 NAMES = re.compile(r"has no field|is not in scope|has no `|is no name|was not admitted")
 
 
@@ -43,13 +46,14 @@ def kit():
 
 @dataclasses.dataclass
 class Edit:
+    crate: str
     name: str
     pairs: list  # (file, old, new)
     file: str = ""
     first: int = 0  # the lines of the function in which it stands
     last: int = 0
     function: str = ""
-    path: str = ""  # the function, or its module, as rattle names it below the crate
+    path: str = ""  # the end of the function's name, as rattle writes it
 
     def place(self, folder):
         """Finds the function in which the first change of a body stands, else the file."""
@@ -63,24 +67,27 @@ class Edit:
                 last = next(i for i in range(first, len(lines)) if lines[i] == closing)
                 if at <= last:
                     self.file, self.first, self.last = file, first + 1, last + 1
-                    self.function = f"{file[4:-3]}::{FUNCTION.match(lines[first])[1]}"
-                    self.path = self.function if lines[first][0] != " " else self.inside(lines[:first])
+                    name = FUNCTION.match(lines[first])[1]
+                    self.function = f"{file[4:-3]}::{name}"
+                    self.path = f"{self.owner(lines[:first], lines[first][0] == ' ')}::{name}"
                     # A goal of the whole function is told at its first attribute.
                     while lines[self.first - 2].lstrip().startswith("#["):
                         self.first -= 1
                     return
         self.file, self.first, self.last = self.pairs[0][0], 1, sys.maxsize
 
-    def inside(self, before):
-        """The path of a function of an impl, whose head is the last of the lines before it that begin an impl."""
-        module, name = self.function.split("::")
-        head = next(line for line in reversed(before) if line.startswith("impl"))
-        found = re.match(r"impl(?:<[^>]*>)? (?:(\w+) for )?(\w+)", head)
-        return f"{module}::{found[2]}{found[1] or ''}::{name}" if found and "From<" not in head else module
+    def owner(self, before, is_inside):
+        """What a function's name begins with: its module, at the root the crate, or the type of the impl that began last."""
+        if not is_inside:
+            return self.crate if self.file in ("src/lib.rt", "src/main.rt") else self.file[4:-3].replace("/", "::")
+        head = next(it for it in reversed(before) if it.startswith("impl"))
+        trait, told, kind, argument = IMPL.match(head).groups()
+        # An impl for one argument, as that of Checked<SliceSource<'a>>, has the argument's name too. A parameter has one letter.
+        return kind + (trait or "") + (told or "") + (f"+{argument}" if argument and len(argument) > 1 else "")
 
     def goals(self, lines):
         """The (verdict, goal) that the lines of a check have for the function."""
-        module = self.file[4:-3]
+        folder = "/" + self.path.replace("::", "/")
         for line in lines:
             if found := OPEN.match(line):
                 file, at, goal, rest = found.groups()
@@ -88,8 +95,11 @@ class Edit:
                     yield ("false" if "is false" in rest else "open"), goal
             elif found := ANSWER.match(line):
                 path, goal, why = found.groups()
-                if path.startswith(module + "/") and path.endswith("/" + self.function.rpartition("::")[2]):
+                if f"/{self.crate}/{path}".endswith(folder):
                     yield ("stale" if NAMES.search(why) else "answer"), goal or "-"
+            elif (found := UNPROVED.match(line)) and "/Answers.antt" not in found[2]:
+                if found[1].replace("::", "/").endswith(folder):
+                    yield "unread", found[2]
 
 
 def read_edit(path):
@@ -102,7 +112,7 @@ def read_edit(path):
             old = text
         elif word.rstrip(":") == "new":
             pairs.append((file, old, text))
-    return Edit(path.stem, pairs)
+    return Edit(path.parent.parent.name, path.stem, pairs)
 
 
 def rounds(edits):
@@ -130,9 +140,9 @@ def turned(edits, folder):
 
 
 def verdict(goals):
-    """The verdict over all goals of a function: names that no longer fit spoil the others."""
+    """The verdict over all goals of a function: what was not read, and names that no longer fit, spoil the others."""
     kinds = {kind for kind, _ in goals}
-    return next((it for it in ("stale", "false", "open", "answer") if it in kinds), "PROVED")
+    return next((it for it in ("unread", "stale", "false", "open", "answer") if it in kinds), "PROVED")
 
 
 def clause(goal):
@@ -174,6 +184,30 @@ def write_table(crate, rows):
     path.write_text(before + heading + text + further + after)
 
 
+def tried(rt, crate, edits):
+    """Each edit with its goals. One that has none among others is tried again alone, since a check leaves goals out."""
+    with tempfile.TemporaryDirectory(prefix="edits-") as kept:
+        shutil.copytree(pathlib.Path(crate.folder, "out/incremental"), kept, dirs_exist_ok=True)
+        for group in rounds(edits):
+            lines = check(rt, crate, group, kept)
+            for edit in group:
+                goals = list(edit.goals(lines))
+                if not goals and len(group) > 1:
+                    goals = list(edit.goals(check(rt, crate, [edit], kept)))
+                yield edit, goals
+
+
+def check(rt, crate, edits, kept):
+    """The lines of a check of the crate with these edits, over what the folder keeps."""
+    flags = ["--jobs", "1", "--allow-holes"]
+    for edit in edits:
+        flags += ["--only", edit.path] if edit.path else []
+    lines = rt.checked(crate, turned(edits, pathlib.Path(crate.folder)), flags, kept).stdout.split("\n")
+    if not any(line.startswith("only=") for line in lines):
+        sys.exit("\n".join(["the prover did not read these edits:", *[it for it in lines if "error" in it][:5]]))
+    return lines
+
+
 def main(words):
     table = "--table" in words
     words = [it for it in words if it != "--table"]
@@ -190,21 +224,10 @@ def main(words):
     for edit in edits:
         edit.place(folder)
     bad = 0
-    with tempfile.TemporaryDirectory(prefix="edits-") as kept:
-        shutil.copytree(folder / "out/incremental", kept, dirs_exist_ok=True)
-        for group in rounds(edits):
-            flags = ["--jobs", "1", "--allow-holes"]
-            for edit in group:
-                flags += ["--only", edit.path] if edit.path else []
-            ran = rt.checked(crate, turned(group, folder), flags, kept)
-            lines = ran.stdout.split("\n")
-            if not any(line.startswith("only=") for line in lines):
-                sys.exit("\n".join(["the prover did not read these edits:", *[it for it in lines if "error" in it][:5]]))
-            for edit in group:
-                goals = list(edit.goals(lines))
-                bad += verdict(goals) in ("stale", "PROVED")
-                print(line(edit, goals), flush=True)
-                rows[edit.name] = row(edit, goals)
+    for edit, goals in tried(rt, crate, edits):
+        bad += verdict(goals) in ("unread", "stale", "PROVED")
+        print(line(edit, goals), flush=True)
+        rows[edit.name] = row(edit, goals)
     if table:
         write_table(crate, rows)
     return 1 if bad else 0
