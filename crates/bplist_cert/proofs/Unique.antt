@@ -56,22 +56,23 @@ module _ (f : List ℕ) (F : Frame) (head : Head) where
       let e = one_unordered (list_of keyed n head.count) i j a b in
       omega (arith, is, js, e)
 
-module _ (f : List ℕ) (F : Frame) (certificate : Lists) (n : ℕ) where
-  -- the place of a reference
-  at_reference : (head other : Head) (i j p q : ℕ) → head ≡ other → i ≡ j → p ≡ head.body + i * F.ref_size → q ≡ other.body + j * F.ref_size → p ≡ q
-  at_reference head other i j p q e same is js =
-      is ∙ ap (λ (x : Head). x.body + i * F.ref_size) e ∙ ap (λ k. other.body + k * F.ref_size) same ∙ sym js
-
+module _ (f : List ℕ) (F : Frame) (n : ℕ) where
   -- a rule of an object by itself is broken at one place
-  by_itself : (rule : Rule) (o o' : Option ObjectNo) (p p' : ℕ) → BreaksAt f F n rule o p → BreaksAt f F n rule o' p' → (o ≡ o') × (p ≡ p')
+  pub by_itself : (rule : Rule) (o o' : Option ObjectNo) (p p' : ℕ) → BreaksAt f F n rule o p → BreaksAt f F n rule o' p' → (o ≡ o') × (p ≡ p')
   by_itself rule o o' p p' b c =
       let a : Fault = record { rule = rule; object = o; place = p } in
       let d : Fault = record { rule = rule; object = o'; place = p' } in
       let e : a ≡ d = one_object_fault f F n (rule ∷ []) a d (inl (refl, b)) (inl (refl, c)) in
       (ap (λ (x : Fault). x.object) e, ap (λ (x : Fault). x.place) e)
 
+module _ (f : List ℕ) (F : Frame) (certificate : Lists) (n : ℕ) where
+  -- the place of a reference
+  at_reference : (head other : Head) (i j p q : ℕ) → head ≡ other → i ≡ j → p ≡ head.body + i * F.ref_size → q ≡ other.body + j * F.ref_size → p ≡ q
+  at_reference head other i j p q e same is js =
+      is ∙ ap (λ (x : Head). x.body + i * F.ref_size) e ∙ ap (λ k. other.body + k * F.ref_size) same ∙ sym js
+
   -- a rule is broken at one place
-  one_place : (rule : Rule) (o o' : Option ObjectNo) (p p' : ℕ) → BreaksAtCheck f F certificate n rule o p → BreaksAtCheck f F certificate n rule o' p' → (o ≡ o') × (p ≡ p')
+  pub one_place : (rule : Rule) (o o' : Option ObjectNo) (p p' : ℕ) → BreaksAtCheck f F certificate n rule o p → BreaksAtCheck f F certificate n rule o' p' → (o ≡ o') × (p ≡ p')
   one_place rules.Overfull o o' p p' b c = (b.0 ∙ sym c.0, b.1.1 ∙ sym c.1.1)
   one_place rules.ChildNotVouched o o' p p' (e, (head, i, has, first, is)) (e', (other, j, has', first', js)) =
       let same = HasHead-unique f F n head other has has' in
@@ -89,7 +90,7 @@ module _ (f : List ℕ) (F : Frame) (certificate : Lists) (n : ℕ) where
   one_place rules.KeyOrder o o' p p' (e, (head, has, kind, b)) (e', (other, has', kind', c)) =
       let same = HasHead-unique f F n head other has has' in
       (e ∙ sym e', one_order f F other (length certificate.heights) certificate.keys n p p' (subst (λ (x : Head). BreaksOrder f F (length certificate.heights) certificate.keys n x p) same b) c)
-  one_place rule o o' p p' b c = by_itself rule o o' p p' b c
+  one_place rule o o' p p' b c = by_itself f F n rule o o' p p' b c
 
 module _ (f : List ℕ) (F : Frame) (certificate : Lists) where
   -- no vouched object before the one of a first fault breaks a rule

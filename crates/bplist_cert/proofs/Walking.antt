@@ -34,10 +34,10 @@ use Rattle.bplist_cert.specs.Keys.{HaveTexts, KeysDiffer}
 use Rattle.bplist_cert.specs.CheckRules.{KeepsByCheck, BreaksAtCheck, IsCheckFault, check_rules, vouched_rules, last_rule, HasOrder, KeepsLast, IsLastFault, IsKeysFault}
 use Rattle.bplist_cert.specs.declared.checking.Look.{Look}
 use Rattle.bplist_cert.specs.declared.checking.Look.TheVariants.{Quick, Exact}
-use Rattle.bplist_cert.specs.Looks.{IsSeen, AreSeen, IsShown, IsShownFault}
+use Rattle.bplist_cert.specs.Looks.{IsShown, IsShownFault}
 use Rattle.bplist_cert.specs.KeyClasses.{HasGoodKeys}
 use Rattle.bplist_cert.specs.KeyPairs.{HasGoodList}
-use Rattle.bplist_cert.specs.PairFault.{Sums, IsHeld, Running, IsWalkFault, IsVouchedFault, IsPairFault}
+use Rattle.bplist_cert.specs.PairFault.{Sums, IsHeld, Running, IsWalkFault, IsPairFault}
 use Rattle.bplist_cert.specs.Refusals.{GivesRefusal, Judges, refusal_of}
 
 -- the rule of keys beside rule 21, by the head

@@ -47,7 +47,7 @@ mod refusal;
 pub use certificate::{CertRefusal, Certificate, KeyLists};
 pub use checked::Checked;
 pub use checking::check;
-pub use key_names::name_object;
+pub use key_names::{name_object, vouched_keys};
 pub use laws::{
     checked_stays, one_certificate, one_pair_fault, ordered_keys_differ, pair_fault_excludes,
     reached_objects, repeated_key_has_no_list, vouched_references, vouched_values, yes_or_fault,

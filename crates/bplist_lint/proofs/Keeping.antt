@@ -17,7 +17,7 @@ use Rattle.bplist_objects.proofs.BodyLaws.{HasHead-unique}
 use Rattle.bplist_objects.proofs.Reaching.{reach_within}
 use Rattle.bplist_objects.proofs.Ties.{shape_announced, spells_keeps, keeps_iff}
 use Rattle.bplist_cert.specs.Valid.{HasKeys}
-use Rattle.bplist_lint.proofs.KeyTies.{HaveKeys, keys_from_rules, rules_from_keys}
+use Rattle.bplist_cert.proofs.KeyTies.{HaveKeys, keys_from_rules, rules_from_keys}
 use Rattle.bplist_lint.specs.ReachRules.{KeepsByReach, KeepReachBelow, reach_rules}
 use Rattle.bplist_lint.specs.KeyRules.{KeepKeysBelow}
 use Rattle.bplist_lint.specs.WellFormed.{IsWellFormed}
@@ -39,7 +39,7 @@ greatest_member S n (k ∷ ks) a = go (greatest_member S k ks a.1)
 
 module _ (f : List ℕ) (F : Frame) where
   -- of the rules of a reached object, those of an object by itself, and rule 31
-  own_rules : (n : ℕ) → KeepsAll (KeepsByReach f F n) reach_rules → KeepsAll (KeepsByObject f F n) object_rules
+  pub own_rules : (n : ℕ) → KeepsAll (KeepsByReach f F n) reach_rules → KeepsAll (KeepsByObject f F n) object_rules
   own_rules n k = (k.0, (k.1.0, (k.1.1.0, (k.1.1.1.0, (k.1.1.1.1.0, (k.1.1.1.1.1.0, (k.1.1.1.1.1.1.0, tt)))))))
 
   room_rule : (n : ℕ) → KeepsAll (KeepsByReach f F n) reach_rules → IsOverfull f F (Reach f F) n → ⊥
