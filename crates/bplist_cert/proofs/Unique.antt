@@ -1,6 +1,5 @@
 -- The first fault of a file and a certificate is one.
 use Rattle.std.proofs.Common.{◌≡◌, ℕ, ◌+◌, ◌*◌, ◌<◌, inl, inr, List, [], ◌∷◌, length, slice_index, Option, Some, None, refl, sym, ap, ◌∙◌, subst, arith}
-use Rattle.std.proofs.lemmas.Bool.{cases_order}
 use Rattle.bplist_objects.specs.declared.rule.Rule.{Rule}
 use Rattle.bplist_objects.specs.declared.rule.Rule.TheVariants as rules
 use Rattle.bplist_objects.specs.declared.fault.Fault.{Fault}
@@ -11,6 +10,7 @@ use Rattle.bplist_objects.specs.Rules.{IsFirstFault}
 use Rattle.bplist_objects.specs.ObjectRules.{BreaksAt}
 use Rattle.bplist_objects.proofs.BodyLaws.{HasHead-unique}
 use Rattle.bplist_objects.proofs.Broken.{no_first_fault}
+use Rattle.bplist_objects.proofs.Lists.{one_number}
 use Rattle.bplist_objects.proofs.Refusing.{no_frame, one_frame_fault, one_object_fault, one_first_fault}
 use Rattle.bplist_cert.specs.declared.heights.Wanted.{Wanted}
 use Rattle.bplist_cert.specs.declared.heights.Wanted.TheVariants.{Vouched, Below}
@@ -20,16 +20,6 @@ use Rattle.bplist_cert.specs.Keys.{IsFirstKeyless, IsFirstTwice, IsFirstUnordere
 use Rattle.bplist_cert.specs.CheckRules.{KeepsByCheck, BreaksAtCheck, BreaksOrder, check_rules, list_of}
 use Rattle.bplist_cert.specs.PairFault.{IsVouchedFault, IsCertFault, IsPairFault}
 use Rattle.bplist_cert.proofs.Accepting.{broken}
-
--- of two numbers none is before the other
-pub one_number : (i j : ℕ) → (i < j → ⊥) → (j < i → ⊥) → i ≡ j
-one_number i j a b = elim (cases_order i j) [
-  | inl e ↦ e
-  | inr r ↦ elim r [
-    | inl l ↦ absurd (a l)
-    | inr l ↦ absurd (b l)
-  ]
-]
 
 module _ (f : List ℕ) (F : Frame) (head : Head) where
   one_unmet : (heights : List ℕ) (wanted : Wanted) (i j : ℕ) → IsFirstUnmet f F heights head wanted i → IsFirstUnmet f F heights head wanted j → i ≡ j

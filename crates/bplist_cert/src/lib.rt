@@ -16,7 +16,7 @@
 //! | a certificate, and its bytes | [`Certificate`], [`KeyLists`], `to_octets`, `from_octets`, [`CertRefusal`] |
 //! | the check of a file and a certificate | [`check`], [`Refusal`] |
 //! | a source with the frame and the certificate that fit it | [`Checked`]: `frame`, `height`, `certificate`, `into_parts`, `octets` |
-//! | the rules of keys, for the linter: 21, 22, and a sorted key list | [`check_texts`], [`check_twice`], [`list_keys`], [`Places`] |
+//! | the objects that dictionaries name as keys, for the linter | [`name_object`], [`vouched_keys`] |
 //!
 //! The invariant of a `Checked` is what the check found: over an honest source its heights are valid, wherever it is. The laws
 //! say what follows: each vouched object holds one value, and its references are lower (`vouched_values`,

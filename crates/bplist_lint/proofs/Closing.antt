@@ -1,7 +1,7 @@
 -- Which objects of a finite graph are reached and which are founded is decided, and where the top is not founded there is a circle.
 use Rattle.std.proofs.Common.{◌≡◌, ℕ, zero, suc, ◌+◌, ◌-◌, ◌<◌, ◌≤◌, ◌⊎◌, inl, inr, Bool, true, false, not, cond, List, length, get_or, set, map, replicate, count_by, Contains, refl, sym, ap, ◌∙◌, subst, arith}
 use Rattle.std.specs.List.{range_with_len}
-use Rattle.std.proofs.lemmas.Bool.{cases_eq, cases_Bool, false≢true}
+use Rattle.std.proofs.lemmas.Bool.{cases_eq, cases_Bool, false≢true, false_from_ne_true}
 use Rattle.std.proofs.lemmas.List.{length-set, length-replicate, get_or_default}
 use Rattle.std.proofs.lemmas.List.FromFn.{get_or-map-range_with_len, length-map-range_with_len}
 use Rattle.std.proofs.lemmas.List.Elements.{Contains-get_or}
@@ -69,7 +69,7 @@ module _ (P : ℕ → Type 0) (size : ℕ) (Rule : List Bool → ℕ → Type 0)
 
     fewer : (n : ℕ) → n < size → (IsMarked marks n → ⊥) → count_by not (set marks n true) + 1 ≡ count_by not marks
     fewer n lt off =
-        let off1 : get_or marks n false ≡ false = elim (cases_Bool (get_or marks n false)) [ inl yes1 ↦ absurd (off yes1) | inr no1 ↦ no1 ] in
+        let off1 : get_or marks n false ≡ false = false_from_ne_true (get_or marks n false) off in
         let c = count-set not marks n true false (omega (arith, lt, all)) in
         let one : 0 + cond (not (get_or marks n false)) 1 0 ≡ 1 = ap (λ b. 0 + cond (not b) 1 0) off1 in
         omega (arith, c, one)

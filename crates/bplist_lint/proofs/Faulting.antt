@@ -1,5 +1,5 @@
 -- The first fault of a file is one, and where there is one the file holds no value.
-use Rattle.std.proofs.Common.{◌≡◌, ℕ, ◌<◌, inl, inr, List, [], Option, None, sym, ◌∙◌, subst}
+use Rattle.std.proofs.Common.{◌≡◌, ℕ, inl, inr, List, [], Option, None, sym, ◌∙◌, subst}
 use Rattle.bplist_objects.specs.declared.rule.Rule.{Rule}
 use Rattle.bplist_objects.specs.declared.rule.Rule.TheVariants as rules
 use Rattle.bplist_objects.specs.declared.fault.Fault.{Fault}
@@ -7,13 +7,13 @@ use Rattle.bplist_objects.specs.declared.frame.Frame.{Frame}
 use Rattle.bplist_objects.specs.declared.frame.ObjectNo.{ObjectNo}
 use Rattle.bplist_objects.specs.Frame.{IsFrame}
 use Rattle.bplist_objects.specs.Rules.{KeepsAll, IsFirstFault}
-use Rattle.bplist_objects.specs.Reach.{Reach}
 use Rattle.bplist_objects.proofs.Broken.{kept_or_broken, no_first_fault}
+use Rattle.bplist_objects.proofs.Lists.{one_number}
 use Rattle.bplist_objects.proofs.Reaching.{reach_within}
 use Rattle.bplist_objects.proofs.Refusing.{no_frame, one_first_fault, one_frame_fault}
 use Rattle.bplist_cert.specs.Lists.{lists}
 use Rattle.bplist_cert.proofs.Accepting.{broken}
-use Rattle.bplist_cert.proofs.Unique.{one_number, by_itself, one_place}
+use Rattle.bplist_cert.proofs.Unique.{by_itself, one_place}
 use Rattle.bplist_lint.specs.ReachRules.{KeepsByReach, BreaksAtReach, KeepReachBelow, IsReachFault, reach_rules}
 use Rattle.bplist_lint.specs.KeyRules.{KeepsByKeys, BreaksAtKeys, KeepKeysBelow, IsKeysFault, key_rules}
 use Rattle.bplist_lint.specs.FileFault.{IsCircle, IsObjectsFault, IsFileFault, IsFileCircle}
@@ -53,9 +53,6 @@ module _ (f : List ℕ) (F : Frame) where
   keys_place n _ o o' p p' b c = absurd b.1
 
   module _ (frame : IsFrame f F) where
-    within : (n : ℕ) → Reach f F n → n < F.objects
-    within n r = reach_within f F frame.top n r
-
     -- ---- the first fault of the objects is one
     one_reach_fault : (a b : Fault) → IsReachFault f F a → IsReachFault f F b → a ≡ b
     one_reach_fault a b h k =
@@ -75,10 +72,10 @@ module _ (f : List ℕ) (F : Frame) where
 
     -- where all reached objects keep their rules there is no fault of them
     reach_kept : (a : Fault) → KeepReachBelow f F F.objects → IsReachFault f F a → ⊥
-    reach_kept a kept h = no_reach_fault h.object a (kept h.object (within h.object h.reached) h.reached) h.first
+    reach_kept a kept h = no_reach_fault h.object a (kept h.object (reach_within f F frame.top h.object h.reached) h.reached) h.first
 
     keys_kept : (a : Fault) → KeepKeysBelow f F F.objects → IsKeysFault f F a → ⊥
-    keys_kept a kept h = no_keys_fault h.object a (kept h.object (within h.object h.reached) h.reached) h.first
+    keys_kept a kept h = no_keys_fault h.object a (kept h.object (reach_within f F frame.top h.object h.reached) h.reached) h.first
 
     objects_kept : (a : Fault) → KeepReachBelow f F F.objects → KeepKeysBelow f F F.objects → IsObjectsFault f F a → ⊥
     objects_kept a kept keys (inl h) = reach_kept a kept h
