@@ -1,8 +1,7 @@
 -- The rules of the check are kept exactly where the certificate is accepted.
-use Rattle.std.proofs.Common.{◌≡◌, ℕ, suc, ◌*◌, ◌<◌, inl, inr, List, [], ◌∷◌, ◌++◌, length, drop, slice_index, slice_index_or, Option, Some, None, Less, refl, sym, ap, ap₂, ◌∙◌, subst, arith}
+use Rattle.std.proofs.Common.{◌≡◌, ℕ, suc, ◌<◌, inl, inr, List, [], ◌∷◌, ◌++◌, length, drop, slice_index, slice_index_or, Option, Some, None, Less, refl, sym, ap, ap₂, ◌∙◌, subst, arith}
 use Rattle.std.specs.List.{AllByRecursion}
-use Rattle.std.proofs.lemmas.Bool.{cases_lt}
-use Rattle.std.proofs.lemmas.List.{get_or_past, length-take-le, length-drop}
+use Rattle.std.proofs.lemmas.List.{length-take-le, length-drop}
 use Rattle.std.proofs.lemmas.List.Elements.{recursion_from_All, All-from_get_or, All-from_recursion, All-get_or}
 use Rattle.bplist_octets.specs.Octets.{part}
 use Rattle.bplist_objects.specs.declared.rule.Rule.{Rule}
@@ -14,7 +13,7 @@ use Rattle.bplist_objects.specs.declared.kind.Kind.{Kind}
 use Rattle.bplist_objects.specs.declared.kind.Kind.TheVariants as kinds
 use Rattle.bplist_objects.specs.Numbers.{nums_at}
 use Rattle.bplist_objects.specs.Frame.{IsFrame}
-use Rattle.bplist_objects.specs.Heads.{dict, refs, content_of, content_at, Spells}
+use Rattle.bplist_objects.specs.Heads.{HasShape, dict, refs, content_of, content_at, Spells}
 use Rattle.bplist_objects.specs.Safe.{ref_count}
 use Rattle.bplist_objects.specs.Announced.{HasHead}
 use Rattle.bplist_objects.specs.Rules.{KeepsAll}
@@ -28,16 +27,17 @@ use Rattle.bplist_objects.proofs.References.{length-nums_at, all_refs, each_ref}
 use Rattle.bplist_objects.proofs.Ties.{kept_announces, kept_spells, spells_keeps, shape_announced}
 use Rattle.bplist_objects.proofs.Refusing.{no_frame}
 use Rattle.bplist_cert.specs.Lists.{Keyed, Lists, lists}
-use Rattle.bplist_cert.specs.Valid.{IsVouchedBy, IsVouched, IsValid, HasKeys}
+use Rattle.bplist_cert.specs.Valid.{IsVouchedBy, IsVouched, IsValid}
 use Rattle.bplist_cert.specs.Sorted.{IsSorted, HasSortedKeys, AreListed, IsAccepted}
 use Rattle.bplist_cert.specs.Heights.{ref}
+use Rattle.bplist_cert.specs.Looks.{AreSeen}
 use Rattle.bplist_cert.specs.Keys.{HaveTexts, KeysDiffer, AreInOrder}
 use Rattle.bplist_cert.specs.CheckRules.{KeepsByCheck, BreaksByCheck, BreaksAtCheck, HasOrder, BreaksOrder, KeepsLast, check_rules, vouched_rules, last_rule, list_of}
 use Rattle.bplist_cert.specs.PairFault.{IsKept, IsCertFault, IsPairFault}
 use Rattle.bplist_objects.proofs.RuleLaws.{kept_all_after}
-use Rattle.bplist_cert.proofs.Walking.{vouched_inside}
-use Rattle.bplist_cert.proofs.Walking.{last_kept}
-use Rattle.bplist_cert.proofs.TextKeys.{key_refs, texts_are, have_texts, units_at_key, distinct, differ, ordered_differ}
+use Rattle.bplist_cert.proofs.Walking.{vouched_inside, last_kept}
+use Rattle.bplist_cert.proofs.KeyTies.{HaveKeys, keys_from_rules, rules_from_keys}
+use Rattle.bplist_cert.proofs.TextKeys.{key_refs, texts_are, units_at_key, ordered_differ}
 
 keeps_front : (keeps : Rule → Type 0) (xs ys : List Rule) → KeepsAll keeps (xs ++ ys) → KeepsAll keeps xs
 keeps_front keeps [] ys k = tt
@@ -57,13 +57,6 @@ last_by f F heights (Some keyed) n head has kind k = k head has kind
 last_differs : (f : List ℕ) (F : Frame) (keys : Option Keyed) (n : ℕ) (head : Head) → HaveTexts f F head head.count → KeepsLast f F keys n head → KeysDiffer f F head head.count
 last_differs f F None n head texts k = k
 last_differs f F (Some keyed) n head texts k = ordered_differ f F head (list_of keyed n head.count) texts k.1
-
--- a content by its kind has keys
-has_keys : (f : List ℕ) (F : Frame) (kind : Kind) (count body : ℕ) → (kind ≡ kinds.Dict → HasKeys f F (content_of f F kinds.Dict count body)) → HasKeys f F (content_of f F kind count body)
-has_keys f F kinds.Dict count body h = h refl
-has_keys f F kinds.Array count body h = tt
-has_keys f F kinds.Set count body h = tt
-has_keys f F _ count body h = tt
 
 -- a dictionary's references by its content
 dict_refs : (f : List ℕ) (F : Frame) (kind : Kind) (count body : ℕ) (ks ms : List ℕ) → dict ks ms ≡ content_of f F kind count body → (kind ≡ kinds.Dict) × (ks ≡ nums_at f body F.ref_size count)
@@ -85,17 +78,16 @@ module _ (f : List ℕ) (F : Frame) (heights : List ℕ) (keys : Option Keyed) (
   vouched =
       let head = there.0 in
       let has = there.1 in
+      let spells = kept_spells f F n frame lt head has own in
       let met = rest.1.0 head has in
       let low = rest.1.1.0 head has in
       record {
         content = content_at f F head;
-        spells = (kept_spells f F n frame lt head has own).1;
+        spells = spells.1;
         lower = all_refs f F (λ m. IsVouchedBy heights m × (slice_index heights m < slice_index heights n)) head.kind head.count head.body (λ i l. (met i l, low i l));
-        keys = has_keys f F head.kind head.count head.body (λ kind.
+        keys = keys_from_rules f F n head spells.0 (content_at f F head) spells.1 (λ kind.
             let texts = rest.1.1.1.0 head has kind in
-            let us = texts_are f F head texts in
-            let apart = last_differs f F keys n head texts (last_by f F heights keys n head has kind rest.1.1.1.1.0) in
-            (us.0, (us.1, distinct f F head us.0 us.1 texts apart)));
+            (texts, last_differs f F keys n head texts (last_by f F heights keys n head has kind rest.1.1.1.1.0)));
       }
 
 -- a list in order is sorted
@@ -174,31 +166,29 @@ module _ (f : List ℕ) (F : Frame) (heights : List ℕ) (valid : IsValid f F he
   lower_at head has = each_ref f F (λ m. IsVouchedBy heights m × (slice_index heights m < slice_index heights n)) head.kind head.count head.body
       (subst (λ c. AllByRecursion (λ m. IsVouchedBy heights m × (slice_index heights m < slice_index heights n)) (refs c)) (content head has) is.lower)
 
-  refs_low : (head : Head) → HasHead f F n head → (i : ℕ) → i < ref_count head.kind head.count → ref f F head i < F.objects
-  refs_low head has = each_ref f F (λ m. m < F.objects) head.kind head.count head.body
-      (subst (λ c. AllByRecursion (λ m. m < F.objects) (refs c)) (content head has) is.spells.refs)
+  module _ (head : Head) (has : HasHead f F n head) where
+    pub vouched_shape : HasShape f F n head
+    vouched_shape = subst (HasShape f F n) (same head has) is.spells.has
 
-  keys_there : (head : Head) → HasHead f F n head → HasKeys f F (content_at f F head)
-  keys_there head has = subst (HasKeys f F) (content head has) is.keys
-
-  dict_keys : (head : Head) → head.kind ≡ kinds.Dict → HasKeys f F (content_at f F head) → HasKeys f F (content_of f F kinds.Dict head.count head.body)
-  dict_keys head kind = subst (λ k. HasKeys f F (content_of f F k head.count head.body)) kind
-
-  key_low : (head : Head) → HasHead f F n head → head.kind ≡ kinds.Dict → (k : ℕ) → k < head.count → ref f F head k < F.objects
-  key_low head has kind k l =
-      let two : ref_count head.kind head.count ≡ 2 * head.count = ap (λ x. ref_count x head.count) kind in
-      refs_low head has k (omega (arith, l, two))
-
-  texts_there : (head : Head) → HasHead f F n head → head.kind ≡ kinds.Dict → HaveTexts f F head head.count
-  texts_there head has kind = let us = dict_keys head kind (keys_there head has) in have_texts f F head us.0 us.1.0 (key_low head has kind)
-
-  differ_there : (head : Head) → HasHead f F n head → head.kind ≡ kinds.Dict → KeysDiffer f F head head.count
-  differ_there head has kind = let us = dict_keys head kind (keys_there head has) in differ f F head us.0 us.1.0 us.1.1
+    -- the keys of a vouched dictionary
+    pub vouched_keys : head.kind ≡ kinds.Dict → HaveKeys f F head
+    vouched_keys = rules_from_keys f F n head vouched_shape is.content is.spells is.keys
 
   not_overfull : IsOverfull f F (IsVouchedBy heights) n → ⊥
   not_overfull (ns, r, d, a, w, large) =
       let b = valid.room ns r d (all_weaker _ _ (λ m p. p.0) ns a) w in
       omega (arith, b, large)
+
+-- where heights are valid, looks show that
+pub valid_seen : (f : List ℕ) (F : Frame) (heights : List ℕ) → IsValid f F heights → AreSeen f F heights F.objects
+valid_seen f F heights valid n lt v =
+    let o = valid.vouched n v in
+    record {
+      own = spells_keeps f F n valid.frame lt o.content o.spells;
+      room = not_overfull f F heights valid n v;
+      vouched = λ head has i l. (lower_at f F heights valid n v head has i l).0;
+      lower = λ head has i l. (lower_at f F heights valid n v head has i l).1;
+    }
 
 -- a sorted list is in order
 in_order : (f : List ℕ) (F : Frame) (head : Head) (list : List ℕ) → IsSorted f F (key_refs f F head) list → AreInOrder f F head list head.count
@@ -222,7 +212,7 @@ in_order f F head list s j l = (
 
 last_there : (f : List ℕ) (F : Frame) (heights : List ℕ) (keys : Option Keyed) → (valid : IsValid f F heights) → AreListed f F heights keys → (n : ℕ) (v : IsVouchedBy heights n) (head : Head) → HasHead f F n head
     → head.kind ≡ kinds.Dict → KeepsLast f F keys n head
-last_there f F heights None valid listed n v head has kind = differ_there f F heights valid n v head has kind
+last_there f F heights None valid listed n v head has kind = (vouched_keys f F heights valid n v head has kind).1
 last_there f F heights (Some keyed) valid listed n v head has kind =
     let spelled : Spells f F n (content_of f F kinds.Dict head.count head.body) =
     subst (λ k. Spells f F n (content_of f F k head.count head.body)) kind (subst (Spells f F n) (content f F heights valid n v head has) (valid.vouched n v).spells) in
@@ -236,17 +226,18 @@ keeps_all f F certificate a n v =
     let keys = certificate.keys in
     let valid = a.valid in
     let lt = vouched_inside heights F.objects n valid.count v in
-    let o = valid.vouched n v in
-    let head = o.spells.shape in
-    let has = shape_announced f F n head o.spells.has in
-    kept_all_after (KeepsByCheck f F certificate n) object_rules (vouched_rules keys) (spells_keeps f F n valid.frame lt o.content o.spells) (
-      not_overfull f F heights valid n v,
+    let seen = valid_seen f F heights valid n lt v in
+    let spells = (valid.vouched n v).spells in
+    let head = spells.shape in
+    let has = shape_announced f F n head spells.has in
+    kept_all_after (KeepsByCheck f F certificate n) object_rules (vouched_rules keys) seen.own (
+      seen.room,
       (
-        λ other h i l. (lower_at f F heights valid n v other h i l).0,
+        seen.vouched,
         (
-          λ other h i l. (lower_at f F heights valid n v other h i l).1,
+          seen.lower,
           (
-            λ other h kind. texts_there f F heights valid n v other h kind,
+            λ other h kind. (vouched_keys f F heights valid n v other h kind).0,
             (last_kept f F heights keys n head has (λ kind. last_there f F heights keys valid a.listed n v head has kind), tt),
           ),
         ),

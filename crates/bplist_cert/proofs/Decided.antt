@@ -8,7 +8,6 @@ use Rattle.bplist_objects.specs.declared.fault.Fault.{Fault}
 use Rattle.bplist_objects.specs.declared.fault.ObjectFault.TheVariants as errors
 use Rattle.bplist_objects.specs.declared.frame.Frame.{Frame}
 use Rattle.bplist_objects.specs.declared.head.Head.{Head}
-use Rattle.bplist_objects.specs.declared.kind.Kind.{Kind}
 use Rattle.bplist_objects.specs.declared.kind.Kind.TheVariants as kinds
 use Rattle.bplist_objects.specs.Frame.{IsFrame, off, trailer}
 use Rattle.bplist_objects.specs.Announced.{HasHead}
@@ -32,11 +31,7 @@ use Rattle.bplist_cert.specs.PairFault.{Sums, IsHeld, Running, IsVouchedFault, I
 use Rattle.bplist_cert.specs.Sorted.{IsAccepted}
 use Rattle.bplist_cert.proofs.Walking.{object_fault, overfull_fault, heights_fault, keys_fault, held, stepped, passed, start}
 use Rattle.bplist_cert.proofs.Accepting.{accepted}
-use Rattle.bplist_cert.proofs.DecidedKeys.{texts_or_first, differ_or_first, order_or_first}
-
-dict_decided : (kind : Kind) → Either (kind ≡ kinds.Dict)
-dict_decided kinds.Dict = inl refl
-dict_decided _ = inr (λ e. cc e)
+use Rattle.bplist_cert.proofs.DecidedKeys.{dict_decided, texts_or_first, differ_or_first, order_or_first}
 
 meets_decided : (wanted : Wanted) (height : ℕ) → Either (Meets wanted height)
 meets_decided Vouched height = elim (cases_lt height 1) [
@@ -56,7 +51,7 @@ meets_decided (VouchedBelow bound) height = elim (cases_lt height 1) [
 ]
 
 -- the fault of object n by this rule at this place
-abbrev fault_at : Rule → ℕ → ℕ → Fault
+abbrev pub fault_at : Rule → ℕ → ℕ → Fault
 fault_at rule n place = record { rule = rule; object = Some (record { 0 = n }); place = place }
 
 module _ (f : List ℕ) (F : Frame) where

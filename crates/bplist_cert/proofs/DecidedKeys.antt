@@ -18,6 +18,10 @@ use Rattle.bplist_cert.specs.Keys.{IsInOrder, AreInOrder, IsFirstUnordered}
 use Rattle.bplist_cert.proofs.Texts.{text_there, no_text, other_kind}
 use Rattle.bplist_cert.proofs.Ordered.{text_once}
 
+pub dict_decided : (kind : Kind) → Either (kind ≡ kinds.Dict)
+dict_decided kinds.Dict = inl refl
+dict_decided _ = inr (λ e. cc e)
+
 text_decided : (kind : Kind) → Either (IsTextKind kind)
 text_decided kinds.Ascii = inl tt
 text_decided kinds.Wide = inl tt

@@ -1,6 +1,6 @@
 -- Key lists by the markers and counts of the keys.
-use Rattle.std.proofs.Common.{◌≡◌, ℕ, zero, suc, ◌+◌, ◌*◌, ◌<◌, ◌≤◌, inl, inr, List, set, replicate, length, slice_index, Option, Some, None, MatchOption, false, IsTrue, Bool, is_some, not, sym, ap, ap₂, ◌∙◌, ◌-◌, subst, arith}
-use Rattle.std.proofs.lemmas.Bool.{cases_eq, cases_lt, false≢true}
+use Rattle.std.proofs.Common.{◌≡◌, ℕ, zero, suc, ◌+◌, ◌*◌, ◌<◌, ◌≤◌, inl, inr, List, set, replicate, length, slice_index, Option, Some, None, sym, ap, ap₂, ◌∙◌, ◌-◌, subst, arith}
+use Rattle.std.proofs.lemmas.Bool.{cases_eq, cases_lt}
 use Rattle.std.proofs.lemmas.List.{get_or-replicate, length-replicate, get_or_past, get_or-set_same, get_or-set_other}
 use Rattle.std.specs.declared.cmp.Ordering.TheVariants.{Less}
 use Rattle.bplist_objects.specs.declared.frame.Frame.{Frame}
@@ -123,11 +123,6 @@ module _ (f : List ℕ) (F : Frame) where
             let second = text_units-head f F (ref f F head (slice_index list j)) b (y.is.0, y.kind) in
             ap₂ compare_units (sym first) (sym second) ∙ less,
       )
-
--- what is found is there
-pub some_there : {X : Type 0} (A P : Type 0) (R : X → Type 0) (found : Option X) (none : Bool) → is_some found ≡ not none → none ≡ false → ((x : X) → R x → P) → MatchOption found A R → P
-some_there A P R None none e n to h = absurd (false≢true (e ∙ ap not n))
-some_there A P R (Some x) none e n to h = to x h
 
 module _ (f : List ℕ) (F : Frame) where
   -- keys that are texts by marker and count, and keep rules 14 to 20, are texts

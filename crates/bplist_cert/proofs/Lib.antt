@@ -14,6 +14,7 @@ pub mod Bounding
 pub mod Onto
 pub mod Vouching
 pub mod TextKeys
+pub mod KeyTies
 pub mod Accepting
 pub mod Staying
 pub mod Unique

@@ -3,6 +3,7 @@ use Rattle.std.proofs.Common.{◌≡◌, ℕ, zero, suc, ◌+◌, ◌-◌, ◌*�
 use Rattle.std.specs.List.{AllZip}
 use Rattle.std.proofs.lemmas.Bool.{cases_order}
 use Rattle.std.proofs.lemmas.List.{get_or_default}
+use Rattle.std.proofs.lemmas.Slice.Zip.{AllZip-long}
 use Rattle.bplist_objects.specs.declared.frame.Frame.{Frame}
 use Rattle.bplist_objects.specs.declared.kind.Kind.{Kind}
 use Rattle.bplist_objects.specs.declared.kind.Kind.TheVariants as kinds
@@ -21,12 +22,6 @@ use Rattle.bplist_cert.proofs.Ordered.{text_once}
 use Rattle.bplist_cert.proofs.Onto.{onto}
 
 -- ---- two lists, item by item
-pub zip_length : {A B : Type 0} (R : A → B → Type 0) (xs : List A) (ys : List B) → AllZip R xs ys → length xs ≡ length ys
-zip_length R [] [] z = refl
-zip_length R [] (y ∷ ys) z = absurd z
-zip_length R (x ∷ xs) [] z = absurd z
-zip_length R (x ∷ xs) (y ∷ ys) z = ap suc (zip_length R xs ys z.1)
-
 pub zip_at : {A B : Type 0} (R : A → B → Type 0) (xs : List A) (ys : List B) (k : ℕ) (d : A) (e : B) → AllZip R xs ys → k < length xs → R (slice_index_or xs k d) (slice_index_or ys k e)
 zip_at R [] ys k d e z l = absurd (omega (arith, l))
 zip_at R (x ∷ xs) [] k d e z l = absurd z
@@ -79,7 +74,7 @@ module _ (f : List ℕ) (F : Frame) (head : Head) where
 
   module _ (us : List (List ℕ)) (zip : AllZip (SpellsText f F) key_refs us) where
     pub all_units : length us ≡ head.count
-    all_units = sym (zip_length (SpellsText f F) key_refs us zip) ∙ length-nums_at f head.body F.ref_size head.count
+    all_units = AllZip-long (SpellsText f F) key_refs us zip ∙ length-nums_at f head.body F.ref_size head.count
 
     spells_at : (k : ℕ) → k < head.count → SpellsText f F (ref f F head k) (slice_index_or us k [])
     spells_at k l =

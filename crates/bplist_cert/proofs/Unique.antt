@@ -1,6 +1,5 @@
 -- The first fault of a file and a certificate is one.
 use Rattle.std.proofs.Common.{◌≡◌, ℕ, ◌+◌, ◌*◌, ◌<◌, inl, inr, List, [], ◌∷◌, length, slice_index, Option, Some, None, refl, sym, ap, ◌∙◌, subst, arith}
-use Rattle.std.proofs.lemmas.Bool.{cases_order}
 use Rattle.bplist_objects.specs.declared.rule.Rule.{Rule}
 use Rattle.bplist_objects.specs.declared.rule.Rule.TheVariants as rules
 use Rattle.bplist_objects.specs.declared.fault.Fault.{Fault}
@@ -11,6 +10,7 @@ use Rattle.bplist_objects.specs.Rules.{IsFirstFault}
 use Rattle.bplist_objects.specs.ObjectRules.{BreaksAt}
 use Rattle.bplist_objects.proofs.BodyLaws.{HasHead-unique}
 use Rattle.bplist_objects.proofs.Broken.{no_first_fault}
+use Rattle.bplist_objects.proofs.Lists.{one_number}
 use Rattle.bplist_objects.proofs.Refusing.{no_frame, one_frame_fault, one_object_fault, one_first_fault}
 use Rattle.bplist_cert.specs.declared.heights.Wanted.{Wanted}
 use Rattle.bplist_cert.specs.declared.heights.Wanted.TheVariants.{Vouched, Below}
@@ -20,16 +20,6 @@ use Rattle.bplist_cert.specs.Keys.{IsFirstKeyless, IsFirstTwice, IsFirstUnordere
 use Rattle.bplist_cert.specs.CheckRules.{KeepsByCheck, BreaksAtCheck, BreaksOrder, check_rules, list_of}
 use Rattle.bplist_cert.specs.PairFault.{IsVouchedFault, IsCertFault, IsPairFault}
 use Rattle.bplist_cert.proofs.Accepting.{broken}
-
--- of two numbers none is before the other
-pub one_number : (i j : ℕ) → (i < j → ⊥) → (j < i → ⊥) → i ≡ j
-one_number i j a b = elim (cases_order i j) [
-  | inl e ↦ e
-  | inr r ↦ elim r [
-    | inl l ↦ absurd (a l)
-    | inr l ↦ absurd (b l)
-  ]
-]
 
 module _ (f : List ℕ) (F : Frame) (head : Head) where
   one_unmet : (heights : List ℕ) (wanted : Wanted) (i j : ℕ) → IsFirstUnmet f F heights head wanted i → IsFirstUnmet f F heights head wanted j → i ≡ j
@@ -56,22 +46,23 @@ module _ (f : List ℕ) (F : Frame) (head : Head) where
       let e = one_unordered (list_of keyed n head.count) i j a b in
       omega (arith, is, js, e)
 
-module _ (f : List ℕ) (F : Frame) (certificate : Lists) (n : ℕ) where
-  -- the place of a reference
-  at_reference : (head other : Head) (i j p q : ℕ) → head ≡ other → i ≡ j → p ≡ head.body + i * F.ref_size → q ≡ other.body + j * F.ref_size → p ≡ q
-  at_reference head other i j p q e same is js =
-      is ∙ ap (λ (x : Head). x.body + i * F.ref_size) e ∙ ap (λ k. other.body + k * F.ref_size) same ∙ sym js
-
+module _ (f : List ℕ) (F : Frame) (n : ℕ) where
   -- a rule of an object by itself is broken at one place
-  by_itself : (rule : Rule) (o o' : Option ObjectNo) (p p' : ℕ) → BreaksAt f F n rule o p → BreaksAt f F n rule o' p' → (o ≡ o') × (p ≡ p')
+  pub by_itself : (rule : Rule) (o o' : Option ObjectNo) (p p' : ℕ) → BreaksAt f F n rule o p → BreaksAt f F n rule o' p' → (o ≡ o') × (p ≡ p')
   by_itself rule o o' p p' b c =
       let a : Fault = record { rule = rule; object = o; place = p } in
       let d : Fault = record { rule = rule; object = o'; place = p' } in
       let e : a ≡ d = one_object_fault f F n (rule ∷ []) a d (inl (refl, b)) (inl (refl, c)) in
       (ap (λ (x : Fault). x.object) e, ap (λ (x : Fault). x.place) e)
 
+module _ (f : List ℕ) (F : Frame) (certificate : Lists) (n : ℕ) where
+  -- the place of a reference
+  at_reference : (head other : Head) (i j p q : ℕ) → head ≡ other → i ≡ j → p ≡ head.body + i * F.ref_size → q ≡ other.body + j * F.ref_size → p ≡ q
+  at_reference head other i j p q e same is js =
+      is ∙ ap (λ (x : Head). x.body + i * F.ref_size) e ∙ ap (λ k. other.body + k * F.ref_size) same ∙ sym js
+
   -- a rule is broken at one place
-  one_place : (rule : Rule) (o o' : Option ObjectNo) (p p' : ℕ) → BreaksAtCheck f F certificate n rule o p → BreaksAtCheck f F certificate n rule o' p' → (o ≡ o') × (p ≡ p')
+  pub one_place : (rule : Rule) (o o' : Option ObjectNo) (p p' : ℕ) → BreaksAtCheck f F certificate n rule o p → BreaksAtCheck f F certificate n rule o' p' → (o ≡ o') × (p ≡ p')
   one_place rules.Overfull o o' p p' b c = (b.0 ∙ sym c.0, b.1.1 ∙ sym c.1.1)
   one_place rules.ChildNotVouched o o' p p' (e, (head, i, has, first, is)) (e', (other, j, has', first', js)) =
       let same = HasHead-unique f F n head other has has' in
@@ -89,7 +80,7 @@ module _ (f : List ℕ) (F : Frame) (certificate : Lists) (n : ℕ) where
   one_place rules.KeyOrder o o' p p' (e, (head, has, kind, b)) (e', (other, has', kind', c)) =
       let same = HasHead-unique f F n head other has has' in
       (e ∙ sym e', one_order f F other (length certificate.heights) certificate.keys n p p' (subst (λ (x : Head). BreaksOrder f F (length certificate.heights) certificate.keys n x p) same b) c)
-  one_place rule o o' p p' b c = by_itself rule o o' p p' b c
+  one_place rule o o' p p' b c = by_itself f F n rule o o' p p' b c
 
 module _ (f : List ℕ) (F : Frame) (certificate : Lists) where
   -- no vouched object before the one of a first fault breaks a rule

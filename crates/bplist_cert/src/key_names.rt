@@ -46,7 +46,7 @@ pub fn name_object<S: Source>(
 }
 
 /// The objects that the vouched dictionaries name as keys. An object of height 1 has no references.
-pub(crate) fn vouched_keys<S: Source>(
+pub fn vouched_keys<S: Source>(
     alloc: Global,
     src: &mut S,
     frame: &Frame,

@@ -1,35 +1,17 @@
 -- Which objects of a finite graph are reached and which are founded is decided, and where the top is not founded there is a circle.
 use Rattle.std.proofs.Common.{◌≡◌, ℕ, zero, suc, ◌+◌, ◌-◌, ◌<◌, ◌≤◌, ◌⊎◌, inl, inr, Bool, true, false, not, cond, List, length, get_or, set, map, replicate, count_by, Contains, refl, sym, ap, ◌∙◌, subst, arith}
 use Rattle.std.specs.List.{range_with_len}
-use Rattle.std.proofs.lemmas.Bool.{cases_lt, cases_eq, cases_Bool, false≢true}
+use Rattle.std.proofs.lemmas.Bool.{cases_eq, cases_Bool, false≢true, false_from_ne_true}
 use Rattle.std.proofs.lemmas.List.{length-set, length-replicate, get_or_default}
 use Rattle.std.proofs.lemmas.List.FromFn.{get_or-map-range_with_len, length-map-range_with_len}
 use Rattle.std.proofs.lemmas.List.Elements.{Contains-get_or}
+use Rattle.bplist_objects.proofs.Lists.{Either, all_or_first}
 use Rattle.bplist_cert.proofs.Onto.{onto}
 use Rattle.bplist_lint.specs.Graph.{Reaches, Ends, IsNext, IsCircleOf}
 use Rattle.bplist_lint.specs.Graph.Reaches.{start, onward}
 use Rattle.bplist_lint.specs.Graph.Ends.{ends}
 use Rattle.bplist_lint.specs.Reaching.{IsMarked}
 use Rattle.bplist_lint.proofs.VisitSteps.{at_set, count-set, unwritten}
-
--- it is, or it is not
-abbrev pub Either : Type 0 → Type 0
-Either P = P ⊎ (P → ⊥)
-
--- P holds of each number below a bound, or there is a first one that B holds of
-pub all_or_first : (P B : ℕ → Type 0) → ((k : ℕ) → P k ⊎ B k) → (bound : ℕ) → ((k : ℕ) → k < bound → P k) ⊎ ((i : ℕ) × (i < bound) × B i × ((k : ℕ) → k < i → P k))
-all_or_first P B each zero = inl (λ k l. absurd (omega (arith, l)))
-all_or_first P B each (suc bound) = go (all_or_first P B each bound) (each bound)
-  where
-    last_too : ((k : ℕ) → k < bound → P k) → P bound → (k : ℕ) → k < suc bound → (k < bound) ⊎ (bound ≤ k) → P k
-    last_too all p k l (inl b) = all k b
-    last_too all p k l (inr b) = let e : bound ≡ k = omega (arith, l, b) in subst P e p
-
-    go : ((k : ℕ) → k < bound → P k) ⊎ ((i : ℕ) × (i < bound) × B i × ((k : ℕ) → k < i → P k)) → P bound ⊎ B bound
-        → ((k : ℕ) → k < suc bound → P k) ⊎ ((i : ℕ) × (i < suc bound) × B i × ((k : ℕ) → k < i → P k))
-    go (inr (i, l, b, before)) e = inr (i, omega (arith, l), b, before)
-    go (inl all) (inl p) = inl (λ k l. last_too all p k l (cases_lt k bound))
-    go (inl all) (inr b) = inr (bound, omega arith, b, all)
 
 -- there is one below a bound, or there is none
 pub some_or_none : (Q : ℕ → Type 0) → ((k : ℕ) → Either (Q k)) → (bound : ℕ) → ((i : ℕ) × (i < bound) × Q i) ⊎ ((k : ℕ) → k < bound → Q k → ⊥)
@@ -87,7 +69,7 @@ module _ (P : ℕ → Type 0) (size : ℕ) (Rule : List Bool → ℕ → Type 0)
 
     fewer : (n : ℕ) → n < size → (IsMarked marks n → ⊥) → count_by not (set marks n true) + 1 ≡ count_by not marks
     fewer n lt off =
-        let off1 : get_or marks n false ≡ false = elim (cases_Bool (get_or marks n false)) [ inl yes1 ↦ absurd (off yes1) | inr no1 ↦ no1 ] in
+        let off1 : get_or marks n false ≡ false = false_from_ne_true (get_or marks n false) off in
         let c = count-set not marks n true false (omega (arith, lt, all)) in
         let one : 0 + cond (not (get_or marks n false)) 1 0 ≡ 1 = ap (λ b. 0 + cond (not b) 1 0) off1 in
         omega (arith, c, one)

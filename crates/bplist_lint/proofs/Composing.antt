@@ -1,6 +1,6 @@
 -- What the linter's passes come to, one behind the other.
-use Rattle.std.proofs.Common.{◌≡◌, ◌↔◌, ℕ, zero, suc, ◌+◌, ◌<◌, ◌≤◌, inl, inr, Bool, true, false, cond, nat_lt, Result, Ok, Err, List, length, slice_index, None, refl, sym, ap, ap₂, ◌∙◌, arith, lt-ltb}
-use Rattle.std.proofs.lemmas.Bool.{false≢true}
+use Rattle.std.proofs.Common.{◌≡◌, ◌↔◌, ℕ, ◌+◌, ◌<◌, ◌≤◌, inl, inr, Bool, cond, Result, Ok, Err, List, length, slice_index, None, ap, ◌∙◌, arith, lt-ltb}
+use Rattle.std.proofs.lemmas.Bool.{ltb-true}
 use Rattle.bplist_objects.specs.declared.fault.Fault.{Fault}
 use Rattle.bplist_objects.specs.declared.fault.ObjectFault.{ObjectFault}
 use Rattle.bplist_objects.specs.declared.fault.ObjectFault.TheVariants as object_faults
@@ -24,7 +24,7 @@ use Rattle.bplist_lint.specs.declared.answer.Lint.{Lint}
 use Rattle.bplist_lint.specs.declared.walking.Reached.{Reached}
 use Rattle.bplist_lint.specs.Graph.{Reaches, AreWhole, AreLeast, IsCircleOf}
 use Rattle.bplist_lint.specs.Reaching.{IsMarked}
-use Rattle.bplist_lint.specs.ReachRules.{KeepReachBelow, sum_below, number_below, references_below, is_marked}
+use Rattle.bplist_lint.specs.ReachRules.{KeepReachBelow, number_below, references_below, is_marked}
 use Rattle.bplist_lint.specs.Referring.{graph_of}
 use Rattle.bplist_lint.specs.FileFault.{IsFileFault, IsFileCircle, IsObjectsFault, IsFramedCircle}
 use Rattle.bplist_lint.specs.Refusals.{of_object, of_check, Refuses, Lints, no_circle}
@@ -36,6 +36,7 @@ use Rattle.bplist_lint.proofs.Forming.{formed_holds, holds_formed}
 use Rattle.bplist_lint.proofs.Keeping.{kept_spells}
 use Rattle.bplist_lint.proofs.Referring.{all_announced}
 use Rattle.bplist_lint.proofs.PlaceSteps.{kept_low, kept_high}
+use Rattle.bplist_lint.proofs.Walks.{sum_alike, same_mark}
 use Rattle.bplist_lint.proofs.Graphing.{reach_iff, circle_iff}
 use Rattle.bplist_lint.proofs.Answering.{formed_by_valid, least_lowest, lint_yes}
 use Rattle.bplist_lint.proofs.Faulting.{fault_not_formed, circle_not_formed}
@@ -69,32 +70,19 @@ pub are_whole : (f : List ℕ) (F : Frame) → IsFrame f F → KeepReachBelow f 
 are_whole f F frame kept through beside n r = let s = kept_spells f F frame kept n ((reach_iff f F n).0 r) in all_announced f F n s.0 s.1
 
 -- ---- sums over the same objects
-sum_same : (g k : ℕ → ℕ) (n : ℕ) → ((m : ℕ) → m < n → g m ≡ k m) → sum_below g n ≡ sum_below k n
-sum_same g k zero same = refl
-sum_same g k (suc n) same = ap₂ (λ a b. a + b) (sum_same g k n (λ m low. same m (omega arith))) (same n (omega arith))
-
-same_bools : (a b : Bool) → (a ≡ true → b ≡ true) → (b ≡ true → a ≡ true) → a ≡ b
-same_bools true b to from = sym (to refl)
-same_bools false true to from = absurd (false≢true (from refl))
-same_bools false false to from = refl
-
-vouched-lt : (h : ℕ) → nat_lt 0 h ≡ true → 0 < h
-vouched-lt zero e = absurd (false≢true e)
-vouched-lt (suc h) e = omega arith
-
 module _ (f : List ℕ) (F : Frame) where
   -- the marked objects are those with a height
   module _ (reached : Reached) (s : IsSifted f F reached) (heights : List ℕ) (least : AreLeastHeights f F heights) (vouched : (n : ℕ) → Reach f F n → IsVouchedBy heights n) where
     same_objects : (n : ℕ) → is_marked reached.marks.items n ≡ is_vouched heights n
-    same_objects n = same_bools (is_marked reached.marks.items n) (is_vouched heights n)
+    same_objects n = same_mark (is_marked reached.marks.items n) (is_vouched heights n)
         (λ e. let v = vouched n ((s.walked.marked n).0 e) in lt-ltb 0 (slice_index heights n) (omega arith))
-        (λ e. let v = vouched-lt (slice_index heights n) e in (s.walked.marked n).1 (least.only n (omega arith)))
+        (λ e. let v = ltb-true 0 (slice_index heights n) e in (s.walked.marked n).1 (least.only n (omega arith)))
 
     pub same_number : reached.tally.reached ≡ number_below (is_vouched heights) F.objects
-    same_number = s.walked.tallied.reached ∙ sum_same _ _ F.objects (λ m low. ap (λ b. cond b 1 0) (same_objects m))
+    same_number = s.walked.tallied.reached ∙ sum_alike _ _ F.objects (λ m low. ap (λ b. cond b 1 0) (same_objects m))
 
     pub same_references : reached.tally.references ≡ references_below f F (is_vouched heights) F.objects
-    same_references = s.walked.tallied.references ∙ sum_same _ _ F.objects (λ m low. ap (λ b. cond b (length (refs_at f F m)) 0) (same_objects m))
+    same_references = s.walked.tallied.references ∙ sum_alike _ _ F.objects (λ m low. ap (λ b. cond b (length (refs_at f F m)) 0) (same_objects m))
 
   -- the answer
   pub linted : IsFrame f F → (reached : Reached) → IsSifted f F reached → reached.tally.references + 8 ≤ F.table → (lint : Lint) → lint.certificate.keys ≡ None

@@ -1,25 +1,25 @@
 -- The first fault of a file is one, and where there is one the file holds no value.
-use Rattle.std.proofs.Common.{◌≡◌, ℕ, ◌<◌, ◌+◌, ◌*◌, inl, inr, List, [], ◌∷◌, Option, refl, sym, ap, ◌∙◌, subst}
+use Rattle.std.proofs.Common.{◌≡◌, ℕ, inl, inr, List, [], Option, None, sym, ◌∙◌, subst}
 use Rattle.bplist_objects.specs.declared.rule.Rule.{Rule}
 use Rattle.bplist_objects.specs.declared.rule.Rule.TheVariants as rules
 use Rattle.bplist_objects.specs.declared.fault.Fault.{Fault}
 use Rattle.bplist_objects.specs.declared.frame.Frame.{Frame}
 use Rattle.bplist_objects.specs.declared.frame.ObjectNo.{ObjectNo}
-use Rattle.bplist_objects.specs.declared.head.Head.{Head}
 use Rattle.bplist_objects.specs.Frame.{IsFrame}
 use Rattle.bplist_objects.specs.Rules.{KeepsAll, IsFirstFault}
-use Rattle.bplist_objects.specs.Reach.{Reach}
 use Rattle.bplist_objects.proofs.Broken.{kept_or_broken, no_first_fault}
-use Rattle.bplist_objects.proofs.BodyLaws.{HasHead-unique}
+use Rattle.bplist_objects.proofs.Lists.{one_number}
 use Rattle.bplist_objects.proofs.Reaching.{reach_within}
-use Rattle.bplist_objects.proofs.Refusing.{no_frame, one_first_fault, one_frame_fault, one_object_fault}
-use Rattle.bplist_cert.specs.Keys.{IsFirstKeyless, IsFirstTwice}
+use Rattle.bplist_objects.proofs.Refusing.{no_frame, one_first_fault, one_frame_fault}
+use Rattle.bplist_cert.specs.Lists.{lists}
+use Rattle.bplist_cert.proofs.Accepting.{broken}
+use Rattle.bplist_cert.proofs.Unique.{by_itself, one_place}
 use Rattle.bplist_lint.specs.ReachRules.{KeepsByReach, BreaksAtReach, KeepReachBelow, IsReachFault, reach_rules}
 use Rattle.bplist_lint.specs.KeyRules.{KeepsByKeys, BreaksAtKeys, KeepKeysBelow, IsKeysFault, key_rules}
 use Rattle.bplist_lint.specs.FileFault.{IsCircle, IsObjectsFault, IsFileFault, IsFileCircle}
 use Rattle.bplist_lint.specs.WellFormed.{IsWellFormed}
 use Rattle.bplist_lint.proofs.Keeping.{formed_reach, formed_keys}
-use Rattle.bplist_lint.proofs.OneCircle.{neither_less, one_circle, circle_not_founded}
+use Rattle.bplist_lint.proofs.OneCircle.{one_circle, circle_not_founded}
 
 -- a file has one frame
 pub one_frame : (f : List ℕ) (F G : Frame) → IsFrame f F → IsFrame f G → F ≡ G
@@ -32,11 +32,8 @@ module _ (f : List ℕ) (F : Frame) where
   reach_or_broken n rule object place k b = kept_or_broken f F n rule place k b.1
 
   keys_or_broken : (n : ℕ) (rule : Rule) (object : Option ObjectNo) (place : ℕ) → KeepsByKeys f F n rule → BreaksAtKeys f F n rule object place → ⊥
-  keys_or_broken n rules.KeyKind object place k (o, (head, i, has, kind, first, at_place)) =
-      let key = k head has kind i first.within in
-      first.none key.0 key.1
-  keys_or_broken n rules.KeyTwice object place k (o, (head, i, has, kind, first, at_place)) =
-      k head has kind first.earlier i first.order first.within first.first first.second first.is_first first.is_second first.same
+  keys_or_broken n rules.KeyKind object place k b = broken f F (lists [] None) n rules.KeyKind place k b.1
+  keys_or_broken n rules.KeyTwice object place k b = broken f F (lists [] None) n rules.KeyTwice place k b.1
   keys_or_broken n _ object place k b = absurd b.1
 
   no_reach_fault : (n : ℕ) (fault : Fault) → KeepsAll (KeepsByReach f F n) reach_rules → IsFirstFault (KeepsByReach f F n) (BreaksAtReach f F n) reach_rules fault → ⊥
@@ -48,41 +45,18 @@ module _ (f : List ℕ) (F : Frame) where
   -- ---- a rule is broken at one place
   reach_place : (n : ℕ) (rule : Rule) (o o' : Option ObjectNo) (p p' : ℕ) → BreaksAtReach f F n rule o p → BreaksAtReach f F n rule o' p' → (o ≡ o') × (p ≡ p')
   reach_place n rules.Overfull o o' p p' b c = (b.0 ∙ sym c.0, b.1.1 ∙ sym c.1.1)
-  reach_place n rule o o' p p' b c =
-      let fault : Option ObjectNo → ℕ → Fault = λ object place. record { rule = rule; object = object; place = place } in
-      let same = one_object_fault f F n (rule ∷ []) (fault o p) (fault o' p') (inl (refl, b)) (inl (refl, c)) in
-      (ap (λ (x : Fault). x.object) same, ap (λ (x : Fault). x.place) same)
-
-  -- the first key of a dictionary that breaks a rule is one
-  one_keyless : (head : Head) (i j : ℕ) → IsFirstKeyless f F head i → IsFirstKeyless f F head j → i ≡ j
-  one_keyless head i j a b =
-      neither_less i j (λ l. let key = b.before i l in a.none key.0 key.1) (λ l. let key = a.before j l in b.none key.0 key.1)
-
-  one_twice : (head : Head) (i j : ℕ) → IsFirstTwice f F head i → IsFirstTwice f F head j → i ≡ j
-  one_twice head i j a b =
-      neither_less i j
-      (λ l. b.before a.earlier i a.order l a.first a.second a.is_first a.is_second a.same)
-      (λ l. a.before b.earlier j b.order l b.first b.second b.is_first b.is_second b.same)
+  reach_place n rule o o' p p' b c = by_itself f F n rule o o' p p' b c
 
   keys_place : (n : ℕ) (rule : Rule) (o o' : Option ObjectNo) (p p' : ℕ) → BreaksAtKeys f F n rule o p → BreaksAtKeys f F n rule o' p' → (o ≡ o') × (p ≡ p')
-  keys_place n rules.KeyKind o o' p p' (e, (head, i, has, kind, first, place)) (e', (other, j, has', kind', first', place')) =
-      let same = HasHead-unique f F n head other has has' in
-      let at_one = one_keyless other i j (subst (λ (x : Head). IsFirstKeyless f F x i) same first) first' in
-      (e ∙ sym e', place ∙ ap (λ (x : Head). x.body + i * F.ref_size) same ∙ ap (λ k. other.body + k * F.ref_size) at_one ∙ sym place')
-  keys_place n rules.KeyTwice o o' p p' (e, (head, i, has, kind, first, place)) (e', (other, j, has', kind', first', place')) =
-      let same = HasHead-unique f F n head other has has' in
-      let at_one = one_twice other i j (subst (λ (x : Head). IsFirstTwice f F x i) same first) first' in
-      (e ∙ sym e', place ∙ ap (λ (x : Head). x.body + i * F.ref_size) same ∙ ap (λ k. other.body + k * F.ref_size) at_one ∙ sym place')
+  keys_place n rules.KeyKind o o' p p' b c = one_place f F (lists [] None) n rules.KeyKind o o' p p' b c
+  keys_place n rules.KeyTwice o o' p p' b c = one_place f F (lists [] None) n rules.KeyTwice o o' p p' b c
   keys_place n _ o o' p p' b c = absurd b.1
 
   module _ (frame : IsFrame f F) where
-    within : (n : ℕ) → Reach f F n → n < F.objects
-    within n r = reach_within f F frame.top n r
-
     -- ---- the first fault of the objects is one
     one_reach_fault : (a b : Fault) → IsReachFault f F a → IsReachFault f F b → a ≡ b
     one_reach_fault a b h k =
-        let same = neither_less h.object k.object
+        let same = one_number h.object k.object
         (λ l. no_reach_fault h.object a (k.least h.object l h.reached) h.first)
         (λ l. no_reach_fault k.object b (h.least k.object l k.reached) k.first) in
         one_first_fault (KeepsByReach f F k.object) (BreaksAtReach f F k.object) (reach_or_broken k.object) (reach_place k.object) reach_rules a b
@@ -90,7 +64,7 @@ module _ (f : List ℕ) (F : Frame) where
 
     one_keys_fault : (a b : Fault) → IsKeysFault f F a → IsKeysFault f F b → a ≡ b
     one_keys_fault a b h k =
-        let same = neither_less h.object k.object
+        let same = one_number h.object k.object
         (λ l. no_keys_fault h.object a (k.least h.object l h.reached) h.first)
         (λ l. no_keys_fault k.object b (h.least k.object l k.reached) k.first) in
         one_first_fault (KeepsByKeys f F k.object) (BreaksAtKeys f F k.object) (keys_or_broken k.object) (keys_place k.object) key_rules a b
@@ -98,10 +72,10 @@ module _ (f : List ℕ) (F : Frame) where
 
     -- where all reached objects keep their rules there is no fault of them
     reach_kept : (a : Fault) → KeepReachBelow f F F.objects → IsReachFault f F a → ⊥
-    reach_kept a kept h = no_reach_fault h.object a (kept h.object (within h.object h.reached) h.reached) h.first
+    reach_kept a kept h = no_reach_fault h.object a (kept h.object (reach_within f F frame.top h.object h.reached) h.reached) h.first
 
     keys_kept : (a : Fault) → KeepKeysBelow f F F.objects → IsKeysFault f F a → ⊥
-    keys_kept a kept h = no_keys_fault h.object a (kept h.object (within h.object h.reached) h.reached) h.first
+    keys_kept a kept h = no_keys_fault h.object a (kept h.object (reach_within f F frame.top h.object h.reached) h.reached) h.first
 
     objects_kept : (a : Fault) → KeepReachBelow f F F.objects → KeepKeysBelow f F F.objects → IsObjectsFault f F a → ⊥
     objects_kept a kept keys (inl h) = reach_kept a kept h

@@ -1,5 +1,5 @@
 -- A file is well formed exactly where its reached objects keep their rules and its top is founded.
-use Rattle.std.proofs.Common.{◌≡◌, ℕ, ◌<◌, ◌≤◌, ◌+◌, inl, inr, List, [], ◌∷◌, subst, arith}
+use Rattle.std.proofs.Common.{◌≡◌, ℕ, ◌≤◌, ◌+◌, inl, inr, List, [], ◌∷◌, subst, arith}
 use Rattle.std.specs.List.{AllByRecursion}
 use Rattle.std.proofs.lemmas.Bool.{cases_lt}
 use Rattle.bplist_objects.specs.declared.frame.Frame.{Frame}
@@ -17,7 +17,7 @@ use Rattle.bplist_objects.proofs.BodyLaws.{HasHead-unique}
 use Rattle.bplist_objects.proofs.Reaching.{reach_within}
 use Rattle.bplist_objects.proofs.Ties.{shape_announced, spells_keeps, keeps_iff}
 use Rattle.bplist_cert.specs.Valid.{HasKeys}
-use Rattle.bplist_lint.proofs.KeyTies.{HaveKeys, keys_from_rules, rules_from_keys}
+use Rattle.bplist_cert.proofs.KeyTies.{HaveKeys, keys_from_rules, rules_from_keys}
 use Rattle.bplist_lint.specs.ReachRules.{KeepsByReach, KeepReachBelow, reach_rules}
 use Rattle.bplist_lint.specs.KeyRules.{KeepKeysBelow}
 use Rattle.bplist_lint.specs.WellFormed.{IsWellFormed}
@@ -39,7 +39,7 @@ greatest_member S n (k ∷ ks) a = go (greatest_member S k ks a.1)
 
 module _ (f : List ℕ) (F : Frame) where
   -- of the rules of a reached object, those of an object by itself, and rule 31
-  own_rules : (n : ℕ) → KeepsAll (KeepsByReach f F n) reach_rules → KeepsAll (KeepsByObject f F n) object_rules
+  pub own_rules : (n : ℕ) → KeepsAll (KeepsByReach f F n) reach_rules → KeepsAll (KeepsByObject f F n) object_rules
   own_rules n k = (k.0, (k.1.0, (k.1.1.0, (k.1.1.1.0, (k.1.1.1.1.0, (k.1.1.1.1.1.0, (k.1.1.1.1.1.1.0, tt)))))))
 
   room_rule : (n : ℕ) → KeepsAll (KeepsByReach f F n) reach_rules → IsOverfull f F (Reach f F) n → ⊥
@@ -49,17 +49,14 @@ module _ (f : List ℕ) (F : Frame) where
   both_rules n k room = (k.0, (k.1.0, (k.1.1.0, (k.1.1.1.0, (k.1.1.1.1.0, (k.1.1.1.1.1.0, (k.1.1.1.1.1.1.0, (room, tt))))))))
 
   module _ (frame : IsFrame f F) where
-    within : (n : ℕ) → Reach f F n → n < F.objects
-    within n r = reach_within f F frame.top n r
-
     -- a reached object that keeps rules 14 to 20 spells a content
     pub kept_spells : KeepReachBelow f F F.objects → (n : ℕ) → Reach f F n → (c : Content) × Spells f F n c
-    kept_spells kept n r = let lt = within n r in (keeps_iff f F n frame lt).0 (own_rules n (kept n lt r))
+    kept_spells kept n r = let lt = reach_within f F frame.top n r in (keeps_iff f F n frame lt).0 (own_rules n (kept n lt r))
 
     kept_room : KeepReachBelow f F F.objects → HaveRoom f F (Reach f F)
     kept_room kept [] r d a t = omega (arith, t, frame.table_early)
     kept_room kept (n ∷ ns) r d a t = elim (cases_lt F.table (r + 8)) [
-      | inl l ↦ let g = greatest_member (Reach f F) n ns a in absurd (room_rule g.0 (kept g.0 (within g.0 g.1.member) g.1.member) (n ∷ ns, r, d, g.1.high, t, l))
+      | inl l ↦ let g = greatest_member (Reach f F) n ns a in absurd (room_rule g.0 (kept g.0 (reach_within f F frame.top g.0 g.1.member) g.1.member) (n ∷ ns, r, d, g.1.high, t, l))
       | inr h ↦ h
     ]
 
@@ -68,7 +65,7 @@ module _ (f : List ℕ) (F : Frame) where
         let s = kept_spells kept n r in
         let head = s.1.shape in
         let there = shape_announced f F n head s.1.has in
-        let k = keys n (within n r) r in
+        let k = keys n (reach_within f F frame.top n r) r in
         (s.0, s.1, keys_from_rules f F n head s.1.has s.0 s.1 (λ e. (k.0 head there e, k.1.0 head there e)))
 
     -- where all rules are kept and the top is founded, the file is well formed

@@ -1,5 +1,5 @@
 -- What the classes of the keys of a dictionary say of them.
-use Rattle.std.proofs.Common.{◌≡◌, ℕ, ◌<◌, ◌≤◌, ◌↔◌, Bool, List, length, slice_index, sym, ◌∙◌, subst, arith, Contains}
+use Rattle.std.proofs.Common.{◌≡◌, ℕ, ◌<◌, ◌↔◌, Bool, List, length, slice_index, sym, ◌∙◌, subst, arith, Contains}
 use Rattle.bplist_objects.specs.declared.fault.Fault.{Fault}
 use Rattle.bplist_objects.specs.declared.frame.Frame.{Frame}
 use Rattle.bplist_objects.specs.declared.frame.ObjectNo.{ObjectNo}
@@ -9,17 +9,13 @@ use Rattle.bplist_objects.specs.Announced.{HasHead}
 use Rattle.bplist_objects.specs.Frame.{IsFrame}
 use Rattle.bplist_objects.specs.Heads.{content_at, refs}
 use Rattle.bplist_objects.specs.Reach.{Reach, next}
-use Rattle.bplist_objects.specs.Rules.{KeepsAll, IsFirstFault}
-use Rattle.bplist_objects.specs.ObjectRules.{KeepsByObject, object_rules}
-use Rattle.bplist_objects.specs.Safe.{ref_count}
-use Rattle.bplist_objects.specs.Units.{units_of}
+use Rattle.bplist_objects.specs.Rules.{IsFirstFault}
 use Rattle.bplist_objects.proofs.Lists.{all_from}
-use Rattle.bplist_objects.proofs.Ties.{head_tie, shape_announced}
-use Rattle.bplist_keys.specs.Texts.{AreOffsets, text_units}
+use Rattle.bplist_objects.proofs.Ties.{head_tie}
+use Rattle.bplist_keys.specs.Texts.{AreOffsets}
 use Rattle.bplist_keys.specs.Ranks.{AreClasses}
-use Rattle.bplist_keys.proofs.WeightSteps.{text_units-head}
 use Rattle.bplist_cert.specs.Heights.{ref}
-use Rattle.bplist_cert.specs.Keys.{IsKey, HaveTexts, KeysDiffer, IsFirstKeyless, IsFirstTwice}
+use Rattle.bplist_cert.specs.Keys.{IsKey, IsFirstKeyless, IsFirstTwice}
 use Rattle.bplist_cert.specs.KeyClasses.{KeysAreSound}
 use Rattle.bplist_cert.proofs.KeyClassing as keys
 use Rattle.bplist_lint.specs.Reaching.{IsMarked}
@@ -30,8 +26,9 @@ use Rattle.bplist_lint.specs.KeyClasses.{AreSound, IsWrongFault}
 use Rattle.bplist_keys.specs.declared.class_table.Wrong.{Wrong}
 use Rattle.bplist_keys.specs.declared.class_table.Wrong.TheVariants as wrongs
 use Rattle.bplist_lint.proofs.ReachSteps.{marked_within}
-use Rattle.bplist_lint.proofs.KeySteps.{reached_kept, keyless, twice}
-use Rattle.bplist_lint.proofs.KeyTies.{each_key}
+use Rattle.bplist_lint.proofs.KeySteps.{keyless, twice}
+use Rattle.bplist_lint.proofs.Keeping.{own_rules}
+use Rattle.bplist_cert.proofs.KeyTies.{each_key}
 
 module _ (f : List ℕ) (F : Frame) where
   -- where exactly the reached objects are marked, and keep the rules
@@ -40,7 +37,7 @@ module _ (f : List ℕ) (F : Frame) where
   reached_sound places marks many framed placed reached kept = record {
     framed = framed;
     placed = placed;
-    kept = λ m marked. reached_kept f F m (subst (λ n. m < n) many (marked_within marks m marked)) ((reached m).0 marked) kept;
+    kept = λ m marked. own_rules f F m (kept m (subst (λ n. m < n) many (marked_within marks m marked)) ((reached m).0 marked));
     closed = λ n m marked r. (reached m).1 (next ((reached n).0 marked) r);
   }
 

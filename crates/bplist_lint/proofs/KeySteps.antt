@@ -3,13 +3,10 @@ use Rattle.std.proofs.Common.{◌≡◌, ℕ, ◌+◌, ◌<◌, inl, inr, List, 
 use Rattle.std.proofs.lemmas.Bool.{cases_eq}
 use Rattle.bplist_objects.specs.declared.rule.Rule.TheVariants as rules
 use Rattle.bplist_objects.specs.declared.fault.Fault.{Fault}
-use Rattle.bplist_objects.specs.declared.fault.ObjectFault.{ObjectFault}
-use Rattle.bplist_objects.specs.declared.fault.ObjectFault.TheVariants as object_faults
 use Rattle.bplist_objects.specs.declared.frame.Frame.{Frame}
 use Rattle.bplist_objects.specs.declared.head.Head.{Head}
 use Rattle.bplist_objects.specs.declared.kind.Kind.TheVariants.{Dict}
 use Rattle.bplist_objects.specs.Announced.{HasHead}
-use Rattle.bplist_objects.specs.Answers.{GivesFault}
 use Rattle.bplist_objects.specs.Rules.{KeepsAll, IsFirstFault}
 use Rattle.bplist_objects.specs.ObjectRules.{KeepsByObject, object_rules}
 use Rattle.bplist_objects.specs.Reach.{Reach}
@@ -22,16 +19,11 @@ use Rattle.bplist_objects.proofs.Reaching.{refs_spelled}
 use Rattle.bplist_objects.proofs.BodyLaws.{HasHead-unique}
 use Rattle.bplist_cert.specs.declared.refusal.Refusal.{Refusal}
 use Rattle.bplist_cert.specs.declared.refusal.Refusal.TheVariants as cert_refusals
-use Rattle.bplist_cert.specs.Refusals.{GivesRefusal, Judges, refusal_of}
+use Rattle.bplist_cert.specs.Refusals.{GivesRefusal, Judges}
 use Rattle.bplist_cert.specs.Keys.{HaveTexts, KeysDiffer, IsKeylessFault, IsTwiceFault}
-use Rattle.bplist_lint.specs.ReachRules.{KeepReachBelow}
 use Rattle.bplist_lint.specs.KeyRules.{KeepsByKeys, BreaksAtKeys, key_rules, KeepKeysBelow, IsKeysFault}
 
 -- what is said of a fault is said of the refusal
-pub object_refused : (P Q : Fault → Type 0) (e : ObjectFault) → ((x : Fault) → P x → Q x) → GivesFault P e → GivesRefusal Q (refusal_of e)
-object_refused P Q (object_faults.Fault fault) same h = same fault h
-object_refused P Q (object_faults.Read _) same h = tt
-
 pub refusals_mean : (P Q : Fault → Type 0) (e : Refusal) → ((x : Fault) → P x → Q x) → GivesRefusal P e → GivesRefusal Q e
 refusals_mean P Q (cert_refusals.Fault fault) same h = same fault h
 refusals_mean P Q (cert_refusals.Read _) same h = tt
@@ -65,10 +57,6 @@ module _ (f : List ℕ) (F : Frame) where
           → Judges (λ _. KeepsAll (KeepsByKeys f F n) key_rules) (IsFirstFault (KeepsByKeys f F n) (BreaksAtKeys f F n) key_rules) r
       keys_judged dict texts (Ok x) differ = kept_keys texts differ
       keys_judged dict texts (Err e) same = refusals_mean _ _ e (λ fault k. twice fault dict texts k) same
-
-  -- a reached object keeps rules 14 to 20
-  pub reached_kept : (n : ℕ) → n < F.objects → Reach f F n → KeepReachBelow f F F.objects → KeepsAll (KeepsByObject f F n) object_rules
-  reached_kept n within r kept = let k = kept n within r in (k.0, (k.1.0, (k.1.1.0, (k.1.1.1.0, (k.1.1.1.1.0, (k.1.1.1.1.1.0, (k.1.1.1.1.1.1.0, tt)))))))
 
   -- the first fault of the keys
   pub keys_fault : (n : ℕ) (fault : Fault) → Reach f F n → KeepKeysBelow f F n → IsFirstFault (KeepsByKeys f F n) (BreaksAtKeys f F n) key_rules fault → IsKeysFault f F fault

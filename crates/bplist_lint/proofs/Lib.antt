@@ -15,7 +15,6 @@ pub mod Founding
 pub mod Forming
 pub mod Making
 pub mod Graphing
-pub mod KeyTies
 pub mod Keeping
 pub mod OneCircle
 pub mod Faulting

@@ -1,37 +1,32 @@
 -- Steps of the making of key lists one behind the other.
 use Rattle.std.proofs.Common.{◌≡◌, ◌≢◌, inl, inr, ℕ, zero, suc, ◌+◌, ◌-◌, ◌*◌, ◌<◌, ◌≤◌, rules, true, false, List, [], ◌++◌, length, take, drop, set, slice_index, Some, None, refl, sym, ◌∙◌, ap, subst, arith, lt-ltb}
-use Rattle.std.specs.List.{AllByRecursion}
 use Rattle.std.proofs.Math.Seq.{drop-append_seam, take-length}
-use Rattle.std.proofs.lemmas.Bool.{cases_eq, cases_lt}
-use Rattle.std.proofs.lemmas.List.{get_or-set_same, get_or-set_other, get_or_past, length-append, length-drop, drop-append-le, take-append-le}
+use Rattle.std.proofs.lemmas.Bool.{cases_eq}
+use Rattle.std.proofs.lemmas.List.{get_or-set_same, get_or-set_other, length-append, length-drop, drop-append-le, take-append-le}
 use Rattle.bplist_octets.specs.Octets.{part}
 use Rattle.bplist_objects.specs.declared.frame.Frame.{Frame}
 use Rattle.bplist_objects.specs.declared.kind.Kind.{Kind}
 use Rattle.bplist_objects.specs.declared.kind.Kind.TheVariants as kinds
 use Rattle.bplist_objects.specs.declared.head.Head.{Head}
 use Rattle.bplist_objects.specs.Frame.{off}
-use Rattle.bplist_objects.specs.Heads.{Content, HasShape, Spells, unit, content_of, content_at, refs}
+use Rattle.bplist_objects.specs.Heads.{Content, HasShape, Spells, unit, content_of, content_at}
 use Rattle.bplist_objects.specs.Announced.{HasHead}
 use Rattle.bplist_objects.specs.Extents.{HaveRoom}
 use Rattle.bplist_objects.specs.Spelled.{spelled_at}
-use Rattle.bplist_objects.specs.Rules.{KeepsAll}
-use Rattle.bplist_objects.specs.ObjectRules.{KeepsByObject, object_rules}
 use Rattle.bplist_objects.proofs.Lists.{all_weaker}
 use Rattle.bplist_objects.proofs.Filling.{shape_extent}
 use Rattle.bplist_objects.proofs.BodyLaws.{HasHead-unique}
-use Rattle.bplist_objects.proofs.Ties.{shape_announced, spells_body, spells_keeps}
+use Rattle.bplist_objects.proofs.Ties.{shape_announced, spells_body}
 use Rattle.bplist_objects.proofs.Spelling.{spells_iff}
 use Rattle.bplist_objects.proofs.References.{length-nums_at}
 use Rattle.bplist_cert.specs.Lists.{Keyed}
 use Rattle.bplist_cert.specs.Valid.{IsVouchedBy, IsValid}
-use Rattle.bplist_cert.specs.Keys.{HaveTexts, KeysDiffer, AreInOrder}
-use Rattle.bplist_keys.specs.Classes.{HasNamedKeys}
+use Rattle.bplist_cert.specs.Keys.{AreInOrder}
 use Rattle.bplist_lint.specs.KeyLists.{IsListed}
 use Rattle.bplist_cert.proofs.Accepting.{accepted, keeps_all}
 use Rattle.bplist_lint.specs.Linted.{is_vouched}
 use Rattle.bplist_lint.specs.Upgraded.{is_dict, pairs_of, pairs, start, Listed, IsUpgraded}
 use Rattle.bplist_lint.proofs.Tallying.{sums_none, sums_more, sums_same, next_is}
-use Rattle.bplist_lint.proofs.KeyTies.{each_key, rules_from_keys}
 
 -- ---- parts of lists
 -- a part of the front
@@ -177,37 +172,6 @@ module _ (f : List ℕ) (F : Frame) (heights : List ℕ) where
             let s = sums_more f F (IsVouchedBy heights) n (head.«end» - off f F n) l.used vouched (shape_extent f F n head shape) l.sums in
             let all = have s.objects _ s.differ (all_weaker _ _ (λ m k. k.0) s.objects s.inside) s.take_all in
             omega (arith, all, l.few, short)
-
-  -- the keys of a vouched dictionary
-  module _ (valid : IsValid f F heights) (n : ℕ) (vouched : IsVouchedBy heights n) (head : Head) (has : HasHead f F n head) where
-    pub vouched_shape : HasShape f F n head
-    vouched_shape =
-        let s = (valid.vouched n vouched).spells in
-        subst (HasShape f F n) (HasHead-unique f F n s.shape head (shape_announced f F n s.shape s.has) has) s.has
-
-    pub vouched_keys : head.kind ≡ kinds.Dict → HaveTexts f F head head.count × KeysDiffer f F head head.count
-    vouched_keys dict = let o = valid.vouched n vouched in rules_from_keys f F n head vouched_shape o.content o.spells o.keys dict
-
-    -- an object of height 1 names no keys
-    pub no_keys : (named : List ℕ) → slice_index heights n ≤ 1 → HasNamedKeys f F named n
-    no_keys named small other other_has dict k low =
-        let o = valid.vouched n vouched in
-        let same = HasHead-unique f F n head other has other_has in
-        let body = spells_body f F n head o.content vouched_shape o.spells in
-        let lower = subst (λ c. AllByRecursion (λ m. IsVouchedBy heights m × (slice_index heights m < slice_index heights n)) (refs c)) body o.lower in
-        let key = each_key f F (λ m. IsVouchedBy heights m × (slice_index heights m < slice_index heights n)) head (rw same dict) lower k (rw same low) in
-        absurd (omega (arith, key.0, key.1, small))
-
-  -- an object that is vouched for keeps rules 14 to 20
-  module _ (valid : IsValid f F heights) (n : ℕ) (vouched : IsVouchedBy heights n) where
-    pub vouched_within : n < F.objects
-    vouched_within = elim (cases_lt n (length heights)) [
-      | inl lt ↦ omega (arith, lt, valid.count)
-      | inr ge ↦ absurd (let none = get_or_past heights n 0 ge in omega (arith, vouched, none))
-    ]
-
-    pub vouched_kept : KeepsAll (KeepsByObject f F n) object_rules
-    vouched_kept = let o = valid.vouched n vouched in spells_keeps f F n valid.frame vouched_within o.content o.spells
 
   -- all are listed
   module _ (valid : IsValid f F heights) (keyed : Keyed) (count : length keyed.starts ≡ F.objects) (l : Listed f F heights F.objects keyed.starts keyed.positions) where

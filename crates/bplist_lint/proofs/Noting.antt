@@ -1,36 +1,25 @@
 -- Steps of the walk that marks the references of one object.
-use Rattle.std.proofs.Common.{◌≡◌, ◌≢◌, ℕ, ◌+◌, ◌-◌, ◌<◌, ◌≤◌, ◌⊎◌, inl, inr, Bool, true, false, List, [], ◌∷◌, ◌++◌, length, get_or, set, Contains, refl, sym, ◌∙◌, arith}
+use Rattle.std.proofs.Common.{◌≡◌, ◌≢◌, ℕ, ◌+◌, ◌-◌, ◌<◌, ◌≤◌, ◌⊎◌, inl, inr, Bool, true, false, List, [], ◌∷◌, ◌++◌, length, get_or, set, Contains, sym, ◌∙◌, arith}
 use Rattle.std.proofs.Common.{below_more}
 use Rattle.std.proofs.lemmas.Bool.{cases_eq, cases_lt, false≢true}
-use Rattle.std.proofs.lemmas.List.{get_or-set_same, get_or-set_other, get_or_append_left, get_or_push, length_push, get_or_default}
+use Rattle.std.proofs.lemmas.List.{get_or-set_same, get_or-set_other, get_or_default}
 use Rattle.std.proofs.lemmas.List.Elements.{Contains-append_left, Contains-push, Contains-push_cases, Contains-get_or}
 use Rattle.bplist_lint.specs.Reaching.{IsMarked}
 use Rattle.bplist_lint.specs.Walks.{AreApart, Noted}
-use Rattle.bplist_lint.proofs.VisitSteps.{seen-set, push_cases}
+use Rattle.bplist_lint.proofs.VisitSteps.{seen-set, differ_push, differ_front, differ_last}
 
 -- ---- a stack on which no object stands twice
 pub apart_none : AreApart []
 apart_none j k less within = absurd (omega arith)
 
 pub apart_push : (stack : List ℕ) (m : ℕ) → AreApart stack → (Contains stack m → ⊥) → AreApart (stack ++ m ∷ [])
-apart_push stack m apart new j k less within = elim (push_cases stack m 0 k within) [
-  | inl c ↦ let low : j < length stack = let l = c.0 in omega arith in rw (c.1, get_or_append_left stack (m ∷ []) 0 j low) (apart j k less c.0)
-  | inr c ↦ let low : j < length stack = let l = c.0 in omega arith in rw (c.1, get_or_append_left stack (m ∷ []) 0 j low) (λ e. new (rw e at (Contains-get_or stack j 0 low)))
-]
+apart_push stack m apart new = differ_push (λ n. n) 0 stack m apart (λ j low e. new (rw e at (Contains-get_or stack j 0 low)))
 
 pub apart_front : (stack : List ℕ) (m : ℕ) → AreApart (stack ++ m ∷ []) → AreApart stack
-apart_front stack m apart j k less within =
-    let long = length_push stack m in
-    let low : j < length stack = omega arith in
-    rw (get_or_append_left stack (m ∷ []) 0 j low, get_or_append_left stack (m ∷ []) 0 k within) at (apart j k less (omega arith))
+apart_front = differ_front (λ n. n) 0
 
 pub apart_last : (stack : List ℕ) (m n : ℕ) → AreApart (stack ++ m ∷ []) → Contains stack n → n ≢ m
-apart_last stack m n apart c e =
-    let long = length_push stack m in
-    let low : c.0 < length stack = c.1 in
-    let at_c : get_or (stack ++ m ∷ []) c.0 0 ≡ n = get_or_append_left stack (m ∷ []) 0 c.0 low ∙ sym (get_or_default stack c.0 n 0 low) ∙ c.2 in
-    let at_last : get_or (stack ++ m ∷ []) (length stack) 0 ≡ m = get_or_push stack m 0 (length stack) refl in
-    apart c.0 (length stack) low (omega arith) (at_c ∙ e ∙ sym at_last)
+apart_last stack m n apart c e = differ_last (λ k. k) 0 stack m apart c.0 c.1 (sym (get_or_default stack c.0 n 0 c.1) ∙ c.2 ∙ e)
 
 -- what is marked after the write was marked or is m
 pub fresh-set : (marks : List Bool) (m n : ℕ) → IsMarked (set marks m true) n → IsMarked marks n ⊎ (n ≡ m)

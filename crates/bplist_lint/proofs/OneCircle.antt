@@ -1,25 +1,15 @@
 -- The circle that a walk meets is one, and where there is one its beginning is not founded.
-use Rattle.std.proofs.Common.{◌≡◌, ℕ, zero, suc, ◌<◌, ◌≤◌, ◌+◌, inl, inr, List, length, slice_index, sym, ap, ◌∙◌, subst, arith, Contains}
-use Rattle.std.proofs.lemmas.Bool.{cases_order}
+use Rattle.std.proofs.Common.{◌≡◌, ℕ, zero, suc, ◌<◌, ◌≤◌, ◌+◌, List, length, slice_index, sym, ap, ◌∙◌, subst, arith, Contains}
 use Rattle.std.proofs.lemmas.List.{ext_get_or}
 use Rattle.std.proofs.lemmas.List.Elements.{Contains-get_or}
 use Rattle.bplist_objects.specs.declared.frame.Frame.{Frame}
 use Rattle.bplist_objects.specs.Heads.{refs}
 use Rattle.bplist_objects.specs.Reach.{Founded}
 use Rattle.bplist_objects.proofs.Fronts.{one_head}
+use Rattle.bplist_objects.proofs.Lists.{one_number}
 use Rattle.bplist_objects.proofs.Reaching.{founded_refs}
 use Rattle.bplist_lint.specs.Graph.{IsCircleBy}
 use Rattle.bplist_lint.specs.FileFault.{LeadsOn, IsCircle}
-
--- two numbers neither of which is less than the other are one
-pub neither_less : (i j : ℕ) → (i < j → ⊥) → (j < i → ⊥) → i ≡ j
-neither_less i j a b = elim (cases_order i j) [
-  | inl e ↦ e
-  | inr r ↦ elim r [
-    | inl l ↦ absurd (a l)
-    | inr l ↦ absurd (b l)
-  ]
-]
 
 -- where each object leads on to one alone
 module _ (next : ℕ → ℕ → Type 0) (one : (n m k : ℕ) → next n m → next n k → m ≡ k) (top : ℕ) where
@@ -39,7 +29,7 @@ module _ (next : ℕ → ℕ → Type 0) (one : (n m k : ℕ) → next n m → n
 
   module _ (circle other : List ℕ) (c : IsCircleBy next top circle) (d : IsCircleBy next top other) where
     same_end : c.j ≡ d.j
-    same_end = neither_less c.j d.j (no_earlier circle other c d) (no_earlier other circle d c)
+    same_end = one_number c.j d.j (no_earlier circle other c d) (no_earlier other circle d c)
 
     same_start : c.i ≡ d.i
     same_start =
@@ -48,7 +38,7 @@ module _ (next : ℕ → ℕ → Type 0) (one : (n m k : ℕ) → next n m → n
         let di = same_walk circle other c d d.i (omega (arith, d.earlier, e)) (omega (arith, d.earlier)) in
         let last : c.x c.j ≡ d.x d.j = same_walk circle other c d c.j (omega arith) (omega (arith, e)) ∙ ap d.x e in
         let meet : c.x c.i ≡ c.x d.i = c.meets ∙ last ∙ sym d.meets ∙ sym di in
-        neither_less c.i d.i
+        one_number c.i d.i
         (λ l. c.least c.i d.i l (omega (arith, d.earlier, e)) meet)
         (λ l. c.least d.i c.i l c.earlier (sym meet))
 
@@ -71,7 +61,7 @@ module _ (f : List ℕ) (F : Frame) where
       let at_a : slice_index (refs b.content) a.place ≡ m = subst (λ x. slice_index (refs x) a.place ≡ m) c a.at_place in
       let not_before : a.place < b.place → ⊥ = λ l. a.not_founded (subst (Founded f F) at_a (b.first a.place l)) in
       let not_after : b.place < a.place → ⊥ = λ l. b.not_founded (subst (Founded f F) (ap (λ x. slice_index (refs x) b.place) c ∙ b.at_place) (a.first b.place l)) in
-      let same = neither_less a.place b.place not_before not_after in
+      let same = one_number a.place b.place not_before not_after in
       sym at_a ∙ ap (slice_index (refs b.content)) same ∙ b.at_place
 
   -- a file has one circle

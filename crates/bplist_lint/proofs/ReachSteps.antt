@@ -1,6 +1,6 @@
 -- What the search for the reached objects keeps true.
 use Rattle.std.proofs.Common.{◌≡◌, ℕ, zero, suc, ◌+◌, ◌-◌, ◌*◌, ◌/◌, ◌%◌, ◌∙◌, ◌<◌, ◌≤◌, ◌↔◌, inl, inr, Bool, true, false, List, [], ◌∷◌, ◌++◌, length, set, replicate, Contains, sym, ap, ap₂, subst, arith}
-use Rattle.std.proofs.Math.Nat.{add-mul, div-mul-le_self, le-div_iff_mul-le, mod-lt, mul-le-mul_right}
+use Rattle.std.proofs.Math.Nat.{add-mul, div-mul-le_self, le-div_iff_mul-le, mod-lt}
 use Rattle.std.proofs.lemmas.Nat.{div-mul-add, mod-mul-add, div-add-mod', mul-add-lt}
 use Rattle.std.proofs.lemmas.Bool.{false≢true, cases_eq, cases_lt}
 use Rattle.std.proofs.lemmas.List.{get_or-set_same, get_or-set_other, get_or_default, length-replicate}
@@ -10,17 +10,16 @@ use Rattle.bplist_objects.specs.declared.head.Head.{Head}
 use Rattle.bplist_objects.specs.Heads.{content_at, refs}
 use Rattle.bplist_objects.specs.Numbers.{num_at}
 use Rattle.bplist_objects.specs.Reach.{Reach, top, next}
-use Rattle.bplist_objects.specs.Safe.{ref_count}
+use Rattle.bplist_objects.specs.Safe.{IsSafeHead, ref_count}
 use Rattle.bplist_objects.specs.Scan.{AreBelow, nth_number}
 use Rattle.bplist_objects.specs.Spelled.{refs_at}
+use Rattle.bplist_objects.proofs.Bounds.{place_fits}
+use Rattle.bplist_objects.proofs.Lists.{none_in}
 use Rattle.bplist_objects.proofs.Reaching.{refs_iff}
 use Rattle.bplist_objects.proofs.References.{length-refs, nth-refs}
 use Rattle.bplist_lint.specs.Reaching.{IsMarked, HasMarks, row, number_at, set_size, reference_at, AreGood, AreFollowed, Looked, IsSearching}
 use Rattle.bplist_lint.specs.PlaceSets.{IsIn}
 use Rattle.bplist_lint.proofs.VisitSteps.{seen-set, unwritten}
-
-pub none_contained : (m : ℕ) → Contains [] m → ⊥
-none_contained m c = omega (arith, c.1)
 
 pub marked_within : (marks : List Bool) (n : ℕ) → IsMarked marks n → n < length marks
 marked_within [] n h = absurd (false≢true h)
@@ -136,7 +135,7 @@ module _ (f : List ℕ) (F : Frame) where
       record {
         begun = begun;
         sound = λ m h. rw (is_top m h) top;
-        on_stack = λ m c. elim (Contains-push_cases [] F.top.0 m c) [ inl none ↦ absurd (none_contained m none) | inr e ↦ rw (← e) begun ];
+        on_stack = λ m c. elim (Contains-push_cases [] F.top.0 m c) [ inl none ↦ absurd (none_in m none) | inr e ↦ rw (← e) begun ];
         closed = λ m h. inl (rw (is_top m h) (Contains-push [] F.top.0));
         known_good = λ k i. absurd (no_good k i);
         known_followed = λ k i. absurd (none_followed k i);
@@ -147,7 +146,7 @@ module _ (f : List ℕ) (F : Frame) where
     reach_marked : (n : ℕ) → Reach f F n → IsMarked marks n
     reach_marked n top = w.begun
     reach_marked n (next {n = k} r e) = elim (w.closed k (reach_marked k r)) [
-      | inl on ↦ absurd (none_contained k on)
+      | inl on ↦ absurd (none_in k on)
       | inr all ↦ let c = (refs_iff f F k n).0 e in rw (← c.2) (rw (get_or_default (refs_at f F k) c.0 n 0 c.1) (all c.0 c.1))
     ]
 
@@ -155,21 +154,18 @@ module _ (f : List ℕ) (F : Frame) where
     searching_end n = (w.sound n, reach_marked n)
 
   -- ---- what follows of a body whose places were all followed
-  module _ (head : Head) (some : 1 ≤ F.ref_size) (inside : head.body + ref_count head.kind head.count * F.ref_size ≤ F.table) where
-    part : (k : ℕ) → k < ref_count head.kind head.count → head.body + (k + 1) * F.ref_size ≤ F.table
-    part k low = let most : k + 1 ≤ ref_count head.kind head.count = omega arith in let more = mul-le-mul_right F.ref_size most in omega (arith, more)
-
+  module _ (head : Head) (some : 1 ≤ F.ref_size) (safe : IsSafeHead F head) where
     -- reference k stands at this number
     pub reference_at_k : (k : ℕ) → k < ref_count head.kind head.count → reference_at f F (number_at F head.body + k) ≡ nth_number f head.body F.ref_size k
-    reference_at_k k low = reference_back F some head.body k (part k low) f
+    reference_at_k k low = reference_back F some head.body k (place_fits F head safe k low) f
 
     pub number_at_k : (k : ℕ) → k < ref_count head.kind head.count → number_at F head.body + k < set_size F
-    number_at_k k low = number_fits F some head.body k (part k low)
+    number_at_k k low = number_fits F some head.body k (place_fits F head safe k low)
 
     pub numbers_low : number_at F head.body + ref_count head.kind head.count ≤ set_size F
     numbers_low = elim (cases_lt 0 (ref_count head.kind head.count)) [
       | inl has ↦ let last = number_at_k (ref_count head.kind head.count - 1) (omega arith) in omega (arith, last, has)
-      | inr none ↦ let first = number_low F head.body some (omega (arith, inside)) in omega (arith, first, none)
+      | inr none ↦ let first = number_low F head.body some (omega (arith, safe.body, safe.table)) in omega (arith, first, none)
     ]
 
     pub all_good : (good : List ℕ) → AreGood f F good → ((k : ℕ) → k < ref_count head.kind head.count → IsIn good (number_at F head.body + k)) → AreBelow f head.body F.ref_size (ref_count head.kind head.count) F.objects

@@ -1,8 +1,8 @@
 -- What an object's references are, by what was read of it.
-use Rattle.std.proofs.Common.{◌≡◌, ℕ, ◌<◌, ◌≤◌, ◌+◌, List, [], ◌∷◌, length, slice_index, Option, Some, None, MatchOption, inl, inr, refl, sym, ap, ◌∙◌, subst, arith}
+use Rattle.std.proofs.Common.{◌≡◌, ℕ, ◌<◌, ◌+◌, List, [], length, slice_index, Option, Some, None, inl, inr, refl, sym, ap, ◌∙◌, subst, arith}
 use Rattle.std.specs.List.{AllByRecursion}
-use Rattle.std.proofs.Math.Nat.{zero-add}
 use Rattle.std.proofs.lemmas.Bool.{cases_lt}
+use Rattle.std.proofs.lemmas.List.{nil_from_length}
 use Rattle.bplist_objects.specs.declared.frame.Frame.{Frame}
 use Rattle.bplist_objects.specs.declared.head.Head.{Head}
 use Rattle.bplist_objects.specs.declared.kind.Kind.{Kind}
@@ -18,10 +18,6 @@ use Rattle.bplist_objects.proofs.References.{nth-refs, each_ref, all_refs}
 use Rattle.bplist_objects.proofs.Reaching.{refs_spelled}
 use Rattle.bplist_objects.proofs.Ties.{shape_announced, spells_body}
 use Rattle.bplist_lint.specs.Referring.{IsBlock, refs_announced}
-
-pub empty : (xs : List ℕ) → length xs ≡ 0 → xs ≡ []
-empty [] e = refl
-empty (x ∷ xs) e = absurd (omega arith)
 
 module _ (f : List ℕ) (F : Frame) (n : ℕ) where
   -- an object that spells nothing refers to nothing
@@ -45,7 +41,7 @@ module _ (f : List ℕ) (F : Frame) (n : ℕ) where
       of_content c s =
           let same : s.shape ≡ h = one_shape f F n s.shape h s.has has in
           let is : c ≡ content_at f F h = s.means ∙ ap (content_at f F) same in
-          refs_spelled f F n c s ∙ ap refs is ∙ empty (refs (content_at f F h)) (length-refs f F h.kind h.count h.body ∙ none)
+          refs_spelled f F n c s ∙ ap refs is ∙ nil_from_length (refs (content_at f F h)) (length-refs f F h.kind h.count h.body ∙ none)
 
       go : (found : Option Content) → spelled_at f F n ≡ found → refs_at f F n ≡ []
       go None e = no_refs (λ c s. let k : None ≡ Some c = sym e ∙ (spells_iff f F n c).0 s in cc k)
@@ -119,7 +115,7 @@ module _ (f : List ℕ) (F : Frame) (n : ℕ) where
         refs_spelled f F n (content_at f F h) s
     | inr none ↦
         let zero : ref_count h.kind h.count ≡ 0 = omega (arith, none) in
-        no_refs_leaf h has zero ∙ sym (empty (refs (content_at f F h)) (length-refs f F h.kind h.count h.body ∙ zero))
+        no_refs_leaf h has zero ∙ sym (nil_from_length (refs (content_at f F h)) (length-refs f F h.kind h.count h.body ∙ zero))
   ]
 
   -- and where one is not, there is none

@@ -4,7 +4,7 @@ use Rattle.std.proofs.lemmas.Bool.{cases_eq, cases_lt, false≢true}
 use Rattle.std.proofs.lemmas.List.{get_or-set_same, get_or-set_other, length-set, get_or_append_left, get_or_push, length_push, length-replicate}
 use Rattle.std.proofs.lemmas.List.Sums.{sum_by-set, sum_by-append, count_by-le-length}
 use Rattle.bplist_lint.specs.Reaching.{IsMarked}
-use Rattle.bplist_lint.specs.Visits.{is_height, no_visit, visit_at, EachVisit, IsVisit, IsOpen, Standing, work}
+use Rattle.bplist_lint.specs.Visits.{is_height, no_visit, EachVisit, IsVisit, IsOpen, Standing, work}
 use Rattle.bplist_lint.specs.declared.heights.Visit.{Visit}
 
 -- how a count changes at a write
@@ -68,24 +68,31 @@ height_below heights n in' e =
     let most = count_by-le-length is_height (set heights n 1) in
     omega (arith, length-set heights n 1, more, most)
 
--- two visits before the last, or one and the last
-pub differ_push : (stack : List Visit) (v : Visit) → ((j k : ℕ) → j < k → k < length stack → (visit_at stack j).object ≢ (visit_at stack k).object) → ((j : ℕ) → j < length stack → (visit_at stack j).object ≢ v.object)
-    → (j k : ℕ) → j < k → k < length (stack ++ v ∷ []) → (visit_at (stack ++ v ∷ []) j).object ≢ (visit_at (stack ++ v ∷ []) k).object
-differ_push stack v differ last j k less h = elim (push_cases stack v no_visit k h) [
-  | inl c ↦ let low : j < length stack = let l = c.0 in omega arith in rw (c.1, get_or_append_left stack (v ∷ []) no_visit j low) (differ j k less c.0)
-  | inr c ↦ let low : j < length stack = let l = c.0 in omega arith in rw (c.1, get_or_append_left stack (v ∷ []) no_visit j low) (last j low)
-]
+-- ---- lists whose items have different numbers
+module _ {X : Type 0} (number : X → ℕ) (d : X) where
+  abbrev pub Differ : List X → Type 0
+  Differ xs = (j k : ℕ) → j < k → k < length xs → number (get_or xs j d) ≢ number (get_or xs k d)
 
-differ_front : (rest : List Visit) (v : Visit) → ((j k : ℕ) → j < k → k < length (rest ++ v ∷ []) → (visit_at (rest ++ v ∷ []) j).object ≢ (visit_at (rest ++ v ∷ []) k).object) → (j k : ℕ) → j < k → k < length rest → (visit_at rest j).object ≢ (visit_at rest k).object
-differ_front rest v d j k less h =
-    let long = length_push rest v in
-    let low : j < length rest = omega arith in
-    rw (get_or_append_left rest (v ∷ []) no_visit j low, get_or_append_left rest (v ∷ []) no_visit k h) at (d j k less (omega arith))
+  pub differ_push : (xs : List X) (x : X) → Differ xs → ((j : ℕ) → j < length xs → number (get_or xs j d) ≢ number x) → Differ (xs ++ x ∷ [])
+  differ_push xs x differ last j k less h = elim (push_cases xs x d k h) [
+    | inl c ↦ let low : j < length xs = let l = c.0 in omega arith in rw (c.1, get_or_append_left xs (x ∷ []) d j low) (differ j k less c.0)
+    | inr c ↦ let low : j < length xs = let l = c.0 in omega arith in rw (c.1, get_or_append_left xs (x ∷ []) d j low) (last j low)
+  ]
 
-differ_last : (rest : List Visit) (v : Visit) → ((j k : ℕ) → j < k → k < length (rest ++ v ∷ []) → (visit_at (rest ++ v ∷ []) j).object ≢ (visit_at (rest ++ v ∷ []) k).object) → (j : ℕ) → j < length rest → (visit_at rest j).object ≢ v.object
-differ_last rest v d j h =
-    let long = length_push rest v in
-    rw (get_or_append_left rest (v ∷ []) no_visit j h, get_or_push rest v no_visit (length rest) refl) at (d j (length rest) h (omega arith))
+  pub differ_front : (xs : List X) (x : X) → Differ (xs ++ x ∷ []) → Differ xs
+  differ_front xs x differ j k less h =
+      let long = length_push xs x in
+      let low : j < length xs = omega arith in
+      rw (get_or_append_left xs (x ∷ []) d j low, get_or_append_left xs (x ∷ []) d k h) at (differ j k less (omega arith))
+
+  pub differ_last : (xs : List X) (x : X) → Differ (xs ++ x ∷ []) → (j : ℕ) → j < length xs → number (get_or xs j d) ≢ number x
+  differ_last xs x differ j h =
+      let long = length_push xs x in
+      rw (get_or_append_left xs (x ∷ []) d j h, get_or_push xs x d (length xs) refl) at (differ j (length xs) h (omega arith))
+
+-- the object of a visit
+abbrev object_of : Visit → ℕ
+object_of v = v.object
 
 -- an object that was not seen is opened, on top of the stack
 pub standing_open : (size : ℕ) (seen : List Bool) (heights : List ℕ) (stack : List Visit) (m count : ℕ) → Standing size seen heights stack → m < size → get_or seen m false ≡ false → Standing size (set seen m true) heights (stack ++ record { object = m; next = 0; count = count; best = 0; sound = true } ∷ [])
@@ -103,7 +110,7 @@ standing_open size seen heights stack m count s in' new =
       unfinished = each_push (λ _ w. IsOpen (set seen m true) heights w.object) stack v
           (λ k h. let o = s.unfinished k h in record { seen = seen-set seen m _ within o.seen; low = o.low })
           (record { seen = get_or-set_same seen m true false within; low = low_m });
-      differ = differ_push stack v s.differ (λ j h e. let o = (s.unfinished j h).seen in absurd (false≢true (sym new ∙ rw e at o)));
+      differ = differ_push object_of no_visit stack v s.differ (λ j h e. let o = (s.unfinished j h).seen in absurd (false≢true (sym new ∙ rw e at o)));
       low = s.low;
       known = λ n h. seen-set seen m n within (s.known n h);
     }
@@ -118,7 +125,7 @@ standing_advance size seen heights rest v v' s same within low =
       all_heights = s.all_heights;
       visits = each_push (λ _ w. IsVisit size (count_by is_height heights) w) rest v' (each_front (λ _ w. IsVisit size (count_by is_height heights) w) rest v s.visits) (record { inside = rw same old.inside; within = within; low = low });
       unfinished = each_push (λ _ w. IsOpen seen heights w.object) rest v' (each_front (λ _ w. IsOpen seen heights w.object) rest v s.unfinished) (rw same (each_last (λ _ w. IsOpen seen heights w.object) rest v s.unfinished));
-      differ = differ_push rest v' (differ_front rest v s.differ) (λ j h e. differ_last rest v s.differ j h (e ∙ same));
+      differ = differ_push object_of no_visit rest v' (differ_front object_of no_visit rest v s.differ) (λ j h e. differ_last object_of no_visit rest v s.differ j h (e ∙ same));
       low = s.low;
       known = s.known;
     }
@@ -130,7 +137,7 @@ standing_leave size seen heights rest v s = record {
   all_heights = s.all_heights;
   visits = each_front (λ _ w. IsVisit size (count_by is_height heights) w) rest v s.visits;
   unfinished = each_front (λ _ w. IsOpen seen heights w.object) rest v s.unfinished;
-  differ = differ_front rest v s.differ;
+  differ = differ_front object_of no_visit rest v s.differ;
   low = s.low;
   known = s.known;
 }
@@ -150,8 +157,8 @@ standing_finish size seen heights rest v h s high low =
       visits = λ k l. let old = each_front (λ _ w. IsVisit size (count_by is_height heights) w) rest v s.visits k l in
           record { inside = old.inside; within = old.within; low = omega (arith, old.low, more) };
       unfinished = λ k l. let old = each_front (λ _ w. IsOpen seen heights w.object) rest v s.unfinished k l in
-          record { seen = old.seen; low = get_or-set_other heights v.object _ h 0 (differ_last rest v s.differ k l) ∙ old.low };
-      differ = differ_front rest v s.differ;
+          record { seen = old.seen; low = get_or-set_other heights v.object _ h 0 (differ_last object_of no_visit rest v s.differ k l) ∙ old.low };
+      differ = differ_front object_of no_visit rest v s.differ;
       low = λ n. elim (at_set heights v.object h 0 n within) [
         | inl c ↦ rw c.1 (omega (arith, more))
         | inr c ↦ rw c.1 (omega (arith, more, s.low n))

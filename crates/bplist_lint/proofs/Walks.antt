@@ -1,6 +1,6 @@
 -- What the one walk over the reached objects knows between two visits, and at its end.
 use Rattle.std.proofs.Common.{◌≡◌, ◌≢◌, ◌↔◌, ℕ, zero, suc, ◌+◌, ◌-◌, ◌<◌, ◌≤◌, inl, inr, Bool, true, false, cond, List, [], ◌∷◌, ◌++◌, length, get_or, set, replicate, refl, sym, ap, ◌∙◌, subst, arith}
-use Rattle.std.proofs.lemmas.Bool.{cases_eq, false≢true}
+use Rattle.std.proofs.lemmas.Bool.{cases_eq, false≢true, false_from_ne_true}
 use Rattle.std.proofs.lemmas.List.{get_or-set_same, get_or-set_other, length-set, length-replicate, get_or_default}
 use Rattle.std.proofs.lemmas.List.Elements.{Contains-append_left, Contains-push, Contains-push_cases}
 use Rattle.bplist_objects.specs.declared.frame.Frame.{Frame}
@@ -13,6 +13,7 @@ use Rattle.bplist_objects.specs.Rules.{KeepsAll}
 use Rattle.bplist_objects.specs.Safe.{ref_count}
 use Rattle.bplist_objects.specs.Spelled.{refs_at}
 use Rattle.bplist_objects.specs.Heads.{content_at}
+use Rattle.bplist_objects.proofs.Lists.{none_in}
 use Rattle.bplist_objects.proofs.Reaching.{refs_iff, refs_spelled}
 use Rattle.bplist_objects.proofs.References.{length-refs}
 use Rattle.bplist_objects.proofs.Spelling.{head_is_found}
@@ -25,7 +26,7 @@ use Rattle.bplist_lint.specs.ReachRules.{sum_below, number_below, references_bel
 use Rattle.bplist_lint.specs.Tallies.{IsTalliedWith}
 use Rattle.bplist_lint.specs.Walks.{Noted, extent_by, extent, extents_below, IsVisited, IsWalkState, IsWalked}
 use Rattle.bplist_lint.proofs.Noting.{apart_none, apart_push, apart_front, apart_last, fresh-set}
-use Rattle.bplist_lint.proofs.ReachSteps.{marked_within, none_contained}
+use Rattle.bplist_lint.proofs.ReachSteps.{marked_within}
 use Rattle.bplist_lint.proofs.Tallying.{tallied_none, tallied_over, tallied_more, next_is}
 use Rattle.bplist_lint.proofs.VisitSteps.{seen-set, unwritten}
 
@@ -34,7 +35,7 @@ sum_of_none : (g : ℕ → ℕ) (n : ℕ) → ((m : ℕ) → g m ≡ 0) → sum_
 sum_of_none g zero none = refl
 sum_of_none g (suc n) none = let before = sum_of_none g n none in let here = none n in omega arith
 
-sum_alike : (g k : ℕ → ℕ) (n : ℕ) → ((m : ℕ) → m < n → g m ≡ k m) → sum_below g n ≡ sum_below k n
+pub sum_alike : (g k : ℕ → ℕ) (n : ℕ) → ((m : ℕ) → m < n → g m ≡ k m) → sum_below g n ≡ sum_below k n
 sum_alike g k zero same = refl
 sum_alike g k (suc n) same =
     let before = sum_alike g k n (λ m low. same m (omega arith)) in
@@ -67,17 +68,13 @@ sum_turned g k (suc n) i low same none = elim (cases_eq i n) [
 sum_marked : (g : ℕ → ℕ) (marks : List Bool) (n i : ℕ) → i < n → i < length marks → (IsMarked marks i → ⊥) → sum_below (λ m. cond (is_marked (set marks i true) m) (g m) 0) n ≡ sum_below (λ m. cond (is_marked marks m) (g m) 0) n + g i
 sum_marked g marks n i low within new =
     let here : get_or (set marks i true) i false ≡ true = get_or-set_same marks i true false within in
-    let before : get_or marks i false ≡ false = unmarked (get_or marks i false) new in
+    let before : get_or marks i false ≡ false = false_from_ne_true (get_or marks i false) new in
     let one = sum_turned (λ m. cond (is_marked (set marks i true) m) (g m) 0) (λ m. cond (is_marked marks m) (g m) 0) n i low
     (λ m other. ap (λ b. cond b (g m) 0) (get_or-set_other marks i m true false other)) (ap (λ b. cond b (g i) 0) before) in
     let last : cond (is_marked (set marks i true) i) (g i) 0 ≡ g i = ap (λ b. cond b (g i) 0) here in
     omega (arith, one, last)
-  where
-    unmarked : (b : Bool) → (b ≡ true → ⊥) → b ≡ false
-    unmarked true no1 = absurd (no1 refl)
-    unmarked false no1 = refl
 
-same_mark : (a b : Bool) → (a ≡ true → b ≡ true) → (b ≡ true → a ≡ true) → a ≡ b
+pub same_mark : (a b : Bool) → (a ≡ true → b ≡ true) → (b ≡ true → a ≡ true) → a ≡ b
 same_mark true b to from = sym (to refl)
 same_mark false true to from = absurd (false≢true (from refl))
 same_mark false false to from = refl
@@ -105,7 +102,7 @@ module _ (f : List ℕ) (F : Frame) where
           | inl old ↦ absurd (no1 m old)
           | inr e ↦ rw e top
         ];
-        waiting = λ m c. absurd (none_contained m c);
+        waiting = λ m c. absurd (none_in m c);
         apart = apart_none;
         closed = λ m h. inl (omega arith);
         each = λ m h. absurd (no1 m h);
@@ -128,7 +125,7 @@ module _ (f : List ℕ) (F : Frame) where
       all_visited = w.all_visited;
       begun = w.begun;
       sound = w.sound;
-      waiting = λ m c. absurd (none_contained m c);
+      waiting = λ m c. absurd (none_in m c);
       apart = w.apart;
       closed = λ m h. elim (w.closed m h) [
         | inl from ↦ elim (cases_eq m n) [
@@ -152,16 +149,16 @@ module _ (f : List ℕ) (F : Frame) where
       begun = w.begun;
       sound = w.sound;
       waiting = λ m c. elim (Contains-push_cases [] n m c) [
-        | inl none ↦ absurd (none_contained m none)
+        | inl none ↦ absurd (none_in m none)
         | inr e ↦ rw (← e) (marked, (λ h. let l = (w.each n h).1 in omega arith), omega arith)
       ];
-      apart = apart_push [] n apart_none (none_contained n);
+      apart = apart_push [] n apart_none (none_in n);
       closed = λ m h. elim (w.closed m h) [
         | inl from ↦ elim (cases_eq m n) [
           | inl e ↦ inr (inl (rw e (Contains-push [] n)))
           | inr ne ↦ inl (omega arith)
         ]
-        | inr later ↦ elim later [ inl on ↦ absurd (none_contained m on) | inr visited ↦ inr (inr visited) ]
+        | inr later ↦ elim later [ inl on ↦ absurd (none_in m on) | inr visited ↦ inr (inr visited) ]
       ];
       each = λ m h. let v = w.each m h in (v.0, (let l = v.1 in omega arith), v.2);
       bare_known = w.bare_known;
@@ -222,7 +219,7 @@ module _ (f : List ℕ) (F : Frame) where
     visited_as : (m : ℕ) → IsMarked reached.marks.items m → IsMarked w.visited m
     visited_as m h = elim (w.closed m h) [
       | inl above ↦ absurd (let low = marked_within reached.marks.items m h in omega arith)
-      | inr later ↦ elim later [ inl on ↦ absurd (none_contained m on) | inr visited ↦ visited ]
+      | inr later ↦ elim later [ inl on ↦ absurd (none_in m on) | inr visited ↦ visited ]
     ]
 
     reach_marked : (n : ℕ) → Reach f F n → IsMarked reached.marks.items n

@@ -13,8 +13,8 @@ ghost use Rattle.bplist_lint.specs.Upgrades.{Upgrades, upgrade_failed};
 
 use crate::key_lists::KeySorting;
 use crate::upgrade_fault::UpgradeFault;
-use bplist_cert::{Certificate, Checked, KeyLists, name_object};
-use bplist_keys::{NamedKeys, Ranks, places_of, ranks_of};
+use bplist_cert::{Certificate, Checked, KeyLists, vouched_keys};
+use bplist_keys::{Ranks, places_of, ranks_of};
 use bplist_objects::{Frame, Kind, ObjectNo, shape_at};
 use bplist_octets::Source;
 use std::alloc::Global;
@@ -26,33 +26,6 @@ struct Vouched<'a> {
     places: &'a [u32],
     /// An object with a height above 0 is vouched for.
     heights: &'a [u32],
-}
-
-/// The objects that the vouched dictionaries name as keys. An object of height 1 has no references.
-fn vouched_keys<S: Source>(
-    alloc: Global,
-    src: &mut S,
-    frame: &Frame,
-    vouched: &Vouched,
-) -> Result<NamedKeys, UpgradeFault>
-    requires safe { IsSafe (length (S.means src.old).octets) frame.now }
-    requires places { length vouched.now.places.now ≡ frame.now.objects }
-    requires heights { length vouched.now.heights.now ≡ frame.now.objects }
-    ensures reads { OnlyReads (upgrade_failed result) (S.means src.old) (S.means src.new) }
-    ensures all { IfOk result (λ named. length named.table.items ≡ frame.now.objects) }
-    ensures exact { IsTrue (S.means src.old).honest → AreOffsets (S.means src.old).octets frame.now vouched.now.places.now
-        → IsValid (S.means src.old).octets frame.now vouched.now.heights.now
-        → Upgrades (λ named. (n : ℕ) → IsVouchedBy vouched.now.heights.now n
-        → HasNamedKeys (S.means src.old).octets frame.now named.table.items n) result }
-{
-    let (places, heights) = (vouched.places, vouched.heights);
-    let mut named = NamedKeys::new(alloc, frame.objects)?;
-    for n in 0..frame.objects {
-        if heights[n as usize] > 1 {
-            name_object(src, frame, places[n as usize] as u64, n, &mut named)?;
-        }
-    }
-    Ok(named)
 }
 
 /// Puts the key list of vouched object `n`, which stands at `place`, behind those before it, where it is a dictionary.
@@ -139,12 +112,12 @@ fn list_keys_of<S: Source>(
         → Upgrades (λ keys. Listed (S.means src.old).octets frame.now heights.now frame.now.objects keys.starts keys.positions) result }
 {
     let places = places_of(alloc, src, frame)?;
+    let named = vouched_keys(alloc, src, frame, &places, heights)?;
+    let ranks = ranks_of(alloc, src, frame, &places, named)?;
     let vouched = Vouched {
         places: &places,
         heights,
     };
-    let named = vouched_keys(alloc, src, frame, &vouched)?;
-    let ranks = ranks_of(alloc, src, frame, &places, named)?;
     list_all(alloc, src, frame, &vouched, ranks)
 }
 

@@ -1,7 +1,7 @@
--- What holds of each member of a list, and of each number below a bound.
+-- What holds of each member of a list, and of each number below a bound; when two numbers are one.
 use Rattle.std.proofs.Common.{◌≡◌, ℕ, zero, suc, ◌<◌, ◌⊎◌, inl, inr, List, [], ◌∷◌, ◌++◌, refl, subst, arith, Contains}
 use Rattle.std.specs.List.{AllByRecursion}
-use Rattle.std.proofs.lemmas.Bool.{cases_lt}
+use Rattle.std.proofs.lemmas.Bool.{cases_lt, cases_order}
 use Rattle.std.proofs.lemmas.List.Elements.{All-from_recursion, All-contains}
 
 pub all_weaker : {X : Type 0} (P Q : X → Type 0) → ((x : X) → P x → Q x) → (xs : List X) → AllByRecursion P xs → AllByRecursion Q xs
@@ -56,3 +56,13 @@ all_or_first P B each (suc bound) = go (all_or_first P B each bound) (each bound
     go (inr (i, l, b, before)) e = inr (i, omega (arith, l), b, before)
     go (inl all) (inl p) = inl (last_too P bound all p)
     go (inl all) (inr b) = inr (bound, omega arith, b, all)
+
+-- two numbers neither of which is before the other are one
+pub one_number : (i j : ℕ) → (i < j → ⊥) → (j < i → ⊥) → i ≡ j
+one_number i j a b = elim (cases_order i j) [
+  | inl e ↦ e
+  | inr r ↦ elim r [
+    | inl l ↦ absurd (a l)
+    | inr l ↦ absurd (b l)
+  ]
+]

@@ -1,6 +1,5 @@
 -- A rule that is kept is not broken, a first fault is one, and where there is one the definitions say no.
 use Rattle.std.proofs.Common.{◌≡◌, ◌≢◌, ℕ, ◌<◌, ◌≤◌, ◌+◌, ◌*◌, inl, inr, List, [], ◌∷◌, slice_index, get_or-take, Option, Some, sym, ap, ◌∙◌, subst, arith}
-use Rattle.std.proofs.lemmas.Bool.{cases_order}
 use Rattle.bplist_objects.specs.declared.rule.Rule.{Rule}
 use Rattle.bplist_objects.specs.declared.rule.Rule.TheVariants as rules
 use Rattle.bplist_objects.specs.declared.fault.Fault.{Fault}
@@ -14,6 +13,7 @@ use Rattle.bplist_objects.specs.Scan.{nth_number, IsFirstNotBelow}
 use Rattle.bplist_objects.specs.Safe.{ref_count}
 use Rattle.bplist_objects.specs.FrameRules.{Keeps, Breaks, frame_rules, IsFrameFault}
 use Rattle.bplist_objects.specs.ObjectRules.{KeepsByObject, BreaksAt, shape_rules, object_rules, IsObjectFault}
+use Rattle.bplist_objects.proofs.Lists.{one_number}
 use Rattle.bplist_objects.proofs.Broken.{kept_or_broken, no_first_fault, no_object_fault}
 use Rattle.bplist_objects.proofs.BodyLaws.{HasHead-unique}
 use Rattle.bplist_objects.proofs.Ties.{shape_keeps, spells_keeps}
@@ -63,13 +63,7 @@ module _ (f : List ℕ) (F : Frame) (n : ℕ) where
 -- ---- a first fault is one
 -- the first of two places of which each is the first is the same
 one_first : (P : ℕ → Type 0) (i j : ℕ) → P i → P j → ((k : ℕ) → k < i → P k → ⊥) → ((k : ℕ) → k < j → P k → ⊥) → i ≡ j
-one_first P i j a b before_i before_j = elim (cases_order i j) [
-  | inl e ↦ e
-  | inr r ↦ elim r [
-    | inl l ↦ absurd (before_j i l a)
-    | inr l ↦ absurd (before_i j l b)
-  ]
-]
+one_first P i j a b before_i before_j = one_number i j (λ l. before_j i l a) (λ l. before_i j l b)
 
 abbrev OnePlace : (Rule → Option ObjectNo → ℕ → Type 0) → Type 0
 OnePlace breaks = (rule : Rule) (o o' : Option ObjectNo) (p p' : ℕ) → breaks rule o p → breaks rule o' p' → (o ≡ o') × (p ≡ p')

@@ -1,4 +1,4 @@
-use Rattle.std.proofs.Common.{subst, sym}
+use Rattle.std.proofs.Common.{subst}
 use Rattle.bplist_cert.specs.Keys.{AreInOrder}
 use Rattle.bplist_cert.proofs.KeyPairing.{good_list}
 use Rattle.bplist_cert.proofs.key_lists.has_good_list.Goals as goal

@@ -1,9 +1,10 @@
-use Rattle.std.proofs.Common.{◌≡◌, ◌<◌, ◌∙◌, sym, subst, refl, inl, inr, arith}
+use Rattle.std.proofs.Common.{◌<◌, ◌∙◌, sym, subst, refl, inl, inr, arith}
 use Rattle.std.proofs.lemmas.Bool.{cases_eq}
 use Rattle.bplist_cert.specs.Valid.{IsVouchedBy}
 use Rattle.bplist_cert.specs.CheckRules.{IsWhole}
 use Rattle.bplist_cert.specs.KeyPairs.{HasGoodList}
-use Rattle.bplist_cert.proofs.KeyPairing.{pairs_none, low_list, some_there}
+use Rattle.bplist_cert.proofs.KeyPairing.{pairs_none, low_list}
+use Rattle.bplist_cert.proofs.Placing.{found_some}
 use Rattle.bplist_cert.proofs.Walking.{vouched_inside}
 use Rattle.bplist_cert.proofs.key_lists.have_good_lists.Goals as goal
 use Rattle.bplist_cert.proofs.key_lists.have_good_lists.Goals.{then-heights-n-gt1+in_ok-has_good_list+else-not-branch, else-heights-n-gt1+else-is_none}
@@ -40,7 +41,7 @@ loop-n-preserved g c =
         pairs = λ honest framed seen. rw w.pairs-is (v.pairs honest framed seen);
         good = λ honest framed seen m low some. elim (cases_eq m n) [
           | inl e ↦
-              let start = some_there _ (IsWhole keyed n 0) _ w.key_list.result w.is_none.result w.is_none.ensures w.if-is_none.false (λ list h. h.0) w.key_list.ensures in
+              let start : IsWhole keyed n 0 = (found_some _ _ w.key_list.result w.is_none.result w.is_none.ensures w.if-is_none.false w.key_list.ensures).1.0 in
               subst (HasGoodList f F keyed) (sym e) (low_list f F framed heights seen n within (subst (IsVouchedBy heights) e some) keyed (omega (arith, w.if-heights-n-gt1.false)) start)
           | inr d ↦ v.good honest framed seen m (omega (arith, low, d)) some
         ];

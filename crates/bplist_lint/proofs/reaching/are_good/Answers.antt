@@ -1,4 +1,4 @@
-use Rattle.std.proofs.Common.{◌≡◌, ◌+◌, ◌*◌, ◌-◌, ◌<◌, ◌≤◌, arith, rules, inl, inr, ap, sym, ◌∙◌}
+use Rattle.std.proofs.Common.{◌≡◌, ◌+◌, ◌-◌, ◌<◌, arith, rules, inl, inr, ap, sym, ◌∙◌}
 use Rattle.std.proofs.lemmas.Bool.{cases_lt, cases_eq}
 use Rattle.bplist_objects.specs.Safe.{ref_count}
 use Rattle.bplist_objects.specs.Scan.{nth_number}
@@ -18,10 +18,7 @@ overflow_add-end g c =
     let f = (g.S.Source.means c.args.src.now).octets in
     let F = c.args.frame.now in
     let h = c.args.head.now in
-    let some = c.requires.safe.ref_low in
-    let fit = refs_fit F.ref_size h.count h.kind some in
-    let inside : h.body + ref_count h.kind h.count * F.ref_size ≤ F.table = omega (arith, fit.0, c.requires.head.body, c.requires.head.table) in
-    let low = numbers_low f F h some inside in
+    let low = numbers_low f F h c.requires.safe.ref_low c.requires.head in
     let few = size_small F in
     omega (arith, low, few, c.requires.small, c.number_of-first.ensures, c.refs_of.ensures, c.requires.safe.ref_high)
 
@@ -30,10 +27,7 @@ next_outside-number-requires g c =
     let f = (g.S.Source.means c.args.src.now).octets in
     let F = c.args.frame.now in
     let h = c.args.head.now in
-    let some = c.requires.safe.ref_low in
-    let fit = refs_fit F.ref_size h.count h.kind some in
-    let inside : h.body + ref_count h.kind h.count * F.ref_size ≤ F.table = omega (arith, fit.0, c.requires.head.body, c.requires.head.table) in
-    let low = numbers_low f F h some inside in
+    let low = numbers_low f F h c.requires.safe.ref_low c.requires.head in
     omega (arith, low, c.number_of-first.ensures, c.requires.size)
 
 pub insert-requires : goal.insert-requires
@@ -41,10 +35,7 @@ insert-requires g c =
     let f = (g.S.Source.means c.args.src.now).octets in
     let F = c.args.frame.now in
     let h = c.args.head.now in
-    let some = c.requires.safe.ref_low in
-    let fit = refs_fit F.ref_size h.count h.kind some in
-    let inside : h.body + ref_count h.kind h.count * F.ref_size ≤ F.table = omega (arith, fit.0, c.requires.head.body, c.requires.head.table) in
-    let low = numbers_low f F h some inside in
+    let low = numbers_low f F h c.requires.safe.ref_low c.requires.head in
     omega (arith, low, c.loop-number-test.true, c.number_of-first.ensures, c.refs_of.ensures, c.loop-number.invariant.size, c.requires.size)
 
 pub next_outside-number-requires-in-loop-number : goal.next_outside-number-requires-in-loop-number
@@ -52,10 +43,7 @@ next_outside-number-requires-in-loop-number g c =
     let f = (g.S.Source.means c.args.src.now).octets in
     let F = c.args.frame.now in
     let h = c.args.head.now in
-    let some = c.requires.safe.ref_low in
-    let fit = refs_fit F.ref_size h.count h.kind some in
-    let inside : h.body + ref_count h.kind h.count * F.ref_size ≤ F.table = omega (arith, fit.0, c.requires.head.body, c.requires.head.table) in
-    let low = numbers_low f F h some inside in
+    let low = numbers_low f F h c.requires.safe.ref_low c.requires.head in
     omega (arith, low, c.loop-number-test.true, c.number_of-first.ensures, c.refs_of.ensures, c.insert.ensures.size, c.loop-number.invariant.size, c.requires.size)
 
 pub loop-number-preserved : goal.loop-number-preserved
@@ -63,15 +51,12 @@ loop-number-preserved g c =
     let f = (g.S.Source.means c.args.src.now).octets in
     let F = c.args.frame.now in
     let h = c.args.head.now in
-    let some = c.requires.safe.ref_low in
-    let fit = refs_fit F.ref_size h.count h.kind some in
-    let inside : h.body + ref_count h.kind h.count * F.ref_size ≤ F.table = omega (arith, fit.0, c.requires.head.body, c.requires.head.table) in
     let i = c.loop-number.invariant in
     let j = c.loop-number.number in
     let k = j - c.number_of-first.result in
     let below : k < ref_count h.kind h.count = omega (arith, c.loop-number-test.true, c.refs_of.ensures, i.from) in
     let back : number_at F h.body + k ≡ j = omega (arith, c.number_of-first.ensures, i.from) in
-    let at_j : reference_at f F j ≡ nth_number f h.body F.ref_size k = ap (reference_at f F) (sym back) ∙ reference_at_k f F h some inside k below in
+    let at_j : reference_at f F j ≡ nth_number f h.body F.ref_size k = ap (reference_at f F) (sym back) ∙ reference_at_k f F h c.requires.safe.ref_low c.requires.head k below in
     let next = c.next_outside-number-in-loop-number.ensures in
     let same = ap (λ v. v.items) next.words in
     record {
@@ -99,10 +84,7 @@ returns-clause-exact g c = λ honest known.
     let f = (g.S.Source.means c.args.src.now).octets in
     let F = c.args.frame.now in
     let h = c.args.head.now in
-    let some = c.requires.safe.ref_low in
-    let fit = refs_fit F.ref_size h.count h.kind some in
-    let inside : h.body + ref_count h.kind h.count * F.ref_size ≤ F.table = omega (arith, fit.0, c.requires.head.body, c.requires.head.table) in
     let i = c.loop-number.invariant in (
-      (λ _. all_good f F h some inside c.loop-number.good.words.items (i.good honest known) (λ k low. i.known _ (omega (arith, c.number_of-first.ensures)) (omega (arith, low, c.loop-number-test.false, c.number_of-first.ensures, c.refs_of.ensures)))),
+      (λ _. all_good f F h c.requires.safe.ref_low c.requires.head c.loop-number.good.words.items (i.good honest known) (λ k low. i.known _ (omega (arith, c.number_of-first.ensures)) (omega (arith, low, c.loop-number-test.false, c.number_of-first.ensures, c.refs_of.ensures)))),
       (λ _. search rules),
     )

@@ -1,8 +1,9 @@
 use Rattle.std.proofs.Common.{◌≡◌, [], sym, ap, ◌∙◌}
 use Rattle.std.proofs.lemmas.Bool.{false≢true}
+use Rattle.std.proofs.lemmas.List.{nil_from_length}
 use Rattle.bplist_objects.specs.Spelled.{refs_at}
 use Rattle.bplist_lint.specs.declared.place_set.PlaceSet.{PlaceSet}
-use Rattle.bplist_lint.proofs.Referring.{empty, no_refs_shape, broken_count, refs_as_shape}
+use Rattle.bplist_lint.proofs.Referring.{no_refs_shape, broken_count, refs_as_shape}
 use Rattle.bplist_lint.proofs.ReachSteps.{searching_step, searching_none}
 use Rattle.bplist_lint.proofs.reaching.look_at.Goals as goal
 
@@ -28,5 +29,5 @@ returns-else-all-clause-searching g c = λ honest framed is w.
     let exact = (rw c.in_ok-head.ensures.reads at c.in_ok-all.ensures.exact) honest w.known_good in
     let good = (rw c.in_ok-head.ensures.reads at c.in_ok-all.ensures.good) honest w.known_good in
     let none : refs_at (g.S.Source.means c.args.src.now).octets c.args.frame.now c.args.n ≡ [] =
-    empty _ (broken_count _ _ c.args.n c.in-Some.head has (λ below. false≢true (sym c.if-all.false ∙ exact.1 below))) in
+    nil_from_length _ (broken_count _ _ c.args.n c.in-Some.head has (λ below. false≢true (sym c.if-all.false ∙ exact.1 below))) in
     searching_none _ _ c.args.n _ _ _ _ _ w none good

@@ -2,7 +2,8 @@ use Rattle.std.proofs.Common.{◌≡◌, length, arith}
 use Rattle.std.proofs.lemmas.Result.{err_from_is_err_and}
 use Rattle.bplist_objects.proofs.Refusing.{no_shape}
 use Rattle.bplist_lint.proofs.KeyListing.{have_ranks}
-use Rattle.bplist_lint.proofs.ListSteps.{listed_other, listed_dict, listed_room, vouched_shape, vouched_keys}
+use Rattle.bplist_cert.proofs.Accepting.{vouched_shape, vouched_keys}
+use Rattle.bplist_lint.proofs.ListSteps.{listed_other, listed_dict, listed_room}
 use Rattle.bplist_lint.proofs.UpgradeSteps.{object_no_change}
 use Rattle.bplist_lint.proofs.upgrading.list_object.Goals as goal
 

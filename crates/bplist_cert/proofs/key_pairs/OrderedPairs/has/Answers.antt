@@ -1,4 +1,4 @@
-use Rattle.std.proofs.Common.{◌∙◌, arith}
+use Rattle.std.proofs.Common.{arith}
 use Rattle.bplist_cert.proofs.key_pairs.OrderedPairs.has.Goals as goal
 
 pub returns : goal.returns

@@ -1,4 +1,4 @@
-use Rattle.std.proofs.Common.{◌∙◌, arith}
+use Rattle.std.proofs.Common.{arith}
 use Rattle.bplist_lint.proofs.Referring.{none_left, some_left}
 use Rattle.bplist_lint.proofs.objects.Objects.refill.Goals as goal
 

@@ -25,23 +25,11 @@ module _ (f : List ℕ) (F : Frame) where
       let each = subst (λ kind. (i : ℕ) → i < ref_count kind head.count → P (ref f F head i)) dict (each_ref f F P head.kind head.count head.body all) in
       each k (omega (arith, low))
 
-  keys_of_kind : (head : Head) → (head.kind ≡ kinds.Dict → HaveKeys head) → (kind : Kind) → head.kind ≡ kind → HasKeys f F (content_of f F kind head.count head.body)
-  keys_of_kind head h kinds.Dict e =
-      let k = h e in
-      let us = texts_are f F head k.0 in
-      (us.0, (us.1, distinct f F head us.0 us.1 k.0 k.1))
-  keys_of_kind head h kinds.Null e = tt
-  keys_of_kind head h kinds.False e = tt
-  keys_of_kind head h kinds.True e = tt
-  keys_of_kind head h kinds.Int e = tt
-  keys_of_kind head h kinds.Real e = tt
-  keys_of_kind head h kinds.Date e = tt
-  keys_of_kind head h kinds.Bytes e = tt
-  keys_of_kind head h kinds.Ascii e = tt
-  keys_of_kind head h kinds.Wide e = tt
-  keys_of_kind head h kinds.Uid e = tt
-  keys_of_kind head h kinds.Array e = tt
-  keys_of_kind head h kinds.Set e = tt
+  keys_of_kind : (kind : Kind) (count body : ℕ) → (kind ≡ kinds.Dict → HasKeys f F (content_of f F kinds.Dict count body)) → HasKeys f F (content_of f F kind count body)
+  keys_of_kind kinds.Dict count body h = h refl
+  keys_of_kind kinds.Array count body h = tt
+  keys_of_kind kinds.Set count body h = tt
+  keys_of_kind _ count body h = tt
 
   module _ (n : ℕ) (head : Head) (has : HasShape f F n head) (c : Content) (s : Spells f F n c) where
     body : c ≡ content_at f F head
@@ -49,7 +37,10 @@ module _ (f : List ℕ) (F : Frame) where
 
     -- from the rules to the list of the keys
     pub keys_from_rules : (head.kind ≡ kinds.Dict → HaveKeys head) → HasKeys f F c
-    keys_from_rules h = subst (HasKeys f F) (sym body) (keys_of_kind head h head.kind refl)
+    keys_from_rules h = subst (HasKeys f F) (sym body) (keys_of_kind head.kind head.count head.body (λ dict.
+        let k = h dict in
+        let us = texts_are f F head k.0 in
+        (us.0, (us.1, distinct f F head us.0 us.1 k.0 k.1))))
 
     -- and back
     pub rules_from_keys : HasKeys f F c → head.kind ≡ kinds.Dict → HaveKeys head
