@@ -5,8 +5,9 @@ Shows, without a clock, that no call reads a file again and again. CALLS is bpli
 and, where the file holds a value, `check` with its certificate of version 1, `upgrade`, and `check` with that of version 2
 ask of their source. For each family of families.py, at 64 and 256 kB, a call asks for at most `EACH` bytes a byte of the
 file and `BESIDE` bytes beside them, and at 256 kB for at most `TIMES` times as many as at 64 kB, or as the file of 64 kB has
-bytes. The same limit holds for the files of vectors/program.tsv. One call on one family, or on all of these files, counts as one test. The calls of `KNOWN` grow
-faster today: they are named and not counted. The last line printed is `N passed, M failed`.
+bytes; for so many more where the file is more than four times as long, since its numbers have more bytes. The same limit holds
+for the files of vectors/program.tsv. One call on one family, or on all of these files, counts as one test. The calls of `KNOWN`
+grow faster today: they are named and not counted. The last line printed is `N passed, M failed`.
 """
 import concurrent.futures
 import os
@@ -54,6 +55,7 @@ def wrong_of_family(program, family):
     """What is wrong with each call on a family, or None."""
     files = [family(size) for size in (SMALL, LARGE)]
     small, large = (counted(program, file) for file in files)
+    times = TIMES * max(1, len(files[1]) / len(files[0]) / 4)
     wrong = {}
     for call in small:
         was, now = small[call], large.get(call)
@@ -62,8 +64,8 @@ def wrong_of_family(program, family):
             break  # the calls after it were not come to
         elif was > limit(files[0]) or now > limit(files[1]):
             wrong[call] = f"{was:,} bytes of {len(files[0]):,} and {now:,} of {len(files[1]):,}"
-        elif now > TIMES * max(was, len(files[0])):
-            wrong[call] = f"{was:,} bytes, and {now:,} at four times the length"
+        elif now > times * max(was, len(files[0])):
+            wrong[call] = f"{was:,} bytes of {len(files[0]):,}, and {now:,} of {len(files[1]):,}"
         else:
             wrong[call] = None
     return wrong
