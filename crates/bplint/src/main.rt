@@ -22,7 +22,7 @@ ghost use Rattle.bplint_engine.specs.Commands.{PrintsOnePath};
 
 mod args;
 mod input;
-mod naming;
+mod file_names;
 mod output;
 mod subcommands;
 

@@ -8,7 +8,7 @@ use Rattle.bplist_objects.specs.ObjectRules.{KeepsByObject, IsObjectFault, objec
 use Rattle.bplist_objects.specs.Rules.{KeepsAll}
 use Rattle.bplist_objects.proofs.Broken.{no_object_fault}
 use Rattle.bplist_objects.proofs.Fronts.{one_shape}
-use Rattle.bplist_objects.proofs.Refusing.{no_shape, one_object_fault}
+use Rattle.bplist_objects.proofs.FirstFaults.{no_shape, one_object_fault}
 use Rattle.bplint_engine.specs.declared.map_rows.Finding.{Finding}
 use Rattle.bplint_engine.specs.declared.map_rows.Finding.TheVariants.{Whole, Wrong, Lost}
 use Rattle.std.proofs.lemmas.Bool.Decides.{nat_tests}
@@ -16,8 +16,8 @@ use Rattle.std.proofs.lemmas.Bool.{cases_lt}
 use Rattle.bplist_objects.specs.declared.rule.Rule.TheVariants.{OffsetLow}
 use Rattle.bplist_objects.specs.Announced.{HasHead}
 use Rattle.bplist_objects.specs.Frame.{IsFrame, off}
-use Rattle.bplist_objects.proofs.Deciding.{object_kept_or_fault}
-use Rattle.bplist_objects.proofs.Ties.{announced_shape, kept_announces}
+use Rattle.bplist_objects.proofs.KeptOrBroken.{object_kept_or_fault}
+use Rattle.bplist_objects.proofs.HeadTies.{announced_shape, kept_announces}
 use Rattle.bplint_engine.specs.MapRows.{AreFindings, IsFinding, extent, left_behind, row, shown}
 
 module _ (f : List ℕ) (F : Frame) (n : ℕ) where

@@ -3,7 +3,7 @@ use Rattle.std.proofs.Common.{◌≡◌, ℕ, List, Bool, true, false, sym, ap, 
 use Rattle.bplist_cert.specs.Encoding.{octets_of}
 use Rattle.bplist_lint.specs.Linted.{IsLintedBy}
 use Rattle.bplist_lint.specs.Upgraded.{IsUpgraded}
-use Rattle.bplist_lint.proofs.Faulting.{one_frame}
+use Rattle.bplist_lint.proofs.FirstFaults.{one_frame}
 use Rattle.bplint_engine.specs.Answers.{Answer, gives, refuses}
 use Rattle.bplint_engine.specs.Certifying.{LeastSays, SortedSays, CertifySays, written}
 use Rattle.bplint_engine.proofs.OneListing.{one_upgraded}

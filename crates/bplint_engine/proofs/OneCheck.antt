@@ -9,9 +9,9 @@ use Rattle.bplist_objects.specs.Frame.{trailer}
 use Rattle.bplist_cert.specs.Encoding.{octets_of, IsOctetsFault}
 use Rattle.bplist_cert.specs.Lists.{Lists, IsCertificate}
 use Rattle.bplist_cert.specs.PairFault.{IsPairFault}
-use Rattle.bplist_cert.proofs.Accepting.{fault_refutes}
-use Rattle.bplist_cert.proofs.Spelling.{octets_once, magic_kept, length_kept}
-use Rattle.bplist_cert.proofs.Unique.{one_pair_fault}
+use Rattle.bplist_cert.proofs.AcceptedCertificates.{fault_refutes}
+use Rattle.bplist_cert.proofs.CertificateBytes.{octets_once, magic_kept, length_kept}
+use Rattle.bplist_cert.proofs.OneFault.{one_pair_fault}
 use Rattle.bplint_engine.specs.declared.fault.RunFault.TheVariants as faults
 use Rattle.bplint_engine.specs.Answers.{Answer, gives, refuses}
 use Rattle.bplint_engine.specs.Checking.{CheckSays}

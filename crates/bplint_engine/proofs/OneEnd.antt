@@ -11,7 +11,7 @@ use Rattle.bplist_objects.proofs.Fronts.{one_head}
 use Rattle.bplist_cursor.specs.Found.{LeadTo}
 use Rattle.bplist_cursor.specs.Leads.{IsTaken}
 use Rattle.bplist_cursor.proofs.Counts.{few_refs}
-use Rattle.bplist_cursor.proofs.Looking.{leads_held}
+use Rattle.bplist_cursor.proofs.StepObjects.{leads_held}
 
 module _ (f : List ℕ) (F : Frame) where
   -- the key whose object spells the text

@@ -5,7 +5,7 @@ use Rattle.bplist_objects.specs.declared.frame.Frame.{Frame}
 use Rattle.bplist_objects.specs.Holds.{Holds}
 use Rattle.bplist_objects.specs.Value.{Value}
 use Rattle.bplist_cert.specs.Lists.{Lists}
-use Rattle.bplist_cert.proofs.Vouching.{object_holds}
+use Rattle.bplist_cert.proofs.VouchedObjects.{object_holds}
 use Rattle.bplist_cursor.specs.declared.reply.Query.{Query}
 use Rattle.bplist_cursor.specs.declared.reply.Query.TheVariants as queries
 use Rattle.bplist_cursor.specs.Path.{IsPathOf, IsNoPath, units}

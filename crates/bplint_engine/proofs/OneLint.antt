@@ -7,8 +7,8 @@ use Rattle.bplist_lint.specs.declared.answer.Lint.{Lint}
 use Rattle.bplist_lint.specs.Linted.{IsLintedBy, is_vouched}
 use Rattle.bplist_lint.specs.ReachRules.{number_below}
 use Rattle.bplist_lint.specs.Trail.{number}
-use Rattle.bplist_lint.proofs.Answering.{fault_not_held, circle_not_held, formed_by_valid, least_heights_one}
-use Rattle.bplist_lint.proofs.Faulting.{one_frame, one_file_fault, one_file_circle, fault_or_circle}
+use Rattle.bplist_lint.proofs.LintAnswers.{fault_not_held, circle_not_held, formed_by_valid, least_heights_one}
+use Rattle.bplist_lint.proofs.FirstFaults.{one_frame, one_file_fault, one_file_circle, fault_or_circle}
 use Rattle.bplint_engine.specs.declared.fault.RunFault.{RunFault}
 use Rattle.bplint_engine.specs.declared.fault.RunFault.TheVariants as faults
 use Rattle.bplint_engine.specs.Answers.{Answer, gives, refuses}

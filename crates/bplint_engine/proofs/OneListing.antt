@@ -11,12 +11,12 @@ use Rattle.bplist_objects.specs.Spelled.{spelled_at}
 use Rattle.bplist_objects.specs.Units.{compare_units}
 use Rattle.bplist_objects.proofs.Fronts.{one_head}
 use Rattle.bplist_objects.proofs.Parts.{get_or-part}
-use Rattle.bplist_objects.proofs.Spelling.{spells_iff}
+use Rattle.bplist_objects.proofs.SpelledContents.{spells_iff}
 use Rattle.bplist_objects.proofs.UnitOrder.{compare_units-less_less, compare_units-not_less}
 use Rattle.bplist_cert.specs.Lists.{Lists, IsCertificate, HasStarts}
 use Rattle.bplist_cert.specs.Sorted.{Ascend, IsSorted, AreListed}
 use Rattle.bplist_cert.specs.Valid.{IsVouchedBy, SpellsText}
-use Rattle.bplist_cert.proofs.Onto.{onto}
+use Rattle.bplist_cert.proofs.AllNumbers.{onto}
 use Rattle.bplist_lint.specs.Linted.{is_vouched}
 use Rattle.bplist_lint.specs.ReachRules.{sum_below}
 use Rattle.bplist_lint.specs.Upgraded.{is_dict, pairs_of, pairs, start, IsUpgraded}

@@ -6,12 +6,12 @@ use Rattle.bplist_objects.specs.declared.frame.Frame.{Frame}
 use Rattle.bplist_objects.specs.Holds.{Holds}
 use Rattle.bplist_objects.specs.Value.{Value}
 use Rattle.bplist_objects.proofs.Fronts.{one_head}
-use Rattle.bplist_objects.proofs.Holding.{holds_one}
+use Rattle.bplist_objects.proofs.ObjectValues.{holds_one}
 use Rattle.bplist_cursor.specs.declared.reply.Query.TheVariants as queries
 use Rattle.bplist_cursor.specs.Found.{LeadTo}
 use Rattle.bplist_cursor.specs.Look.{Missing, look}
 use Rattle.bplist_cursor.specs.OldStyle.{value_text}
-use Rattle.bplist_cursor.proofs.Unformed.{one_formless}
+use Rattle.bplist_cursor.proofs.FormlessObjects.{one_formless}
 use Rattle.bplist_ascii.specs.Printed.{FitsLimit, IsTooLong}
 use Rattle.bplint_engine.specs.declared.fault.RunFault.{RunFault}
 use Rattle.bplint_engine.specs.declared.fault.RunFault.TheVariants as faults

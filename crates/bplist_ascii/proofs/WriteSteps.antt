@@ -19,7 +19,7 @@ use Rattle.bplist_cursor.specs.Causes.{IsUnread}
 use Rattle.bplist_ascii.specs.Writing.{IsReadFault, print_fault_of, styled, fits, is_bare_text, Adds, AddsText, AddFails, StaysWithin}
 use Rattle.bplist_ascii.specs.declared.print_fault.PrintFault.{PrintFault}
 use Rattle.bplist_ascii.specs.declared.print_fault.PrintFault.TheVariants.{NoAsciiForm, TooLong, Write, Read, Changed, Memory}
-use Rattle.bplist_cursor.proofs.Looking.{not_true}
+use Rattle.bplist_cursor.proofs.StepObjects.{not_true}
 use Rattle.bplist_ascii.proofs.SinkSteps.{takes_nothing, takes_more, takes_then_part, takes_then_some, some_of_takes, part_of_more}
 
 pub adds_nothing : (now : Option (List ℕ)) (s : Sending) (room : ℕ) → Adds now now s s room room []

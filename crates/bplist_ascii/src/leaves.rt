@@ -14,7 +14,7 @@ ghost use Rattle.bplist_ascii.specs.declared.style.Style.TheVariants.{Bare};
 use crate::print_fault::PrintFault;
 use crate::sink::Sink;
 use crate::style::{Style, Styled};
-use crate::writing::{write, write_digits, write_units};
+use crate::output::{write, write_digits, write_units};
 use bplist_cursor::are_plain;
 use bplist_objects::{Head, octets_at, read_units};
 use bplist_octets::Source;

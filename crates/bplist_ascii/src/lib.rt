@@ -23,14 +23,14 @@
 mod formless;
 mod leaves;
 mod print_fault;
-mod printing;
+mod printer;
 mod sink;
 mod style;
 mod texts;
 mod walk;
-mod writing;
+mod output;
 
 pub use print_fault::PrintFault;
-pub use printing::{print, print_into};
+pub use printer::{print, print_into};
 pub use sink::{Sink, WriteFault};
 pub use texts::{text_of_bytes, text_of_units};

@@ -13,7 +13,7 @@ ghost use Rattle.bplist_ascii.specs.Walks.{opening_of, mark_of, closing_of, AreS
 use crate::leaves::{write_data, write_text};
 use crate::print_fault::PrintFault;
 use crate::sink::Sink;
-use crate::writing::write;
+use crate::output::write;
 use bplist_cert::Checked;
 use bplist_cursor::{Node, member_by_head, node_head};
 use bplist_objects::{Head, Kind};

@@ -1,8 +1,8 @@
 pub mod Contents
-pub mod Excused
-pub mod Handing
+pub mod SliceReads
+pub mod HandleSource
 pub mod HeadSteps
-pub mod Keeping
+pub mod KeptLists
 pub mod TextSteps
 pub mod Values
 pub mod Handles

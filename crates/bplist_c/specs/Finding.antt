@@ -14,8 +14,8 @@ use Rattle.bplist_cursor.specs.declared.found.Why.{Why}
 use Rattle.bplist_cursor.specs.declared.found.Why.TheVariants as why
 use Rattle.bplist_cursor.specs.Found.{IsFound}
 use Rattle.bplist_cursor.specs.Path.{IsPathOf, IsNoPath}
-use Rattle.bplist_c.specs.declared.finding.BplistFound.{BplistFound}
-use Rattle.bplist_c.specs.declared.finding.Lead.{Lead}
+use Rattle.bplist_c.specs.declared.found.BplistFound.{BplistFound}
+use Rattle.bplist_c.specs.declared.found.Lead.{Lead}
 use Rattle.bplist_c.specs.declared.status.Status.{Status}
 use Rattle.bplist_c.specs.declared.status.Status.TheVariants as statuses
 use Rattle.bplist_c.specs.Statuses.{number_of}

@@ -17,8 +17,8 @@ use Rattle.bplist_objects.specs.declared.kind.Kind.TheVariants as kinds
 use Rattle.bplist_objects.specs.Heads.{Content, leaf, array, set, dict, refs, Spells, IsHeadOf, content_at, unit}
 use Rattle.bplist_cert.specs.CheckedFile.{CheckedFile}
 use Rattle.bplist_cert.specs.Valid.{IsVouchedBy}
-use Rattle.bplist_c.specs.declared.reading.BplistBody.{BplistBody}
-use Rattle.bplist_c.specs.declared.reading.BplistInteger.{BplistInteger}
+use Rattle.bplist_c.specs.declared.object.BplistBody.{BplistBody}
+use Rattle.bplist_c.specs.declared.object.BplistInteger.{BplistInteger}
 use Rattle.bplist_c.specs.declared.status.Status.{Status}
 use Rattle.bplist_c.specs.declared.status.Status.TheVariants as statuses
 

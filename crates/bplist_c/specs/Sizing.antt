@@ -8,7 +8,7 @@ use Rattle.bplist_cursor.specs.declared.form.Form.{Form}
 use Rattle.bplist_cursor.specs.declared.form.Form.TheVariants.{NoForm, Length}
 use Rattle.bplist_cursor.specs.Forms.{form_of}
 use Rattle.bplist_cursor.specs.Nodes.{cap, nodes}
-use Rattle.bplist_c.specs.declared.sizing.BplistSizes.{BplistSizes}
+use Rattle.bplist_c.specs.declared.sizes.BplistSizes.{BplistSizes}
 use Rattle.bplist_c.specs.declared.status.Status.{Status}
 use Rattle.bplist_c.specs.declared.status.Status.TheVariants as statuses
 

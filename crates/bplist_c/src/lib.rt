@@ -22,15 +22,15 @@
 //! makes the `Checked` of both by moves (`lending`). `status` and `verdict` turn answers into numbers.
 #![tactic(auto)]
 
-mod finding;
+mod found;
 mod handle;
-mod lending;
-mod linting;
+mod loan;
+mod linter;
 mod loose;
-mod opening;
-mod reading;
+mod open;
+mod object;
 mod session;
-mod sizing;
+mod sizes;
 mod status;
 mod text;
 mod verdict;

@@ -8,8 +8,8 @@ ghost use Rattle.bplist_c.specs.Statuses.{PutsAll};
 ghost use Rattle.bplist_c.specs.Texts.{TellsText, TextSays, printed_as, text_length};
 
 use crate::handle::BplistHandle;
-use crate::lending::{give_back, lend};
-use crate::sizing::measures_of;
+use crate::loan::{give_back, lend};
+use crate::sizes::measures_of;
 use crate::status::{Status, put_all};
 use bplist_ascii::{PrintFault, print};
 use bplist_cert::Checked;

@@ -9,14 +9,14 @@ use Rattle.bplist_objects.specs.Frame.{IsFrame}
 use Rattle.bplist_objects.specs.ObjectRules.{object_rules}
 use Rattle.bplist_objects.specs.Units.{IsTextKind, units_of, compare_units}
 use Rattle.bplist_objects.proofs.Lists.{Either, all_or_first}
-use Rattle.bplist_objects.proofs.Deciding.{object_kept_or_fault}
-use Rattle.bplist_objects.proofs.Ties.{kept_announces}
+use Rattle.bplist_objects.proofs.KeptOrBroken.{object_kept_or_fault}
+use Rattle.bplist_objects.proofs.HeadTies.{kept_announces}
 use Rattle.bplist_objects.proofs.UnitOrder.{compare_units-cases, compare_units-less, compare_units-not_less}
 use Rattle.bplist_cert.specs.Heights.{ref}
 use Rattle.bplist_cert.specs.Keys.{IsText, IsKey, HaveTexts, IsFirstKeyless, KeysDiffer, IsFirstTwice}
 use Rattle.bplist_cert.specs.Keys.{IsInOrder, AreInOrder, IsFirstUnordered}
 use Rattle.bplist_cert.proofs.Texts.{text_there, no_text, other_kind}
-use Rattle.bplist_cert.proofs.Ordered.{text_once}
+use Rattle.bplist_cert.proofs.OrderedLists.{text_once}
 
 pub dict_decided : (kind : Kind) → Either (kind ≡ kinds.Dict)
 dict_decided kinds.Dict = inl refl

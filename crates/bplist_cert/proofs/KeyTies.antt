@@ -8,7 +8,7 @@ use Rattle.bplist_objects.specs.declared.kind.Kind.TheVariants as kinds
 use Rattle.bplist_objects.specs.Heads.{Content, HasShape, Spells, content_of, content_at, refs}
 use Rattle.bplist_objects.specs.Safe.{ref_count}
 use Rattle.bplist_objects.proofs.References.{each_ref}
-use Rattle.bplist_objects.proofs.Ties.{spells_body}
+use Rattle.bplist_objects.proofs.HeadTies.{spells_body}
 use Rattle.bplist_cert.specs.Valid.{AreKeys, HasKeys}
 use Rattle.bplist_cert.specs.Heights.{ref}
 use Rattle.bplist_cert.specs.Keys.{HaveTexts, KeysDiffer}

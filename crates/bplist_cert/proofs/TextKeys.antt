@@ -18,8 +18,8 @@ use Rattle.bplist_objects.proofs.UnitOrder.{compare_units-less_less, compare_uni
 use Rattle.bplist_cert.specs.Valid.{SpellsText}
 use Rattle.bplist_cert.specs.Heights.{ref}
 use Rattle.bplist_cert.specs.Keys.{IsText, IsKey, HaveTexts, KeysDiffer, AreInOrder}
-use Rattle.bplist_cert.proofs.Ordered.{text_once}
-use Rattle.bplist_cert.proofs.Onto.{onto}
+use Rattle.bplist_cert.proofs.OrderedLists.{text_once}
+use Rattle.bplist_cert.proofs.AllNumbers.{onto}
 
 -- ---- two lists, item by item
 pub zip_at : {A B : Type 0} (R : A → B → Type 0) (xs : List A) (ys : List B) (k : ℕ) (d : A) (e : B) → AllZip R xs ys → k < length xs → R (slice_index_or xs k d) (slice_index_or ys k e)

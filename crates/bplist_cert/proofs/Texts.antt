@@ -14,8 +14,8 @@ use Rattle.bplist_objects.specs.Rules.{KeepsAll}
 use Rattle.bplist_objects.specs.ObjectRules.{KeepsByObject, IsObjectFault, shape_rules, object_rules}
 use Rattle.bplist_objects.proofs.BodyLaws.{HasHead-unique}
 use Rattle.bplist_objects.proofs.Broken.{no_object_fault}
-use Rattle.bplist_objects.proofs.Ties.{kept_spells, shape_announced}
-use Rattle.bplist_objects.proofs.Refusing.{no_content}
+use Rattle.bplist_objects.proofs.HeadTies.{kept_spells, shape_announced}
+use Rattle.bplist_objects.proofs.FirstFaults.{no_content}
 use Rattle.bplist_cert.specs.Keys.{IsText}
 
 module _ (f : List ℕ) (F : Frame) (m : ℕ) where

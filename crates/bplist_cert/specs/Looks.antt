@@ -9,8 +9,8 @@ use Rattle.bplist_objects.specs.Rules.{KeepsAll}
 use Rattle.bplist_objects.specs.ObjectRules.{KeepsByObject, object_rules}
 use Rattle.bplist_objects.specs.Safe.{ref_count}
 use Rattle.bplist_cert.specs.declared.heights.Wanted.TheVariants.{Vouched, Below}
-use Rattle.bplist_cert.specs.declared.checking.Look.{Look}
-use Rattle.bplist_cert.specs.declared.checking.Look.TheVariants.{Quick, Exact}
+use Rattle.bplist_cert.specs.declared.checker.Look.{Look}
+use Rattle.bplist_cert.specs.declared.checker.Look.TheVariants.{Quick, Exact}
 use Rattle.bplist_cert.specs.Lists.{Lists}
 use Rattle.bplist_cert.specs.Valid.{IsVouchedBy}
 use Rattle.bplist_cert.specs.Heights.{AreMet}

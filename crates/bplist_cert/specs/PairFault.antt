@@ -12,8 +12,8 @@ use Rattle.bplist_objects.specs.Extents.{TakeOctets, AtMost}
 use Rattle.bplist_cert.specs.Lists.{Lists}
 use Rattle.bplist_cert.specs.Valid.{IsVouchedBy}
 use Rattle.bplist_cert.specs.CheckRules.{KeepsByCheck, IsCheckFault, check_rules}
-use Rattle.bplist_cert.specs.declared.checking.Look.{Look}
-use Rattle.bplist_cert.specs.declared.checking.Look.TheVariants.{Quick, Exact}
+use Rattle.bplist_cert.specs.declared.checker.Look.{Look}
+use Rattle.bplist_cert.specs.declared.checker.Look.TheVariants.{Quick, Exact}
 use Rattle.bplist_cert.specs.Looks.{IsShown}
 
 -- the vouched objects below n keep all rules

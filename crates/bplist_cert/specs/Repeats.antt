@@ -1,7 +1,7 @@
 -- Keys that come twice in a dictionary. Source: profile.
 use Rattle.std.specs.Prelude.{◌≡◌, ℕ, ◌-◌, ◌<◌, ◌≤◌, Bool, List, map, length, slice_get, slice_index, Option, Some, MatchOption, IsTrue}
 use Rattle.std.specs.Borrow.{Bor}
-use Rattle.bplist_cert.specs.declared.key_sorting.Key.{Key}
+use Rattle.bplist_cert.specs.declared.key_sort.Key.{Key}
 
 -- what the keys are compared by
 abbrev pub keys_of : {K : Type 0} → List (Key K) → List K

@@ -16,7 +16,7 @@ ghost use Rattle.bplist_objects.specs.Answers.{Never};
 
 use crate::heights::ref_place;
 use crate::key_places::{BLOCK, read_places};
-use crate::key_sorting::{Key, first_repeated};
+use crate::key_sort::{Key, first_repeated};
 use crate::key_units::KeyUnits;
 use crate::keys::{keyless, text_at};
 use crate::places::Places;

@@ -4,7 +4,7 @@ ghost use Rattle.std.specs.Prelude.{◌≡◌, ◌^◌, ◌≤◌, ◌<◌, ℕ,
 ghost use Rattle.bplist_cert.specs.KeyUnits.{AreBounds, slice_of, IsRepeatedPart};
 ghost use Rattle.bplist_cert.specs.Repeats.{IsNumbered, IsLeastOrNone, units_in};
 
-use crate::key_sorting::{Key, first_repeated};
+use crate::key_sort::{Key, first_repeated};
 use std::alloc::{AllocError, Global};
 
 /// The units of the keys of a dictionary, or other parts of units, one behind the other.

@@ -25,7 +25,7 @@
 
 mod certificate;
 mod checked;
-mod checking;
+mod checker;
 mod decoding;
 mod encoding;
 mod extents;
@@ -37,7 +37,7 @@ mod key_names;
 mod key_order;
 mod key_pairs;
 mod key_places;
-mod key_sorting;
+mod key_sort;
 mod key_units;
 mod keys;
 mod laws;
@@ -46,7 +46,7 @@ mod refusal;
 
 pub use certificate::{CertRefusal, Certificate, KeyLists};
 pub use checked::Checked;
-pub use checking::check;
+pub use checker::check;
 pub use key_names::{name_object, vouched_keys};
 pub use laws::{
     checked_stays, one_certificate, one_pair_fault, ordered_keys_differ, pair_fault_excludes,

@@ -7,7 +7,7 @@ use Rattle.bplist_objects.specs.declared.frame.Frame.{Frame}
 use Rattle.bplist_objects.specs.Value.{text, Value, leaf, array, set, dict, Values, no_values, value, Pairs, no_pairs, pair}
 use Rattle.bplist_objects.specs.Heads.{Content, Spells, refs}
 use Rattle.bplist_objects.specs.Holds.{Holds, HoldEach, HoldPairs}
-use Rattle.bplist_objects.proofs.Holding.{OneHead}
+use Rattle.bplist_objects.proofs.ObjectValues.{OneHead}
 use Rattle.bplist_objects.proofs.Lists.{all_front, all_behind}
 use Rattle.bplist_cursor.specs.declared.form.Form.{Form}
 use Rattle.bplist_cursor.specs.declared.form.Form.TheVariants.{Length}

@@ -8,7 +8,7 @@ use Rattle.bplist_objects.specs.Value.{Value}
 use Rattle.bplist_objects.specs.Heads.{Content, Spells, refs}
 use Rattle.bplist_objects.specs.Holds.{Holds}
 use Rattle.bplist_objects.proofs.Fronts.{one_head}
-use Rattle.bplist_cert.proofs.Vouching.{object_holds, references_lower}
+use Rattle.bplist_cert.proofs.VouchedObjects.{object_holds, references_lower}
 use Rattle.bplist_cert.specs.Valid.{IsVouchedBy, IsValid}
 use Rattle.bplist_cert.specs.CheckedFile.{CheckedFile, IsChecked}
 use Rattle.bplist_cursor.specs.Look.{stepped, look, look_from, after_step}
@@ -25,8 +25,8 @@ use Rattle.bplist_cursor.specs.declared.faults.Unread.TheVariants as unread
 use Rattle.bplist_cursor.specs.declared.faults.CursorFault.{CursorFault}
 use Rattle.bplist_cursor.specs.declared.faults.CursorFault.TheVariants as faults
 use Rattle.bplist_cursor.proofs.Counts.{few_refs}
-use Rattle.bplist_cursor.proofs.Looking.{leads_held}
-use Rattle.bplist_cursor.proofs.Taking.{taken_there}
+use Rattle.bplist_cursor.proofs.StepObjects.{leads_held}
+use Rattle.bplist_cursor.proofs.StepReferences.{taken_there}
 
 pub split_at : {X : Type 0} (units : X → List ℕ) (xs : List X) (k : ℕ) (d : X) → k < length xs → drop k (map units xs) ≡ units (slice_index_or xs k d) ∷ drop (suc k) (map units xs)
 split_at units [] k d l = absurd (omega arith)

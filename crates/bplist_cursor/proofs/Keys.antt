@@ -17,7 +17,7 @@ use Rattle.bplist_objects.proofs.References.{as_many}
 use Rattle.bplist_objects.proofs.UnitOrder.{compare_units-equal_iff, compare_units-self, compare_units-less, compare_units-not_less, compare_units-less_less, compare_units-greater_greater}
 use Rattle.bplist_cursor.specs.Steps.{HaveTexts}
 use Rattle.bplist_cursor.specs.KeySearch.{IsKeyList, IsCompared}
-use Rattle.bplist_cert.proofs.Onto.{onto}
+use Rattle.bplist_cert.proofs.AllNumbers.{onto}
 
 -- a text is of one of the two kinds
 pub text_kinds : (kind : Kind) → IsTextKind kind → (kind ≡ kinds.Ascii → ⊥) → (kind ≡ kinds.Wide → ⊥) → ⊥

@@ -1,15 +1,15 @@
 pub mod Escapes
 mod TokenSteps
 mod DigitSteps
-pub mod Looking
-pub mod Measuring
+pub mod StepObjects
+pub mod TreeSizes
 pub mod Counts
-pub mod Forming
-pub mod Unformed
+pub mod TextParts
+pub mod FormlessObjects
 pub mod FormTables
-pub mod Taking
+pub mod StepReferences
 mod Causes
-pub mod Vouching
+pub mod VouchedObjects
 mod ShownFaces
 pub mod Membership
 mod LentBodies

@@ -15,7 +15,7 @@ use Rattle.bplist_objects.specs.declared.kind.Kind.{Kind}
 use Rattle.bplist_objects.specs.declared.kind.Kind.TheVariants as kinds
 use Rattle.bplist_cursor.specs.Steps.{HaveTexts, IsKeyPlace, IsPlace}
 use Rattle.bplist_cursor.specs.declared.found.Why.TheVariants as why
-use Rattle.bplist_cursor.specs.declared.stepping.Place.TheVariants as place
+use Rattle.bplist_cursor.specs.declared.path_step.Place.TheVariants as place
 use Rattle.bplist_cursor.proofs.Keys.{value_ref}
 
 module _ (f : List ℕ) (F : Frame) where

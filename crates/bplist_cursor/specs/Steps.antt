@@ -5,10 +5,10 @@ use Rattle.bplist_objects.specs.Value.{Value, text}
 use Rattle.bplist_objects.specs.Heads.{Content, Spells, leaf, refs}
 use Rattle.bplist_cursor.specs.Look.{stepped}
 use Rattle.bplist_cursor.specs.Leads.{IsTaken, Leads, why_of}
-use Rattle.bplist_cursor.specs.declared.stepping.Place.{Place}
-use Rattle.bplist_cursor.specs.declared.stepping.Place.TheVariants as place
-use Rattle.bplist_cursor.specs.declared.stepping.Step.{Step}
-use Rattle.bplist_cursor.specs.declared.stepping.Step.TheVariants as step
+use Rattle.bplist_cursor.specs.declared.path_step.Place.{Place}
+use Rattle.bplist_cursor.specs.declared.path_step.Place.TheVariants as place
+use Rattle.bplist_cursor.specs.declared.path_step.Step.{Step}
+use Rattle.bplist_cursor.specs.declared.path_step.Step.TheVariants as step
 
 -- the step goes to one of so many objects, if it goes
 abbrev pub IsInside : ℕ → Step → Type 0

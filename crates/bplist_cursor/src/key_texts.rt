@@ -13,8 +13,8 @@ ghost use Rattle.bplist_cursor.specs.Kept.{Keeps};
 
 use crate::faults::CursorFault;
 use crate::list::List;
-use crate::reading::{head_in, reference_in};
-use crate::showing::body_units;
+use crate::checked_objects::{head_in, reference_in};
+use crate::node_face::body_units;
 use bplist_cert::Checked;
 use bplist_objects::{Head, Kind, ObjectNo};
 use bplist_octets::Source;

@@ -14,8 +14,8 @@ ghost use Rattle.bplist_cursor.specs.declared.faults.CursorFault.TheVariants.{Ch
 
 use crate::faults::{CursorFault, Unread};
 use crate::found::Node;
-use crate::nodes::node_head;
-use crate::reading::reference_in;
+use crate::node_object::node_head;
+use crate::checked_objects::reference_in;
 use bplist_cert::Checked;
 use bplist_objects::{Head, Kind};
 use bplist_octets::Source;

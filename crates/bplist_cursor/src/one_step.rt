@@ -11,7 +11,7 @@ ghost use Rattle.bplist_cursor.specs.declared.faults.CursorFault.TheVariants.{Ch
 
 use crate::faults::CursorFault;
 use crate::found::{Found, Node};
-use crate::stepping::{Step, step_at};
+use crate::path_step::{Step, step_at};
 use bplist_cert::Checked;
 use bplist_octets::Source;
 

@@ -6,7 +6,7 @@ ghost use Rattle.bplist_objects.specs.Safe.{IsSafe, IsSafeHead};
 ghost use Rattle.bplist_objects.specs.declared.kind.Kind.TheVariants.{Dict};
 ghost use Rattle.bplist_keys.specs.Classes.{key_ref};
 
-use crate::named::BLOCK;
+use crate::named_keys::BLOCK;
 use crate::ranks::Ranks;
 use bplist_objects::{Frame, Head, read_refs};
 use bplist_octets::{ReadFault, Source};

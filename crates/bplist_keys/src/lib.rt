@@ -21,21 +21,21 @@
 
 mod class_table;
 mod fault;
-mod named;
+mod named_keys;
 mod notes;
-mod numbering;
+mod numbers;
 mod ordered;
 mod places;
 mod ranks;
-mod sorting;
+mod merge_sort;
 mod text;
-mod weighing;
+mod key_weights;
 mod weight;
 mod weighted;
 
 pub use class_table::{ClassTable, Wrong};
 pub use fault::KeysFault;
-pub use named::{NamedKeys, name_keys};
+pub use named_keys::{NamedKeys, name_keys};
 pub use places::places_of;
 pub use ranks::{Ranks, classes_of, ranks_of};
 pub use text::{text_head, text_order};

@@ -13,9 +13,9 @@ use Rattle.bplist_objects.specs.Reach.{Reach}
 use Rattle.bplist_objects.specs.Frame.{IsFrame}
 use Rattle.bplist_objects.specs.Safe.{ref_count}
 use Rattle.bplist_objects.specs.Spelled.{refs_at}
-use Rattle.bplist_objects.proofs.Ties.{head_tie}
+use Rattle.bplist_objects.proofs.HeadTies.{head_tie}
 use Rattle.bplist_objects.proofs.References.{length-refs}
-use Rattle.bplist_objects.proofs.Reaching.{refs_spelled}
+use Rattle.bplist_objects.proofs.ReachedObjects.{refs_spelled}
 use Rattle.bplist_objects.proofs.BodyLaws.{HasHead-unique}
 use Rattle.bplist_cert.specs.declared.refusal.Refusal.{Refusal}
 use Rattle.bplist_cert.specs.declared.refusal.Refusal.TheVariants as cert_refusals

@@ -14,19 +14,19 @@ use Rattle.bplist_objects.specs.Announced.{HasHead}
 use Rattle.bplist_objects.specs.Extents.{HaveRoom}
 use Rattle.bplist_objects.specs.Spelled.{spelled_at}
 use Rattle.bplist_objects.proofs.Lists.{all_weaker}
-use Rattle.bplist_objects.proofs.Filling.{shape_extent}
+use Rattle.bplist_objects.proofs.ExtentSums.{shape_extent}
 use Rattle.bplist_objects.proofs.BodyLaws.{HasHead-unique}
-use Rattle.bplist_objects.proofs.Ties.{shape_announced, spells_body}
-use Rattle.bplist_objects.proofs.Spelling.{spells_iff}
+use Rattle.bplist_objects.proofs.HeadTies.{shape_announced, spells_body}
+use Rattle.bplist_objects.proofs.SpelledContents.{spells_iff}
 use Rattle.bplist_objects.proofs.References.{length-nums_at}
 use Rattle.bplist_cert.specs.Lists.{Keyed}
 use Rattle.bplist_cert.specs.Valid.{IsVouchedBy, IsValid}
 use Rattle.bplist_cert.specs.Keys.{AreInOrder}
 use Rattle.bplist_lint.specs.KeyLists.{IsListed}
-use Rattle.bplist_cert.proofs.Accepting.{accepted, keeps_all}
+use Rattle.bplist_cert.proofs.AcceptedCertificates.{accepted, keeps_all}
 use Rattle.bplist_lint.specs.Linted.{is_vouched}
 use Rattle.bplist_lint.specs.Upgraded.{is_dict, pairs_of, pairs, start, Listed, IsUpgraded}
-use Rattle.bplist_lint.proofs.Tallying.{sums_none, sums_more, sums_same, next_is}
+use Rattle.bplist_lint.proofs.TallySteps.{sums_none, sums_more, sums_same, next_is}
 
 -- ---- parts of lists
 -- a part of the front

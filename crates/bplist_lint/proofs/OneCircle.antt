@@ -7,7 +7,7 @@ use Rattle.bplist_objects.specs.Heads.{refs}
 use Rattle.bplist_objects.specs.Reach.{Founded}
 use Rattle.bplist_objects.proofs.Fronts.{one_head}
 use Rattle.bplist_objects.proofs.Lists.{one_number}
-use Rattle.bplist_objects.proofs.Reaching.{founded_refs}
+use Rattle.bplist_objects.proofs.ReachedObjects.{founded_refs}
 use Rattle.bplist_lint.specs.Graph.{IsCircleBy}
 use Rattle.bplist_lint.specs.FileFault.{LeadsOn, IsCircle}
 

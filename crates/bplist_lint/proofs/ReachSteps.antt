@@ -15,7 +15,7 @@ use Rattle.bplist_objects.specs.Scan.{AreBelow, nth_number}
 use Rattle.bplist_objects.specs.Spelled.{refs_at}
 use Rattle.bplist_objects.proofs.Bounds.{place_fits}
 use Rattle.bplist_objects.proofs.Lists.{none_in}
-use Rattle.bplist_objects.proofs.Reaching.{refs_iff}
+use Rattle.bplist_objects.proofs.ReachedObjects.{refs_iff}
 use Rattle.bplist_objects.proofs.References.{length-refs, nth-refs}
 use Rattle.bplist_lint.specs.Reaching.{IsMarked, HasMarks, row, number_at, set_size, reference_at, AreGood, AreFollowed, Looked, IsSearching}
 use Rattle.bplist_lint.specs.PlaceSets.{IsIn}

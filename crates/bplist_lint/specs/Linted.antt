@@ -10,7 +10,7 @@ use Rattle.bplist_objects.specs.File.{FileHolds}
 use Rattle.bplist_objects.specs.Reach.{Reach}
 use Rattle.bplist_cert.specs.Valid.{IsValid}
 use Rattle.bplist_lint.specs.declared.answer.Lint.{Lint}
-use Rattle.bplist_lint.specs.declared.walking.Reached.{Reached}
+use Rattle.bplist_lint.specs.declared.walk.Reached.{Reached}
 use Rattle.bplist_lint.specs.Least.{AreLeastHeights}
 use Rattle.bplist_lint.specs.ReachRules.{number_below, references_below}
 use Rattle.bplist_lint.specs.Walks.{IsWalked}

@@ -6,7 +6,7 @@ use Rattle.bplist_objects.specs.Numbers.{num_at}
 use Rattle.bplist_objects.specs.Reach.{Reach}
 use Rattle.bplist_objects.specs.Spelled.{refs_at}
 use Rattle.bplist_lint.specs.PlaceSets.{IsIn}
-use Rattle.bplist_lint.specs.declared.reaching.Search.{Search}
+use Rattle.bplist_lint.specs.declared.reach.Search.{Search}
 
 -- object n is marked
 abbrev pub IsMarked : List Bool → ℕ → Type 0

@@ -11,11 +11,11 @@ use Rattle.bplist_objects.specs.Reach.{Reach}
 use Rattle.bplist_objects.specs.Rules.{KeepsAll}
 use Rattle.bplist_objects.specs.Spelled.{head_found, refs_at}
 use Rattle.bplist_lint.specs.declared.tally.Tally.{Tally}
-use Rattle.bplist_lint.specs.declared.walking.Stop.{Stop}
-use Rattle.bplist_lint.specs.declared.walking.Stop.TheVariants as stops
-use Rattle.bplist_lint.specs.declared.walking.Worklist.{Worklist}
-use Rattle.bplist_lint.specs.declared.walking.Progress.{Progress}
-use Rattle.bplist_lint.specs.declared.walking.Reached.{Reached}
+use Rattle.bplist_lint.specs.declared.walk.Stop.{Stop}
+use Rattle.bplist_lint.specs.declared.walk.Stop.TheVariants as stops
+use Rattle.bplist_lint.specs.declared.walk.Worklist.{Worklist}
+use Rattle.bplist_lint.specs.declared.walk.Progress.{Progress}
+use Rattle.bplist_lint.specs.declared.walk.Reached.{Reached}
 use Rattle.bplist_lint.specs.Reaching.{IsMarked, HasMarks}
 use Rattle.bplist_lint.specs.Referring.{AreBare}
 use Rattle.bplist_lint.specs.ReachRules.{sum_below, number_below, references_below, is_marked, Tallied}

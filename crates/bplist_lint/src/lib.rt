@@ -21,25 +21,25 @@
 #![tactic(auto)]
 
 mod answer;
-mod circling;
-mod faults;
+mod circle;
+mod reach_rules;
 mod heights;
 mod key_lists;
 mod key_names;
 mod keys;
 mod laws;
-mod linting;
+mod linter;
 mod object_nos;
-mod objects;
+mod object_graph;
 mod place_set;
 mod places;
-mod reaching;
+mod reach;
 mod references;
 mod refusal;
 mod tally;
 mod upgrade_fault;
-mod upgrading;
-mod walking;
+mod upgrader;
+mod walk;
 
 pub use answer::Lint;
 pub use laws::{
@@ -47,8 +47,8 @@ pub use laws::{
     holds_iff_well_formed, least_heights_are_valid, least_is_least, one_file_fault,
     valid_iff_well_formed, value_or_fault, well_formed_iff_kept,
 };
-pub use linting::{lint, lint_with_kind};
+pub use linter::{lint, lint_with_kind};
 pub use object_nos::ObjectNos;
 pub use refusal::LintRefusal;
 pub use upgrade_fault::UpgradeFault;
-pub use upgrading::upgrade;
+pub use upgrader::upgrade;

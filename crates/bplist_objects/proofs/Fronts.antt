@@ -5,7 +5,7 @@ use Rattle.bplist_objects.specs.declared.kind.Kind.{Kind}
 use Rattle.bplist_objects.specs.declared.head.Head.{Head}
 use Rattle.bplist_objects.specs.Frame.{off}
 use Rattle.bplist_objects.specs.Heads.{Content, IsFront, unit, HasShape, Spells, content_at}
-use Rattle.bplist_objects.proofs.Announcing.{announced}
+use Rattle.bplist_objects.proofs.AnnouncedHeads.{announced}
 use Rattle.bplist_objects.proofs.HeadLaws.{Announces-unique}
 
 -- at the head of a list there is at most one front: each announces its kind, its count and where it ends

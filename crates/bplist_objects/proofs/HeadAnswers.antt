@@ -11,8 +11,8 @@ use Rattle.bplist_objects.specs.Announced.{HasHead}
 use Rattle.bplist_objects.specs.ObjectRules.{KeepsByObject, IsObjectFault, shape_rules, object_rules}
 use Rattle.bplist_objects.proofs.AnswerLaws.{answers_mean}
 use Rattle.bplist_objects.proofs.Fronts.{one_shape, one_head}
-use Rattle.bplist_objects.proofs.Ties.{shape_tie, head_tie}
-use Rattle.bplist_objects.proofs.Refusing.{no_shape, no_content}
+use Rattle.bplist_objects.proofs.HeadTies.{shape_tie, head_tie}
+use Rattle.bplist_objects.proofs.FirstFaults.{no_shape, no_content}
 
 module _ (f : List ℕ) (F : Frame) (n : ℕ) (frame : IsFrame f F) (lt : n < F.objects) (result : Result Head ObjectFault) where
   -- the answer by rules 14 to 17

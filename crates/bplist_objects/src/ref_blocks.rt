@@ -8,7 +8,7 @@ ghost use Rattle.bplist_objects.specs.References.{IsNext, AreRefs, all_refs};
 
 use crate::framed::Framed;
 use crate::head::Head;
-use crate::reading::read_refs_in;
+use crate::plist::read_refs_in;
 use crate::refs::refs_of;
 use bplist_octets::ReadFault;
 use std::marker::Model;

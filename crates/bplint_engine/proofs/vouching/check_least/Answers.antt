@@ -1,5 +1,5 @@
 use Rattle.std.proofs.Math.Logic.{∥∥₁_map}
-use Rattle.bplist_cert.proofs.Vouching.{object_holds}
+use Rattle.bplist_cert.proofs.VouchedObjects.{object_holds}
 use Rattle.bplint_engine.proofs.LeastAnswers.{least_for, least_refused}
 use Rattle.bplint_engine.proofs.vouching.check_least.Goals as goal
 

@@ -1,5 +1,5 @@
 use Rattle.std.proofs.Math.Logic.{∥∥₁_map}
-use Rattle.bplist_cert.proofs.Vouching.{object_holds}
+use Rattle.bplist_cert.proofs.VouchedObjects.{object_holds}
 use Rattle.bplint_engine.proofs.Refused.{check_refused}
 use Rattle.bplint_engine.proofs.vouching.check_octets.Goals as goal
 

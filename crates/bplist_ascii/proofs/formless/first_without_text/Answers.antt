@@ -4,7 +4,7 @@ use Rattle.bplist_objects.specs.Safe.{ref_count}
 use Rattle.bplist_cursor.specs.declared.form.Form.TheVariants.{NoForm}
 use Rattle.bplist_cursor.specs.OldStyle.{value_text}
 use Rattle.bplist_cursor.specs.Forms.{form_of, form_of_text}
-use Rattle.bplist_cursor.proofs.Taking.{content_of_value}
+use Rattle.bplist_cursor.proofs.StepReferences.{content_of_value}
 use Rattle.bplist_ascii.proofs.WriteSteps.{read_unread}
 use Rattle.bplist_ascii.proofs.WalkSteps.{IsMember, none_from}
 use Rattle.bplist_ascii.proofs.SearchSteps.{no_text_of, passes_start, starts_low, passes_on, passes_few, texts_start, texts_more, kind_is, has_text, not_all, leads}

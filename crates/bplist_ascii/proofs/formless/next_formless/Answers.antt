@@ -1,6 +1,6 @@
 use Rattle.std.proofs.Common.{rules, arith, ◌≡◌, ◌∙◌, Err}
 use Rattle.std.proofs.lemmas.Result.{err_from_is_err_and}
-use Rattle.bplist_cursor.proofs.Taking.{content_of_value}
+use Rattle.bplist_cursor.proofs.StepReferences.{content_of_value}
 use Rattle.bplist_ascii.proofs.WriteSteps.{read_unread}
 use Rattle.bplist_ascii.proofs.SearchSteps.{own_kind}
 use Rattle.bplist_ascii.proofs.formless.next_formless.Goals as goal

@@ -4,7 +4,7 @@ use Rattle.bplist_octets.specs.Octets.{part}
 use Rattle.bplist_objects.specs.Units.{units_of}
 use Rattle.bplist_cursor.specs.Texts.{text_of_units, text_of_bytes}
 use Rattle.bplist_cursor.specs.OldStyle.{plain}
-use Rattle.bplist_cursor.proofs.Taking.{content_of_value}
+use Rattle.bplist_cursor.proofs.StepReferences.{content_of_value}
 use Rattle.bplist_ascii.specs.Walks.{opening_of, text_from}
 use Rattle.bplist_ascii.proofs.WriteSteps.{on_err, adds_some, read_fails, read_unread, fails_under, text_adds, adds_nothing, adds_fit, adds_fail}
 use Rattle.bplist_ascii.proofs.WalkSteps.{shows, shows_text, shows_container, shows_none, text_opens, stack_push, safe_push}

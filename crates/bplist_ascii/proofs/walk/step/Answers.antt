@@ -2,7 +2,7 @@ use Rattle.std.proofs.Common.{rules, arith, ◌≡◌, ◌+◌, ◌++◌, Err, r
 use Rattle.std.proofs.lemmas.Result.{IfErr-weaker, on_ok_weaker, on_err_weaker, err_from_is_err_and}
 use Rattle.bplist_objects.proofs.Bounds.{refs_within}
 use Rattle.bplist_cursor.specs.OldStyle.{plain}
-use Rattle.bplist_cursor.proofs.Taking.{content_of_value}
+use Rattle.bplist_cursor.proofs.StepReferences.{content_of_value}
 use Rattle.bplist_ascii.specs.Walks.{mark_of, closing_of}
 use Rattle.bplist_ascii.proofs.WriteSteps.{on_err, adds_some, read_fails, read_unread, adds_more, adds_fit, adds_within, adds_fail, adds_nothing}
 use Rattle.bplist_ascii.proofs.WalkSteps.{IsMember, none_from, stack_pop, goes_on, ends, safe_push, adds_goes_on}

@@ -1,5 +1,5 @@
 use Rattle.std.proofs.Common.{◌*◌, ◌+◌, ◌∙◌, sym, arith}
-use Rattle.bplist_cert.proofs.Spelling.{count_of_words}
+use Rattle.bplist_cert.proofs.CertificateBytes.{count_of_words}
 use Rattle.bplist_cert.proofs.decoding.read_keys.Goals as goal
 
 pub returns-in_ok-positions-in-Keyed-clause-starts : goal.returns-in_ok-positions-in-Keyed-clause-starts

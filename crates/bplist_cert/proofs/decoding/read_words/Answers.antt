@@ -1,7 +1,7 @@
 use Rattle.std.proofs.Common.{◌*◌, sym, ap, ◌∙◌, arith}
 use Rattle.std.proofs.lemmas.List.{take_all}
 use Rattle.bplist_octets.specs.Octets.{num}
-use Rattle.bplist_cert.proofs.Bytes.{AreBytes, words_more, word-lt, AreWords-push}
+use Rattle.bplist_cert.proofs.NumberBytes.{AreBytes, words_more, word-lt, AreWords-push}
 use Rattle.bplist_cert.proofs.decoding.read_words.Goals as goal
 
 pub overflow_cast-sized : goal.overflow_cast-sized

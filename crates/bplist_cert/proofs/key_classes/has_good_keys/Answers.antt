@@ -1,5 +1,5 @@
 use Rattle.std.proofs.Common.{arith}
-use Rattle.bplist_cert.proofs.KeyClassing.{none_there, keys_inside, classed_texts, apart_differ, good_at}
+use Rattle.bplist_cert.proofs.KeyClasses.{none_there, keys_inside, classed_texts, apart_differ, good_at}
 use Rattle.bplist_cert.proofs.key_classes.has_good_keys.Goals as goal
 
 pub returns-in_ok-first_wrong-in-Dict-clause-exact : goal.returns-in_ok-first_wrong-in-Dict-clause-exact

@@ -4,8 +4,8 @@ use Rattle.std.proofs.lemmas.List.{get_or_read}
 use Rattle.bplist_keys.proofs.PlaceSteps.{framed_offsets}
 use Rattle.bplist_cert.specs.Valid.{IsVouchedBy}
 use Rattle.bplist_cert.specs.KeyClasses.{HasGoodKeys}
-use Rattle.bplist_cert.proofs.KeyClassing.{keys_classed, sound_keys, good_low}
-use Rattle.bplist_cert.proofs.Walking.{vouched_inside}
+use Rattle.bplist_cert.proofs.KeyClasses.{keys_classed, sound_keys, good_low}
+use Rattle.bplist_cert.proofs.CheckSteps.{vouched_inside}
 use Rattle.bplist_cert.proofs.key_classes.have_good_keys.Goals as goal
 use Rattle.bplist_cert.proofs.key_classes.have_good_keys.Goals.{else-heights-n-gt1-via-then-heights-n-gt1+in_ok-has_good_keys+else-not-branch, else-heights-n-gt1-via-else-heights-n-gt1}
 

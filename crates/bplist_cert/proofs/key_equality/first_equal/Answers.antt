@@ -1,4 +1,4 @@
-use Rattle.bplist_cert.proofs.Bounding.{twice_found, repeated_within}
+use Rattle.bplist_cert.proofs.KeyBounds.{twice_found, repeated_within}
 use Rattle.bplist_cert.proofs.key_equality.first_equal.Goals as goal
 
 pub returns-clause-exact : goal.returns-clause-exact

@@ -1,7 +1,7 @@
 use Rattle.std.proofs.Common.{◌∙◌, IfSome, ◌<◌, subst}
 use Rattle.std.proofs.lemmas.List.{length-map}
 use Rattle.bplist_cert.specs.Repeats.{keys_of}
-use Rattle.bplist_cert.proofs.Bounding.{shared_found, repeated_inside}
+use Rattle.bplist_cert.proofs.KeyBounds.{shared_found, repeated_inside}
 use Rattle.bplist_cert.proofs.key_equality.first_shared.Goals as goal
 
 pub returns-clause-exact : goal.returns-clause-exact

@@ -1,5 +1,5 @@
 use Rattle.std.proofs.lemmas.Result.{err_from_is_err_and}
-use Rattle.bplist_cert.proofs.Bounding.{shared_or_equal}
+use Rattle.bplist_cert.proofs.KeyBounds.{shared_or_equal}
 use Rattle.bplist_cert.proofs.key_equality.first_twice.Goals as goal
 
 pub returns-in-None-clause-exact : goal.returns-in-None-clause-exact

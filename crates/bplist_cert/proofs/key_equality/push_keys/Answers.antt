@@ -4,9 +4,9 @@ use Rattle.bplist_cert.specs.Heights.{ref}
 use Rattle.bplist_cert.specs.Keys.{IsText}
 use Rattle.bplist_cert.specs.Places.{TellSound}
 use Rattle.bplist_cert.specs.KeyUnits.{IsKeyWith}
-use Rattle.bplist_cert.proofs.Ordered.{text_once}
-use Rattle.bplist_cert.proofs.Bounding.{bounds_more, parts_more}
-use Rattle.bplist_cert.proofs.Placing.{places_told, sound_told}
+use Rattle.bplist_cert.proofs.OrderedLists.{text_once}
+use Rattle.bplist_cert.proofs.KeyBounds.{bounds_more, parts_more}
+use Rattle.bplist_cert.proofs.PlacedKeys.{places_told, sound_told}
 use Rattle.bplist_cert.proofs.key_equality.push_keys.Goals as goal
 
 pub loop-k-init : goal.loop-k-init

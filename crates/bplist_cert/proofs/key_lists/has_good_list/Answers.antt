@@ -1,6 +1,6 @@
 use Rattle.std.proofs.Common.{subst}
 use Rattle.bplist_cert.specs.Keys.{AreInOrder}
-use Rattle.bplist_cert.proofs.KeyPairing.{good_list}
+use Rattle.bplist_cert.proofs.KeyPairs.{good_list}
 use Rattle.bplist_cert.proofs.key_lists.has_good_list.Goals as goal
 
 pub returns-in_ok-is_ascending-in-Some-clause-exact : goal.returns-in_ok-is_ascending-in-Some-clause-exact

@@ -3,9 +3,9 @@ use Rattle.std.proofs.lemmas.Bool.{cases_eq}
 use Rattle.bplist_cert.specs.Valid.{IsVouchedBy}
 use Rattle.bplist_cert.specs.CheckRules.{IsWhole}
 use Rattle.bplist_cert.specs.KeyPairs.{HasGoodList}
-use Rattle.bplist_cert.proofs.KeyPairing.{pairs_none, low_list}
-use Rattle.bplist_cert.proofs.Placing.{found_some}
-use Rattle.bplist_cert.proofs.Walking.{vouched_inside}
+use Rattle.bplist_cert.proofs.KeyPairs.{pairs_none, low_list}
+use Rattle.bplist_cert.proofs.PlacedKeys.{found_some}
+use Rattle.bplist_cert.proofs.CheckSteps.{vouched_inside}
 use Rattle.bplist_cert.proofs.key_lists.have_good_lists.Goals as goal
 use Rattle.bplist_cert.proofs.key_lists.have_good_lists.Goals.{then-heights-n-gt1+in_ok-has_good_list+else-not-branch, else-heights-n-gt1+else-is_none}
 

@@ -1,6 +1,6 @@
 use Rattle.std.proofs.Common.{◌≡◌, ◌∙◌, subst, arith}
 use Rattle.std.proofs.lemmas.Bool.{false≢true}
-use Rattle.bplist_cert.proofs.KeyPairing.{AscendTo, ascend_more, shapes_all, in_order_all}
+use Rattle.bplist_cert.proofs.KeyPairs.{AscendTo, ascend_more, shapes_all, in_order_all}
 use Rattle.bplist_cert.proofs.key_lists.is_ascending.Goals as goal
 
 pub returns-in_default-clause-exact : goal.returns-in_default-clause-exact

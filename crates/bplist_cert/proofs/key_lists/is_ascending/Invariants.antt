@@ -1,7 +1,7 @@
 use Rattle.std.proofs.Common.{◌≡◌, ◌<◌, IsTrue, IfSome}
 use Rattle.bplist_objects.specs.Frame.{IsFrame}
 use Rattle.bplist_cert.specs.KeyPairs.{ArePairs}
-use Rattle.bplist_cert.proofs.KeyPairing.{AscendTo, IsLast}
+use Rattle.bplist_cert.proofs.KeyPairs.{AscendTo, IsLast}
 use Rattle.bplist_cert.proofs.key_lists.is_ascending.Given as goal
 
 -- the source is as it was, the keys so far ascend, and the last of them is kept

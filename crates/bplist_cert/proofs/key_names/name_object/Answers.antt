@@ -4,8 +4,8 @@ use Rattle.bplist_objects.specs.declared.head.Head.{Head}
 use Rattle.bplist_objects.proofs.BodyLaws.{HasHead-unique}
 use Rattle.bplist_keys.specs.Classes.{key_ref}
 use Rattle.bplist_cert.proofs.Texts.{shape_kept}
-use Rattle.bplist_cert.proofs.Walking.{object_refused}
-use Rattle.bplist_cert.proofs.KeyClassing.{keys_inside}
+use Rattle.bplist_cert.proofs.CheckSteps.{object_refused}
+use Rattle.bplist_cert.proofs.KeyClasses.{keys_inside}
 use Rattle.bplist_cert.proofs.key_names.name_object.Goals as goal
 
 pub returns-in_err-head-clause-exact : goal.returns-in_err-head-clause-exact

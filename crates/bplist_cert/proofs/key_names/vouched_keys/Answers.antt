@@ -3,8 +3,8 @@ use Rattle.std.proofs.lemmas.Bool.{cases_eq}
 use Rattle.std.proofs.lemmas.Result.{err_from_is_err_and}
 use Rattle.bplist_keys.specs.Classes.{HasNamedKeys}
 use Rattle.bplist_cert.specs.Valid.{IsVouchedBy}
-use Rattle.bplist_cert.proofs.KeyClassing.{named_low}
-use Rattle.bplist_cert.proofs.Walking.{vouched_inside}
+use Rattle.bplist_cert.proofs.KeyClasses.{named_low}
+use Rattle.bplist_cert.proofs.CheckSteps.{vouched_inside}
 use Rattle.bplist_cert.proofs.key_names.vouched_keys.Goals as goal
 use Rattle.bplist_cert.proofs.key_names.vouched_keys.Goals.{then-heights-n-gt1+in_ok-name_object, else-heights-n-gt1}
 

@@ -1,6 +1,6 @@
 use Rattle.std.proofs.Common.{◌∙◌, arith}
 use Rattle.std.proofs.lemmas.Result.{err_from_is_err_and}
-use Rattle.bplist_cert.proofs.Ordered.{in_order, out_of_order, order_more}
+use Rattle.bplist_cert.proofs.OrderedLists.{in_order, out_of_order, order_more}
 use Rattle.bplist_cert.proofs.key_order.first_unordered.Goals as goal
 
 pub returns-in_err-key-clause-exact : goal.returns-in_err-key-clause-exact

@@ -3,7 +3,7 @@ use Rattle.bplist_objects.specs.Frame.{IsFrame}
 use Rattle.bplist_objects.specs.Safe.{IsSafeBody}
 use Rattle.bplist_objects.specs.Units.{IsTextKind}
 use Rattle.bplist_cert.specs.Keys.{HaveTexts, AreInOrder}
-use Rattle.bplist_cert.proofs.Ordered.{IsBefore}
+use Rattle.bplist_cert.proofs.OrderedLists.{IsBefore}
 use Rattle.bplist_cert.proofs.key_order.first_unordered.Given as goal
 
 -- the source is as it was, the numbers so far are positions whose keys ascend, and the last of them is kept

@@ -1,5 +1,5 @@
 use Rattle.std.proofs.Common.{◌∙◌, arith}
-use Rattle.bplist_cert.proofs.Placing.{placed_more}
+use Rattle.bplist_cert.proofs.PlacedKeys.{placed_more}
 use Rattle.bplist_cert.proofs.key_places.read_places.Goals as goal
 
 pub loop-k-preserved : goal.loop-k-preserved

@@ -1,5 +1,5 @@
 use Rattle.std.proofs.Common.{◌∙◌, arith}
-use Rattle.bplist_cert.proofs.Placing.{others_more, found_some}
+use Rattle.bplist_cert.proofs.PlacedKeys.{others_more, found_some}
 use Rattle.bplist_cert.proofs.keys.first_other.Goals as goal
 
 pub loop-i-preserved : goal.loop-i-preserved

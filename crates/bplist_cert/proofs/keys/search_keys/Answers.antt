@@ -1,5 +1,5 @@
 use Rattle.std.proofs.Common.{length, arith}
-use Rattle.bplist_cert.proofs.Placing.{keys_more, keyless_there, places_told, sound_there}
+use Rattle.bplist_cert.proofs.PlacedKeys.{keys_more, keyless_there, places_told, sound_there}
 use Rattle.bplist_cert.proofs.keys.search_keys.Goals as goal
 
 pub returns-in-Some-clause-first : goal.returns-in-Some-clause-first

@@ -1,4 +1,4 @@
-use Rattle.bplist_cert.proofs.Spelling.{octets_once}
+use Rattle.bplist_cert.proofs.CertificateBytes.{octets_once}
 use Rattle.bplist_cert.proofs.laws.one_certificate.Goals as goal
 
 pub returns : goal.returns

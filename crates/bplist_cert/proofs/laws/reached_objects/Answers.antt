@@ -1,4 +1,4 @@
-use Rattle.bplist_cert.proofs.Vouching.{reached_vouched, reached_spells, references_inside, circle_free}
+use Rattle.bplist_cert.proofs.VouchedObjects.{reached_vouched, reached_spells, references_inside, circle_free}
 use Rattle.bplist_cert.proofs.laws.reached_objects.Goals as goal
 
 pub returns-clause-vouched : goal.returns-clause-vouched

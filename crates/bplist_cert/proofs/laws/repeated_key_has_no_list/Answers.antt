@@ -1,4 +1,4 @@
-use Rattle.bplist_cert.proofs.Repeating.{repeated_unlisted}
+use Rattle.bplist_cert.proofs.RepeatedKeys.{repeated_unlisted}
 use Rattle.bplist_cert.proofs.laws.repeated_key_has_no_list.Goals as goal
 
 pub returns : goal.returns

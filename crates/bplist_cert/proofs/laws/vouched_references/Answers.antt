@@ -1,4 +1,4 @@
-use Rattle.bplist_cert.proofs.Vouching.{references_lower}
+use Rattle.bplist_cert.proofs.VouchedObjects.{references_lower}
 use Rattle.bplist_cert.proofs.laws.vouched_references.Goals as goal
 
 pub returns : goal.returns

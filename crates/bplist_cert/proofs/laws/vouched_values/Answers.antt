@@ -1,4 +1,4 @@
-use Rattle.bplist_cert.proofs.Vouching.{object_holds, file_holds}
+use Rattle.bplist_cert.proofs.VouchedObjects.{object_holds, file_holds}
 use Rattle.bplist_cert.proofs.laws.vouched_values.Goals as goal
 
 pub returns-clause-object : goal.returns-clause-object

@@ -1,7 +1,7 @@
 use Rattle.std.proofs.Common.{◌≡◌}
 use Rattle.bplist_cursor.specs.Replies.{reply}
 use Rattle.bplist_cursor.proofs.FoundSteps.{quiet, top_vouched}
-use Rattle.bplist_cursor.proofs.Vouching.{gives_weaker}
+use Rattle.bplist_cursor.proofs.VouchedObjects.{gives_weaker}
 use Rattle.bplist_cursor.proofs.answers.answer.Goals as goal
 
 pub returns-clause-unchanged : goal.returns-clause-unchanged

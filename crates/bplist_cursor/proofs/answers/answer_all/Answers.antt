@@ -2,7 +2,7 @@ use Rattle.std.proofs.Common.{◌≡◌, ◌∷◌, ◌++◌, [], ap, ◌∙◌,
 use Rattle.std.proofs.lemmas.Result.{err_from_is_err_and}
 use Rattle.bplist_cursor.specs.Replies.{reply}
 use Rattle.bplist_cursor.proofs.FoundSteps.{excused_for, top_vouched}
-use Rattle.bplist_cursor.proofs.Pushing.{asked}
+use Rattle.bplist_cursor.proofs.ListItems.{asked}
 use Rattle.bplist_cursor.proofs.answers.answer_all.Goals as goal
 
 pub returns-in_err-told-clause-exact : goal.returns-in_err-told-clause-exact

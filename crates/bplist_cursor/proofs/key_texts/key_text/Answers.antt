@@ -4,7 +4,7 @@ use Rattle.bplist_objects.specs.Value.{text}
 use Rattle.bplist_objects.specs.Heads.{leaf}
 use Rattle.bplist_objects.proofs.Leaves.{text_value}
 use Rattle.bplist_cursor.proofs.Causes.{unread_excused}
-use Rattle.bplist_cursor.proofs.Vouching.{gives_weaker}
+use Rattle.bplist_cursor.proofs.VouchedObjects.{gives_weaker}
 use Rattle.bplist_cursor.proofs.Keys.{text_kinds}
 use Rattle.bplist_cursor.proofs.key_texts.key_text.Goals as goal
 

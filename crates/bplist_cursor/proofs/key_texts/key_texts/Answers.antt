@@ -5,7 +5,7 @@ use Rattle.bplist_cert.specs.Valid.{SpellsText}
 use Rattle.bplist_cursor.proofs.Causes.{unread_excused}
 use Rattle.bplist_cursor.proofs.Keys.{dict_counts, key_ref}
 use Rattle.bplist_cursor.proofs.KeyLists.{text_there}
-use Rattle.bplist_cursor.proofs.Pushing.{pushed, take_whole, zip_long}
+use Rattle.bplist_cursor.proofs.ListItems.{pushed, take_whole, zip_long}
 use Rattle.bplist_cursor.proofs.key_texts.key_texts.Goals as goal
 
 pub returns-in_err-k-clause-exact : goal.returns-in_err-k-clause-exact

@@ -2,7 +2,7 @@ use Rattle.std.proofs.Common.{◌≤◌, slice_index}
 use Rattle.bplist_objects.specs.Heads.{refs}
 use Rattle.bplist_objects.proofs.Fronts.{one_head}
 use Rattle.bplist_objects.proofs.Lists.{all_from}
-use Rattle.bplist_cursor.proofs.Measuring.{nodes_at}
+use Rattle.bplist_cursor.proofs.TreeSizes.{nodes_at}
 use Rattle.bplist_cursor.proofs.laws.measured_is_nodes.Goals as goal
 
 pub returns : goal.returns

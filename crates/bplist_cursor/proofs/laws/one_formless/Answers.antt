@@ -1,4 +1,4 @@
-use Rattle.bplist_cursor.proofs.Unformed as unformed
+use Rattle.bplist_cursor.proofs.FormlessObjects as unformed
 use Rattle.bplist_cursor.proofs.laws.one_formless.Goals as goal
 
 pub returns-clause-found : goal.returns-clause-found

@@ -1,4 +1,4 @@
-use Rattle.bplist_cursor.proofs.Taking as taking
+use Rattle.bplist_cursor.proofs.StepReferences as taking
 use Rattle.bplist_cursor.proofs.laws.references_decide_steps.Goals as goal
 
 pub returns-clause-content : goal.returns-clause-content

@@ -1,6 +1,6 @@
 use Rattle.bplist_objects.proofs.Fronts.{one_head}
 use Rattle.bplist_cursor.proofs.Counts.{few_refs}
-use Rattle.bplist_cursor.proofs.Looking.{leads_held, step_leads}
+use Rattle.bplist_cursor.proofs.StepObjects.{leads_held, step_leads}
 use Rattle.bplist_cursor.proofs.laws.steps_follow_references.Goals as goal
 
 pub returns-clause-taken : goal.returns-clause-taken

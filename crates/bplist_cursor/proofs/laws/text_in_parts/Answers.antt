@@ -1,5 +1,5 @@
 use Rattle.std.proofs.Common.{ap, ◌∙◌, Some}
-use Rattle.bplist_cursor.proofs.Forming.{formed_text, text_formed}
+use Rattle.bplist_cursor.proofs.TextParts.{formed_text, text_formed}
 use Rattle.bplist_cursor.proofs.laws.text_in_parts.Goals as goal
 
 pub returns : goal.returns

@@ -2,7 +2,7 @@ use Rattle.std.proofs.Common.{◌≡◌, ◌∙◌, subst, sym}
 use Rattle.bplist_objects.specs.Heads.{array, set, dict}
 use Rattle.bplist_cursor.specs.Members.{HoldsMember, member_of, member_reference, named}
 use Rattle.bplist_cursor.proofs.Membership.{node_in_order, no_node_from_end, node_of_key, node_of_value, held_members}
-use Rattle.bplist_cursor.proofs.Vouching.{gives_weaker, never_changed}
+use Rattle.bplist_cursor.proofs.VouchedObjects.{gives_weaker, never_changed}
 use Rattle.bplist_cursor.proofs.members.member.Goals as goal
 
 pub returns-clause-array : goal.returns-clause-array

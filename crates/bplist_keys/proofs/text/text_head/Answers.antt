@@ -1,4 +1,4 @@
-use Rattle.bplist_objects.proofs.Refusing.{no_shape}
+use Rattle.bplist_objects.proofs.FirstFaults.{no_shape}
 use Rattle.bplist_keys.proofs.text.text_head.Goals as goal
 
 pub returns-in-Err-Fault-clause-exact : goal.returns-in-Err-Fault-clause-exact

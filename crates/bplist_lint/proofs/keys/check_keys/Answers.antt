@@ -2,7 +2,7 @@ use Rattle.std.proofs.Common.{◌≡◌, sym, ◌∙◌, arith}
 use Rattle.std.proofs.lemmas.Bool.{false≢true}
 use Rattle.std.proofs.lemmas.Result.{err_from_is_err_and}
 use Rattle.bplist_lint.proofs.KeySteps.{refusals_mean, keys_fault, keys_more, keys_over, bare_keys}
-use Rattle.bplist_lint.proofs.KeyClassing.{reached_sound, keys_known}
+use Rattle.bplist_lint.proofs.KeyClasses.{reached_sound, keys_known}
 use Rattle.bplist_lint.proofs.keys.check_keys.Goals as goal
 use Rattle.bplist_lint.proofs.keys.check_keys.Goals.{then-marks-n+then-not-bare-n+in_ok-check_object, else-marks-n, else-marks-n-via-then-marks-n+else-not-bare-n, else-marks-n-via-else-marks-n}
 

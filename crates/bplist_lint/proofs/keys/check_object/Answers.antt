@@ -1,10 +1,10 @@
 use Rattle.std.proofs.Common.{arith}
 use Rattle.std.proofs.lemmas.Result.{err_from_is_err_and}
 use Rattle.bplist_cert.proofs.Texts.{shape_kept}
-use Rattle.bplist_cert.proofs.Walking.{object_refused}
+use Rattle.bplist_cert.proofs.CheckSteps.{object_refused}
 use Rattle.bplist_lint.proofs.KeySteps.{kept_keys}
-use Rattle.bplist_cert.proofs.KeyClassing.{keys_inside, classed_texts, apart_differ}
-use Rattle.bplist_lint.proofs.KeyClassing.{wrong_fault}
+use Rattle.bplist_cert.proofs.KeyClasses.{keys_inside, classed_texts, apart_differ}
+use Rattle.bplist_lint.proofs.KeyClasses.{wrong_fault}
 use Rattle.bplist_lint.proofs.keys.check_object.Goals as goal
 
 pub returns-in_err-head-clause-exact : goal.returns-in_err-head-clause-exact

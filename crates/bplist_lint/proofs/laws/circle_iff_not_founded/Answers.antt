@@ -1,4 +1,4 @@
-use Rattle.bplist_lint.proofs.Completing.{ends_or_circle}
+use Rattle.bplist_lint.proofs.ValueOrFault.{ends_or_circle}
 use Rattle.bplist_lint.proofs.OneCircle.{circle_not_founded}
 use Rattle.bplist_lint.proofs.laws.circle_iff_not_founded.Goals as goal
 

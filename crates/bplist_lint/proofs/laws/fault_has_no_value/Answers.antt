@@ -1,4 +1,4 @@
-use Rattle.bplist_lint.proofs.Answering.{fault_not_held, circle_not_held}
+use Rattle.bplist_lint.proofs.LintAnswers.{fault_not_held, circle_not_held}
 use Rattle.bplist_lint.proofs.laws.fault_has_no_value.Goals as goal
 
 pub returns-clause-fault : goal.returns-clause-fault

@@ -1,4 +1,4 @@
-use Rattle.bplist_lint.proofs.Answering.{fault_not_valid, circle_not_valid}
+use Rattle.bplist_lint.proofs.LintAnswers.{fault_not_valid, circle_not_valid}
 use Rattle.bplist_lint.proofs.laws.fault_is_final.Goals as goal
 
 pub returns-clause-fault : goal.returns-clause-fault

@@ -1,4 +1,4 @@
-use Rattle.bplist_lint.proofs.Graphing.{reach_iff, founded_iff, circle_iff, are_least_heights}
+use Rattle.bplist_lint.proofs.ReferenceGraph.{reach_iff, founded_iff, circle_iff, are_least_heights}
 use Rattle.bplist_lint.proofs.laws.graph_is_of_file.Goals as goal
 
 pub returns-clause-reach : goal.returns-clause-reach

@@ -1,4 +1,4 @@
-use Rattle.bplist_lint.proofs.Answering.{least_heights_valid, least_heights_one, stand_one}
+use Rattle.bplist_lint.proofs.LintAnswers.{least_heights_valid, least_heights_one, stand_one}
 use Rattle.bplist_lint.proofs.laws.least_heights_are_valid.Goals as goal
 
 pub returns-clause-valid : goal.returns-clause-valid

@@ -1,4 +1,4 @@
-use Rattle.bplist_lint.proofs.Faulting.{one_file_fault, one_file_circle, fault_or_circle}
+use Rattle.bplist_lint.proofs.FirstFaults.{one_file_fault, one_file_circle, fault_or_circle}
 use Rattle.bplist_lint.proofs.laws.one_file_fault.Goals as goal
 
 pub returns-clause-fault : goal.returns-clause-fault

@@ -1,4 +1,4 @@
-use Rattle.bplist_lint.proofs.Completing.{value_or_fault}
+use Rattle.bplist_lint.proofs.ValueOrFault.{value_or_fault}
 use Rattle.bplist_lint.proofs.laws.value_or_fault.Goals as goal
 
 pub returns : goal.returns

@@ -1,4 +1,4 @@
-use Rattle.bplist_lint.proofs.Answering.{formed_iff}
+use Rattle.bplist_lint.proofs.LintAnswers.{formed_iff}
 use Rattle.bplist_lint.proofs.laws.well_formed_iff_kept.Goals as goal
 
 pub returns : goal.returns

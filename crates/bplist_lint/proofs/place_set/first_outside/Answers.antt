@@ -1,6 +1,6 @@
 use Rattle.std.proofs.Common.{arith, inl, inr}
 use Rattle.std.proofs.lemmas.Bool.{cases_lt}
-use Rattle.bplist_lint.proofs.PlaceSetting.{full_word}
+use Rattle.bplist_lint.proofs.PlaceSets.{full_word}
 use Rattle.bplist_lint.proofs.place_set.first_outside.Goals as goal
 
 pub loop-i-preserved-then-word : goal.loop-i-preserved-then-word

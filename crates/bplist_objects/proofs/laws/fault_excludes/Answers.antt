@@ -1,4 +1,4 @@
-use Rattle.bplist_objects.proofs.Refusing.{no_frame, no_shape, no_content}
+use Rattle.bplist_objects.proofs.FirstFaults.{no_frame, no_shape, no_content}
 use Rattle.bplist_objects.proofs.laws.fault_excludes.Goals as goal
 
 pub returns-clause-frame : goal.returns-clause-frame

@@ -1,6 +1,6 @@
 use Rattle.bplist_objects.specs.Frame.{trailer}
 use Rattle.bplist_objects.proofs.FrameTies.{trailer_is_frame}
-use Rattle.bplist_objects.proofs.Refusing.{frame_keeps}
+use Rattle.bplist_objects.proofs.FirstFaults.{frame_keeps}
 use Rattle.bplist_objects.proofs.laws.keeps_iff_frame.Goals as goal
 
 pub returns : goal.returns

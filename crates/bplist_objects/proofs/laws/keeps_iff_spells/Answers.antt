@@ -1,4 +1,4 @@
-use Rattle.bplist_objects.proofs.Ties.{keeps_iff}
+use Rattle.bplist_objects.proofs.HeadTies.{keeps_iff}
 use Rattle.bplist_objects.proofs.laws.keeps_iff_spells.Goals as goal
 
 pub returns : goal.returns

@@ -1,4 +1,4 @@
-use Rattle.bplist_objects.proofs.Ties.{shape_tie, head_tie}
+use Rattle.bplist_objects.proofs.HeadTies.{shape_tie, head_tie}
 use Rattle.bplist_objects.proofs.laws.kept_iff_head.Goals as goal
 
 pub returns-clause-shape : goal.returns-clause-shape

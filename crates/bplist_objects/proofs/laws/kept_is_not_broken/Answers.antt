@@ -1,5 +1,5 @@
 use Rattle.bplist_objects.proofs.Broken.{kept_or_broken}
-use Rattle.bplist_objects.proofs.Refusing.{frame_kept_or_broken}
+use Rattle.bplist_objects.proofs.FirstFaults.{frame_kept_or_broken}
 use Rattle.bplist_objects.proofs.laws.kept_is_not_broken.Goals as goal
 
 pub returns-clause-file : goal.returns-clause-file

@@ -2,8 +2,8 @@ use Rattle.std.proofs.Common.{inl, inr}
 use Rattle.bplist_objects.specs.Frame.{trailer}
 use Rattle.bplist_objects.specs.ObjectRules.{object_rules}
 use Rattle.bplist_objects.proofs.FrameTies.{trailer_is_frame}
-use Rattle.bplist_objects.proofs.Ties.{keeps_iff}
-use Rattle.bplist_objects.proofs.Deciding.{frame_kept_or_fault, object_kept_or_fault}
+use Rattle.bplist_objects.proofs.HeadTies.{keeps_iff}
+use Rattle.bplist_objects.proofs.KeptOrBroken.{frame_kept_or_fault, object_kept_or_fault}
 use Rattle.bplist_objects.proofs.laws.kept_or_fault.Goals as goal
 
 pub returns-clause-file : goal.returns-clause-file

@@ -1,4 +1,4 @@
-use Rattle.bplist_objects.proofs.Refusing.{one_frame_fault, one_object_fault}
+use Rattle.bplist_objects.proofs.FirstFaults.{one_frame_fault, one_object_fault}
 use Rattle.bplist_objects.proofs.laws.one_first_fault.Goals as goal
 
 pub returns-clause-file : goal.returns-clause-file

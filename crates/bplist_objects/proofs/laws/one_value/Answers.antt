@@ -1,5 +1,5 @@
 use Rattle.bplist_objects.proofs.Fronts.{one_head}
-use Rattle.bplist_objects.proofs.Holding.{holds_one}
+use Rattle.bplist_objects.proofs.ObjectValues.{holds_one}
 use Rattle.bplist_objects.proofs.laws.one_value.Goals as goal
 
 pub returns : goal.returns

@@ -1,4 +1,4 @@
-use Rattle.bplist_objects.proofs.Trying.{file_true, file_array, file_dict}
+use Rattle.bplist_objects.proofs.SmallFiles.{file_true, file_array, file_dict}
 use Rattle.bplist_objects.proofs.laws.rows_hold.Goals as goal
 
 pub returns-clause-true_row : goal.returns-clause-true_row

@@ -1,5 +1,5 @@
-use Rattle.bplist_objects.proofs.Spelling.{spells_iff}
-use Rattle.bplist_objects.proofs.Reaching.{refs_iff}
+use Rattle.bplist_objects.proofs.SpelledContents.{spells_iff}
+use Rattle.bplist_objects.proofs.ReachedObjects.{refs_iff}
 use Rattle.bplist_objects.proofs.laws.spells_iff_computed.Goals as goal
 
 pub returns-clause-content : goal.returns-clause-content

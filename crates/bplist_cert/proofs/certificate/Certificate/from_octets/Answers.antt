@@ -2,8 +2,8 @@ use Rattle.std.proofs.Common.{◌∙◌, ℕ, ◌+◌, ◌*◌, ◌≤◌, sym, 
 use Rattle.bplist_cert.specs.declared.decoding.Version.{Version}
 use Rattle.bplist_cert.specs.declared.decoding.Version.TheVariants.{Plain, Keyed}
 use Rattle.bplist_cert.specs.Versions.{FitsVersion}
-use Rattle.bplist_cert.proofs.Bytes.{AreBytes}
-use Rattle.bplist_cert.proofs.Spelling.{octets_once, length_kept, whole, starts_fit, count_of_words}
+use Rattle.bplist_cert.proofs.NumberBytes.{AreBytes}
+use Rattle.bplist_cert.proofs.CertificateBytes.{octets_once, length_kept, whole, starts_fit, count_of_words}
 use Rattle.bplist_cert.proofs.certificate.Certificate.from_octets.Goals as goal
 
 long_enough : (version : Version) (count len : ℕ) → FitsVersion version count len → 16 + 4 * count ≤ len

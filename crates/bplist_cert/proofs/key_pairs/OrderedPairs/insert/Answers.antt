@@ -1,6 +1,6 @@
 use Rattle.std.proofs.Common.{set, sym, subst, arith}
 use Rattle.bplist_cert.specs.KeyPairs.{ArePairs}
-use Rattle.bplist_cert.proofs.KeyPairing.{pairs_more}
+use Rattle.bplist_cert.proofs.KeyPairs.{pairs_more}
 use Rattle.bplist_cert.proofs.key_pairs.OrderedPairs.insert.Goals as goal
 
 pub returns : goal.returns

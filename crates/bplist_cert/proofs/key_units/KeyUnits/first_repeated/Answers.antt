@@ -1,5 +1,5 @@
 use Rattle.bplist_cert.specs.Repeats.{keys_of, IsRepeated, IsLeastOrNone}
-use Rattle.bplist_cert.proofs.Bounding.{repeated_parts, same_units}
+use Rattle.bplist_cert.proofs.KeyBounds.{repeated_parts, same_units}
 use Rattle.bplist_cert.proofs.key_units.KeyUnits.first_repeated.Goals as goal
 
 pub returns : goal.returns

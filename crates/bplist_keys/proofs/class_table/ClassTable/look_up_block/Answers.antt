@@ -1,6 +1,6 @@
 use Rattle.std.proofs.Common.{◌≡◌, ◌+◌, Some, subst, ◌∙◌, arith}
 use Rattle.bplist_keys.specs.Classes.{AreSeen}
-use Rattle.bplist_keys.proofs.Seeing.{seen_first, seen_again, some_later, earlier_low}
+use Rattle.bplist_keys.proofs.LookUps.{seen_first, seen_again, some_later, earlier_low}
 use Rattle.bplist_keys.proofs.class_table.ClassTable.look_up_block.Goals as goal
 use Rattle.bplist_keys.proofs.class_table.ClassTable.look_up_block.Goals.{in-First, in-Again}
 

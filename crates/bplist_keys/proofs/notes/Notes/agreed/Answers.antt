@@ -1,7 +1,7 @@
 use Rattle.std.proofs.Common.{take, sym, ap, subst, ◌∙◌, arith}
 use Rattle.bplist_keys.specs.declared.notes.Note.{Note}
 use Rattle.bplist_keys.specs.Notes.{Agree}
-use Rattle.bplist_keys.proofs.Agreeing.{agree_less}
+use Rattle.bplist_keys.proofs.AgreedUnits.{agree_less}
 use Rattle.bplist_keys.proofs.notes.Notes.agreed.Goals as goal
 
 pub returns-then-left-right : goal.returns-then-left-right

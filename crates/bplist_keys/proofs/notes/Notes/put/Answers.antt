@@ -1,5 +1,5 @@
 use Rattle.std.proofs.Common.{arith}
-use Rattle.bplist_keys.proofs.Agreeing.{agree_less, true_put}
+use Rattle.bplist_keys.proofs.AgreedUnits.{agree_less, true_put}
 use Rattle.bplist_keys.proofs.notes.Notes.put.Goals as goal
 
 pub returns-then-m-len : goal.returns-then-m-len

@@ -1,7 +1,7 @@
 use Rattle.std.proofs.Common.{◌<◌, ◌/◌, arith, length}
 use Rattle.std.proofs.lemmas.Grind.{common_steps}
 use Rattle.std.proofs.lemmas.List.{get_or_read}
-use Rattle.bplist_lint.proofs.PlaceSetting.{insert_here, insert_keeps, insert_only, insert_skips}
+use Rattle.bplist_lint.proofs.PlaceSets.{insert_here, insert_keeps, insert_only, insert_skips}
 use Rattle.bplist_lint.proofs.place_set.PlaceSet.insert.Goals as goal
 use Rattle.bplist_lint.proofs.place_set.PlaceSet.insert.Goals.{else-word-via-then-word+else-is_none, else-word-via-else-word}
 

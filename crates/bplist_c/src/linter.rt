@@ -1,0 +1,180 @@
+//! The linter, for C.
+
+ghost use Rattle.std.specs.Prelude.{◌≡◌, ◌⊎◌, ◌<◌, ℕ, Result, MatchOption, MatchResult, map, Vec as vec};
+ghost use Rattle.bplist_lint.specs.declared.answer.Lint.{Lint as lint_answer};
+ghost use Rattle.bplist_lint.specs.declared.refusal.LintRefusal.{LintRefusal as lint_refusal};
+ghost use Rattle.bplist_lint.specs.FileFault.{IsFileFault, IsFileCircle};
+ghost use Rattle.bplist_lint.specs.Linted.{IsLinted};
+ghost use Rattle.bplist_lint.specs.Refusals.{Lints};
+ghost use Rattle.bplist_lint.specs.Trail.{number};
+ghost use Rattle.std.specs.Global.{Global as global};
+ghost use Rattle.bplist_c.specs.declared.status.Status.{Status as status};
+ghost use Rattle.bplist_c.specs.declared.status.Status.TheVariants.{Memory};
+ghost use Rattle.bplist_c.specs.Statuses.{Puts};
+ghost use Rattle.bplist_c.specs.Verdicts.{CircleSays, IsTop, NamesRule, ShowsLint, rule_number};
+
+use crate::object::number_of as kind_number;
+use crate::status::{Status, put_all, put_answer};
+use crate::verdict::{BplistVerdict, Top, refused};
+use bplist_lint::{Lint, LintRefusal, lint};
+use bplist_objects::{ObjectNo, Rule, frame_of, rule_name, shape_of};
+use bplist_octets::SliceSource;
+use std::alloc::Global;
+
+/// What the linter says of these bytes.
+pub(crate) fn lint_file(alloc: Global, file: &[u8]) -> Result<Lint, LintRefusal>
+    ensures { Lints (IsLinted file.now) (IsFileFault file.now) (IsFileCircle file.now) result }
+{
+    lint(alloc, &mut SliceSource::new(file))
+}
+
+/// The top of a file that holds a value.
+fn top_of(file: &[u8], height: u32) -> Top
+    ensures { IsTop file.now height result }
+{
+    let mut source = SliceSource::new(file);
+    let Ok(frame) = frame_of(&mut source) else {
+        return no_top(height);
+    };
+    let Ok(head) = shape_of(&mut source, &frame, frame.top) else {
+        return no_top(height);
+    };
+    Top {
+        objects: frame.objects,
+        object: frame.top.0,
+        kind: kind_number(head.kind),
+        height,
+    }
+}
+
+/// What stands for the top of a file that has none.
+fn no_top(height: u32) -> Top {
+    Top {
+        objects: 0,
+        object: 0,
+        kind: 0,
+        height,
+    }
+}
+
+/// Tells C what the linter says of a file.
+pub(crate) fn show(file: &[u8], answer: &Result<Lint, LintRefusal>, out: &mut BplistVerdict) -> u32
+    ensures { ShowsLint file.now answer.now out.new result }
+{
+    match answer {
+        Ok(found) => {
+            let top = top_of(file, found.height);
+            *out = BplistVerdict::of_top(top, found.reached, found.references);
+            0
+        }
+        Err(refusal) => {
+            let (status, verdict) = refused(refusal);
+            *out = verdict;
+            status.number()
+        }
+    }
+}
+
+/// Says whether a file holds a value.
+#[unsafe(no_mangle)]
+pub extern "C" fn bplist_lint(alloc: Global, file: &[u8], out: &mut BplistVerdict) -> u32
+    ensures { (answer : Result lint_answer lint_refusal)
+        × Lints (IsLinted file.now) (IsFileFault file.now) (IsFileCircle file.now) answer × ShowsLint file.now answer out.new result }
+{
+    let answer = lint_file(alloc, file);
+    show(file, &answer, out)
+}
+
+/// The rule with this number.
+fn rule_of(number: u32) -> Option<Rule>
+    ensures { MatchOption result ((number ≡ 0) ⊎ (32 < number)) (λ rule. rule_number rule ≡ number) }
+{
+    match number {
+        1 => Some(Rule::TooLarge),
+        2 => Some(Rule::TooShort),
+        3 => Some(Rule::Magic),
+        4 => Some(Rule::NoObjects),
+        5 => Some(Rule::Top),
+        6 => Some(Rule::TableEarly),
+        7 => Some(Rule::TableLate),
+        8 => Some(Rule::OffsetSize),
+        9 => Some(Rule::RefSize),
+        10 => Some(Rule::Length),
+        11 => Some(Rule::RefNarrow),
+        12 => Some(Rule::OffsetNarrow),
+        13 => Some(Rule::OffsetHigh),
+        14 => Some(Rule::OffsetLow),
+        15 => Some(Rule::Marker),
+        16 => Some(Rule::Count),
+        17 => Some(Rule::Extent),
+        18 => Some(Rule::NotAscii),
+        19 => Some(Rule::UidLarge),
+        20 => Some(Rule::RefHigh),
+        21 => Some(Rule::KeyKind),
+        22 => Some(Rule::KeyTwice),
+        23 => Some(Rule::Circle),
+        24 => Some(Rule::CertMagic),
+        25 => Some(Rule::CertLength),
+        26 => Some(Rule::CertCount),
+        27 => Some(Rule::TopNotVouched),
+        28 => Some(Rule::ChildNotVouched),
+        29 => Some(Rule::HeightNotLess),
+        30 => Some(Rule::PathText),
+        31 => Some(Rule::Overfull),
+        32 => Some(Rule::KeyOrder),
+        _ => None,
+    }
+}
+
+/// The name of a rule, by its number.
+#[unsafe(no_mangle)]
+pub extern "C" fn bplist_rule_name(rule: u32, name: &mut [u8], count: &mut u64) -> u32
+    ensures exact { NamesRule rule name.old name.new count.old count.new result }
+{
+    match rule_of(rule) {
+        Some(rule) => put_all(rule_name(rule).as_bytes(), name, count),
+        None => Status::NoRule.number(),
+    }
+}
+
+/// The circle for which the linter refuses a file.
+fn circle_of(alloc: Global, answer: Result<Lint, LintRefusal>) -> Result<Vec<u32>, Status>
+    ensures { CircleSays answer result }
+{
+    match answer {
+        Err(LintRefusal::Circle(circle)) => numbers_of(alloc, circle.as_slice()),
+        Err(LintRefusal::Fault(_)) => Err(Status::Fault),
+        Err(_) => Err(Status::Memory),
+        Ok(_) => Err(Status::NoRule),
+    }
+}
+
+/// The numbers of objects.
+fn numbers_of(alloc: Global, objects: &[ObjectNo]) -> Result<Vec<u32>, Status>
+    ensures { MatchResult result (λ numbers. numbers.items ≡ map number objects.now) (λ why. why ≡ Memory) }
+{
+    let mut numbers = Vec::new(alloc);
+    for object in objects {
+        if numbers.push(object.0).is_err() {
+            return Err(Status::Memory);
+        }
+    }
+    Ok(numbers)
+}
+
+/// The objects of the circle for which the linter refuses a file.
+#[unsafe(no_mangle)]
+pub extern "C" fn bplist_circle(
+    alloc: Global,
+    file: &[u8],
+    objects: &mut [u32],
+    count: &mut u64,
+) -> u32
+    ensures { (linted : Result lint_answer lint_refusal)
+        × Lints (IsLinted file.now) (IsFileFault file.now) (IsFileCircle file.now) linted
+        × ((circle : Result (vec ℕ global) status) × CircleSays linted circle × Puts circle objects.old objects.new count.old count.new result) }
+{
+    let linted = lint_file(alloc, file);
+    let circle = circle_of(alloc, linted);
+    put_answer(&circle, objects, count)
+}

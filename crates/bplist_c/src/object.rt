@@ -1,0 +1,368 @@
+//! What an object shows.
+
+ghost use Rattle.std.specs.Prelude.{◌≡◌, ◌+◌, ◌*◌, ◌%◌, ◌^◌, ◌≤◌, ℕ, IfErr, IfOk, Ok, Result, length};
+ghost use Rattle.bplist_octets.specs.Octets.{part};
+ghost use Rattle.bplist_objects.specs.Numbers.{integer, num_at};
+ghost use Rattle.bplist_objects.specs.Units.{IsTextKind, units_of};
+ghost use Rattle.bplist_objects.specs.declared.kind.Kind.TheVariants.{Int, Uid};
+ghost use Rattle.bplist_objects.specs.Heads.{unit};
+ghost use Rattle.bplist_objects.specs.Safe.{IsSafeBody, IsSafeHead};
+ghost use Rattle.bplist_c.specs.declared.object.BplistBody.{BplistBody as body};
+ghost use Rattle.bplist_c.specs.declared.status.Status.{Status as status};
+ghost use Rattle.bplist_c.specs.declared.object.BplistInteger.{BplistInteger as number};
+ghost use Rattle.bplist_c.specs.Reading.{FaceSays, HeadSays, IntSays, MemberSays, UidSays, UnitsSay, halves_of, kind_number, member_answer};
+ghost use Rattle.bplist_c.specs.Sessions.{IsFileOf, IsSame, OnHandle};
+ghost use Rattle.bplist_c.specs.Statuses.{Tells};
+
+use crate::handle::BplistHandle;
+use crate::loan::{give_back, lend};
+use crate::status::{Status, tell};
+use bplist_cert::Checked;
+use bplist_cursor::{CursorFault, Node, member};
+use bplist_objects::{Head, Kind, ObjectNo, int_of, read_units, shape_of, uid_of};
+use bplist_octets::SliceSource;
+use std::alloc::Global;
+
+/// What an object shows of itself.
+#[repr(C)]
+#[derive(Clone, Copy, Debug, Drop)]
+pub struct BplistBody {
+    /// The number of the kind.
+    pub kind: u32,
+    /// Bytes, units, members or pairs.
+    pub count: u64,
+    /// The place of the body in the file.
+    pub place: u64,
+    /// How many bytes the body has.
+    pub length: u64,
+}
+
+/// An integer of 128 bits in two's complement.
+#[repr(C)]
+#[derive(Clone, Copy, Debug, Drop)]
+pub struct BplistInteger {
+    /// The low half.
+    pub low: u64,
+    /// The high half.
+    pub high: u64,
+}
+
+/// The head of an object that the certificate vouches for.
+pub(crate) fn head_of_object(
+    checked: &Checked<SliceSource<'_>>,
+    object: u32,
+) -> Result<Head, Status>
+    ensures exact { HeadSays checked.now object (λ head answer. answer ≡ Ok head) result }
+    ensures safe { IfOk result (IsSafeHead checked.now.frame) }
+    ensures body { IfOk result (IsSafeBody (length checked.now.source.octets)) }
+{
+    let n = ObjectNo(object);
+    if checked.height(n) == 0 {
+        return Err(Status::NoObject);
+    }
+    let frame = checked.frame();
+    let mut source = SliceSource::new(checked.octets());
+    match shape_of(&mut source, &frame, n) {
+        Ok(head) => Ok(head),
+        Err(_) => Err(Status::NoObject),
+    }
+}
+
+/// The number of a kind.
+pub(crate) fn number_of(kind: Kind) -> u32
+    ensures { result ≡ kind_number kind }
+{
+    match kind {
+        Kind::Null => 1,
+        Kind::False => 2,
+        Kind::True => 3,
+        Kind::Int => 4,
+        Kind::Real => 5,
+        Kind::Date => 6,
+        Kind::Bytes => 7,
+        Kind::Ascii => 8,
+        Kind::Wide => 9,
+        Kind::Uid => 10,
+        Kind::Array => 11,
+        Kind::Set => 12,
+        Kind::Dict => 13,
+    }
+}
+
+/// How many bytes of the body one of the count takes.
+fn unit_of(kind: Kind, ref_size: u8) -> u8
+    requires { ref_size ≤ 8 }
+    ensures { result ≡ unit ref_size kind }
+{
+    match kind {
+        Kind::Wide => 2,
+        Kind::Array | Kind::Set => ref_size,
+        Kind::Dict => 2 * ref_size,
+        _ => 1,
+    }
+}
+
+/// What an object shows of itself.
+fn face_of(checked: &Checked<SliceSource<'_>>, object: u32) -> Result<BplistBody, Status>
+    ensures { FaceSays checked.now object result }
+{
+    let frame = checked.frame();
+    let _octets = checked.octets();
+    let head = head_of_object(checked, object)?;
+    let unit = unit_of(head.kind, frame.ref_size) as u64;
+    Ok(BplistBody {
+        kind: number_of(head.kind),
+        count: head.count,
+        place: head.body,
+        length: head.count * unit,
+    })
+}
+
+/// The two halves of a number in two's complement.
+fn halves(number: i128) -> BplistInteger
+    ensures { result ≡ halves_of number }
+{
+    let bits = number.cast_unsigned();
+    BplistInteger {
+        low: (bits % (1 << 64)) as u64,
+        high: (bits >> 64) as u64,
+    }
+}
+
+/// The integer of an Int.
+fn integer_at(file: &[u8], head: &Head) -> i128
+    requires kind { head.now.kind ≡ Int }
+    requires body { IsSafeBody (length file.now) head.now }
+    ensures { result ≡ integer (part file.now head.now.body head.now.count) }
+{
+    match int_of(&mut SliceSource::new(file), head) {
+        Ok(number) => number,
+        Err(_) => unreachable!(),
+    }
+}
+
+/// The number of a Uid.
+fn uid_at(file: &[u8], head: &Head) -> u32
+    requires kind { head.now.kind ≡ Uid }
+    requires body { IsSafeBody (length file.now) head.now }
+    ensures { result ≡ num_at file.now head.now.body head.now.count % 2 ^ 32 }
+{
+    match uid_of(&mut SliceSource::new(file), head) {
+        Ok(number) => number,
+        Err(_) => unreachable!(),
+    }
+}
+
+/// Fills `into` with the units of a text from its unit `from` on.
+fn read_part(file: &[u8], head: &Head, from: u64, into: &mut [u16])
+    requires kind { IsTextKind head.now.kind }
+    requires body { IsSafeBody (length file.now) head.now }
+    requires within { from + length into.old ≤ head.now.count }
+    ensures { into.new ≡ part (units_of file.now head.now) from (length into.old) }
+{
+    match read_units(&mut SliceSource::new(file), head, from, into) {
+        Ok(()) => (),
+        Err(_) => unreachable!(),
+    }
+}
+
+/// The integer of an object.
+fn integer_of(checked: &Checked<SliceSource<'_>>, object: u32) -> Result<BplistInteger, Status>
+    ensures { IntSays checked.now object result }
+{
+    let file = checked.octets();
+    let head = head_of_object(checked, object)?;
+    match head.kind {
+        Kind::Int => Ok(halves(integer_at(file, &head))),
+        _ => Err(Status::OtherKind),
+    }
+}
+
+/// The number of a UID.
+fn uid_of_object(checked: &Checked<SliceSource<'_>>, object: u32) -> Result<u32, Status>
+    ensures { UidSays checked.now object result }
+{
+    let file = checked.octets();
+    let head = head_of_object(checked, object)?;
+    match head.kind {
+        Kind::Uid => Ok(uid_at(file, &head)),
+        _ => Err(Status::OtherKind),
+    }
+}
+
+/// Fills `into` with units of a text from unit `from` on, as many as there are and as fit, and says how many.
+fn units_of_object(
+    checked: &Checked<SliceSource<'_>>,
+    object: u32,
+    from: u64,
+    into: &mut [u16],
+) -> Result<u64, Status>
+    ensures exact { UnitsSay checked.now object from into.old into.new result }
+    ensures left { IfErr result (λ why. into.new ≡ into.old) }
+{
+    let file = checked.octets();
+    let head = head_of_object(checked, object)?;
+    match head.kind {
+        Kind::Ascii | Kind::Wide => {
+            let from = from.min(head.count);
+            let now = (head.count - from).min(into.len() as u64);
+            read_part(file, &head, from, &mut into[..now as usize]);
+            Ok(now)
+        }
+        _ => Err(Status::OtherKind),
+    }
+}
+
+/// The object of a member of an object.
+fn member_of(checked: &mut Checked<SliceSource<'_>>, object: u32, i: u64) -> Result<u32, Status>
+    ensures same { checked.new ≡ checked.old }
+    ensures exact { MemberSays checked.old object i result }
+{
+    let _before = checked.octets();
+    let node = Node {
+        object: ObjectNo(object),
+    };
+    let found = member(checked, node, i);
+    let _after = checked.octets();
+    told(found)
+}
+
+/// What C is told of a member.
+fn told(found: Result<Option<Node>, CursorFault>) -> Result<u32, Status>
+    ensures { result ≡ member_answer found }
+{
+    match found {
+        Ok(Some(node)) => Ok(node.object.0),
+        Ok(None) => Err(Status::NoMember),
+        Err(_) => Err(Status::NoObject),
+    }
+}
+
+/// Kind, count, place and length of the body of an object.
+#[unsafe(no_mangle)]
+pub extern "C" fn bplist_face(
+    alloc: Global,
+    handle: &mut BplistHandle,
+    file: &[u8],
+    object: u32,
+    out: &mut BplistBody,
+) -> u32
+    requires same { IsFileOf file.now handle.old }
+    ensures kept { IsSame handle.old handle.new }
+    ensures exact { (answer : Result body status) × Tells answer out.old out.new result
+        × OnHandle file.now handle.old (λ checked. FaceSays checked object) answer }
+{
+    let answer = match lend(alloc, handle, file) {
+        Ok(lent) => {
+            let answer = face_of(&lent.checked, object);
+            give_back(handle, lent);
+            answer
+        }
+        Err(status) => Err(status),
+    };
+    tell(answer, out)
+}
+
+/// The integer of an object.
+#[unsafe(no_mangle)]
+pub extern "C" fn bplist_int(
+    alloc: Global,
+    handle: &mut BplistHandle,
+    file: &[u8],
+    object: u32,
+    out: &mut BplistInteger,
+) -> u32
+    requires same { IsFileOf file.now handle.old }
+    ensures kept { IsSame handle.old handle.new }
+    ensures exact { (answer : Result number status) × Tells answer out.old out.new result
+        × OnHandle file.now handle.old (λ checked. IntSays checked object) answer }
+{
+    let answer = match lend(alloc, handle, file) {
+        Ok(lent) => {
+            let answer = integer_of(&lent.checked, object);
+            give_back(handle, lent);
+            answer
+        }
+        Err(status) => Err(status),
+    };
+    tell(answer, out)
+}
+
+/// The number of a UID.
+#[unsafe(no_mangle)]
+pub extern "C" fn bplist_uid(
+    alloc: Global,
+    handle: &mut BplistHandle,
+    file: &[u8],
+    object: u32,
+    out: &mut u32,
+) -> u32
+    requires same { IsFileOf file.now handle.old }
+    ensures kept { IsSame handle.old handle.new }
+    ensures exact { (answer : Result ℕ status) × Tells answer out.old out.new result
+        × OnHandle file.now handle.old (λ checked. UidSays checked object) answer }
+{
+    let answer = match lend(alloc, handle, file) {
+        Ok(lent) => {
+            let answer = uid_of_object(&lent.checked, object);
+            give_back(handle, lent);
+            answer
+        }
+        Err(status) => Err(status),
+    };
+    tell(answer, out)
+}
+
+/// The object of member `i` of an object.
+#[unsafe(no_mangle)]
+pub extern "C" fn bplist_member(
+    alloc: Global,
+    handle: &mut BplistHandle,
+    file: &[u8],
+    object: u32,
+    i: u64,
+    out: &mut u32,
+) -> u32
+    requires same { IsFileOf file.now handle.old }
+    ensures kept { IsSame handle.old handle.new }
+    ensures exact { (answer : Result ℕ status) × Tells answer out.old out.new result
+        × OnHandle file.now handle.old (λ checked. MemberSays checked object i) answer }
+{
+    let answer = match lend(alloc, handle, file) {
+        Ok(lent) => {
+            let mut lent = lent;
+            let answer = member_of(&mut lent.checked, object, i);
+            give_back(handle, lent);
+            answer
+        }
+        Err(status) => Err(status),
+    };
+    tell(answer, out)
+}
+
+/// The units of a text from unit `from` on, as many as there are and as fit.
+#[unsafe(no_mangle)]
+pub extern "C" fn bplist_units(
+    alloc: Global,
+    handle: &mut BplistHandle,
+    file: &[u8],
+    object: u32,
+    from: u64,
+    units: &mut [u16],
+    count: &mut u64,
+) -> u32
+    requires same { IsFileOf file.now handle.old }
+    ensures kept { IsSame handle.old handle.new }
+    ensures exact { (answer : Result ℕ status) × Tells answer count.old count.new result
+        × OnHandle file.now handle.old (λ checked. UnitsSay checked object from units.old units.new) answer }
+{
+    let answer = match lend(alloc, handle, file) {
+        Ok(lent) => {
+            let answer = units_of_object(&lent.checked, object, from, units);
+            give_back(handle, lent);
+            answer
+        }
+        Err(status) => Err(status),
+    };
+    tell(answer, count)
+}

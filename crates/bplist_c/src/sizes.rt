@@ -1,0 +1,120 @@
+//! How large values are, and their texts.
+
+ghost use Rattle.std.specs.Prelude.{◌≡◌, Result, IfSome};
+ghost use Rattle.bplist_c.specs.declared.sizes.BplistSizes.{BplistSizes as sizes};
+ghost use Rattle.bplist_c.specs.declared.status.Status.{Status as status};
+ghost use Rattle.bplist_c.specs.Sessions.{IsFileOf, IsSame, OnHandle};
+ghost use Rattle.bplist_c.specs.Sizing.{SizeSays, sizes_by, sizes_told};
+ghost use Rattle.bplist_c.specs.Statuses.{Tells};
+ghost use Rattle.bplist_cursor.specs.Found.{AreMeasuresOf};
+ghost use Rattle.bplist_cursor.specs.Sizes.{form_in, nodes_in};
+
+use crate::handle::BplistHandle;
+use crate::loan::{give_back, lend};
+use crate::status::{Status, tell};
+use bplist_cert::Checked;
+use bplist_cursor::{Form, Measures, measure};
+use bplist_objects::ObjectNo;
+use bplist_octets::SliceSource;
+use std::alloc::Global;
+
+/// How large a value is.
+#[repr(C)]
+#[derive(Clone, Copy, Debug, Drop)]
+pub struct BplistSizes {
+    /// How many nodes its tree has, or 18446744073709551615 where there are more.
+    pub nodes: u64,
+    /// How many bytes its text has, or 18446744073709551615 where there are more; 0 where it has none.
+    pub text: u64,
+    /// 1 where it has a text, else 0.
+    pub has_text: u32,
+}
+
+/// The sizes as C is told them.
+fn sizes(nodes: u64, form: Form) -> BplistSizes
+    ensures { result ≡ sizes_by nodes form }
+{
+    match form {
+        Form::NoForm => BplistSizes {
+            nodes,
+            text: 0,
+            has_text: 0,
+        },
+        Form::Length(length) => BplistSizes {
+            nodes,
+            text: length,
+            has_text: 1,
+        },
+    }
+}
+
+/// The sizes of all values of a checked file. None where a growth was refused.
+pub(crate) fn measures_of(alloc: Global, checked: &mut Checked<SliceSource<'_>>) -> Option<Measures>
+    ensures same { checked.new ≡ checked.old }
+    ensures exact { IfSome result (AreMeasuresOf checked.old) }
+{
+    let _before = checked.octets();
+    let measures = measure(alloc, checked);
+    let _after = checked.octets();
+    match measures {
+        Ok(measures) => Some(measures),
+        Err(_) => None,
+    }
+}
+
+/// The size of the value of an object.
+fn size_of(
+    alloc: Global,
+    checked: &mut Checked<SliceSource<'_>>,
+    object: u32,
+) -> Result<BplistSizes, Status>
+    ensures same { checked.new ≡ checked.old }
+    ensures exact { SizeSays checked.old object result }
+{
+    let n = ObjectNo(object);
+    if checked.height(n) == 0 {
+        return Err(Status::NoObject);
+    }
+    let Some(measures) = measures_of(alloc, checked) else {
+        return Err(Status::Memory);
+    };
+    match sizes_in(&measures, n) {
+        Some(sizes) => Ok(sizes),
+        None => Err(Status::NoObject),
+    }
+}
+
+/// The sizes of the value of an object, as the table has them.
+fn sizes_in(measures: &Measures, n: ObjectNo) -> Option<BplistSizes>
+    ensures { result ≡ sizes_told (nodes_in measures.now n.0) (form_in measures.now n.0) }
+{
+    let nodes = measures.nodes(n)?;
+    let form = measures.form(n)?;
+    Some(sizes(nodes, form))
+}
+
+/// How large the value of an object is.
+#[unsafe(no_mangle)]
+pub extern "C" fn bplist_size(
+    alloc: Global,
+    handle: &mut BplistHandle,
+    file: &[u8],
+    object: u32,
+    out: &mut BplistSizes,
+) -> u32
+    requires same { IsFileOf file.now handle.old }
+    ensures kept { IsSame handle.old handle.new }
+    ensures exact { (answer : Result sizes status) × Tells answer out.old out.new result
+        × OnHandle file.now handle.old (λ checked. SizeSays checked object) answer }
+{
+    let answer = match lend(alloc, handle, file) {
+        Ok(lent) => {
+            let mut lent = lent;
+            let answer = size_of(alloc, &mut lent.checked, object);
+            give_back(handle, lent);
+            answer
+        }
+        Err(status) => Err(status),
+    };
+    tell(answer, out)
+}

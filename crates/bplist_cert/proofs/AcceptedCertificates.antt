@@ -1,0 +1,274 @@
+-- The rules of the check are kept exactly where the certificate is accepted.
+use Rattle.std.proofs.Common.{◌≡◌, ℕ, suc, ◌<◌, inl, inr, List, [], ◌∷◌, ◌++◌, length, drop, slice_index, slice_index_or, Option, Some, None, Less, refl, sym, ap, ap₂, ◌∙◌, subst, arith}
+use Rattle.std.specs.List.{AllByRecursion}
+use Rattle.std.proofs.lemmas.List.{length-take-le, length-drop}
+use Rattle.std.proofs.lemmas.List.Elements.{recursion_from_All, All-from_get_or, All-from_recursion, All-get_or}
+use Rattle.bplist_octets.specs.Octets.{part}
+use Rattle.bplist_objects.specs.declared.rule.Rule.{Rule}
+use Rattle.bplist_objects.specs.declared.rule.Rule.TheVariants as rules
+use Rattle.bplist_objects.specs.declared.fault.Fault.{Fault}
+use Rattle.bplist_objects.specs.declared.frame.Frame.{Frame}
+use Rattle.bplist_objects.specs.declared.head.Head.{Head}
+use Rattle.bplist_objects.specs.declared.kind.Kind.{Kind}
+use Rattle.bplist_objects.specs.declared.kind.Kind.TheVariants as kinds
+use Rattle.bplist_objects.specs.Numbers.{nums_at}
+use Rattle.bplist_objects.specs.Frame.{IsFrame}
+use Rattle.bplist_objects.specs.Heads.{HasShape, dict, refs, content_of, content_at, Spells}
+use Rattle.bplist_objects.specs.Safe.{ref_count}
+use Rattle.bplist_objects.specs.Announced.{HasHead}
+use Rattle.bplist_objects.specs.Rules.{KeepsAll}
+use Rattle.bplist_objects.specs.ObjectRules.{KeepsByObject, object_rules}
+use Rattle.bplist_objects.specs.Extents.{IsOverfull}
+use Rattle.bplist_objects.specs.Units.{compare_units}
+use Rattle.bplist_objects.proofs.Lists.{all_weaker}
+use Rattle.bplist_objects.proofs.BodyLaws.{HasHead-unique}
+use Rattle.bplist_objects.proofs.Broken.{kept_or_broken, no_first_fault}
+use Rattle.bplist_objects.proofs.References.{length-nums_at, all_refs, each_ref}
+use Rattle.bplist_objects.proofs.HeadTies.{kept_announces, kept_spells, spells_keeps, shape_announced}
+use Rattle.bplist_objects.proofs.FirstFaults.{no_frame}
+use Rattle.bplist_cert.specs.Lists.{Keyed, Lists, lists}
+use Rattle.bplist_cert.specs.Valid.{IsVouchedBy, IsVouched, IsValid}
+use Rattle.bplist_cert.specs.Sorted.{IsSorted, HasSortedKeys, AreListed, IsAccepted}
+use Rattle.bplist_cert.specs.Heights.{ref}
+use Rattle.bplist_cert.specs.Looks.{AreSeen}
+use Rattle.bplist_cert.specs.Keys.{HaveTexts, KeysDiffer, AreInOrder}
+use Rattle.bplist_cert.specs.CheckRules.{KeepsByCheck, BreaksByCheck, BreaksAtCheck, HasOrder, BreaksOrder, KeepsLast, check_rules, vouched_rules, last_rule, list_of}
+use Rattle.bplist_cert.specs.PairFault.{IsKept, IsCertFault, IsPairFault}
+use Rattle.bplist_objects.proofs.RuleLaws.{kept_all_after}
+use Rattle.bplist_cert.proofs.CheckSteps.{vouched_inside, last_kept}
+use Rattle.bplist_cert.proofs.KeyTies.{HaveKeys, keys_from_rules, rules_from_keys}
+use Rattle.bplist_cert.proofs.TextKeys.{key_refs, texts_are, units_at_key, ordered_differ}
+
+keeps_front : (keeps : Rule → Type 0) (xs ys : List Rule) → KeepsAll keeps (xs ++ ys) → KeepsAll keeps xs
+keeps_front keeps [] ys k = tt
+keeps_front keeps (x ∷ xs) ys k = (k.0, keeps_front keeps xs ys k.1)
+
+keeps_behind : (keeps : Rule → Type 0) (xs ys : List Rule) → KeepsAll keeps (xs ++ ys) → KeepsAll keeps ys
+keeps_behind keeps [] ys k = k
+keeps_behind keeps (x ∷ xs) ys k = keeps_behind keeps xs ys k.1
+
+-- the rule of keys beside rule 21, by a head
+last_by : (f : List ℕ) (F : Frame) (heights : List ℕ) (keys : Option Keyed) (n : ℕ) (head : Head) → HasHead f F n head → head.kind ≡ kinds.Dict
+    → KeepsByCheck f F (lists heights keys) n (last_rule keys) → KeepsLast f F keys n head
+last_by f F heights None n head has kind k = k head has kind
+last_by f F heights (Some keyed) n head has kind k = k head has kind
+
+-- keys differ where the rule is kept
+last_differs : (f : List ℕ) (F : Frame) (keys : Option Keyed) (n : ℕ) (head : Head) → HaveTexts f F head head.count → KeepsLast f F keys n head → KeysDiffer f F head head.count
+last_differs f F None n head texts k = k
+last_differs f F (Some keyed) n head texts k = ordered_differ f F head (list_of keyed n head.count) texts k.1
+
+-- a dictionary's references by its content
+dict_refs : (f : List ℕ) (F : Frame) (kind : Kind) (count body : ℕ) (ks ms : List ℕ) → dict ks ms ≡ content_of f F kind count body → (kind ≡ kinds.Dict) × (ks ≡ nums_at f body F.ref_size count)
+dict_refs f F kinds.Dict count body ks ms e = (refl, cc e)
+dict_refs f F _ count body ks ms e = absurd (cc e)
+
+-- ---- what is kept is accepted
+module _ (f : List ℕ) (F : Frame) (heights : List ℕ) (keys : Option Keyed) (n : ℕ) (frame : IsFrame f F) (lt : n < F.objects) (kept : KeepsAll (KeepsByCheck f F (lists heights keys) n) (check_rules keys)) where
+  own : KeepsAll (KeepsByObject f F n) object_rules
+  own = keeps_front (KeepsByCheck f F (lists heights keys) n) object_rules (vouched_rules keys) kept
+
+  rest : KeepsAll (KeepsByCheck f F (lists heights keys) n) (vouched_rules keys)
+  rest = keeps_behind (KeepsByCheck f F (lists heights keys) n) object_rules (vouched_rules keys) kept
+
+  there : (head : Head) × HasHead f F n head
+  there = kept_announces f F n frame lt (own.0, (own.1.0, (own.1.1.0, (own.1.1.1.0, tt))))
+
+  vouched : IsVouched f F heights n
+  vouched =
+      let head = there.0 in
+      let has = there.1 in
+      let spells = kept_spells f F n frame lt head has own in
+      let met = rest.1.0 head has in
+      let low = rest.1.1.0 head has in
+      record {
+        content = content_at f F head;
+        spells = spells.1;
+        lower = all_refs f F (λ m. IsVouchedBy heights m × (slice_index heights m < slice_index heights n)) head.kind head.count head.body (λ i l. (met i l, low i l));
+        keys = keys_from_rules f F n head spells.0 (content_at f F head) spells.1 (λ kind.
+            let texts = rest.1.1.1.0 head has kind in
+            (texts, last_differs f F keys n head texts (last_by f F heights keys n head has kind rest.1.1.1.1.0)));
+      }
+
+-- a list in order is sorted
+sorted : (f : List ℕ) (F : Frame) (head : Head) (list : List ℕ) → length list ≡ head.count → HaveTexts f F head head.count → AreInOrder f F head list head.count → IsSorted f F (key_refs f F head) list
+sorted f F head list all texts order =
+    let us = texts_are f F head texts in
+    let many = length-nums_at f head.body F.ref_size head.count in
+    record {
+      units = us.0;
+      texts = us.1;
+      count = all ∙ sym many;
+      within = recursion_from_All (λ p. p < length (key_refs f F head)) list (All-from_get_or (λ p. p < length (key_refs f F head)) list 0 (λ k l. let o = (order k (omega (arith, l, all))).0 in omega (arith, o, many)));
+      ascend = λ j l.
+          let lt : suc j < head.count = omega (arith, l, all) in
+          let p = (order j (omega (arith, lt))).0 in
+          let q = (order (suc j) lt).0 in
+          let a = texts (slice_index list j) p in
+          let b = texts (slice_index list (suc j)) q in
+          ap₂ compare_units (units_at_key f F head us.0 us.1 (slice_index list j) a.0 p a.1) (units_at_key f F head us.0 us.1 (slice_index list (suc j)) b.0 q b.1)
+          ∙ (order (suc j) lt).1 j a.0 b.0 refl a.1 b.1;
+    }
+
+-- the lists of vouched dictionaries
+listed : (f : List ℕ) (F : Frame) (heights : List ℕ) (keys : Option Keyed) → IsFrame f F → length heights ≡ F.objects
+    → ((n : ℕ) → n < F.objects → IsVouchedBy heights n → KeepsAll (KeepsByCheck f F (lists heights keys) n) (check_rules keys)) → AreListed f F heights keys
+listed f F heights None frame all kept = tt
+listed f F heights (Some keyed) frame all kept = λ n ks ms v s.
+    let lt = vouched_inside heights F.objects n all v in
+    let k = kept n lt v in
+    let head = s.shape in
+    let has = shape_announced f F n head s.has in
+    let more = keeps_behind (KeepsByCheck f F (lists heights (Some keyed)) n) object_rules (vouched_rules (Some keyed)) k in
+    let is = dict_refs f F head.kind head.count head.body ks ms s.means in
+    let texts = more.1.1.1.0 head has is.0 in
+    let order = more.1.1.1.1.0 head has is.0 in
+    let many = length-nums_at f head.body F.ref_size head.count in
+    let whole : length (list_of keyed n head.count) ≡ head.count = length-take-le head.count (drop (slice_index keyed.starts n) keyed.positions) (omega (arith, length-drop (slice_index keyed.starts n) keyed.positions, order.0)) in
+    subst (HasSortedKeys f F keyed n) (sym is.1) (
+      omega (arith, order.0, many),
+      subst (λ c. IsSorted f F (key_refs f F head) (part keyed.positions (slice_index keyed.starts n) c)) (sym many) (sorted f F head (list_of keyed n head.count) whole texts order.1),
+    )
+
+pub accepted : (f : List ℕ) (F : Frame) (certificate : Lists) → IsKept f F certificate → IsAccepted f F certificate
+accepted f F certificate k =
+    let heights = certificate.heights in
+    let keys = certificate.keys in
+    let inside = λ (n : ℕ) (v : IsVouchedBy heights n). vouched_inside heights F.objects n k.count v in
+    record {
+      valid = record {
+        frame = k.framed;
+        count = k.count;
+        top = k.top;
+        room = λ ns r d a w.
+            let b = k.running.sums.most ns r d (all_weaker _ _ (λ m v. (v, inside m v)) ns a) w in
+            omega (arith, b, k.running.room);
+        vouched = λ n v. vouched f F heights keys n k.framed (inside n v) (k.running.kept n (inside n v) v);
+      };
+      listed = listed f F heights keys k.framed k.count (λ n lt v. k.running.kept n lt v);
+    }
+
+-- ---- what is accepted is kept
+module _ (f : List ℕ) (F : Frame) (heights : List ℕ) (valid : IsValid f F heights) (n : ℕ) (v : IsVouchedBy heights n) where
+  abbrev is : IsVouched f F heights n
+  is = valid.vouched n v
+
+  abbrev shape : Head
+  shape = is.spells.shape
+
+  same : (head : Head) → HasHead f F n head → shape ≡ head
+  same head has = HasHead-unique f F n shape head (shape_announced f F n shape is.spells.has) has
+
+  content : (head : Head) → HasHead f F n head → is.content ≡ content_at f F head
+  content head has = is.spells.means ∙ ap (content_at f F) (same head has)
+
+  lower_at : (head : Head) → HasHead f F n head → (i : ℕ) → i < ref_count head.kind head.count → IsVouchedBy heights (ref f F head i) × (slice_index heights (ref f F head i) < slice_index heights n)
+  lower_at head has = each_ref f F (λ m. IsVouchedBy heights m × (slice_index heights m < slice_index heights n)) head.kind head.count head.body
+      (subst (λ c. AllByRecursion (λ m. IsVouchedBy heights m × (slice_index heights m < slice_index heights n)) (refs c)) (content head has) is.lower)
+
+  module _ (head : Head) (has : HasHead f F n head) where
+    pub vouched_shape : HasShape f F n head
+    vouched_shape = subst (HasShape f F n) (same head has) is.spells.has
+
+    -- the keys of a vouched dictionary
+    pub vouched_keys : head.kind ≡ kinds.Dict → HaveKeys f F head
+    vouched_keys = rules_from_keys f F n head vouched_shape is.content is.spells is.keys
+
+  not_overfull : IsOverfull f F (IsVouchedBy heights) n → ⊥
+  not_overfull (ns, r, d, a, w, large) =
+      let b = valid.room ns r d (all_weaker _ _ (λ m p. p.0) ns a) w in
+      omega (arith, b, large)
+
+-- where heights are valid, looks show that
+pub valid_seen : (f : List ℕ) (F : Frame) (heights : List ℕ) → IsValid f F heights → AreSeen f F heights F.objects
+valid_seen f F heights valid n lt v =
+    let o = valid.vouched n v in
+    record {
+      own = spells_keeps f F n valid.frame lt o.content o.spells;
+      room = not_overfull f F heights valid n v;
+      vouched = λ head has i l. (lower_at f F heights valid n v head has i l).0;
+      lower = λ head has i l. (lower_at f F heights valid n v head has i l).1;
+    }
+
+-- a sorted list is in order
+in_order : (f : List ℕ) (F : Frame) (head : Head) (list : List ℕ) → IsSorted f F (key_refs f F head) list → AreInOrder f F head list head.count
+in_order f F head list s j l = (
+  low j l,
+  λ i a b next x y.
+      let e : suc i ≡ j = next in
+      let first = low i (omega (arith, e, l)) in
+      let ua = units_at_key f F head s.units s.texts (slice_index list i) a first x in
+      let ub = units_at_key f F head s.units s.texts (slice_index list j) b (low j l) y in
+      let up = s.ascend i (omega (arith, e, l, s.count, many)) in
+      let up' = subst (λ k. compare_units (slice_index_or s.units (slice_index list i) []) (slice_index_or s.units (slice_index list k) []) ≡ Less) e up in
+      ap₂ compare_units (sym ua) (sym ub) ∙ up',
+)
+  where
+    many : length (key_refs f F head) ≡ head.count
+    many = length-nums_at f head.body F.ref_size head.count
+
+    low : (k : ℕ) → k < head.count → slice_index list k < head.count
+    low k m = let p = All-get_or (λ p. p < length (key_refs f F head)) list k 0 (omega (arith, m, s.count, many)) (All-from_recursion (λ p. p < length (key_refs f F head)) list s.within) in omega (arith, p, many)
+
+last_there : (f : List ℕ) (F : Frame) (heights : List ℕ) (keys : Option Keyed) → (valid : IsValid f F heights) → AreListed f F heights keys → (n : ℕ) (v : IsVouchedBy heights n) (head : Head) → HasHead f F n head
+    → head.kind ≡ kinds.Dict → KeepsLast f F keys n head
+last_there f F heights None valid listed n v head has kind = (vouched_keys f F heights valid n v head has kind).1
+last_there f F heights (Some keyed) valid listed n v head has kind =
+    let spelled : Spells f F n (content_of f F kinds.Dict head.count head.body) =
+    subst (λ k. Spells f F n (content_of f F k head.count head.body)) kind (subst (Spells f F n) (content f F heights valid n v head has) (valid.vouched n v).spells) in
+    let sorted = listed n (key_refs f F head) _ v spelled in
+    let many = length-nums_at f head.body F.ref_size head.count in
+    (omega (arith, sorted.0, many), in_order f F head (list_of keyed n head.count) (subst (λ c. IsSorted f F (key_refs f F head) (part keyed.positions (slice_index keyed.starts n) c)) many sorted.1))
+
+pub keeps_all : (f : List ℕ) (F : Frame) (certificate : Lists) → IsAccepted f F certificate → (n : ℕ) → IsVouchedBy certificate.heights n → KeepsAll (KeepsByCheck f F certificate n) (check_rules certificate.keys)
+keeps_all f F certificate a n v =
+    let heights = certificate.heights in
+    let keys = certificate.keys in
+    let valid = a.valid in
+    let lt = vouched_inside heights F.objects n valid.count v in
+    let seen = valid_seen f F heights valid n lt v in
+    let spells = (valid.vouched n v).spells in
+    let head = spells.shape in
+    let has = shape_announced f F n head spells.has in
+    kept_all_after (KeepsByCheck f F certificate n) object_rules (vouched_rules keys) seen.own (
+      seen.room,
+      (
+        seen.vouched,
+        (
+          seen.lower,
+          (
+            λ other h kind. (vouched_keys f F heights valid n v other h kind).0,
+            (last_kept f F heights keys n head has (λ kind. last_there f F heights keys valid a.listed n v head has kind), tt),
+          ),
+        ),
+      ),
+    )
+
+-- ---- what is kept is not broken
+order_broken : (f : List ℕ) (F : Frame) (count : ℕ) (keys : Option Keyed) (n : ℕ) (head : Head) (place : ℕ) → HasOrder f F keys n head → BreaksOrder f F count keys n head place → ⊥
+order_broken f F count None n head place k b = b
+order_broken f F count (Some keyed) n head place k (inl (short, p)) = omega (arith, k.0, short)
+order_broken f F count (Some keyed) n head place k (inr (whole, (j, first, p))) = first.wrong (k.1 j first.within)
+
+pub broken : (f : List ℕ) (F : Frame) (certificate : Lists) (n : ℕ) (rule : Rule) (place : ℕ) → KeepsByCheck f F certificate n rule → BreaksByCheck f F certificate n rule place → ⊥
+broken f F certificate n rules.Overfull place k b = k b.0
+broken f F certificate n rules.ChildNotVouched place k (head, i, has, first, p) = first.unmet (k head has i first.within)
+broken f F certificate n rules.HeightNotLess place k (head, i, has, first, p) = first.unmet (k head has i first.within)
+broken f F certificate n rules.KeyKind place k (head, i, has, kind, first, p) = let t = k head has kind i first.within in first.none t.0 t.1
+broken f F certificate n rules.KeyTwice place k (head, i, has, kind, first, p) = k head has kind first.earlier i first.order first.within first.first first.second first.is_first first.is_second first.same
+broken f F certificate n rules.KeyOrder place k (head, has, kind, b) = order_broken f F (length certificate.heights) certificate.keys n head place (k head has kind) b
+broken f F certificate n rule place k b = kept_or_broken f F n rule place k b
+
+-- where a fault of the pair is found the certificate is not accepted
+pub fault_refutes : (f : List ℕ) (F : Frame) (certificate : Lists) (fault : Fault) → IsPairFault f certificate fault → IsAccepted f F certificate → ⊥
+fault_refutes f F certificate fault (inl h) a = no_frame f F fault h a.valid.frame
+fault_refutes f F certificate fault (inr (G, frame, h)) a =
+    let same : F ≡ G = a.valid.frame.spelled ∙ sym frame.spelled in
+    by G (subst (λ H. IsAccepted f H certificate) same a) h
+  where
+    by : (G : Frame) → IsAccepted f G certificate → IsCertFault f G certificate fault → ⊥
+    by G b (inl c) = c.0 b.valid.count
+    by G b (inr (inl c)) = omega (arith, c.1, b.valid.top)
+    by G b (inr (inr c)) =
+        no_first_fault (KeepsByCheck f G certificate c.2.object) (BreaksAtCheck f G certificate c.2.object) (λ rule object place k x. broken f G certificate c.2.object rule place k x.1)
+        (check_rules certificate.keys) fault (keeps_all f G certificate b c.2.object c.2.vouched) c.2.first

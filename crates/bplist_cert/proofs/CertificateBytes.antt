@@ -1,0 +1,140 @@
+-- Laws of the bytes of certificates.
+use Rattle.std.proofs.Common.{◌≡◌, inl, inr, ℕ, suc, ◌+◌, ◌*◌, ◌^◌, ◌<◌, ◌≤◌, List, [], ◌∷◌, ◌++◌, length, get_or, take, drop, Option, Some, None, refl, sym, ap, ◌∙◌, subst, arith}
+use Rattle.std.specs.Int.{bytes_high_first}
+use Rattle.std.proofs.lemmas.List.{append_cancel_left, length-append, take-append-drop, drop-drop, take_at, drop_at}
+use Rattle.bplist_octets.specs.Octets.{part, num}
+use Rattle.bplist_octets.proofs.Spelled.{num-lt}
+use Rattle.bplist_objects.proofs.Units.{length-part}
+use Rattle.bplist_cert.specs.Lists.{Keyed, Lists, lists, AreWords, AreKeyed, HasStarts, HasCount, IsCertificate}
+use Rattle.bplist_cert.specs.Encoding.{plain_magic, keyed_magic, magic, words, key_words, octets_of, told, HasMagic, HasLength}
+use Rattle.bplist_cert.proofs.NumberBytes.{AreBytes, num-bytes, bytes-num, length-bytes, length-words, part-low}
+
+-- equal lists whose fronts are of one length
+parts_same : (p q x y : List ℕ) → length p ≡ length q → p ++ x ≡ q ++ y → (p ≡ q) × (x ≡ y)
+parts_same p q x y l e =
+    let front : p ≡ q = sym (take_at p x (length q) l) ∙ ap (take (length q)) e ∙ take_at q y (length q) refl in
+    let rest : x ≡ y = sym (drop_at p x (length q) l) ∙ ap (drop (length q)) e ∙ drop_at q y (length q) refl in
+    (front, rest)
+
+-- numbers have one spelling
+words_once : (xs ys : List ℕ) → AreWords xs → AreWords ys → words xs ≡ words ys → xs ≡ ys
+words_once [] [] p q e = refl
+words_once [] (y ∷ ys) p q e = absurd (omega (arith, ap length e, length-words (y ∷ ys)))
+words_once (x ∷ xs) [] p q e = absurd (omega (arith, ap length e, length-words (x ∷ xs)))
+words_once (x ∷ xs) (y ∷ ys) p q e =
+    let s = parts_same (bytes_high_first 4 x) (bytes_high_first 4 y) (words xs) (words ys) (length-bytes 4 x ∙ sym (length-bytes 4 y)) e in
+    let first : x ≡ y = sym (num-bytes 4 x (p 0)) ∙ ap num s.0 ∙ num-bytes 4 y (q 0) in
+    let rest = words_once xs ys (λ k. p (suc k)) (λ k. q (suc k)) s.1 in
+    cc
+
+-- what stands behind the magic
+abbrev behind : Lists → List ℕ
+behind lists = bytes_high_first 8 (length lists.heights) ++ (words lists.heights ++ key_words lists.keys)
+
+heights_once : (a b : Lists) → IsCertificate a → IsCertificate b → behind a ≡ behind b → (a.heights ≡ b.heights) × (key_words a.keys ≡ key_words b.keys)
+heights_once a b p q e =
+    let s = parts_same (bytes_high_first 8 (length a.heights)) (bytes_high_first 8 (length b.heights)) (words a.heights ++ key_words a.keys) (words b.heights ++ key_words b.keys)
+    (length-bytes 8 (length a.heights) ∙ sym (length-bytes 8 (length b.heights))) e in
+    let count : length a.heights ≡ length b.heights = sym (num-bytes 8 (length a.heights) p.count) ∙ ap num s.0 ∙ num-bytes 8 (length b.heights) q.count in
+    let t = parts_same (words a.heights) (words b.heights) (key_words a.keys) (key_words b.keys) (length-words a.heights ∙ ap (λ n. 4 * n) count ∙ sym (length-words b.heights)) s.1 in
+    (words_once a.heights b.heights p.heights q.heights t.0, t.1)
+
+keyed_once : (a b : Keyed) → length a.starts ≡ length b.starts → AreKeyed (Some a) → AreKeyed (Some b) → key_words (Some a) ≡ key_words (Some b) → a ≡ b
+keyed_once a b l p q e =
+    let t = parts_same (words a.starts) (words b.starts) (words a.positions) (words b.positions) (length-words a.starts ∙ ap (λ n. 4 * n) l ∙ sym (length-words b.starts)) e in
+    let s = words_once a.starts b.starts p.0 q.0 t.0 in
+    let r = words_once a.positions b.positions p.1 q.1 t.1 in
+    ap (λ x. record { starts = x; positions = a.positions }) s ∙ ap (λ x. record { starts = b.starts; positions = x }) r
+
+once : (h i : List ℕ) (j k : Option Keyed) → IsCertificate (lists h j) → IsCertificate (lists i k) → octets_of (lists h j) ≡ octets_of (lists i k) → lists h j ≡ lists i k
+once h i None None p q e =
+    let r = heights_once (lists h None) (lists i None) p q (append_cancel_left plain_magic (behind (lists h None)) (behind (lists i None)) e) in
+    ap (λ x. lists x None) r.0
+once h i None (Some k) p q e = absurd (omega (arith, ap (λ xs. get_or xs 7 0) e))
+once h i (Some j) None p q e = absurd (omega (arith, ap (λ xs. get_or xs 7 0) e))
+once h i (Some j) (Some k) p q e =
+    let r = heights_once (lists h (Some j)) (lists i (Some k)) p q (append_cancel_left keyed_magic (behind (lists h (Some j))) (behind (lists i (Some k))) e) in
+    let l : length j.starts ≡ length k.starts = p.starts ∙ ap length r.0 ∙ sym q.starts in
+    ap (λ x. lists x (Some j)) r.0 ∙ ap (λ x. lists i (Some x)) (keyed_once j k l p.keys q.keys r.1)
+
+-- a certificate has one spelling
+pub octets_once : (a b : Lists) → IsCertificate a → IsCertificate b → octets_of a ≡ octets_of b → a ≡ b
+octets_once a b = once a.heights b.heights a.keys b.keys
+
+-- what stands before a place, the n octets from there on, and the rest
+drop-part : (xs : List ℕ) (place n : ℕ) → drop place xs ≡ part xs place n ++ drop (place + n) xs
+drop-part xs place n = sym (take-append-drop n (drop place xs)) ∙ ap (λ ys. part xs place n ++ ys) (drop-drop n place xs)
+
+-- the number of heights behind the magic
+head_of : (octets front : List ℕ) (count : ℕ) → AreBytes octets → 16 ≤ length octets → take 8 octets ≡ front → count ≡ told octets
+    → octets ≡ front ++ (bytes_high_first 8 count ++ drop 16 octets)
+head_of octets front count low long magic e =
+    let bytes = bytes-num 8 (part octets 8 8) (length-part octets 8 8 (omega arith)) (part-low octets 8 8 low) in
+    let spelled : bytes_high_first 8 count ≡ part octets 8 8 = ap (bytes_high_first 8) e ∙ bytes in
+    sym (take-append-drop 8 octets) ∙ ap (λ ys. ys ++ drop 8 octets) magic
+    ∙ ap (λ ys. front ++ ys) (drop-part octets 8 8 ∙ ap (λ ys. ys ++ drop 16 octets) (sym spelled))
+
+-- as many numbers as their bytes say
+pub count_of_words : (octets numbers : List ℕ) (place count : ℕ) → place + 4 * count ≤ length octets → part octets place (4 * count) ≡ words numbers → length numbers ≡ count
+count_of_words octets numbers place count fits e =
+    let l = length-part octets place (4 * count) fits in
+    let w = length-words numbers in
+    let s = ap length e in
+    omega (arith, l, w, s)
+
+pub starts_fit : (heights : List ℕ) (keys : Option Keyed) (count : ℕ) → length heights ≡ count → HasCount keys count → HasStarts heights keys
+starts_fit heights None count n h = tt
+starts_fit heights (Some k) count n h = h ∙ sym n
+
+-- the parts of a certificate are its bytes
+pub whole : (octets heights : List ℕ) (keys : Option Keyed) (count : ℕ) → AreBytes octets → take 8 octets ≡ magic keys → 16 + 4 * count ≤ length octets → count ≡ told octets
+    → AreWords heights → AreKeyed keys → HasCount keys count → part octets 16 (4 * count) ≡ words heights → drop (16 + 4 * count) octets ≡ key_words keys
+    → IsCertificate (lists heights keys) × (octets ≡ octets_of (lists heights keys))
+whole octets heights keys count low front len e p q starts w v =
+    let n = count_of_words octets heights 16 count len w in
+    let rest : drop 16 octets ≡ words heights ++ key_words keys =
+    drop-part octets 16 (4 * count) ∙ ap (λ ys. ys ++ drop (16 + 4 * count) octets) w ∙ ap (λ ys. words heights ++ ys) v in
+    let most : num (part octets 8 8) < 2 ^ 64 = rw (length-part octets 8 8 (omega arith)) at (num-lt (part octets 8 8) (part-low octets 8 8 low)) in (
+      record { count = omega (arith, n, e, most); heights = p; keys = q; starts = starts_fit heights keys count n starts },
+      head_of octets (magic keys) count low (omega arith) front e
+          ∙ ap (λ m. magic keys ++ (bytes_high_first 8 m ++ drop 16 octets)) (sym n)
+          ∙ ap (λ ys. magic keys ++ (bytes_high_first 8 (length heights) ++ ys)) rest,
+    )
+
+-- the number that a certificate's bytes tell is that of its heights
+told_is : (h : List ℕ) (j : Option Keyed) → IsCertificate (lists h j) → told (octets_of (lists h j)) ≡ length h
+told_is h None p = ap num (take_at (bytes_high_first 8 (length h)) (words h ++ []) 8 (length-bytes 8 (length h))) ∙ num-bytes 8 (length h) p.count
+told_is h (Some k) p = ap num (take_at (bytes_high_first 8 (length h)) (words h ++ key_words (Some k)) 8 (length-bytes 8 (length h))) ∙ num-bytes 8 (length h) p.count
+
+length_behind : (h : List ℕ) (j : Option Keyed) → length (behind (lists h j)) ≡ 8 + 4 * length h + length (key_words j)
+length_behind h j =
+    let a = length-append (bytes_high_first 8 (length h)) (words h ++ key_words j) in
+    let b = length-append (words h) (key_words j) in
+    let c = length-bytes 8 (length h) in
+    let d = length-words h in
+    omega (arith, a, b, c, d)
+
+length_of : (h : List ℕ) (j : Option Keyed) → IsCertificate (lists h j) → HasLength (octets_of (lists h j))
+length_of h None p =
+    let t = told_is h None p in
+    let l = length_behind h None in
+    inl (refl, omega (arith, t, l))
+length_of h (Some k) p =
+    let t = told_is h (Some k) p in
+    let l = length_behind h (Some k) in
+    let a = length-append (words k.starts) (words k.positions) in
+    let b = length-words k.starts in
+    let c = length-words k.positions in
+    let s = p.starts in
+    inr (refl, omega (arith, t, l, a, b, c, s), omega (arith, l, a, b, c, s))
+
+magic_is : (h : List ℕ) (j : Option Keyed) → HasMagic (octets_of (lists h j))
+magic_is h None = inl refl
+magic_is h (Some k) = inr refl
+
+-- the bytes of a certificate keep rules 24 and 25
+pub magic_kept : (octets : List ℕ) (c : Lists) → octets ≡ octets_of c → HasMagic octets
+magic_kept octets c e = subst HasMagic (sym e) (magic_is c.heights c.keys)
+
+pub length_kept : (octets : List ℕ) (c : Lists) → IsCertificate c → octets ≡ octets_of c → HasLength octets
+length_kept octets c p e = subst HasLength (sym e) (length_of c.heights c.keys p)

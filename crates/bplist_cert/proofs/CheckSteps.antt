@@ -1,0 +1,250 @@
+-- One vouched object after the other.
+use Rattle.std.proofs.Common.{◌≡◌, ℕ, suc, ◌<◌, ◌≤◌, ◌+◌, ◌-◌, ◌⊎◌, inl, inr, List, [], ◌∷◌, length, slice_index, Result, Ok, Err, Option, Some, None, refl, sym, ◌∙◌, subst, arith}
+use Rattle.std.proofs.lemmas.Bool.{cases_lt}
+use Rattle.std.proofs.lemmas.List.{get_or_past}
+use Rattle.bplist_objects.specs.declared.rule.Rule.{Rule}
+use Rattle.bplist_objects.specs.declared.rule.Rule.TheVariants as rules
+use Rattle.bplist_objects.specs.declared.fault.Fault.{Fault}
+use Rattle.bplist_objects.specs.declared.fault.ObjectFault.{ObjectFault}
+use Rattle.bplist_objects.specs.declared.fault.ObjectFault.TheVariants as errors
+use Rattle.bplist_objects.specs.declared.frame.Frame.{Frame}
+use Rattle.bplist_objects.specs.declared.frame.ObjectNo.{ObjectNo}
+use Rattle.bplist_objects.specs.declared.head.Head.{Head}
+use Rattle.bplist_objects.specs.declared.kind.Kind.TheVariants as kinds
+use Rattle.bplist_objects.specs.Frame.{off, IsFrame}
+use Rattle.bplist_objects.specs.Safe.{ref_count}
+use Rattle.bplist_objects.specs.Answers.{GivesFault, Never}
+use Rattle.bplist_objects.specs.Announced.{HasHead}
+use Rattle.bplist_objects.specs.FrameRules.{IsFrameFault}
+use Rattle.bplist_objects.specs.Rules.{KeepsAll}
+use Rattle.bplist_objects.specs.ObjectRules.{KeepsByObject, IsObjectFault, object_rules}
+use Rattle.bplist_objects.specs.Extents.{HasExtent, IsOverfull}
+use Rattle.bplist_objects.proofs.Lists.{all_weaker, all_at}
+use Rattle.bplist_objects.proofs.ExtentSums.{most_none, most_more, most_same}
+use Rattle.bplist_objects.proofs.RuleLaws.{first_fault_after, first_fault_among, kept_all_after}
+use Rattle.bplist_objects.proofs.BodyLaws.{HasHead-unique}
+use Rattle.bplist_objects.proofs.HeadTies.{kept_spells}
+use Rattle.bplist_cert.specs.declared.heights.Wanted.TheVariants.{Vouched, Below}
+use Rattle.bplist_cert.specs.declared.refusal.Refusal.{Refusal}
+use Rattle.bplist_cert.specs.declared.refusal.Refusal.TheVariants as refusals
+use Rattle.bplist_cert.specs.Lists.{Keyed, Lists, lists, HasStarts, HasCount}
+use Rattle.bplist_cert.specs.Valid.{IsVouchedBy}
+use Rattle.bplist_cert.specs.Heights.{AreMet, IsHeightFault}
+use Rattle.bplist_cert.specs.Keys.{HaveTexts, KeysDiffer}
+use Rattle.bplist_cert.specs.CheckRules.{KeepsByCheck, BreaksAtCheck, IsCheckFault, check_rules, vouched_rules, last_rule, HasOrder, KeepsLast, IsLastFault, IsKeysFault}
+use Rattle.bplist_cert.specs.declared.checker.Look.{Look}
+use Rattle.bplist_cert.specs.declared.checker.Look.TheVariants.{Quick, Exact}
+use Rattle.bplist_cert.specs.Looks.{IsShown, IsShownFault}
+use Rattle.bplist_cert.specs.KeyClasses.{HasGoodKeys}
+use Rattle.bplist_cert.specs.KeyPairs.{HasGoodList}
+use Rattle.bplist_cert.specs.PairFault.{Sums, IsHeld, Running, IsWalkFault, IsPairFault}
+use Rattle.bplist_cert.specs.Refusals.{GivesRefusal, Judges, refusal_of}
+
+-- the rule of keys beside rule 21, by the head
+pub last_kept : (f : List ℕ) (F : Frame) (heights : List ℕ) (keys : Option Keyed) (n : ℕ) (head : Head) → HasHead f F n head → (head.kind ≡ kinds.Dict → KeepsLast f F keys n head)
+    → KeepsByCheck f F (lists heights keys) n (last_rule keys)
+last_kept f F heights None n head has v = λ other h. subst (λ (x : Head). x.kind ≡ kinds.Dict → KeysDiffer f F x x.count) (HasHead-unique f F n head other has h) v
+last_kept f F heights (Some keyed) n head has v = λ other h. subst (λ (x : Head). x.kind ≡ kinds.Dict → HasOrder f F (Some keyed) n x) (HasHead-unique f F n head other has h) v
+
+last_broken : (f : List ℕ) (F : Frame) (heights : List ℕ) (keys : Option Keyed) (n : ℕ) (head : Head) → HasHead f F n head → head.kind ≡ kinds.Dict → (fault : Fault)
+    → IsLastFault f F (length heights) keys n head fault → (fault.rule ≡ last_rule keys) × BreaksAtCheck f F (lists heights keys) n (last_rule keys) fault.object fault.place
+last_broken f F heights None n head has kind fault (rule, object, (i, first, place)) = (rule, (object, (head, i, has, kind, first, place)))
+last_broken f F heights (Some keyed) n head has kind fault (rule, object, broken) = (rule, (object, (head, has, kind, broken)))
+
+-- the keys of a dictionary, whose keys are texts
+pub keys_judged : (f : List ℕ) (F : Frame) (count : ℕ) (keys : Option Keyed) (n : ℕ) (head : Head) → head.kind ≡ kinds.Dict → HaveTexts f F head head.count → (result : Result (Unit {0}) Refusal)
+    → Judges (λ _. KeepsLast f F keys n head) (IsLastFault f F count keys n head) result
+    → Judges (λ _. head.kind ≡ kinds.Dict → HaveTexts f F head head.count × KeepsLast f F keys n head) (IsKeysFault f F count keys n head) result
+keys_judged f F count keys n head kind texts (Ok x) h = λ _. (texts, h)
+keys_judged f F count keys n head kind texts (Err (refusals.Fault fault)) h = (kind, inr (texts, h))
+keys_judged f F count keys n head kind texts (Err (refusals.Read r)) h = tt
+keys_judged f F count keys n head kind texts (Err refusals.Memory) h = tt
+
+-- there are as many starts as objects
+pub starts_counted : (heights : List ℕ) (keys : Option Keyed) (count : ℕ) → length heights ≡ count → HasStarts heights keys → HasCount keys count
+starts_counted heights None count e h = tt
+starts_counted heights (Some keyed) count e h = h ∙ e
+
+module _ (f : List ℕ) (F : Frame) (heights : List ℕ) (keys : Option Keyed) (n : ℕ) where
+  abbrev Keeps : Rule → Type 0
+  Keeps rule = KeepsByCheck f F (lists heights keys) n rule
+
+  abbrev Breaks : Rule → Option ObjectNo → ℕ → Type 0
+  Breaks rule object place = BreaksAtCheck f F (lists heights keys) n rule object place
+
+  abbrev Broken : Fault → Type 0
+  Broken fault = IsCheckFault f F (lists heights keys) n (check_rules keys) fault
+
+  -- a fault of the object by itself
+  pub object_fault : (e : ObjectFault) → GivesFault (IsObjectFault f F n object_rules) e → GivesRefusal Broken (refusal_of e)
+  object_fault (errors.Fault fault) h = first_fault_among Keeps Breaks object_rules (vouched_rules keys) fault h
+  object_fault (errors.Read r) h = tt
+
+  module _ (frame : IsFrame f F) (lt : n < F.objects) (head : Head) (has : HasHead f F n head) (kept : KeepsAll (KeepsByObject f F n) object_rules) (vouched : IsVouchedBy heights n) (t : ℕ) (sums : Sums f F heights n t) where
+    abbrev now : ℕ
+    now = t + (head.«end» - off f F n)
+
+    extent : HasExtent f F n (head.«end» - off f F n)
+    extent = let spells = kept_spells f F n frame lt head has kept in (head, spells.0, omega (arith, spells.0.body, spells.0.«end»))
+
+    -- with the object, the running sum
+    more : Sums f F heights (suc n) now
+    more =
+        let e = head.«end» - off f F n in
+        record {
+          objects = n ∷ sums.objects;
+          differ = ((λ c. let b = all_at _ sums.objects n sums.inside c in omega (arith, b.1)), sums.differ);
+          inside = ((vouched, omega arith), all_weaker _ _ (λ m p. (p.0, omega (arith, p.1))) sums.objects sums.inside);
+          take_all = (e, t, extent, sums.take_all, omega arith);
+          most = most_more f F (IsVouchedBy heights) n e t extent sums.most;
+        }
+
+    -- the sum is too large
+    pub overfull_fault : (fault : Fault) → fault.rule ≡ rules.Overfull → fault.object ≡ Some (record { 0 = n }) → fault.place ≡ off f F n → F.table < now + 8 → Broken fault
+    overfull_fault fault rule object place large =
+        first_fault_after Keeps Breaks object_rules (vouched_rules keys) fault kept
+        (inl (rule, (object, ((more.objects, now, more.differ, all_weaker _ _ (λ k p. (p.0, omega (arith, p.1))) more.objects more.inside, more.take_all, large), place))))
+
+    module _ (room : now + 8 ≤ F.table) where
+      not_overfull : IsOverfull f F (IsVouchedBy heights) n → ⊥
+      not_overfull (ns, r, d, a, w, large) =
+          let b = more.most ns r d (all_weaker _ _ (λ k p. (p.0, omega (arith, p.1))) ns a) w in
+          omega (arith, b, large)
+
+      vouched_any : AreMet f F heights head Vouched (ref_count head.kind head.count) → Keeps rules.ChildNotVouched
+      vouched_any v other h = subst (λ (x : Head). AreMet f F heights x Vouched (ref_count x.kind x.count)) (HasHead-unique f F n head other has h) v
+
+      lower_any : AreMet f F heights head (Below (slice_index heights n)) (ref_count head.kind head.count) → Keeps rules.HeightNotLess
+      lower_any v other h = subst (λ (x : Head). AreMet f F heights x (Below (slice_index heights n)) (ref_count x.kind x.count)) (HasHead-unique f F n head other has h) v
+
+      texts_any : (head.kind ≡ kinds.Dict → HaveTexts f F head head.count) → Keeps rules.KeyKind
+      texts_any v other h = subst (λ (x : Head). x.kind ≡ kinds.Dict → HaveTexts f F x x.count) (HasHead-unique f F n head other has h) v
+
+      -- a fault of the heights
+      pub heights_fault : (e : ObjectFault) → GivesFault (IsHeightFault f F heights n head) e → GivesRefusal Broken (refusal_of e)
+      heights_fault (errors.Fault fault) (inl (rule, object, (i, first, place))) =
+          first_fault_after Keeps Breaks object_rules (vouched_rules keys) fault kept
+          (inr (not_overfull, inl (rule, (object, (head, i, has, first, place)))))
+      heights_fault (errors.Fault fault) (inr (met, (rule, object, (i, first, place)))) =
+          first_fault_after Keeps Breaks object_rules (vouched_rules keys) fault kept
+          (inr (not_overfull, inr (vouched_any met, inl (rule, (object, (head, i, has, first, place))))))
+      heights_fault (errors.Read r) h = tt
+
+      module _ (met : AreMet f F heights head Vouched (ref_count head.kind head.count)) (low : AreMet f F heights head (Below (slice_index heights n)) (ref_count head.kind head.count)) where
+        -- a fault of the keys
+        pub keys_fault : (e : Refusal) → GivesRefusal (IsKeysFault f F (length heights) keys n head) e → GivesRefusal Broken e
+        keys_fault (refusals.Fault fault) (kind, inl (rule, object, (i, first, place))) =
+            first_fault_after Keeps Breaks object_rules (vouched_rules keys) fault kept
+            (inr (not_overfull, inr (vouched_any met, inr (lower_any low, inl (rule, (object, (head, i, has, kind, first, place)))))))
+        keys_fault (refusals.Fault fault) (kind, inr (texts, last)) =
+            first_fault_after Keeps Breaks object_rules (vouched_rules keys) fault kept
+            (inr (not_overfull, inr (vouched_any met, inr (lower_any low, inr (texts_any (λ _. texts), inl (last_broken f F heights keys n head has kind fault last))))))
+        keys_fault (refusals.Read r) h = tt
+        keys_fault refusals.Memory h = tt
+
+        -- the object keeps the rules before those of keys
+        pub seen : IsHeld f F (lists heights keys) Quick n now
+        seen = record {
+          sums = more;
+          room = room;
+          kept = record { own = kept; room = not_overfull; vouched = vouched_any met; lower = lower_any low };
+        }
+
+        -- the object keeps all rules
+        pub held : (head.kind ≡ kinds.Dict → HaveTexts f F head head.count × KeepsLast f F keys n head) → IsHeld f F (lists heights keys) Exact n now
+        held last = record {
+          sums = more;
+          room = room;
+          kept = kept_all_after Keeps object_rules (vouched_rules keys) kept (not_overfull, (vouched_any met, (lower_any low, (texts_any (λ kind. (last kind).0), (last_kept f F heights keys n head has (λ kind. (last kind).1), tt)))));
+        }
+
+  none_more : (IsVouchedBy heights n → ⊥) → (t : ℕ) → Sums f F heights n t → Sums f F heights (suc n) t
+  none_more never t sums = record {
+    objects = sums.objects;
+    differ = sums.differ;
+    inside = all_weaker _ _ (λ m p. (p.0, omega (arith, p.1))) sums.objects sums.inside;
+    take_all = sums.take_all;
+    most = most_same f F (IsVouchedBy heights) n t never sums.most;
+  }
+
+  module _ (look : Look) where
+    below_by : ((m : ℕ) → m < n → IsVouchedBy heights m → IsShown f F (lists heights keys) look m) → (IsVouchedBy heights n → IsShown f F (lists heights keys) look n)
+        → (m : ℕ) → m < suc n → IsVouchedBy heights m → IsShown f F (lists heights keys) look m
+    below_by below here m lt v = go (cases_lt m n)
+      where
+        go : (m < n) ⊎ (n ≤ m) → IsShown f F (lists heights keys) look m
+        go (inl a) = below m a v
+        go (inr b) =
+            let e : n ≡ m = omega (arith, lt, b) in
+            subst (λ k. IsShown f F (lists heights keys) look k) e (here (subst (IsVouchedBy heights) (sym e) v))
+
+    -- an object that is not vouched for
+    pub passed : (slice_index heights n ≡ 0) → (t : ℕ) → Running f F (lists heights keys) look n t → Running f F (lists heights keys) look (suc n) t
+    passed none t run =
+        let never : IsVouchedBy heights n → ⊥ = λ v. omega (arith, v, none) in
+        record { sums = none_more never t run.sums; room = run.room; kept = below_by run.kept (λ v. absurd (never v)) }
+
+  -- the fault of a vouched object is that of the walk
+  fault_met : IsVouchedBy heights n → (look : Look) (t : ℕ) → Running f F (lists heights keys) look n t → (fault : Fault)
+      → IsShownFault f F (lists heights keys) look n fault → IsWalkFault f F (lists heights keys) look fault
+  fault_met v Quick t run fault h = tt
+  fault_met v Exact t run fault h = record { object = n; vouched = v; first = h; least = run.kept }
+
+  -- the answer for a vouched object is that of the walk
+  pub stepped : (look : Look) → IsVouchedBy heights n → (t : ℕ) → Running f F (lists heights keys) look n t → (result : Result ℕ Refusal)
+      → Judges (IsHeld f F (lists heights keys) look n) (IsShownFault f F (lists heights keys) look n) result → Judges (Running f F (lists heights keys) look (suc n)) (IsWalkFault f F (lists heights keys) look) result
+  stepped look v t run (Ok t') h = record { sums = h.sums; room = h.room; kept = below_by look run.kept (λ _. h.kept) }
+  stepped look v t run (Err (refusals.Fault fault)) h = fault_met v look t run fault h
+  stepped look v t run (Err (refusals.Read r)) h = tt
+  stepped look v t run (Err refusals.Memory) h = tt
+
+-- what is vouched for is an object
+pub vouched_inside : (heights : List ℕ) (count n : ℕ) → length heights ≡ count → IsVouchedBy heights n → n < count
+vouched_inside heights count n e v = elim (cases_lt n (length heights)) [
+  | inl a ↦ omega (arith, a, e)
+  | inr b ↦ absurd (let none = get_or_past heights n 0 b in omega (arith, v, none))
+]
+
+-- before the first object
+pub start : (f : List ℕ) (F : Frame) (certificate : Lists) (look : Look) → IsFrame f F → Running f F certificate look 0 0
+start f F certificate look frame = record {
+  sums = record { objects = []; differ = tt; inside = tt; take_all = refl; most = most_none f F (IsVouchedBy certificate.heights) };
+  room = omega (arith, frame.table_early);
+  kept = λ m lt v. absurd (omega arith);
+}
+
+-- the keys of vouched object n are as this version wants them
+abbrev pub HasGood : List ℕ → Frame → Option Keyed → ℕ → Type 0
+HasGood f F None n = HasGoodKeys f F n
+HasGood f F (Some keyed) n = HasGoodList f F keyed n
+
+good_kept : (f : List ℕ) (F : Frame) (heights : List ℕ) (keys : Option Keyed) (n : ℕ) → HasGood f F keys n
+    → KeepsByCheck f F (lists heights keys) n rules.KeyKind × KeepsByCheck f F (lists heights keys) n (last_rule keys)
+good_kept f F heights None n good = (λ head has dict. (good head has dict).0, λ head has dict. (good head has dict).1)
+good_kept f F heights (Some keyed) n good = (λ head has dict. (good head has dict).0, λ head has dict. (good head has dict).1)
+
+-- where quick looks show all vouched objects as they should be, and their keys are good, they keep all rules
+pub all_good : (f : List ℕ) (F : Frame) (heights : List ℕ) (keys : Option Keyed) (t : ℕ) → Running f F (lists heights keys) Quick F.objects t → ((n : ℕ) → IsVouchedBy heights n → HasGood f F keys n)
+    → Running f F (lists heights keys) Exact F.objects t
+all_good f F heights keys t run good = record {
+  sums = run.sums;
+  room = run.room;
+  kept = λ m lt v.
+      let s = run.kept m lt v in
+      let k = good_kept f F heights keys m (good m v) in
+      kept_all_after (KeepsByCheck f F (lists heights keys) m) object_rules (vouched_rules keys) s.own (s.room, (s.vouched, (s.lower, (k.0, (k.1, tt)))));
+}
+
+-- a fault of the file as a whole
+pub frame_fault : (f : List ℕ) (certificate : Lists) (e : ObjectFault) → GivesFault (IsFrameFault f) e → GivesRefusal (IsPairFault f certificate) (refusal_of e)
+frame_fault f certificate (errors.Fault fault) h = inl h
+frame_fault f certificate (errors.Read r) h = tt
+
+-- what is said of a fault is said of the refusal
+pub object_refused : (P Q : Fault → Type 0) (e : ObjectFault) → ((x : Fault) → P x → Q x) → GivesFault P e → GivesRefusal Q (refusal_of e)
+object_refused P Q (errors.Fault fault) same h = same fault h
+object_refused P Q (errors.Read r) same h = tt
+
+-- a call that answers no fault is refused for a failed read or a growth alone
+pub never_refused : (Q : Fault → Type 0) (e : ObjectFault) → GivesFault Never e → GivesRefusal Q (refusal_of e)
+never_refused Q e h = object_refused Never Q e (λ x never. absurd never) h

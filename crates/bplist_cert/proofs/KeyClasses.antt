@@ -1,0 +1,99 @@
+-- What the classes of the keys of a vouched dictionary say of them.
+use Rattle.std.proofs.Common.{Bool, not, IsTrue, Option, Some, None, MatchOption, is_some, ◌≡◌, ℕ, ◌*◌, ◌<◌, ◌≤◌, List, slice_index, sym, ap, ◌∙◌, subst, arith}
+use Rattle.std.proofs.lemmas.Bool.{false≢true}
+use Rattle.bplist_objects.specs.declared.frame.Frame.{Frame}
+use Rattle.bplist_objects.specs.declared.head.Head.{Head}
+use Rattle.bplist_objects.specs.declared.kind.Kind.TheVariants.{Dict}
+use Rattle.bplist_objects.specs.Announced.{HasHead}
+use Rattle.bplist_objects.specs.Frame.{IsFrame}
+use Rattle.bplist_objects.specs.Rules.{KeepsAll}
+use Rattle.bplist_objects.specs.ObjectRules.{KeepsByObject, object_rules}
+use Rattle.bplist_objects.specs.Safe.{ref_count}
+use Rattle.bplist_objects.specs.Units.{units_of}
+use Rattle.bplist_objects.proofs.BodyLaws.{HasHead-unique}
+use Rattle.bplist_objects.proofs.HeadTies.{shape_announced}
+use Rattle.bplist_keys.specs.Texts.{text_units}
+use Rattle.bplist_keys.specs.Ranks.{AreClasses}
+use Rattle.bplist_keys.specs.Classes.{HasNamedKeys, AreClassed, HaveClasses, AreApart}
+use Rattle.bplist_keys.proofs.WeightSteps.{text_units-head}
+use Rattle.bplist_cert.specs.Heights.{ref}
+use Rattle.bplist_cert.specs.Keys.{IsKey, HaveTexts, KeysDiffer}
+use Rattle.bplist_cert.specs.Valid.{IsVouchedBy}
+use Rattle.bplist_cert.specs.Looks.{IsSeen, AreSeen}
+use Rattle.bplist_cert.specs.KeyClasses.{KeysAreSound, HasGoodKeys}
+use Rattle.bplist_cert.proofs.Texts.{text_there}
+
+-- none is found
+pub none_there : {X : Type 0} (A : Type 0) (B : X → Type 0) (found : Option X) (none : Bool) → is_some found ≡ not none → IsTrue none → MatchOption found A B → A
+none_there A B None none e t h = h
+none_there A B (Some x) none e t h = absurd (false≢true (sym (e ∙ ap not t)))
+
+module _ (f : List ℕ) (F : Frame) where
+  -- the key references of a dictionary that keeps rule 20 are objects
+  pub keys_inside : (n : ℕ) → KeepsAll (KeepsByObject f F n) object_rules → (head : Head) → HasHead f F n head → head.kind ≡ Dict → (k : ℕ) → k < head.count → ref f F head k < F.objects
+  keys_inside n kept head has dict k low =
+      let each = subst (λ kind. (i : ℕ) → i < ref_count kind head.count → ref f F head i < F.objects) dict (kept.1.1.1.1.1.1.0 head has) in
+      each k (omega (arith, low))
+
+  -- the classes of the named are those of the keys
+  pub keys_classed : (named classes : List ℕ) (n : ℕ) → AreClasses f F named classes → HasNamedKeys f F named n → (head : Head) → HasHead f F n head → head.kind ≡ Dict → AreClassed f F classes head
+  keys_classed named classes n are named_keys head has dict = record {
+    only = λ k low some. (are.given.only (ref f F head k) some).1;
+    all = λ k low shape. are.given.all (ref f F head k) (named_keys head has dict k low) shape;
+    same = λ i j _ _. are.same (ref f F head i) (ref f F head j);
+  }
+
+  -- keys are good by one head
+  pub good_at : (n : ℕ) (head : Head) → HasHead f F n head → HaveTexts f F head head.count → KeysDiffer f F head head.count → HasGoodKeys f F n
+  good_at n head has texts differ other h dict = subst (λ (x : Head). HaveTexts f F x x.count × KeysDiffer f F x x.count) (HasHead-unique f F n head other has h) (texts, differ)
+
+  -- the keys of a vouched dictionary are vouched for, and lower
+  module _ (heights : List ℕ) (n : ℕ) (seen : IsSeen f F heights n) (head : Head) (has : HasHead f F n head) (dict : head.kind ≡ Dict) where
+    key_vouched : (k : ℕ) → k < head.count → IsVouchedBy heights (ref f F head k)
+    key_vouched k low =
+        let two : ref_count head.kind head.count ≡ 2 * head.count = ap (λ x. ref_count x head.count) dict in
+        seen.vouched head has k (omega (arith, low, two))
+
+    -- an object of height 1 has no keys
+    pub no_keys : slice_index heights n ≤ 1 → (k : ℕ) → k < head.count → ⊥
+    no_keys least k low =
+        let two : ref_count head.kind head.count ≡ 2 * head.count = ap (λ x. ref_count x head.count) dict in
+        let v = key_vouched k low in
+        let l = seen.lower head has k (omega (arith, low, two)) in
+        omega (arith, least, v, l)
+
+  pub named_low : (heights named : List ℕ) (n : ℕ) → IsSeen f F heights n → slice_index heights n ≤ 1 → HasNamedKeys f F named n
+  named_low heights named n seen least head has dict k low = absurd (no_keys heights n seen head has dict least k low)
+
+  pub good_low : (heights : List ℕ) (n : ℕ) → IsSeen f F heights n → slice_index heights n ≤ 1 → HasGoodKeys f F n
+  good_low heights n seen least head has dict =
+      (λ k low. absurd (no_keys heights n seen head has dict least k low), λ i j before low. absurd (no_keys heights n seen head has dict least j low))
+
+  -- they keep rules 14 to 20
+  pub sound_keys : (heights : List ℕ) → AreSeen f F heights F.objects → (n : ℕ) → n < F.objects → IsVouchedBy heights n → (head : Head) → HasHead f F n head → head.kind ≡ Dict → KeysAreSound f F head
+  sound_keys heights seen n within vouched head has dict k low inside =
+      (seen (ref f F head k) inside (key_vouched heights n (seen n within vouched) head has dict k low)).own
+
+  module _ (framed : IsFrame f F) (head : Head) (classes : List ℕ) (classed : AreClassed f F classes head) (sound : KeysAreSound f F head)
+      (inside : (k : ℕ) → k < head.count → ref f F head k < F.objects) where
+    -- a key with a class is a text
+    pub text_at : (k : ℕ) → k < head.count → 0 < slice_index classes (ref f F head k) → (key : Head) × IsKey f F head k key
+    text_at k low some =
+        let m = ref f F head k in
+        let t = classed.only k low some in
+        (t.0, text_there f F m framed (inside k low) t.0 (shape_announced f F m t.0 t.1.0) (sound k low (inside k low)) t.1.1)
+
+    pub class_at : (k : ℕ) → k < head.count → (key : Head) → IsKey f F head k key → 0 < slice_index classes (ref f F head k)
+    class_at k low key is = classed.all k low (key, (is.is.0, is.kind))
+
+    pub units_at : (k : ℕ) (key : Head) → IsKey f F head k key → text_units f F (ref f F head k) ≡ units_of f key
+    units_at k key is = text_units-head f F (ref f F head k) key (is.is.0, is.kind)
+
+    pub classed_texts : (count : ℕ) → count ≤ head.count → HaveClasses (ref f F head) classes count → HaveTexts f F head count
+    classed_texts count few some k low = text_at k (omega (arith, few, low)) (some k low)
+
+    pub apart_differ : (count : ℕ) → count ≤ head.count → AreApart (ref f F head) classes count → KeysDiffer f F head count
+    apart_differ count few apart i j low high a b is_a is_b same =
+        let i_low : i < head.count = omega (arith, few, low, high) in
+        let j_low : j < head.count = omega (arith, few, high) in
+        apart i j low high ((classed.same i j i_low j_low (class_at i i_low a is_a) (class_at j j_low b is_b)).1 (units_at i a is_a ∙ same ∙ sym (units_at j b is_b)))

@@ -1,0 +1,159 @@
+-- Key lists by the markers and counts of the keys.
+use Rattle.std.proofs.Common.{◌≡◌, ℕ, zero, suc, ◌+◌, ◌*◌, ◌<◌, ◌≤◌, inl, inr, List, set, replicate, length, slice_index, Option, Some, None, sym, ap, ap₂, ◌∙◌, ◌-◌, subst, arith}
+use Rattle.std.proofs.lemmas.Bool.{cases_eq, cases_lt}
+use Rattle.std.proofs.lemmas.List.{get_or-replicate, length-replicate, get_or_past, get_or-set_same, get_or-set_other}
+use Rattle.std.specs.declared.cmp.Ordering.TheVariants.{Less}
+use Rattle.bplist_objects.specs.declared.frame.Frame.{Frame}
+use Rattle.bplist_objects.specs.declared.head.Head.{Head}
+use Rattle.bplist_objects.specs.declared.kind.Kind.TheVariants.{Dict}
+use Rattle.bplist_objects.specs.Announced.{HasHead}
+use Rattle.bplist_objects.specs.Frame.{IsFrame}
+use Rattle.bplist_objects.specs.Units.{compare_units}
+use Rattle.bplist_objects.proofs.BodyLaws.{HasHead-unique}
+use Rattle.bplist_objects.proofs.HeadTies.{shape_announced}
+use Rattle.bplist_objects.proofs.UnitOrder.{compare_units-self, compare_units-less_less}
+use Rattle.bplist_keys.specs.Texts.{HasTextShape, text_units}
+use Rattle.bplist_keys.proofs.WeightSteps.{text_units-head}
+use Rattle.bplist_cert.specs.Heights.{ref}
+use Rattle.bplist_cert.specs.Lists.{Keyed}
+use Rattle.bplist_cert.specs.Valid.{IsVouchedBy}
+use Rattle.bplist_cert.specs.Looks.{AreSeen}
+use Rattle.bplist_cert.specs.CheckRules.{IsWhole, list_of, HasOrder}
+use Rattle.bplist_cert.specs.Keys.{HaveTexts, AreInOrder}
+use Rattle.bplist_cert.specs.KeyClasses.{KeysAreSound}
+use Rattle.bplist_cert.specs.KeyPairs.{Ascends, ArePairs, Follows, HaveTextShapes, HasGoodList}
+use Rattle.bplist_cert.proofs.KeyClasses.{keys_inside, sound_keys, good_low, no_keys}
+use Rattle.bplist_cert.proofs.AllNumbers.{onto}
+use Rattle.bplist_cert.proofs.Texts.{text_there}
+
+-- lists of units that ascend one by one ascend
+pub ascend_all : (u : ℕ → List ℕ) (count : ℕ) → ((k : ℕ) → suc k < count → compare_units (u k) (u (suc k)) ≡ Less) → (d i : ℕ) → suc (i + d) < count → compare_units (u i) (u (suc (i + d))) ≡ Less
+ascend_all u count up zero i l =
+    let e : i ≡ i + 0 = omega arith in
+    subst (λ k. compare_units (u i) (u (suc k)) ≡ Less) e (up i (omega (arith, l)))
+ascend_all u count up (suc d) i l =
+    let e : suc (i + d) ≡ i + suc d = omega arith in
+    subst (λ k. compare_units (u i) (u (suc k)) ≡ Less) e
+    (compare_units-less_less (u i) (u (suc (i + d))) (u (suc (suc (i + d)))) (ascend_all u count up d i (omega (arith, l))) (up (suc (i + d)) (omega (arith, l))))
+
+module _ (f : List ℕ) (F : Frame) where
+  -- one pair more takes its row
+  pub pairs_more : (rows : List ℕ) (r a b : ℕ) → r < length rows → b < 4294967296 → ArePairs f F rows → Ascends f F a b → ArePairs f F (set rows r (a * 4294967296 + b))
+  pairs_more rows r a b within low pairs asc i x y low' some is = elim (cases_eq i r) [
+    | inl e ↦
+        let here : slice_index (set rows r (a * 4294967296 + b)) i ≡ a * 4294967296 + b = ap (slice_index (set rows r (a * 4294967296 + b))) e ∙ get_or-set_same rows r (a * 4294967296 + b) 0 within in
+        let first : a ≡ x = omega (arith, here, is, low, low') in
+        let second : b ≡ y = omega (arith, here, is, low, low') in
+        subst (λ z. Ascends f F x z) second (subst (λ z. Ascends f F z b) first asc)
+    | inr d ↦
+        let there = get_or-set_other rows r i (a * 4294967296 + b) 0 d in
+        pairs i x y low' (rw there at some) (sym there ∙ is)
+  ]
+
+  module _ (head : Head) (list : List ℕ) where
+    -- the units of the key at number k of the list
+    abbrev units_at : ℕ → List ℕ
+    units_at k = text_units f F (ref f F head (slice_index list k))
+
+    -- the first j numbers of the list are positions, whose keys are texts by marker and count that ascend
+    pub record AscendTo (j : ℕ) : Type 0 where
+      pub low : (k : ℕ) → k < j → slice_index list k < head.count
+      pub shapes : (k : ℕ) → k < j → HasTextShape f F (ref f F head (slice_index list k))
+      pub up : (k : ℕ) → suc k < j → compare_units (units_at k) (units_at (suc k)) ≡ Less
+
+    -- the object of the key before number j, if there is one
+    abbrev pub IsLast : ℕ → Option ℕ → Type 0
+    IsLast j None = j ≡ 0
+    IsLast j (Some last) = (i : ℕ) × (suc i ≡ j) × (last ≡ ref f F head (slice_index list i))
+
+    pub ascend_none : AscendTo 0
+    ascend_none = record {
+      low = λ k l. absurd (omega (arith, l));
+      shapes = λ k l. absurd (omega (arith, l));
+      up = λ k l. absurd (omega (arith, l));
+    }
+
+    text_shape : (before : Option ℕ) (m : ℕ) → Follows f F before m → HasTextShape f F m
+    text_shape None m h = h
+    text_shape (Some last) m h = h.1
+
+    step_up : (j : ℕ) (before : Option ℕ) (m : ℕ) → m ≡ ref f F head (slice_index list j) → IsLast j before → Follows f F before m → (k : ℕ) → suc k ≡ j
+        → compare_units (units_at k) (units_at j) ≡ Less
+    step_up j None m is last h k e = absurd (omega (arith, last, e))
+    step_up j (Some x) m is (i, next, at) h k e =
+        let same : i ≡ k = omega (arith, next, e) in
+        let left : text_units f F x ≡ units_at k = ap (text_units f F) (at ∙ ap (λ n. ref f F head (slice_index list n)) same) in
+        ap₂ compare_units (sym left) (sym (ap (text_units f F) is)) ∙ h.2
+
+    -- one key more
+    pub ascend_more : (j : ℕ) (before : Option ℕ) (m : ℕ) → AscendTo j → slice_index list j < head.count → m ≡ ref f F head (slice_index list j) → IsLast j before → Follows f F before m → AscendTo (j + 1)
+    ascend_more j before m so low is last h = record {
+      low = λ k l. elim (cases_eq k j) [ inl e ↦ subst (λ n. slice_index list n < head.count) (sym e) low | inr d ↦ so.low k (omega (arith, l, d)) ];
+      shapes = λ k l. elim (cases_eq k j) [
+        | inl e ↦ subst (λ n. HasTextShape f F (ref f F head (slice_index list n))) (sym e) (subst (HasTextShape f F) is (text_shape before m h))
+        | inr d ↦ so.shapes k (omega (arith, l, d))
+      ];
+      up = λ k l. elim (cases_eq (suc k) j) [
+        | inl e ↦ subst (λ n. compare_units (units_at k) (units_at n) ≡ Less) (sym e) (step_up j before m is last h k e)
+        | inr d ↦ so.up k (omega (arith, l, d))
+      ];
+    }
+
+    module _ (so : AscendTo head.count) where
+      apart : (i j : ℕ) → i < j → j < head.count → slice_index list i ≡ slice_index list j → ⊥
+      apart i j l m e =
+          let d : ℕ = j - suc i in
+          let there : suc (i + d) ≡ j = omega (arith, l) in
+          let less = subst (λ k. compare_units (units_at i) (units_at k) ≡ Less) there (ascend_all units_at head.count so.up d i (omega (arith, there, m))) in
+          let same : units_at i ≡ units_at j = ap (λ p. text_units f F (ref f F head p)) e in
+          cc (sym less ∙ ap (compare_units (units_at i)) (sym same) ∙ compare_units-self (units_at i))
+
+      -- each key stands at one of so many different positions
+      pub shapes_all : HaveTextShapes f F head
+      shapes_all k l =
+          let at = onto head.count (slice_index list) so.low apart k l in
+          subst (λ p. HasTextShape f F (ref f F head p)) at.2 (so.shapes at.0 at.1)
+
+      pub in_order_all : AreInOrder f F head list head.count
+      in_order_all j l = (
+        so.low j l,
+        λ i a b next x y.
+            let less = subst (λ k. compare_units (units_at i) (units_at k) ≡ Less) next (so.up i (omega (arith, next, l))) in
+            let first = text_units-head f F (ref f F head (slice_index list i)) a (x.is.0, x.kind) in
+            let second = text_units-head f F (ref f F head (slice_index list j)) b (y.is.0, y.kind) in
+            ap₂ compare_units (sym first) (sym second) ∙ less,
+      )
+
+module _ (f : List ℕ) (F : Frame) where
+  -- keys that are texts by marker and count, and keep rules 14 to 20, are texts
+  shapes_texts : IsFrame f F → (head : Head) → ((k : ℕ) → k < head.count → ref f F head k < F.objects) → KeysAreSound f F head → HaveTextShapes f F head → HaveTexts f F head head.count
+  shapes_texts framed head inside sound shapes k low =
+      let t = shapes k low in
+      (t.0, text_there f F (ref f F head k) framed (inside k low) t.0 (shape_announced f F (ref f F head k) t.0 t.1.0) (sound k low (inside k low)) t.1.1)
+
+  module _ (framed : IsFrame f F) (heights : List ℕ) (seen : AreSeen f F heights F.objects) (n : ℕ) (within : n < F.objects) (vouched : IsVouchedBy heights n) (keyed : Keyed) where
+    -- a list with the keys in order is good
+    pub good_list : (head : Head) → HasHead f F n head → head.kind ≡ Dict → IsWhole keyed n head.count → HaveTextShapes f F head → AreInOrder f F head (list_of keyed n head.count) head.count → HasGoodList f F keyed n
+    good_list head has dict whole shapes order other h _ =
+        let inside = keys_inside f F n (seen n within vouched).own head has dict in
+        let texts = shapes_texts framed head inside (sound_keys f F heights seen n within vouched head has dict) shapes in
+        subst (λ (x : Head). HaveTexts f F x x.count × HasOrder f F (Some keyed) n x) (HasHead-unique f F n head other has h) (texts, (whole, order))
+
+    -- so is one of an object without references that starts among the positions
+    pub low_list : slice_index heights n ≤ 1 → IsWhole keyed n 0 → HasGoodList f F keyed n
+    low_list least start head has dict =
+        let good = good_low f F heights n (seen n within vouched) least head has dict in
+        (good.0, (omega (arith, start, none_at head has dict), λ j l. absurd (none_there_at head has dict j l)))
+      where
+        none_there_at : (head : Head) → HasHead f F n head → head.kind ≡ Dict → (k : ℕ) → k < head.count → ⊥
+        none_there_at head has dict = no_keys f F heights n (seen n within vouched) head has dict least
+
+        none_at : (head : Head) → HasHead f F n head → head.kind ≡ Dict → head.count ≡ 0
+        none_at head has dict = elim (cases_lt 0 head.count) [ inl some ↦ absurd (none_there_at head has dict 0 some) | inr none ↦ omega (arith, none) ]
+
+-- no pair is kept yet
+pub pairs_none : (f : List ℕ) (F : Frame) (rows : List ℕ) → rows ≡ replicate 2039 0 → ArePairs f F rows
+pairs_none f F rows none i a b low some is = elim (cases_lt i 2039) [
+  | inl within ↦ absurd (let z = ap (λ xs. slice_index xs i) none ∙ get_or-replicate 2039 i 0 0 within in omega (arith, z, some))
+  | inr past ↦ absurd (let z = get_or_past rows i 0 (omega (arith, past, ap length none ∙ length-replicate {A = ℕ} 2039 0)) in omega (arith, z, some))
+]

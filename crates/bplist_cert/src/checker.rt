@@ -1,0 +1,424 @@
+//! The check of a certificate against a file.
+
+ghost use Rattle.std.specs.Prelude.{◌≡◌, ◌+◌, ◌≤◌, ◌<◌, ℕ, suc, length, slice_index, IfOk, IfErr, IfSome, MatchResult, Some, None, ◌⊎◌};
+ghost use Rattle.bplist_octets.specs.Meaning.{OnlyReads, Honestly};
+ghost use Rattle.bplist_objects.specs.Framed.{HonestlyBy};
+ghost use Rattle.bplist_objects.specs.Frame.{off};
+ghost use Rattle.bplist_objects.specs.Safe.{IsSafe, IsSafeHead, IsSafeFrame};
+ghost use Rattle.bplist_objects.specs.Rules.{KeepsAll};
+ghost use Rattle.bplist_objects.specs.Announced.{HasHead};
+ghost use Rattle.bplist_objects.specs.ObjectRules.{KeepsByObject, body_rules};
+ghost use Rattle.bplist_objects.specs.declared.kind.Kind.TheVariants.{Dict};
+ghost use Rattle.bplist_cert.specs.Lists.{Keyed, lists, HasStarts};
+ghost use Rattle.bplist_cert.specs.Valid.{IsVouchedBy, HoldsOneValue};
+ghost use Rattle.bplist_cert.specs.Heights.{AreLower};
+ghost use Rattle.bplist_cert.specs.Keys.{HaveTexts};
+ghost use Rattle.bplist_cert.specs.CheckRules.{KeepsLast, IsLastFault, IsKeysFault};
+ghost use Rattle.bplist_cert.specs.Looks.{IsShownFault};
+ghost use Rattle.bplist_cert.specs.declared.checker.Look.TheVariants.{Quick as quick, Exact as exact};
+ghost use Rattle.bplist_cert.specs.PairFault.{Sums, IsHeld, Running, IsWalkFault, IsVouchedFault, IsCountFault, IsTopFault, IsKept, IsPairFault};
+ghost use Rattle.bplist_cert.specs.Refusals.{Judges, GivesRefusal, is_read, refused_read, MayRefuse};
+ghost use Rattle.bplist_cert.specs.Sorted.{IsAccepted};
+ghost use Rattle.bplist_objects.specs.Answers.{Never, read_failed};
+ghost use Rattle.bplist_objects.specs.Reach.{Reach, Chain};
+ghost use Rattle.bplist_objects.specs.Heads.{Content, Spells, refs};
+ghost use Rattle.std.specs.List.{AllByRecursion};
+ghost use Rattle.bplist_objects.specs.declared.frame.Frame.{Frame as frame};
+
+use crate::certificate::{Certificate, KeyLists};
+use crate::checked::Checked;
+use crate::extents::check_extent;
+use crate::heights::{Wanted, check_heights, check_refs, height_at};
+use crate::key_classes::have_good_keys;
+use crate::key_equality::check_twice;
+use crate::key_lists::have_good_lists;
+use crate::key_order::check_order;
+use crate::keys::check_texts;
+use crate::places::Places;
+use crate::refusal::Refusal;
+use bplist_objects::{
+    Fault, Frame, Head, Kind, ObjectFault, ObjectNo, Rule, check_body, frame_of, head_at,
+    read_offsets, refs_of, shape_at,
+};
+use bplist_octets::Source;
+use std::alloc::Global;
+
+/// How many entries of the offset table are read at once at most.
+const BLOCK: usize = 512;
+
+/// How each vouched object is looked at.
+#[derive(Clone, Copy, Debug)]
+enum Look {
+    /// By the rules before those of keys.
+    Quick,
+    /// By all rules, in the order of the check.
+    Exact,
+}
+
+/// What a walk over the vouched objects goes by, beside the source.
+#[derive(Drop)]
+struct Walk<'a> {
+    alloc: Global,
+    frame: Frame,
+    heights: &'a [u32],
+    keys: &'a Option<KeyLists>,
+    look: Look,
+    pub ghost all: { length heights.now ≡ frame.objects },
+    pub ghost starts: { (keyed : Keyed) → keys.now ≡ Some keyed → length keyed.starts ≡ frame.objects },
+}
+
+/// Looks for equal keys of dictionary `n`, whose keys are texts, or in version 2 at its key list.
+fn check_last<S: Source>(src: &mut S, walk: &Walk, n: ObjectNo, head: &Head) -> Result<(), Refusal>
+    requires safe { IsSafe (length (S.means src.old).octets) walk.now.frame }
+    requires head { IsSafeHead walk.now.frame head.now }
+    requires dict { head.now.kind ≡ Dict }
+    requires within { n.0 < walk.now.frame.objects }
+    ensures reads { OnlyReads (refused_read result) (S.means src.old) (S.means src.new) }
+    ensures memory { IfErr result (MayRefuse walk.now.keys.now) }
+    ensures exact { HonestlyBy (S.means src.old) walk.now.frame (λ f F. HaveTexts f F head.now head.now.count
+        → Judges (λ _. KeepsLast f F walk.now.keys.now n.0 head.now)
+        (IsLastFault f F F.objects walk.now.keys.now n.0 head.now) result) }
+{
+    match walk.keys {
+        None => check_twice(walk.alloc, src, &walk.frame, Places::Table, n, head),
+        Some(keys) => Ok(check_order(src, &walk.frame, keys, walk.frame.objects, n, head)?),
+    }
+}
+
+/// Looks at the keys of object `n`, which is vouched for, where it is a dictionary.
+fn check_keys<S: Source>(src: &mut S, walk: &Walk, n: ObjectNo, head: &Head) -> Result<(), Refusal>
+    requires safe { IsSafe (length (S.means src.old).octets) walk.now.frame }
+    requires head { IsSafeHead walk.now.frame head.now }
+    requires within { n.0 < walk.now.frame.objects }
+    ensures reads { OnlyReads (refused_read result) (S.means src.old) (S.means src.new) }
+    ensures memory { IfErr result (MayRefuse walk.now.keys.now) }
+    ensures exact { HonestlyBy (S.means src.old) walk.now.frame (λ f F. Judges (λ _. head.now.kind ≡ Dict
+        → HaveTexts f F head.now head.now.count
+        × KeepsLast f F walk.now.keys.now n.0 head.now) (IsKeysFault f F F.objects walk.now.keys.now n.0 head.now) result) }
+{
+    match head.kind {
+        Kind::Dict => {
+            check_texts(src, &walk.frame, Places::Table, n, head)?;
+            check_last(src, walk, n, head)
+        }
+        _ => Ok(()),
+    }
+}
+
+/// Looks at the body of object `n`, which stands at `place` and has this head: at a leaf's by rules 18 and 19, and at references
+/// by rules 20, 28 and 29 at once, since objects alone have heights. A fault does not say which of them is broken.
+fn check_contents<S: Source>(
+    src: &mut S,
+    walk: &Walk,
+    n: ObjectNo,
+    place: u64,
+    head: &Head,
+) -> Result<(), ObjectFault>
+    requires safe { IsSafe (length (S.means src.old).octets) walk.now.frame }
+    requires head { IsSafeHead walk.now.frame head.now }
+    ensures reads { OnlyReads (read_failed result) (S.means src.old) (S.means src.new) }
+    ensures kept { HonestlyBy (S.means src.old) walk.now.frame (λ f F. place ≡ off f F n.0 → HasHead f F n.0 head.now
+        → IfOk result (λ _. KeepsAll (KeepsByObject f F n.0) body_rules × AreLower f F walk.now.heights.now n.0 head.now)) }
+{
+    if refs_of(head) == 0 {
+        return check_body(src, &walk.frame, n, place, head);
+    }
+    let own = height_at(walk.heights, n.0 as u64);
+    check_refs(
+        src,
+        &walk.frame,
+        walk.heights,
+        n,
+        head,
+        Wanted::VouchedBelow(own),
+    )
+}
+
+/// Looks at object `n` as `check_object` does, by the rules before those of keys, and reads no byte twice.
+fn look_quickly<S: Source>(
+    src: &mut S,
+    walk: &Walk,
+    n: ObjectNo,
+    place: u64,
+    used: u64,
+) -> Result<u64, Refusal>
+    requires safe { IsSafe (length (S.means src.old).octets) walk.now.frame }
+    requires within { n.0 < walk.now.frame.objects }
+    ensures reads { OnlyReads (refused_read result) (S.means src.old) (S.means src.new) }
+    ensures memory { IfErr result (MayRefuse walk.now.keys.now) }
+    ensures exact { HonestlyBy (S.means src.old) walk.now.frame (λ f F. place ≡ off f F n.0
+        → IsVouchedBy walk.now.heights.now n.0 → Sums f F walk.now.heights.now n.0 used
+        → Judges (IsHeld f F (lists walk.now.heights.now walk.now.keys.now) quick n.0)
+        (IsShownFault f F (lists walk.now.heights.now walk.now.keys.now) quick n.0) result) }
+{
+    let head = shape_at(src, &walk.frame, n, place)?;
+    let now = check_extent(&walk.frame, n, &head, place, used)?;
+    check_contents(src, walk, n, place, &head)?;
+    Ok(now)
+}
+
+/// Looks at object `n` as `check_object` does, by all rules in their order.
+fn look_exactly<S: Source>(
+    src: &mut S,
+    walk: &Walk,
+    n: ObjectNo,
+    place: u64,
+    used: u64,
+) -> Result<u64, Refusal>
+    requires safe { IsSafe (length (S.means src.old).octets) walk.now.frame }
+    requires within { n.0 < walk.now.frame.objects }
+    ensures reads { OnlyReads (refused_read result) (S.means src.old) (S.means src.new) }
+    ensures memory { IfErr result (MayRefuse walk.now.keys.now) }
+    ensures exact { HonestlyBy (S.means src.old) walk.now.frame (λ f F. place ≡ off f F n.0
+        → IsVouchedBy walk.now.heights.now n.0 → Sums f F walk.now.heights.now n.0 used
+        → Judges (IsHeld f F (lists walk.now.heights.now walk.now.keys.now) exact n.0)
+        (IsShownFault f F (lists walk.now.heights.now walk.now.keys.now) exact n.0) result) }
+{
+    let head = head_at(src, &walk.frame, n, place)?;
+    let now = check_extent(&walk.frame, n, &head, place, used)?;
+    check_heights(src, &walk.frame, walk.heights, n, &head)?;
+    check_keys(src, walk, n, &head)?;
+    Ok(now)
+}
+
+/// Looks at object `n`, which is vouched for and stands at `place`, where the vouched objects before it take
+/// `used` bytes, and answers how many they take with it.
+fn check_object<S: Source>(
+    src: &mut S,
+    walk: &Walk,
+    n: ObjectNo,
+    place: u64,
+    used: u64,
+) -> Result<u64, Refusal>
+    requires safe { IsSafe (length (S.means src.old).octets) walk.now.frame }
+    requires within { n.0 < walk.now.frame.objects }
+    ensures reads { OnlyReads (refused_read result) (S.means src.old) (S.means src.new) }
+    ensures memory { IfErr result (MayRefuse walk.now.keys.now) }
+    ensures exact { HonestlyBy (S.means src.old) walk.now.frame (λ f F. place ≡ off f F n.0
+        → IsVouchedBy walk.now.heights.now n.0 → Sums f F walk.now.heights.now n.0 used
+        → Judges (IsHeld f F (lists walk.now.heights.now walk.now.keys.now) walk.now.look n.0)
+        (IsShownFault f F (lists walk.now.heights.now walk.now.keys.now) walk.now.look n.0) result) }
+{
+    match walk.look {
+        Look::Quick => look_quickly(src, walk, n, place, used),
+        Look::Exact => look_exactly(src, walk, n, place, used),
+    }
+}
+
+/// Looks at object `n`, which stands at `place`, where the vouched objects before it are as they should be.
+fn check_step<S: Source>(
+    src: &mut S,
+    walk: &Walk,
+    n: ObjectNo,
+    place: u64,
+    used: u64,
+) -> Result<u64, Refusal>
+    requires safe { IsSafe (length (S.means src.old).octets) walk.now.frame }
+    requires within { n.0 < walk.now.frame.objects }
+    ensures reads { OnlyReads (refused_read result) (S.means src.old) (S.means src.new) }
+    ensures memory { IfErr result (MayRefuse walk.now.keys.now) }
+    ensures exact { HonestlyBy (S.means src.old) walk.now.frame (λ f F. place ≡ off f F n.0
+        → Running f F (lists walk.now.heights.now walk.now.keys.now) walk.now.look n.0 used
+        → Judges (Running f F (lists walk.now.heights.now walk.now.keys.now) walk.now.look (suc n.0))
+        (IsWalkFault f F (lists walk.now.heights.now walk.now.keys.now) walk.now.look) result) }
+{
+    if height_at(walk.heights, n.0 as u64) == 0 {
+        return Ok(used);
+    }
+    check_object(src, walk, n, place, used)
+}
+
+/// Looks at the objects from number `from` on, which stand at these places.
+fn check_block<S: Source>(
+    src: &mut S,
+    walk: &Walk,
+    from: u32,
+    places: &[u64],
+    used: u64,
+) -> Result<u64, Refusal>
+    requires safe { IsSafe (length (S.means src.old).octets) walk.now.frame }
+    requires within { from + length places.now ≤ walk.now.frame.objects }
+    ensures reads { OnlyReads (refused_read result) (S.means src.old) (S.means src.new) }
+    ensures memory { IfErr result (MayRefuse walk.now.keys.now) }
+    ensures exact { HonestlyBy (S.means src.old) walk.now.frame (λ f F. ((k : ℕ) → k < length places.now
+        → slice_index places.now k ≡ off f F (from + k))
+        → Running f F (lists walk.now.heights.now walk.now.keys.now) walk.now.look from used
+        → Judges (Running f F (lists walk.now.heights.now walk.now.keys.now) walk.now.look (from + length places.now))
+        (IsWalkFault f F (lists walk.now.heights.now walk.now.keys.now) walk.now.look) result) }
+{
+    let _objects = walk.frame.objects;
+    let mut used = used;
+    for (i, place) in places.iter().enumerate() {
+        let n = ObjectNo(from + i as u32);
+        used = check_step(src, walk, n, *place, used)?;
+    }
+    Ok(used)
+}
+
+/// Looks at all vouched objects, in the order of their numbers. How many bytes they take.
+fn check_all<S: Source>(src: &mut S, walk: &Walk) -> Result<u64, Refusal>
+    requires safe { IsSafe (length (S.means src.old).octets) walk.now.frame }
+    ensures reads { OnlyReads (refused_read result) (S.means src.old) (S.means src.new) }
+    ensures memory { IfErr result (MayRefuse walk.now.keys.now) }
+    ensures exact { HonestlyBy (S.means src.old) walk.now.frame (λ f F.
+        Judges (Running f F (lists walk.now.heights.now walk.now.keys.now) walk.now.look F.objects)
+        (IsWalkFault f F (lists walk.now.heights.now walk.now.keys.now) walk.now.look) result) }
+{
+    let objects = walk.frame.objects;
+    let mut buffer = [0u64; BLOCK];
+    let mut used = 0u64;
+    let mut done = 0u32;
+    while done < objects {
+        let now = (objects - done).min(BLOCK as u32);
+        let places = &mut buffer[..now as usize];
+        read_offsets(src, &walk.frame, done, places)?;
+        used = check_block(src, walk, done, places, used)?;
+        done += now;
+    }
+    Ok(used)
+}
+
+/// How many bytes the vouched objects take, where quick looks show that all of them keep all rules. None does not say that
+/// one is broken, nor does a fault say that it is the first.
+fn check_quickly<S: Source>(
+    alloc: Global,
+    src: &mut S,
+    frame: &Frame,
+    heights: &[u32],
+    keys: &Option<KeyLists>,
+) -> Result<Option<u64>, Refusal>
+    requires safe { IsSafe (length (S.means src.old).octets) frame.now }
+    requires all { length heights.now ≡ frame.now.objects }
+    requires starts { HasStarts heights.now keys.now }
+    ensures reads { OnlyReads (refused_read result) (S.means src.old) (S.means src.new) }
+    ensures memory { IfErr result (MayRefuse keys.now) }
+    ensures exact { HonestlyBy (S.means src.old) frame.now (λ f F.
+        IfOk result (λ kept. IfSome kept (Running f F (lists heights.now keys.now) exact F.objects))) }
+{
+    let walk = Walk {
+        alloc,
+        frame: *frame,
+        heights,
+        keys,
+        look: Look::Quick,
+    };
+    let used = check_all(src, &walk)?;
+    let good = match keys {
+        None => have_good_keys(alloc, src, frame, heights)?,
+        Some(keys) => have_good_lists(src, frame, heights, keys)?,
+    };
+    if good {
+        return Ok(Some(used));
+    }
+    Ok(None)
+}
+
+/// Looks at all objects, in the order of their numbers.
+fn check_objects<S: Source>(
+    alloc: Global,
+    src: &mut S,
+    frame: &Frame,
+    heights: &[u32],
+    keys: &Option<KeyLists>,
+) -> Result<u64, Refusal>
+    requires safe { IsSafe (length (S.means src.old).octets) frame.now }
+    requires all { length heights.now ≡ frame.now.objects }
+    requires starts { HasStarts heights.now keys.now }
+    ensures reads { OnlyReads (refused_read result) (S.means src.old) (S.means src.new) }
+    ensures memory { IfErr result (MayRefuse keys.now) }
+    ensures exact { HonestlyBy (S.means src.old) frame.now
+        (λ f F. Judges (Running f F (lists heights.now keys.now) exact F.objects) (IsVouchedFault f F (lists heights.now
+        keys.now)) result) }
+{
+    match check_quickly(alloc, src, frame, heights, keys) {
+        Ok(Some(used)) => return Ok(used),
+        Ok(None) | Err(Refusal::Fault(_)) => {}
+        Err(refusal) => return Err(refusal),
+    }
+    let walk = Walk {
+        alloc,
+        frame: *frame,
+        heights,
+        keys,
+        look: Look::Exact,
+    };
+    check_all(src, &walk)
+}
+
+/// Looks at the number of heights and at the top's.
+fn check_count(frame: &Frame, heights: &[u32]) -> Result<(), Fault>
+    requires { frame.now.top.0 < frame.now.objects }
+    ensures { MatchResult result
+        (λ _. (length heights.now ≡ frame.now.objects) × IsVouchedBy heights.now frame.now.top.0)
+        (λ fault. IsCountFault frame.now heights.now fault ⊎ IsTopFault frame.now heights.now fault) }
+{
+    if heights.len() as u64 != frame.objects as u64 {
+        return Err(Fault {
+            rule: Rule::CertCount,
+            object: None,
+            place: 8,
+        });
+    }
+    if heights[frame.top.0 as usize] == 0 {
+        return Err(Fault {
+            rule: Rule::TopNotVouched,
+            object: Some(frame.top),
+            place: 16 + 4 * frame.top.0 as u64,
+        });
+    }
+    Ok(())
+}
+
+/// The frame of the file, where the certificate is accepted.
+fn check_lists<S: Source>(alloc: Global, src: &mut S, cert: &Certificate) -> Result<Frame, Refusal>
+    ensures reads { OnlyReads (refused_read result) (S.means src.old) (S.means src.new) }
+    ensures memory { IfErr result (MayRefuse cert.now.keys) }
+    ensures exact { Honestly (S.means src.old) (λ f. Judges
+        (λ frame. IsKept f frame cert.now) (IsPairFault f cert.now) result) }
+    ensures safe { IfOk result (λ frame. IsSafeFrame (length (S.means src.old).octets) frame × (length cert.now.heights ≡ frame.objects)) }
+{
+    let frame = frame_of(src)?;
+    check_count(&frame, &cert.heights)?;
+    check_objects(alloc, src, &frame, &cert.heights, &cert.keys)?;
+    Ok(frame)
+}
+
+/// Checks a certificate of unknown origin against a file. It says yes exactly where the file has a frame
+/// and the certificate is one of the file: there is one height for each object, the top is vouched for, and
+/// each object that is vouched for keeps rules 14 to 22 (with key lists 32 in the place of 22) and 31 and
+/// has references of smaller heights alone, which are vouched for. Otherwise the fault is the first one:
+/// that of the first broken rule of 1 to 13, 26 and 27, or else that of the least object that is vouched for
+/// and breaks a rule, with the first that it breaks of 14 to 20, 31, 28, 29, 21 and the last one. Places of
+/// rules 26, 27 and 32 count in the certificate's bytes, all others in the file.
+///
+/// Source and certificate are handed back with every refusal: `Read` where a read failed, `Memory` where a
+/// growth was refused, which never happens with key lists. After a yes the file holds exactly one value, each
+/// reference that is written in an object which the top reaches is the number of an object, and no circle of
+/// references is reached.
+pub fn check<S: Source>(
+    alloc: Global,
+    src: S,
+    cert: Certificate,
+) -> Result<Checked<S>, (Refusal, S, Certificate)>
+    ensures handed { MatchResult result
+        (λ checked. (checked.certificate ≡ cert) × (checked.source ≡ S.means src))
+        (λ refused. (refused.2 ≡ cert) × OnlyReads (is_read refused.0) (S.means src) (S.means refused.1)) }
+    ensures yes { Honestly (S.means src) (λ f. IfOk result (λ checked. ∥ IsAccepted f checked.frame cert ∥₁)) }
+    ensures accepts { Honestly (S.means src) (λ f. (F : frame) → IsAccepted f F cert
+        → MatchResult result (λ checked. checked.frame ≡ F) (λ refused. GivesRefusal Never refused.0)) }
+    ensures fault { Honestly (S.means src) (λ f. IfErr result
+        (λ refused. GivesRefusal (IsPairFault f cert) refused.0)) }
+    ensures memory { IfErr result (λ refused. MayRefuse cert.keys refused.0) }
+    ensures one_value { Honestly (S.means src) (λ f. IfOk result (λ checked. ∥ HoldsOneValue f ∥₁)) }
+    ensures references { Honestly (S.means src) (λ f. IfOk result (λ checked. (n : ℕ) → Reach f checked.frame n
+        → ∥ ((c : Content) × Spells f checked.frame n c × AllByRecursion
+        (λ m. m < checked.frame.objects) (refs c)) ∥₁)) }
+    ensures no_circle { Honestly (S.means src) (λ f. IfOk result (λ checked. (n : ℕ) → Reach f checked.frame n
+        → Chain f checked.frame n n → ⊥)) }
+{
+    let mut src = src;
+    match check_lists(alloc, &mut src, &cert) {
+        Ok(frame) => Ok(Checked::new(src, frame, cert)),
+        Err(refusal) => Err((refusal, src, cert)),
+    }
+}

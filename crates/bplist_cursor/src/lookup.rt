@@ -1,0 +1,100 @@
+//! Where a path leads.
+
+ghost use Rattle.std.specs.Prelude.{⊤, ◌≡◌, ◌<◌, IsTrue, IsOk, IfOk, OnOk, Vec};
+ghost use Rattle.bplist_cert.specs.CheckedFile.{HonestlyChecked};
+ghost use Rattle.bplist_objects.specs.Value.{Value};
+ghost use Rattle.bplist_objects.specs.Holds.{Holds};
+ghost use Rattle.bplist_cursor.specs.Causes.{GivesRead, GivesCursor, TakesNoMemory, read_failed, cursor_read};
+ghost use Rattle.bplist_cursor.specs.Kept.{Keeps};
+ghost use Rattle.bplist_cursor.specs.KeySearch.{halvings, RisesAtMost};
+ghost use Rattle.bplist_cursor.specs.Found.{IsFound, units_of};
+
+use crate::faults::{CursorFault, Unread};
+use crate::found::{Found, Node};
+use crate::path::Path;
+use crate::path_step::{Step, step_at};
+use bplist_cert::Checked;
+use bplist_octets::{SliceSource, Source};
+
+/// Where these steps lead from the top.
+fn lead<S: Source>(
+    checked: &mut Checked<S>,
+    steps: &[Vec<u16>],
+    made: &mut u64,
+) -> Result<Found, Unread>
+    ensures reads { Keeps (read_failed result) checked.old checked.new }
+    ensures exact { HonestlyChecked checked.old (λ f F. (v : Value) → Holds f F F.top.0 v
+        → GivesRead (IsFound checked.old v (units_of steps.now)) result) }
+    ensures bound { OnOk result (HonestlyChecked checked.old (λ f F. (v : Value) → Holds f F F.top.0 v
+        → RisesAtMost checked.old made.old made.new (halvings v (units_of steps.now)))) }
+{
+    let mut object = checked.frame().top;
+    for k in 0..steps.len() {
+        match step_at(checked, object, &steps[k], made)? {
+            Step::On(next) => object = next,
+            Step::Not(why) => {
+                return Ok(Found::Missing {
+                    step: k as u64,
+                    why,
+                });
+            }
+        }
+    }
+    Ok(Found::At(Node { object }))
+}
+
+/// Where a path leads, and how many comparisons of keys that took, counted up to the last number of a `u64`.
+///
+/// A key is looked for by halving where the certificate has key lists, else by a walk over the keys of the
+/// dictionary. The call takes no memory. `Read` is answered where a read of the source failed. `Changed` is
+/// answered where an object is not what the check has found, and never while the source is honest.
+pub fn locate_counted<S: Source>(
+    checked: &mut Checked<S>,
+    path: &Path,
+) -> Result<(Found, u64), CursorFault>
+    ensures reads { Keeps (cursor_read result) checked.old checked.new }
+    ensures exact { HonestlyChecked checked.old (λ f F. (v : Value) → Holds f F F.top.0 v
+        → GivesCursor (λ found. IsFound checked.old v path.now found.0) result) }
+    ensures bound { HonestlyChecked checked.old (λ f F. (v : Value) → Holds f F F.top.0 v
+        → IfOk result (λ found. RisesAtMost checked.old 0 found.1 (halvings v path.now))) }
+    ensures unchanged { IsTrue checked.old.source.honest → GivesCursor (λ _. ⊤) result }
+    ensures found { IsTrue checked.old.source.honest → checked.new.source.failures ≡ 0 → IsOk result }
+    ensures memory { TakesNoMemory result }
+{
+    let _frame = checked.frame();
+    let mut made = 0u64;
+    let found = lead(checked, path.steps(), &mut made)?;
+    Ok((found, made))
+}
+
+/// Where a path leads: the node that it leads to, or the first step that can't be taken.
+///
+/// The call takes no memory. `Read` is answered where a read of the source failed, so never over a slice.
+/// `Changed` is answered where an object is not what the check has found, and never while the source is
+/// honest.
+pub fn locate<S: Source>(checked: &mut Checked<S>, path: &Path) -> Result<Found, CursorFault>
+    ensures reads { Keeps (cursor_read result) checked.old checked.new }
+    ensures exact { HonestlyChecked checked.old (λ f F. (v : Value) → Holds f F F.top.0 v
+        → GivesCursor (IsFound checked.old v path.now) result) }
+    ensures unchanged { IsTrue checked.old.source.honest → GivesCursor (λ _. ⊤) result }
+    ensures found { IsTrue checked.old.source.honest → checked.new.source.failures ≡ 0 → IsOk result }
+    ensures memory { TakesNoMemory result }
+{
+    let (found, _made) = locate_counted(checked, path)?;
+    Ok(found)
+}
+
+/// Where a path leads in a file that lies in a slice: [`locate`], which has no other answer there.
+pub fn locate_in_slice(checked: &mut Checked<SliceSource<'_>>, path: &Path) -> Found
+    ensures same { checked.new ≡ checked.old }
+    ensures exact { (v : Value) → Holds checked.old.source.octets checked.old.frame checked.old.frame.top.0 v
+        → IsFound checked.old v path.now result }
+{
+    let _before = checked.octets();
+    let found = locate(checked, path);
+    let _after = checked.octets();
+    match found {
+        Ok(found) => found,
+        Err(_) => unreachable!(),
+    }
+}

@@ -1,0 +1,136 @@
+//! The faces of nodes.
+
+ghost use Rattle.std.specs.Prelude.{◌≡◌, ℕ, IsTrue, IfOk, IfErr, length, Err};
+ghost use Rattle.bplist_octets.specs.Octets.{part};
+ghost use Rattle.bplist_cert.specs.CheckedFile.{HonestlyChecked};
+ghost use Rattle.bplist_objects.specs.Value.{Value};
+ghost use Rattle.bplist_objects.specs.Heads.{Content, Spells, content_at, unit};
+ghost use Rattle.bplist_objects.specs.Holds.{Holds};
+ghost use Rattle.bplist_objects.specs.Kinds.{IsLeafKind};
+ghost use Rattle.bplist_objects.specs.Units.{IsTextKind, units_of};
+ghost use Rattle.bplist_objects.specs.Safe.{IsSafeHead, IsSafeBody};
+ghost use Rattle.bplist_cert.specs.Valid.{IsVouchedBy};
+ghost use Rattle.bplist_cursor.specs.Causes.{GivesCursor, IsExcused, cursor_read};
+ghost use Rattle.bplist_cursor.specs.Kept.{Keeps};
+ghost use Rattle.bplist_cursor.specs.Replies.{face as face_of};
+ghost use Rattle.bplist_cursor.specs.Shown.{content_face, HasRoom};
+ghost use Rattle.bplist_cursor.specs.declared.faults.CursorFault.TheVariants.{Changed};
+
+use crate::faces::Face;
+use crate::faults::CursorFault;
+use crate::found::Node;
+use crate::list::List;
+use crate::node_object::node_head;
+use bplist_cert::Checked;
+use bplist_objects::{Head, Kind, int_of, octets_at, read_units, uid_of};
+use bplist_octets::Source;
+use std::alloc::Global;
+
+/// The bytes of the body of a leaf that takes one byte for each of its count.
+fn body_bytes<S: Source>(
+    alloc: Global,
+    checked: &mut Checked<S>,
+    head: &Head,
+) -> Result<List<u8>, CursorFault>
+    requires kind { IsLeafKind head.now.kind }
+    requires one { unit 1 head.now.kind ≡ 1 }
+    requires head { IsSafeBody (length checked.old.source.octets) head.now }
+    ensures reads { Keeps (cursor_read result) checked.old checked.new }
+    ensures value { GivesCursor (λ bytes. HonestlyChecked checked.old
+        (λ f _. bytes ≡ part f head.now.body head.now.count)) result }
+{
+    let mut bytes = vec![in alloc; 0u8; head.count as usize]?;
+    octets_at(checked, head, 0, &mut bytes)?;
+    Ok(List::new(bytes))
+}
+
+/// The units of a text.
+pub(crate) fn body_units<S: Source>(
+    alloc: Global,
+    checked: &mut Checked<S>,
+    head: &Head,
+) -> Result<List<u16>, CursorFault>
+    requires kind { IsTextKind head.now.kind }
+    requires head { IsSafeBody (length checked.old.source.octets) head.now }
+    ensures reads { Keeps (cursor_read result) checked.old checked.new }
+    ensures value { GivesCursor (λ units. HonestlyChecked checked.old (λ f _. units ≡ units_of f head.now)) result }
+{
+    let mut units = vec![in alloc; 0u16; head.count as usize]?;
+    read_units(checked, head, 0, &mut units)?;
+    Ok(List::new(units))
+}
+
+/// The face of an object with this head.
+fn face_by_head<S: Source>(
+    alloc: Global,
+    checked: &mut Checked<S>,
+    head: &Head,
+) -> Result<Face, CursorFault>
+    requires head { IsSafeHead checked.old.frame head.now }
+    requires body { IsSafeBody (length checked.old.source.octets) head.now }
+    ensures reads { Keeps (cursor_read result) checked.old checked.new }
+    ensures content { HonestlyChecked checked.old (λ f F. (n : ℕ) → Spells f F n (content_at f F head.now)
+        → GivesCursor (λ shown. shown ≡ content_face (content_at f F head.now)) result) }
+    ensures room { IfOk result (HasRoom (length checked.old.source.octets)) }
+{
+    let _frame = checked.frame();
+    match head.kind {
+        Kind::Null => Ok(Face::Null),
+        Kind::False => Ok(Face::Bool(false)),
+        Kind::True => Ok(Face::Bool(true)),
+        Kind::Int => Ok(Face::Int(int_of(checked, head)?)),
+        Kind::Real => Ok(Face::Real(body_bytes(alloc, checked, head)?)),
+        Kind::Date => Ok(Face::Date(body_bytes(alloc, checked, head)?)),
+        Kind::Bytes => Ok(Face::Bytes(body_bytes(alloc, checked, head)?)),
+        Kind::Ascii | Kind::Wide => Ok(Face::Text(body_units(alloc, checked, head)?)),
+        Kind::Uid => Ok(Face::Uid(uid_of(checked, head)?)),
+        Kind::Array => Ok(Face::Array(head.count)),
+        Kind::Set => Ok(Face::Set(head.count)),
+        Kind::Dict => Ok(Face::Dict(head.count)),
+    }
+}
+
+/// The face of a node's object, by what it spells.
+fn face_of_node<S: Source>(
+    alloc: Global,
+    checked: &mut Checked<S>,
+    node: Node,
+) -> Result<Face, CursorFault>
+    ensures reads { Keeps (cursor_read result) checked.old checked.new }
+    ensures content { HonestlyChecked checked.old (λ f F. IsVouchedBy checked.old.certificate.heights node.object.0
+        → (content : Content) → Spells f F node.object.0 content → GivesCursor
+        (λ shown. shown ≡ content_face content) result) }
+    ensures unvouched { (IsVouchedBy checked.old.certificate.heights node.object.0 → ⊥) → result ≡ Err Changed }
+    ensures room { IfOk result (HasRoom (length checked.old.source.octets)) }
+{
+    let head = node_head(checked, node)?;
+    face_by_head(alloc, checked, &head)
+}
+
+/// The face of the value that a node's object holds: the leaf itself, or the kind of the container with its count.
+///
+/// The body of a leaf is read into one Vec of its count, which is asked for by one request. Over any source each
+/// reference that the face counts takes a byte of the source.
+///
+/// `Changed`: the certificate does not vouch for the object, or the source gives other bytes than those that were checked.
+/// `Read`: a read of the source failed. `Memory`: the one request was refused. A refusal leaves the `Checked` as it was,
+/// save the count of failures of its source.
+pub fn face<S: Source>(
+    alloc: Global,
+    checked: &mut Checked<S>,
+    node: Node,
+) -> Result<Face, CursorFault>
+    ensures reads { Keeps (cursor_read result) checked.old checked.new }
+    ensures value { HonestlyChecked checked.old (λ f F. IsVouchedBy checked.old.certificate.heights node.object.0
+        → (v : Value) → Holds f F node.object.0 v → GivesCursor (λ shown. shown ≡ face_of v) result) }
+    ensures content { HonestlyChecked checked.old (λ f F. IsVouchedBy checked.old.certificate.heights node.object.0
+        → (content : Content) → Spells f F node.object.0 content → GivesCursor
+        (λ shown. shown ≡ content_face content) result) }
+    ensures unchanged { IsTrue checked.old.source.honest → IsVouchedBy checked.old.certificate.heights node.object.0
+        → IfErr result IsExcused }
+    ensures unvouched { (IsVouchedBy checked.old.certificate.heights node.object.0 → ⊥) → result ≡ Err Changed }
+    ensures room { IfOk result (HasRoom (length checked.old.source.octets)) }
+{
+    let _frame = checked.frame();
+    face_of_node(alloc, checked, node)
+}

@@ -1,0 +1,37 @@
+//! The objects that nodes name.
+
+ghost use Rattle.std.specs.Prelude.{◌≡◌, IfOk, length, Err};
+ghost use Rattle.bplist_cert.specs.CheckedFile.{HonestlyChecked};
+ghost use Rattle.bplist_objects.specs.Heads.{Content, Spells, content_at};
+ghost use Rattle.bplist_objects.specs.Safe.{IsSafeHead, IsSafeBody};
+ghost use Rattle.bplist_cert.specs.Valid.{IsVouchedBy};
+ghost use Rattle.bplist_cursor.specs.Causes.{GivesRead, read_failed};
+ghost use Rattle.bplist_cursor.specs.Kept.{Keeps};
+ghost use Rattle.bplist_cursor.specs.declared.faults.Unread.TheVariants.{Changed};
+
+use crate::faults::Unread;
+use crate::found::Node;
+use crate::checked_objects::head_in;
+use bplist_cert::Checked;
+use bplist_objects::Head;
+use bplist_octets::Source;
+
+/// The head of the object that a node names. `Changed`: the certificate does not vouch for that object, or the
+/// source gives other bytes than those that were checked.
+///
+/// This is for a caller who reads a body in parts, or many members of one object by [`crate::member_by_head`].
+pub fn node_head<S: Source>(checked: &mut Checked<S>, node: Node) -> Result<Head, Unread>
+    ensures reads { Keeps (read_failed result) checked.old checked.new }
+    ensures exact { HonestlyChecked checked.old (λ f F. IsVouchedBy checked.old.certificate.heights node.object.0
+        → (content : Content) → Spells f F node.object.0 content → GivesRead
+        (λ head. content ≡ content_at f F head) result) }
+    ensures unvouched { (IsVouchedBy checked.old.certificate.heights node.object.0 → ⊥) → result ≡ Err Changed }
+    ensures safe { IfOk result (IsSafeHead checked.old.frame) }
+    ensures body { IfOk result (IsSafeBody (length checked.old.source.octets)) }
+{
+    let _frame = checked.frame();
+    if checked.height(node.object) == 0 {
+        return Err(Unread::Changed);
+    }
+    head_in(checked, node.object)
+}

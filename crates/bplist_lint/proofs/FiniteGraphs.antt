@@ -1,0 +1,252 @@
+-- Which objects of a finite graph are reached and which are founded is decided, and where the top is not founded there is a circle.
+use Rattle.std.proofs.Common.{◌≡◌, ℕ, zero, suc, ◌+◌, ◌-◌, ◌<◌, ◌≤◌, ◌⊎◌, inl, inr, Bool, true, false, not, cond, List, length, get_or, set, map, replicate, count_by, Contains, refl, sym, ap, ◌∙◌, subst, arith}
+use Rattle.std.specs.List.{range_with_len}
+use Rattle.std.proofs.lemmas.Bool.{cases_eq, cases_Bool, false≢true, false_from_ne_true}
+use Rattle.std.proofs.lemmas.List.{length-set, length-replicate, get_or_default}
+use Rattle.std.proofs.lemmas.List.FromFn.{get_or-map-range_with_len, length-map-range_with_len}
+use Rattle.std.proofs.lemmas.List.Elements.{Contains-get_or}
+use Rattle.bplist_objects.proofs.Lists.{Either, all_or_first}
+use Rattle.bplist_cert.proofs.AllNumbers.{onto}
+use Rattle.bplist_lint.specs.Graph.{Reaches, Ends, IsNext, IsCircleOf}
+use Rattle.bplist_lint.specs.Graph.Reaches.{start, onward}
+use Rattle.bplist_lint.specs.Graph.Ends.{ends}
+use Rattle.bplist_lint.specs.Reaching.{IsMarked}
+use Rattle.bplist_lint.proofs.VisitSteps.{at_set, count-set, unwritten}
+
+-- there is one below a bound, or there is none
+pub some_or_none : (Q : ℕ → Type 0) → ((k : ℕ) → Either (Q k)) → (bound : ℕ) → ((i : ℕ) × (i < bound) × Q i) ⊎ ((k : ℕ) → k < bound → Q k → ⊥)
+some_or_none Q each bound = elim (all_or_first (λ k. Q k → ⊥) Q (λ k. elim (each k) [ inl q ↦ inr q | inr n ↦ inl n ]) bound) [
+  | inl none ↦ inr none
+  | inr some ↦ inl (some.0, some.1, some.2)
+]
+
+marked_decided : (marks : List Bool) (n : ℕ) → Either (IsMarked marks n)
+marked_decided marks n = elim (cases_Bool (get_or marks n false)) [
+  | inl yes1 ↦ inl yes1
+  | inr no1 ↦ inr (λ is. false≢true (sym no1 ∙ is))
+]
+
+member_decided : (xs : List ℕ) (m : ℕ) → Either (Contains xs m)
+member_decided xs m = elim (some_or_none (λ k. get_or xs k m ≡ m) (λ k. cases_eq (get_or xs k m) m) (length xs)) [
+  | inl some ↦ inl some
+  | inr none ↦ inr (λ c. none c.0 c.1 c.2)
+]
+
+-- ---- a set that is found step by step
+-- the marks are those of a set that Rule adds nothing to
+record IsClosed (P : ℕ → Type 0) (size : ℕ) (Rule : List Bool → ℕ → Type 0) (begun marks : List Bool) : Type 0 where
+  keeps : (n : ℕ) → IsMarked begun n → IsMarked marks n
+  right : (n : ℕ) → IsMarked marks n → P n
+  done : (n : ℕ) → n < size → (IsMarked marks n → ⊥) → Rule marks n → ⊥
+
+module _ (P : ℕ → Type 0) (size : ℕ) (Rule : List Bool → ℕ → Type 0) (decided : (marks : List Bool) (n : ℕ) → Either (Rule marks n))
+    (sound : (marks : List Bool) → ((m : ℕ) → IsMarked marks m → P m) → (n : ℕ) → n < size → Rule marks n → P n) where
+  abbrev IsFresh : List Bool → ℕ → Type 0
+  IsFresh marks n = (IsMarked marks n → ⊥) × Rule marks n
+
+  fresh_decided : (marks : List Bool) (n : ℕ) → Either (IsFresh marks n)
+  fresh_decided marks n = elim (marked_decided marks n) [
+    | inl is ↦ inr (λ h. h.0 is)
+    | inr off ↦ elim (decided marks n) [
+      | inl rule ↦ inl (off, rule)
+      | inr never ↦ inr (λ h. never h.1)
+    ]
+  ]
+
+  module _ (marks : List Bool) (all : length marks ≡ size) (right : (n : ℕ) → IsMarked marks n → P n) where
+    -- with one mark more
+    with_one : (n : ℕ) → n < size → (m : ℕ) → IsMarked marks m → IsMarked (set marks n true) m
+    with_one n lt m is = elim (at_set marks n true false m (omega (arith, lt, all))) [
+      | inl same ↦ same.1
+      | inr other ↦ other.1 ∙ is
+    ]
+
+    right_one : (n : ℕ) → n < size → Rule marks n → (m : ℕ) → IsMarked (set marks n true) m → P m
+    right_one n lt rule m is = elim (at_set marks n true false m (omega (arith, lt, all))) [
+      | inl same ↦ subst P (sym same.0) (sound marks right n lt rule)
+      | inr other ↦ right m (sym other.1 ∙ is)
+    ]
+
+    fewer : (n : ℕ) → n < size → (IsMarked marks n → ⊥) → count_by not (set marks n true) + 1 ≡ count_by not marks
+    fewer n lt off =
+        let off1 : get_or marks n false ≡ false = false_from_ne_true (get_or marks n false) off in
+        let c = count-set not marks n true false (omega (arith, lt, all)) in
+        let one : 0 + cond (not (get_or marks n false)) 1 0 ≡ 1 = ap (λ b. 0 + cond (not b) 1 0) off1 in
+        omega (arith, c, one)
+
+    closed : ((n : ℕ) → n < size → IsFresh marks n → ⊥) → (marks' : List Bool) × IsClosed P size Rule marks marks'
+    closed none = (marks, record { keeps = λ n is. is; right = right; done = λ n lt off rule. none n lt (off, rule) })
+
+  -- marks are added until none is missing
+  close : (fuel : ℕ) (marks : List Bool) → length marks ≡ size → ((n : ℕ) → IsMarked marks n → P n) → count_by not marks ≤ fuel → (marks' : List Bool) × IsClosed P size Rule marks marks'
+  close zero marks all right few = elim (some_or_none (IsFresh marks) (fresh_decided marks) size) [
+    | inr none ↦ closed marks all right none
+    | inl some ↦ absurd (let l = fewer marks all right some.0 some.1 some.2.0 in omega (arith, l, few))
+  ]
+  close (suc fuel) marks all right few = elim (some_or_none (IsFresh marks) (fresh_decided marks) size) [
+    | inr none ↦ closed marks all right none
+    | inl some ↦
+        let l = fewer marks all right some.0 some.1 some.2.0 in
+        let rest = close fuel (set marks some.0 true) (length-set marks some.0 true ∙ all) (right_one marks all right some.0 some.1 some.2.1) (omega (arith, l, few)) in
+        (rest.0, record { keeps = λ m is. rest.1.keeps m (with_one marks all right some.0 some.1 m is); right = rest.1.right; done = rest.1.done })
+  ]
+
+-- ---- a finite graph
+module _ (graph : ℕ → List ℕ) (size : ℕ) (inside : (n m : ℕ) → Contains (graph n) m → m < size) where
+  abbrev no_marks : List Bool
+  no_marks = replicate size false
+
+  -- ---- what is reached
+  module _ (top : ℕ) (lt_top : top < size) where
+    -- a marked object refers to it
+    abbrev Refers : List Bool → ℕ → Type 0
+    Refers marks n = (m : ℕ) × (m < size) × (IsMarked marks m × Contains (graph m) n)
+
+    refers_decided : (marks : List Bool) (n : ℕ) → Either (Refers marks n)
+    refers_decided marks n = elim (some_or_none (λ m. IsMarked marks m × Contains (graph m) n) (λ m. both (marked_decided marks m) (member_decided (graph m) n)) size) [
+      | inl some ↦ inl some
+      | inr none ↦ inr (λ h. none h.0 h.1 h.2)
+    ]
+      where
+        both : {A B : Type 0} → Either A → Either B → Either (A × B)
+        both (inl a) (inl b) = inl (a, b)
+        both (inl a) (inr b) = inr (λ h. b h.1)
+        both (inr a) b = inr (λ h. a h.0)
+
+    abbrev begun : List Bool
+    begun = set no_marks top true
+
+    begun_right : (n : ℕ) → IsMarked begun n → Reaches graph top n
+    begun_right n is = elim (at_set no_marks top true false n (omega (arith, lt_top, length-replicate size false))) [
+      | inl same ↦ subst (Reaches graph top) (sym same.0) start
+      | inr other ↦ absurd (false≢true (sym (unwritten size n false) ∙ sym other.1 ∙ is))
+    ]
+
+    reached_marks : (marks : List Bool) × IsClosed (Reaches graph top) size Refers begun marks
+    reached_marks =
+        close (Reaches graph top) size Refers refers_decided (λ marks right n lt rule. onward rule.0 n (right rule.0 rule.2.0) rule.2.1)
+        (count_by not begun) begun (length-set no_marks top true ∙ length-replicate size false) begun_right (omega arith)
+
+    reach_inside : (n : ℕ) → Reaches graph top n → n < size
+    reach_inside _ start = lt_top
+    reach_inside _ (onward n m r c) = inside n m c
+
+    reached_marked : (n : ℕ) → Reaches graph top n → IsMarked reached_marks.0 n
+    reached_marked _ start = elim (at_set no_marks top true false top (omega (arith, lt_top, length-replicate size false))) [
+      | inl same ↦ reached_marks.1.keeps top same.1
+      | inr other ↦ absurd (other.0 refl)
+    ]
+    reached_marked _ (onward n m r c) = elim (marked_decided reached_marks.0 m) [
+      | inl is ↦ is
+      | inr off ↦ absurd (reached_marks.1.done m (inside n m c) off (n, reach_inside n r, (reached_marked n r, c)))
+    ]
+
+    pub reach_decided : (n : ℕ) → Either (Reaches graph top n)
+    reach_decided n = elim (marked_decided reached_marks.0 n) [
+      | inl is ↦ inl (reached_marks.1.right n is)
+      | inr off ↦ inr (λ r. off (reached_marked n r))
+    ]
+
+  -- ---- what is founded
+  abbrev AllMarked : List Bool → ℕ → Type 0
+  AllMarked marks n = (i : ℕ) → i < length (graph n) → IsMarked marks (get_or (graph n) i 0)
+
+  -- the first reference that is not marked
+  abbrev FirstOff : List Bool → ℕ → Type 0
+  FirstOff marks n = (i : ℕ) × (i < length (graph n)) × (IsMarked marks (get_or (graph n) i 0) → ⊥) × ((k : ℕ) → k < i → IsMarked marks (get_or (graph n) k 0))
+
+  marked_or_first : (marks : List Bool) (n : ℕ) → AllMarked marks n ⊎ FirstOff marks n
+  marked_or_first marks n =
+      all_or_first (λ i. IsMarked marks (get_or (graph n) i 0)) (λ i. IsMarked marks (get_or (graph n) i 0) → ⊥) (λ i. marked_decided marks (get_or (graph n) i 0)) (length (graph n))
+
+  all_marked_decided : (marks : List Bool) (n : ℕ) → Either (AllMarked marks n)
+  all_marked_decided marks n = elim (marked_or_first marks n) [
+    | inl all ↦ inl all
+    | inr (i, l, off, before) ↦ inr (λ all. off (all i l))
+  ]
+
+  founded_marks : (marks : List Bool) × IsClosed (Ends graph) size AllMarked no_marks marks
+  founded_marks =
+      close (Ends graph) size AllMarked all_marked_decided (λ marks right n lt all. ends n (λ m c. subst (Ends graph) (sym (get_or_default (graph n) c.0 m 0 c.1) ∙ c.2) (right (get_or (graph n) c.0 0) (all c.0 c.1))))
+      (count_by not no_marks) no_marks (length-replicate size false) (λ n is. absurd (false≢true (sym (unwritten size n false) ∙ is))) (omega arith)
+
+  abbrev IsFound : ℕ → Type 0
+  IsFound n = IsMarked founded_marks.0 n
+
+  found_or_first : (n : ℕ) → n < size → (IsFound n → ⊥) → FirstOff founded_marks.0 n
+  found_or_first n lt off = elim (marked_or_first founded_marks.0 n) [
+    | inl all ↦ absurd (founded_marks.1.done n lt off all)
+    | inr first ↦ first
+  ]
+
+  not_found : (n : ℕ) → n < size → (IsFound n → ⊥) → Ends graph n → ⊥
+  not_found _ lt off (ends n each) =
+      let f = found_or_first n lt off in
+      let c = Contains-get_or (graph n) f.0 0 f.1 in
+      not_found (get_or (graph n) f.0 0) (inside n (get_or (graph n) f.0 0) c) f.2 (each (get_or (graph n) f.0 0) c)
+
+  -- ---- the walk along first references that are not founded
+  record OffObject : Type 0 where
+    at : ℕ
+    within : at < size
+    off : IsFound at → ⊥
+
+  next_off : (n : OffObject) → (m : OffObject) × IsNext graph n.at m.at
+  next_off n =
+      let f = found_or_first n.at n.within n.off in
+      let m = get_or (graph n.at) f.0 0 in
+      let lt = inside n.at m (Contains-get_or (graph n.at) f.0 0 f.1) in
+      (record { at = m; within = lt; off = f.2 }, record { place = f.0; in_refs = f.1; at_place = refl; not_founded = not_found m lt f.2; first = λ k l. founded_marks.1.right (get_or (graph n.at) k 0) (f.3 k l) })
+
+  abbrev walk : OffObject → ℕ → OffObject
+  walk top zero = top
+  walk top (suc k) = (next_off (walk top k)).0
+
+  module _ (top : OffObject) where
+    abbrev x : ℕ → ℕ
+    x k = (walk top k).at
+
+    abbrev Meets : ℕ → Type 0
+    Meets j = (i : ℕ) × (i < j) × (x i ≡ x j)
+
+    meets_decided : (j : ℕ) → ((i : ℕ) → i < j → x i ≡ x j → ⊥) ⊎ Meets j
+    meets_decided j = elim (some_or_none (λ i. x i ≡ x j) (λ i. cases_eq (x i) (x j)) j) [
+      | inl some ↦ inr some
+      | inr none ↦ inl none
+    ]
+
+    first_meet : (j : ℕ) × (j < suc size) × Meets j × ((l : ℕ) → l < j → (i : ℕ) → i < l → x i ≡ x l → ⊥)
+    first_meet = elim (all_or_first (λ j. (i : ℕ) → i < j → x i ≡ x j → ⊥) Meets meets_decided (suc size)) [
+      | inl none ↦
+          let last = onto size x (λ j l. (walk top j).within) (λ i j l k. none j (omega (arith, k)) i l) (x size) (walk top size).within in
+          absurd (none size (omega arith) last.0 last.1 last.2)
+      | inr some ↦ some
+    ]
+
+    there_is_circle : (circle : List ℕ) × IsCircleOf graph top.at circle
+    there_is_circle =
+        let m = first_meet in
+        let j = m.0 in
+        let i = m.2.0 in
+        let long = length-map-range_with_len x i (j - i) in (
+          map x (range_with_len i (j - i)),
+          record {
+            x = x;
+            i = i;
+            j = j;
+            begins = refl;
+            leads = λ k l. (next_off (walk top k)).1;
+            earlier = m.2.1;
+            meets = m.2.2;
+            least = λ k l lt below. m.3 l below k lt;
+            long = omega (arith, long, m.2.1);
+            listed = λ k l. get_or-map-range_with_len x i (j - i) k (i + k) 0 (omega (arith, l, long)) refl;
+          },
+        )
+
+  -- an object is founded, or first references that are not founded lead from it to a circle
+  pub founded_or_circle : (top : ℕ) → top < size → Ends graph top ⊎ ((circle : List ℕ) × IsCircleOf graph top circle)
+  founded_or_circle top lt = elim (marked_decided founded_marks.0 top) [
+    | inl is ↦ inl (founded_marks.1.right top is)
+    | inr off ↦ inr (there_is_circle (record { at = top; within = lt; off = off }))
+  ]

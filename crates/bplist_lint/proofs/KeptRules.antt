@@ -1,0 +1,92 @@
+-- A file is well formed exactly where its reached objects keep their rules and its top is founded.
+use Rattle.std.proofs.Common.{◌≡◌, ℕ, ◌≤◌, ◌+◌, inl, inr, List, [], ◌∷◌, subst, arith}
+use Rattle.std.specs.List.{AllByRecursion}
+use Rattle.std.proofs.lemmas.Bool.{cases_lt}
+use Rattle.bplist_objects.specs.declared.frame.Frame.{Frame}
+use Rattle.bplist_objects.specs.declared.head.Head.{Head}
+use Rattle.bplist_objects.specs.declared.kind.Kind.TheVariants.{Dict}
+use Rattle.bplist_objects.specs.Frame.{IsFrame}
+use Rattle.bplist_objects.specs.Heads.{Content, Spells}
+use Rattle.bplist_objects.specs.Announced.{HasHead}
+use Rattle.bplist_objects.specs.Rules.{KeepsAll}
+use Rattle.bplist_objects.specs.ObjectRules.{KeepsByObject, object_rules}
+use Rattle.bplist_objects.specs.Reach.{Reach, Founded}
+use Rattle.bplist_objects.specs.Extents.{HaveRoom, IsOverfull}
+use Rattle.bplist_objects.proofs.Lists.{all_weaker}
+use Rattle.bplist_objects.proofs.BodyLaws.{HasHead-unique}
+use Rattle.bplist_objects.proofs.ReachedObjects.{reach_within}
+use Rattle.bplist_objects.proofs.HeadTies.{shape_announced, spells_keeps, keeps_iff}
+use Rattle.bplist_cert.specs.Valid.{HasKeys}
+use Rattle.bplist_cert.proofs.KeyTies.{HaveKeys, keys_from_rules, rules_from_keys}
+use Rattle.bplist_lint.specs.ReachRules.{KeepsByReach, KeepReachBelow, reach_rules}
+use Rattle.bplist_lint.specs.KeyRules.{KeepKeysBelow}
+use Rattle.bplist_lint.specs.WellFormed.{IsWellFormed}
+
+-- the greatest of some numbers is one of them
+pub record IsGreatest (S : ℕ → Type 0) (ns : List ℕ) (m : ℕ) : Type 0 where
+  pub member : S m
+  pub high : AllByRecursion (λ n. S n × (n ≤ m)) ns
+
+pub greatest_member : (S : ℕ → Type 0) (n : ℕ) (ns : List ℕ) → AllByRecursion S (n ∷ ns) → (m : ℕ) × IsGreatest S (n ∷ ns) m
+greatest_member S n [] a = (n, record { member = a.0; high = ((a.0, omega arith), tt) })
+greatest_member S n (k ∷ ks) a = go (greatest_member S k ks a.1)
+  where
+    go : (m : ℕ) × IsGreatest S (k ∷ ks) m → (m : ℕ) × IsGreatest S (n ∷ k ∷ ks) m
+    go (m, g) = elim (cases_lt m n) [
+      | inl l ↦ (n, record { member = a.0; high = ((a.0, omega arith), all_weaker _ _ (λ x p. (p.0, omega (arith, p.1, l))) (k ∷ ks) g.high) })
+      | inr h ↦ (m, record { member = g.member; high = ((a.0, h), g.high) })
+    ]
+
+module _ (f : List ℕ) (F : Frame) where
+  -- of the rules of a reached object, those of an object by itself, and rule 31
+  pub own_rules : (n : ℕ) → KeepsAll (KeepsByReach f F n) reach_rules → KeepsAll (KeepsByObject f F n) object_rules
+  own_rules n k = (k.0, (k.1.0, (k.1.1.0, (k.1.1.1.0, (k.1.1.1.1.0, (k.1.1.1.1.1.0, (k.1.1.1.1.1.1.0, tt)))))))
+
+  room_rule : (n : ℕ) → KeepsAll (KeepsByReach f F n) reach_rules → IsOverfull f F (Reach f F) n → ⊥
+  room_rule n k = k.1.1.1.1.1.1.1.0
+
+  both_rules : (n : ℕ) → KeepsAll (KeepsByObject f F n) object_rules → (IsOverfull f F (Reach f F) n → ⊥) → KeepsAll (KeepsByReach f F n) reach_rules
+  both_rules n k room = (k.0, (k.1.0, (k.1.1.0, (k.1.1.1.0, (k.1.1.1.1.0, (k.1.1.1.1.1.0, (k.1.1.1.1.1.1.0, (room, tt))))))))
+
+  module _ (frame : IsFrame f F) where
+    -- a reached object that keeps rules 14 to 20 spells a content
+    pub kept_spells : KeepReachBelow f F F.objects → (n : ℕ) → Reach f F n → (c : Content) × Spells f F n c
+    kept_spells kept n r = let lt = reach_within f F frame.top n r in (keeps_iff f F n frame lt).0 (own_rules n (kept n lt r))
+
+    kept_room : KeepReachBelow f F F.objects → HaveRoom f F (Reach f F)
+    kept_room kept [] r d a t = omega (arith, t, frame.table_early)
+    kept_room kept (n ∷ ns) r d a t = elim (cases_lt F.table (r + 8)) [
+      | inl l ↦ let g = greatest_member (Reach f F) n ns a in absurd (room_rule g.0 (kept g.0 (reach_within f F frame.top g.0 g.1.member) g.1.member) (n ∷ ns, r, d, g.1.high, t, l))
+      | inr h ↦ h
+    ]
+
+    kept_content : KeepReachBelow f F F.objects → KeepKeysBelow f F F.objects → (n : ℕ) → Reach f F n → (c : Content) × Spells f F n c × HasKeys f F c
+    kept_content kept keys n r =
+        let s = kept_spells kept n r in
+        let head = s.1.shape in
+        let there = shape_announced f F n head s.1.has in
+        let k = keys n (reach_within f F frame.top n r) r in
+        (s.0, s.1, keys_from_rules f F n head s.1.has s.0 s.1 (λ e. (k.0 head there e, k.1.0 head there e)))
+
+    -- where all rules are kept and the top is founded, the file is well formed
+    pub kept_formed : KeepReachBelow f F F.objects → KeepKeysBelow f F F.objects → Founded f F F.top.0 → IsWellFormed f F
+    kept_formed kept keys ends = record { frame = frame; contents = kept_content kept keys; room = kept_room kept; founded = ends }
+
+  -- in a well formed file all rules are kept
+  module _ (w : IsWellFormed f F) where
+    pub formed_reach : KeepReachBelow f F F.objects
+    formed_reach n lt r =
+        let s = w.contents n r in
+        both_rules n (spells_keeps f F n w.frame lt s.0 s.1) (λ o.
+        let room = w.room o.0 o.1 o.2 (all_weaker _ _ (λ m k. k.0) o.0 o.3) o.4 in
+        omega (arith, room, o.5))
+
+    pub formed_keys : KeepKeysBelow f F F.objects
+    formed_keys n lt r = (λ head has e. (of_head head has e).0, (λ head has e. (of_head head has e).1, tt))
+      where
+        of_head : (head : Head) → HasHead f F n head → head.kind ≡ Dict → HaveKeys f F head
+        of_head head has =
+            let s = w.contents n r in
+            let own = s.1.shape in
+            let same = HasHead-unique f F n own head (shape_announced f F n own s.1.has) has in
+            subst (λ (x : Head). x.kind ≡ Dict → HaveKeys f F x) same (rules_from_keys f F n own s.1.has s.0 s.1 s.2)

@@ -1,0 +1,94 @@
+-- What the classes of the keys of a dictionary say of them.
+use Rattle.std.proofs.Common.{◌≡◌, ℕ, ◌<◌, ◌↔◌, Bool, List, length, slice_index, sym, ◌∙◌, subst, arith, Contains}
+use Rattle.bplist_objects.specs.declared.fault.Fault.{Fault}
+use Rattle.bplist_objects.specs.declared.frame.Frame.{Frame}
+use Rattle.bplist_objects.specs.declared.frame.ObjectNo.{ObjectNo}
+use Rattle.bplist_objects.specs.declared.head.Head.{Head}
+use Rattle.bplist_objects.specs.declared.kind.Kind.TheVariants.{Dict}
+use Rattle.bplist_objects.specs.Announced.{HasHead}
+use Rattle.bplist_objects.specs.Frame.{IsFrame}
+use Rattle.bplist_objects.specs.Heads.{content_at, refs}
+use Rattle.bplist_objects.specs.Reach.{Reach, next}
+use Rattle.bplist_objects.specs.Rules.{IsFirstFault}
+use Rattle.bplist_objects.proofs.Lists.{all_from}
+use Rattle.bplist_objects.proofs.HeadTies.{head_tie}
+use Rattle.bplist_keys.specs.Texts.{AreOffsets}
+use Rattle.bplist_keys.specs.Ranks.{AreClasses}
+use Rattle.bplist_cert.specs.Heights.{ref}
+use Rattle.bplist_cert.specs.Keys.{IsKey, IsFirstKeyless, IsFirstTwice}
+use Rattle.bplist_cert.specs.KeyClasses.{KeysAreSound}
+use Rattle.bplist_cert.proofs.KeyClasses as keys
+use Rattle.bplist_lint.specs.Reaching.{IsMarked}
+use Rattle.bplist_lint.specs.ReachRules.{KeepReachBelow}
+use Rattle.bplist_lint.specs.KeyRules.{KeepsByKeys, BreaksAtKeys, key_rules}
+use Rattle.bplist_keys.specs.Classes.{HasNamedKeys, AreClassed, HaveClasses, IsFirstAgain, IsWrong}
+use Rattle.bplist_lint.specs.KeyClasses.{AreSound, IsWrongFault}
+use Rattle.bplist_keys.specs.declared.class_table.Wrong.{Wrong}
+use Rattle.bplist_keys.specs.declared.class_table.Wrong.TheVariants as wrongs
+use Rattle.bplist_lint.proofs.ReachSteps.{marked_within}
+use Rattle.bplist_lint.proofs.KeySteps.{keyless, twice}
+use Rattle.bplist_lint.proofs.KeptRules.{own_rules}
+use Rattle.bplist_cert.proofs.KeyTies.{each_key}
+
+module _ (f : List ℕ) (F : Frame) where
+  -- where exactly the reached objects are marked, and keep the rules
+  pub reached_sound : (places : List ℕ) (marks : List Bool) → length marks ≡ F.objects → IsFrame f F → AreOffsets f F places → ((m : ℕ) → IsMarked marks m ↔ Reach f F m)
+      → KeepReachBelow f F F.objects → AreSound f F places marks
+  reached_sound places marks many framed placed reached kept = record {
+    framed = framed;
+    placed = placed;
+    kept = λ m marked. own_rules f F m (kept m (subst (λ n. m < n) many (marked_within marks m marked)) ((reached m).0 marked));
+    closed = λ n m marked r. (reached m).1 (next ((reached n).0 marked) r);
+  }
+
+  -- the keys of a marked dictionary keep rules 14 to 20
+  pub sound_keys : (places : List ℕ) (marks : List Bool) → AreSound f F places marks → (n : ℕ) → n < F.objects → IsMarked marks n → (head : Head) → HasHead f F n head → head.kind ≡ Dict
+      → KeysAreSound f F head
+  sound_keys places marks sound n within marked head has dict k low inside =
+      let c = content_at f F head in
+      let spells = ((head_tie f F n sound.framed within head).0 (has, sound.kept n marked)).1 in
+      let among = each_key f F (Contains (refs c)) head dict (all_from (Contains (refs c)) (refs c) (λ m in_refs. in_refs)) k low in
+      sound.kept (ref f F head k) (sound.closed n (ref f F head k) marked (c, spells, among))
+
+  -- what is known of the keys of a marked dictionary
+  pub keys_known : (places : List ℕ) (marks : List Bool) (named classes : List ℕ) (n : ℕ) → AreSound f F places marks → AreClasses f F named classes → HasNamedKeys f F named n → n < F.objects → IsMarked marks n
+      → (head : Head) → HasHead f F n head → head.kind ≡ Dict → AreClassed f F classes head × KeysAreSound f F head
+  keys_known places marks named classes n sound are named_keys within marked head has dict =
+      (keys.keys_classed f F named classes n are named_keys head has dict, sound_keys places marks sound n within marked head has dict)
+
+  module _ (framed : IsFrame f F) (head : Head) (classes : List ℕ) (classed : AreClassed f F classes head) (sound : KeysAreSound f F head)
+      (inside : (k : ℕ) → k < head.count → ref f F head k < F.objects) where
+    text_at : (k : ℕ) → k < head.count → 0 < slice_index classes (ref f F head k) → (key : Head) × IsKey f F head k key
+    text_at = keys.text_at f F framed head classes classed sound inside
+
+    pub no_text : (i : ℕ) → i < head.count → slice_index classes (ref f F head i) ≡ 0 → HaveClasses (ref f F head) classes i → IsFirstKeyless f F head i
+    no_text i low none before = record {
+      within = low;
+      none = λ key is. absurd (let some = keys.class_at f F framed head classes classed sound inside i low key is in omega (arith, some, none));
+      before = keys.classed_texts f F framed head classes classed sound inside i (omega (arith, low)) before;
+    }
+
+    pub repeated : (j : ℕ) → j < head.count → HaveClasses (ref f F head) classes head.count → IsFirstAgain (ref f F head) classes j → IsFirstTwice f F head j
+    repeated j low all a =
+        let i_low : a.earlier < head.count = omega (arith, low, a.order) in
+        let x = text_at a.earlier i_low (all a.earlier i_low) in
+        let y = text_at j low (all j low) in
+        record {
+          within = low;
+          earlier = a.earlier;
+          order = a.order;
+          first = x.0;
+          second = y.0;
+          is_first = x.1;
+          is_second = y.1;
+          same = sym (keys.units_at f F framed head classes classed sound inside a.earlier x.0 x.1) ∙ (classed.same a.earlier j i_low low (all a.earlier i_low) (all j low)).0 a.same ∙ keys.units_at f F framed head classes classed sound inside j y.0 y.1;
+          before = keys.apart_differ f F framed head classes classed sound inside j (omega (arith, low)) a.before;
+        }
+
+    -- what is wrong with them is the fault
+    pub wrong_fault : (n : ObjectNo) → HasHead f F n.0 head → head.kind ≡ Dict → (wrong : Wrong) (fault : Fault) → IsWrong (ref f F head) classes head.count wrong → IsWrongFault F n head wrong fault
+        → IsFirstFault (KeepsByKeys f F n.0) (BreaksAtKeys f F n.0) key_rules fault
+    wrong_fault n has dict (wrongs.NoText i) fault is told =
+        keyless f F n.0 head has fault dict (told.0, told.1, (i, no_text i is.0 is.1 is.2, told.2))
+    wrong_fault n has dict (wrongs.Again j) fault is told =
+        twice f F n.0 head has fault dict (keys.classed_texts f F framed head classes classed sound inside head.count (omega arith) is.1) (told.0, told.1, (j, repeated j is.0 is.1 is.2, told.2))

@@ -1,0 +1,130 @@
+-- What an object's references are, by what was read of it.
+use Rattle.std.proofs.Common.{◌≡◌, ℕ, ◌<◌, ◌+◌, List, [], length, slice_index, Option, Some, None, inl, inr, refl, sym, ap, ◌∙◌, subst, arith}
+use Rattle.std.specs.List.{AllByRecursion}
+use Rattle.std.proofs.lemmas.Bool.{cases_lt}
+use Rattle.std.proofs.lemmas.List.{nil_from_length}
+use Rattle.bplist_objects.specs.declared.frame.Frame.{Frame}
+use Rattle.bplist_objects.specs.declared.head.Head.{Head}
+use Rattle.bplist_objects.specs.declared.kind.Kind.{Kind}
+use Rattle.bplist_objects.specs.declared.kind.Kind.TheVariants as kinds
+use Rattle.bplist_objects.specs.Heads.{Content, HasShape, IsProperLeaf, Spells, content_at, refs}
+use Rattle.bplist_objects.specs.Safe.{ref_count}
+use Rattle.bplist_objects.specs.Spelled.{spelled_at, head_found, refs_found, refs_at}
+use Rattle.bplist_objects.proofs.Fronts.{one_shape}
+use Rattle.bplist_objects.proofs.SpelledContents.{head_is_found, spells_iff}
+use Rattle.bplist_objects.proofs.References.{length-refs}
+use Rattle.bplist_objects.specs.Scan.{AreBelow, nth_number}
+use Rattle.bplist_objects.proofs.References.{nth-refs, each_ref, all_refs}
+use Rattle.bplist_objects.proofs.ReachedObjects.{refs_spelled}
+use Rattle.bplist_objects.proofs.HeadTies.{shape_announced, spells_body}
+use Rattle.bplist_lint.specs.Referring.{IsBlock, refs_announced}
+
+module _ (f : List ℕ) (F : Frame) (n : ℕ) where
+  -- an object that spells nothing refers to nothing
+  pub no_refs : ((c : Content) → Spells f F n c → ⊥) → refs_at f F n ≡ []
+  unfolding refs_at
+  no_refs never = go (spelled_at f F n) refl
+    where
+      go : (found : Option Content) → spelled_at f F n ≡ found → refs_found (spelled_at f F n) ≡ []
+      go None e = ap refs_found e
+      go (Some c) e = absurd (never c ((spells_iff f F n c).1 e))
+
+  -- and so does one that has no shape
+  pub no_refs_shape : ((h : Head) → HasShape f F n h → ⊥) → refs_at f F n ≡ []
+  no_refs_shape never = no_refs (λ c s. never s.shape s.has)
+
+  -- and one whose shape has no references
+  pub no_refs_leaf : (h : Head) → HasShape f F n h → ref_count h.kind h.count ≡ 0 → refs_at f F n ≡ []
+  no_refs_leaf h has none = go (spelled_at f F n) refl
+    where
+      of_content : (c : Content) → Spells f F n c → refs_at f F n ≡ []
+      of_content c s =
+          let same : s.shape ≡ h = one_shape f F n s.shape h s.has has in
+          let is : c ≡ content_at f F h = s.means ∙ ap (content_at f F) same in
+          refs_spelled f F n c s ∙ ap refs is ∙ nil_from_length (refs (content_at f F h)) (length-refs f F h.kind h.count h.body ∙ none)
+
+      go : (found : Option Content) → spelled_at f F n ≡ found → refs_at f F n ≡ []
+      go None e = no_refs (λ c s. let k : None ≡ Some c = sym e ∙ (spells_iff f F n c).0 s in cc k)
+      go (Some c) e = of_content c ((spells_iff f F n c).1 e)
+
+  -- the references of an object with a shape: there are as many as the shape says, and they are the numbers that stand there
+  pub record IsAs (h : Head) : Type 0 where
+    pub count : length (refs_at f F n) ≡ ref_count h.kind h.count
+    pub each : (i : ℕ) → i < ref_count h.kind h.count → slice_index (refs_at f F n) i ≡ nth_number f h.body F.ref_size i
+    pub low : (i : ℕ) → i < ref_count h.kind h.count → nth_number f h.body F.ref_size i < F.objects
+
+  pub as_shape : (h : Head) → HasShape f F n h → (i : ℕ) → i < length (refs_at f F n) → IsAs h
+  as_shape h has i within = go (spelled_at f F n) refl
+    where
+      of_content : (c : Content) → Spells f F n c → IsAs h
+      of_content c s =
+          let is : refs_at f F n ≡ refs (content_at f F h) = refs_spelled f F n c s ∙ ap refs (spells_body f F n h c has s) in
+          let body : c ≡ content_at f F h = spells_body f F n h c has s in
+          record {
+            count = ap length is ∙ length-refs f F h.kind h.count h.body;
+            each = λ k l. ap (λ xs. slice_index xs k) is ∙ nth-refs f F h.kind h.count h.body k l;
+            low = each_ref f F (λ m. m < F.objects) h.kind h.count h.body (subst (λ x. AllByRecursion (λ m. m < F.objects) (refs x)) body s.refs);
+          }
+
+      go : (found : Option Content) → spelled_at f F n ≡ found → IsAs h
+      go None e = absurd (let z = ap length (no_refs (λ c s. let k : None ≡ Some c = sym e ∙ (spells_iff f F n c).0 s in cc k)) in omega arith)
+      go (Some c) e = of_content c ((spells_iff f F n c).1 e)
+
+  -- there is a reference number i only where the shape says so
+  pub some_left : (h : Head) → HasShape f F n h → (i : ℕ) → i < length (refs_at f F n) → i < ref_count h.kind h.count
+  some_left h has i within = let a = as_shape h has i within in omega (arith, a.count)
+
+  -- a block of them
+  pub block_is : (h : Head) → HasShape f F n h → (first count : ℕ) (block : List ℕ)
+      → ((k : ℕ) → k < count → nth_number f h.body F.ref_size (first + k) < F.objects → slice_index block k ≡ nth_number f h.body F.ref_size (first + k))
+      → IsBlock (refs_at f F n) first count block
+  block_is h has first count block same k low within =
+      let a = as_shape h has (first + k) within in
+      let l : first + k < ref_count h.kind h.count = omega (arith, a.count) in
+      same k low (a.low (first + k) l) ∙ sym (a.each (first + k) l)
+
+  -- as many as a head says
+  pub counted : (h : Head) → refs_at f F n ≡ refs (content_at f F h) → length (refs_at f F n) ≡ ref_count h.kind h.count
+  counted h is = ap length is ∙ length-refs f F h.kind h.count h.body
+
+  -- how many it announces, by its head
+  pub announced_as : (h : Head) → HasShape f F n h → refs_announced (head_found f F n) ≡ ref_count h.kind h.count
+  announced_as h has = ap refs_announced (head_is_found f F n h (shape_announced f F n h has))
+
+  -- an object that spells a content has all references that it announces
+  pub all_announced : (c : Content) → Spells f F n c → refs_announced (head_found f F n) ≡ length (refs_at f F n)
+  all_announced c s = announced_as s.shape s.has ∙ sym (counted s.shape (refs_spelled f F n c s ∙ ap refs s.means))
+
+  -- what has references is no text and no UID
+  proper_container : (kind : Kind) (count body : ℕ) → 0 < ref_count kind count → IsProperLeaf f F kind count body
+  proper_container kinds.Ascii count body some = absurd (omega (arith, some))
+  proper_container kinds.Uid count body some = absurd (omega (arith, some))
+  proper_container _ count body some = tt
+
+  -- where all numbers of a body are those of objects, they are the references
+  pub refs_as_shape : (h : Head) → HasShape f F n h → AreBelow f h.body F.ref_size (ref_count h.kind h.count) F.objects → refs_at f F n ≡ refs (content_at f F h)
+  refs_as_shape h has below = elim (cases_lt 0 (ref_count h.kind h.count)) [
+    | inl some ↦
+        let s : Spells f F n (content_at f F h) = record {
+          shape = h;
+          has = has;
+          proper = proper_container h.kind h.count h.body some;
+          means = refl;
+          refs = all_refs f F (λ m. m < F.objects) h.kind h.count h.body below;
+        } in
+        refs_spelled f F n (content_at f F h) s
+    | inr none ↦
+        let zero : ref_count h.kind h.count ≡ 0 = omega (arith, none) in
+        no_refs_leaf h has zero ∙ sym (nil_from_length (refs (content_at f F h)) (length-refs f F h.kind h.count h.body ∙ zero))
+  ]
+
+  -- and where one is not, there is none
+  pub broken_count : (h : Head) → HasShape f F n h → (AreBelow f h.body F.ref_size (ref_count h.kind h.count) F.objects → ⊥) → length (refs_at f F n) ≡ 0
+  broken_count h has never = elim (cases_lt 0 (length (refs_at f F n))) [
+    | inl some ↦ absurd (never (as_shape h has 0 some).low)
+    | inr none ↦ omega (arith, none)
+  ]
+
+  -- no reference where there is no shape
+  pub none_left : ((h : Head) → HasShape f F n h → ⊥) → (i : ℕ) → i < length (refs_at f F n) → ⊥
+  none_left never i within = let z = ap length (no_refs_shape never) in omega arith

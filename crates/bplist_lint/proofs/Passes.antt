@@ -1,0 +1,146 @@
+-- What the linter's passes come to, one behind the other.
+use Rattle.std.proofs.Common.{◌≡◌, ◌↔◌, ℕ, ◌+◌, ◌<◌, ◌≤◌, inl, inr, Bool, cond, Result, Ok, Err, List, length, slice_index, None, ap, ◌∙◌, arith, lt-ltb}
+use Rattle.std.proofs.lemmas.Bool.{ltb-true}
+use Rattle.bplist_objects.specs.declared.fault.Fault.{Fault}
+use Rattle.bplist_objects.specs.declared.fault.ObjectFault.{ObjectFault}
+use Rattle.bplist_objects.specs.declared.fault.ObjectFault.TheVariants as object_faults
+use Rattle.bplist_objects.specs.declared.frame.Frame.{Frame}
+use Rattle.bplist_objects.specs.Answers.{GivesFault, Never}
+use Rattle.bplist_objects.specs.Frame.{IsFrame}
+use Rattle.bplist_objects.specs.FrameRules.{IsTrailer, IsTrailerFault}
+use Rattle.bplist_objects.specs.File.{FileHolds}
+use Rattle.bplist_objects.proofs.FrameTies.{trailer_fault, entry_fault, low_is_frame}
+use Rattle.bplist_objects.specs.Value.{Value}
+use Rattle.bplist_objects.specs.Reach.{Reach}
+use Rattle.bplist_objects.specs.Spelled.{refs_at}
+use Rattle.bplist_cert.specs.declared.refusal.Refusal.{Refusal}
+use Rattle.bplist_cert.specs.declared.refusal.Refusal.TheVariants as cert_refusals
+use Rattle.bplist_cert.specs.Refusals.{GivesRefusal}
+use Rattle.bplist_cert.specs.Valid.{IsVouchedBy}
+use Rattle.bplist_cert.proofs.VouchedObjects.{reached_vouched}
+use Rattle.bplist_lint.specs.declared.refusal.LintRefusal.{LintRefusal}
+use Rattle.bplist_lint.specs.declared.refusal.LintRefusal.TheVariants as refusals
+use Rattle.bplist_lint.specs.declared.answer.Lint.{Lint}
+use Rattle.bplist_lint.specs.declared.walk.Reached.{Reached}
+use Rattle.bplist_lint.specs.Graph.{Reaches, AreWhole, AreLeast, IsCircleOf}
+use Rattle.bplist_lint.specs.Reaching.{IsMarked}
+use Rattle.bplist_lint.specs.ReachRules.{KeepReachBelow, number_below, references_below, is_marked}
+use Rattle.bplist_lint.specs.Referring.{graph_of}
+use Rattle.bplist_lint.specs.FileFault.{IsFileFault, IsFileCircle, IsObjectsFault, IsFramedCircle}
+use Rattle.bplist_lint.specs.Refusals.{of_object, of_check, Refuses, Lints, no_circle}
+use Rattle.bplist_keys.specs.Places.{AreKept}
+use Rattle.bplist_lint.specs.Places.{AreBelowTable, IsPlaceFault}
+use Rattle.bplist_lint.specs.Least.{AreLeastHeights}
+use Rattle.bplist_lint.specs.Linted.{is_vouched, IsSifted, IsLintedBy, IsLinted, HasNoHeights}
+use Rattle.bplist_lint.proofs.HeldValues.{formed_holds, holds_formed}
+use Rattle.bplist_lint.proofs.KeptRules.{kept_spells}
+use Rattle.bplist_lint.proofs.ObjectReferences.{all_announced}
+use Rattle.bplist_lint.proofs.PlaceSteps.{kept_low, kept_high}
+use Rattle.bplist_lint.proofs.Walks.{sum_alike, same_mark}
+use Rattle.bplist_lint.proofs.ReferenceGraph.{reach_iff, circle_iff}
+use Rattle.bplist_lint.proofs.LintAnswers.{formed_by_valid, least_lowest, lint_yes}
+use Rattle.bplist_lint.proofs.FirstFaults.{fault_not_formed, circle_not_formed}
+
+-- ---- what is said of a fault is said of the refusal
+pub object_means : (P Q : Fault → Type 0) (R : List ℕ → Type 0) (e : ObjectFault) → ((x : Fault) → P x → Q x) → GivesFault P e → Refuses Q R (of_object e)
+object_means P Q R (object_faults.Fault fault) same h = same fault h
+object_means P Q R (object_faults.Read _) same h = tt
+
+pub check_means : (P Q : Fault → Type 0) (R : List ℕ → Type 0) (e : Refusal) → ((x : Fault) → P x → Q x) → GivesRefusal P e → Refuses Q R (of_check e)
+check_means P Q R (cert_refusals.Fault fault) same h = same fault h
+check_means P Q R (cert_refusals.Read _) same h = tt
+check_means P Q R cert_refusals.Memory same h = tt
+
+pub refusal_means : (P Q : Fault → Type 0) (R T : List ℕ → Type 0) (e : LintRefusal) → ((x : Fault) → P x → Q x) → ((x : List ℕ) → R x → T x) → Refuses P R e → Refuses Q T e
+refusal_means P Q R T (refusals.Fault fault) faults circles h = faults fault h
+refusal_means P Q R T (refusals.Circle circle) faults circles h = circles _ h
+refusal_means P Q R T (refusals.Read _) faults circles h = tt
+refusal_means P Q R T refusals.Memory faults circles h = tt
+
+pub lints_mean : {X : Type 0} → (P O : X → Type 0) (Q S : Fault → Type 0) (R T : List ℕ → Type 0) (r : Result X LintRefusal) → ((x : X) → P x → O x) → ((x : Fault) → Q x → S x) → ((x : List ℕ) → R x → T x) → Lints P Q R r → Lints O S T r
+lints_mean P O Q S R T (Ok x) oks faults circles h = oks x h
+lints_mean P O Q S R T (Err e) oks faults circles h = refusal_means Q S R T e faults circles h
+
+-- what is reached in the file is marked in the graph
+pub reached_in_graph : (f : List ℕ) (F : Frame) (marks : List Bool) → ((n : ℕ) → IsMarked marks n ↔ Reach f F n) → (n : ℕ) → IsMarked marks n ↔ Reaches (refs_at f F) F.top.0 n
+reached_in_graph f F marks h n = ((λ m. (reach_iff f F n).1 ((h n).0 m)), λ r. (h n).1 ((reach_iff f F n).0 r))
+
+-- where the reached objects keep their rules, each has all references that it announces
+pub are_whole : (f : List ℕ) (F : Frame) → IsFrame f F → KeepReachBelow f F F.objects → (through beside : ℕ) → AreWhole (graph_of through beside f F) F.top.0
+are_whole f F frame kept through beside n r = let s = kept_spells f F frame kept n ((reach_iff f F n).0 r) in all_announced f F n s.0 s.1
+
+-- ---- sums over the same objects
+module _ (f : List ℕ) (F : Frame) where
+  -- the marked objects are those with a height
+  module _ (reached : Reached) (s : IsSifted f F reached) (heights : List ℕ) (least : AreLeastHeights f F heights) (vouched : (n : ℕ) → Reach f F n → IsVouchedBy heights n) where
+    same_objects : (n : ℕ) → is_marked reached.marks.items n ≡ is_vouched heights n
+    same_objects n = same_mark (is_marked reached.marks.items n) (is_vouched heights n)
+        (λ e. let v = vouched n ((s.walked.marked n).0 e) in lt-ltb 0 (slice_index heights n) (omega arith))
+        (λ e. let v = ltb-true 0 (slice_index heights n) e in (s.walked.marked n).1 (least.only n (omega arith)))
+
+    pub same_number : reached.tally.reached ≡ number_below (is_vouched heights) F.objects
+    same_number = s.walked.tallied.reached ∙ sum_alike _ _ F.objects (λ m low. ap (λ b. cond b 1 0) (same_objects m))
+
+    pub same_references : reached.tally.references ≡ references_below f F (is_vouched heights) F.objects
+    same_references = s.walked.tallied.references ∙ sum_alike _ _ F.objects (λ m low. ap (λ b. cond b (length (refs_at f F m)) 0) (same_objects m))
+
+  -- the answer
+  pub linted : IsFrame f F → (reached : Reached) → IsSifted f F reached → reached.tally.references + 8 ≤ F.table → (lint : Lint) → lint.certificate.keys ≡ None
+      → length lint.certificate.heights ≡ F.objects → AreLeast (refs_at f F) F.top.0 lint.certificate.heights → lint.height ≡ slice_index lint.certificate.heights F.top.0 → 0 < lint.height
+      → lint.reached ≡ reached.tally.reached → lint.references ≡ reached.tally.references → IsLintedBy f F lint
+  linted frame sifted s few lint version count walked height has reached references =
+      let heights : List ℕ = lint.certificate.heights in
+      let yes = lint_yes f F frame s.walked.tallied.kept s.keys heights count walked (omega (arith, height)) in
+      let value = formed_holds f F yes.0 in
+      let vouched : (n : ℕ) → Reach f F n → IsVouchedBy heights n = reached_vouched f F heights yes.2 in
+      record {
+        value = value.0;
+        holds = value.1;
+        version = version;
+        least = yes.1;
+        valid = yes.2;
+        lowest = λ other valid n r. (least_lowest f F other heights valid yes.1.least n r).1;
+        height = height;
+        reached = reached ∙ same_number sifted s heights yes.1 vouched;
+        references = references ∙ same_references sifted s heights yes.1 vouched;
+        few = omega (arith, references);
+      }
+
+  -- the circle
+  pub circled : IsFrame f F → (reached : Reached) → IsSifted f F reached → (circle : List ℕ) → IsCircleOf (refs_at f F) F.top.0 circle → IsFramedCircle f F circle
+  circled frame sifted s circle c = (s.walked.tallied.kept, s.keys, (circle_iff f F (kept_spells f F frame s.walked.tallied.kept) circle).0 c)
+
+-- ---- a fault excludes heights and values
+pub fault_decides : (f : List ℕ) (fault : Fault) → IsFileFault f fault → HasNoHeights f
+fault_decides f fault h F heights valid = fault_not_formed f F fault h (formed_by_valid f F heights valid)
+
+pub circle_decides : (f : List ℕ) (circle : List ℕ) → IsFileCircle f circle → HasNoHeights f
+circle_decides f circle h F heights valid = circle_not_formed f F circle h (formed_by_valid f F heights valid)
+
+pub fault_never : (f : List ℕ) (v : Value) → FileHolds f v → (fault : Fault) → IsFileFault f fault → Never fault
+fault_never f v holds fault h = let w = holds_formed f v holds in fault_not_formed f w.0 fault h w.1
+
+pub circle_never : (f : List ℕ) (v : Value) → FileHolds f v → (circle : List ℕ) → IsFileCircle f circle → no_circle circle
+circle_never f v holds circle h = let w = holds_formed f v holds in circle_not_formed f w.0 circle h w.1
+
+-- ---- the trailer, and then the table as it is kept, decide rules 1 to 13
+pub trailer_fault_of_file : (f : List ℕ) (fault : Fault) → IsTrailerFault f fault → IsFileFault f fault
+trailer_fault_of_file f fault h = inl (trailer_fault f fault h)
+
+module _ (f : List ℕ) (F : Frame) (trailed : IsTrailer f F) (places : List ℕ) (kept : AreKept f F F.objects places) where
+  pub place_fault_of_file : (fault : Fault) → IsPlaceFault F places fault → IsFileFault f fault
+  place_fault_of_file fault h = inl (entry_fault f F fault trailed h.rule (kept_high f F places kept fault trailed h))
+
+  pub frame_by_places : AreBelowTable F places → IsFrame f F
+  frame_by_places low = low_is_frame f F trailed (kept_low f F places kept trailed low)
+
+-- ---- what holds under the frame holds of the file
+module _ (f : List ℕ) (F : Frame) (frame : IsFrame f F) where
+  pub file_yes : (lint : Lint) → IsLintedBy f F lint → IsLinted f lint
+  file_yes lint h = (F, frame, h)
+
+  pub file_fault : (fault : Fault) → IsObjectsFault f F fault → IsFileFault f fault
+  file_fault fault h = inr (F, frame, h)
+
+  pub file_circle : (circle : List ℕ) → IsFramedCircle f F circle → IsFileCircle f circle
+  file_circle circle h = (F, frame, h)

@@ -1,0 +1,194 @@
+-- Each file is well formed or has a first fault.
+use Rattle.std.proofs.Common.{◌≡◌, ℕ, zero, suc, ◌+◌, ◌-◌, ◌*◌, ◌<◌, ◌≤◌, ◌⊎◌, inl, inr, List, [], ◌∷◌, Contains, refl, sym, subst, arith}
+use Rattle.std.proofs.lemmas.Bool.{cases_lt}
+use Rattle.bplist_objects.specs.declared.rule.Rule.TheVariants as rules
+use Rattle.bplist_objects.specs.declared.fault.Fault.{Fault}
+use Rattle.bplist_objects.specs.declared.frame.Frame.{Frame}
+use Rattle.bplist_objects.specs.declared.head.Head.{Head}
+use Rattle.bplist_objects.specs.Frame.{IsFrame, off, trailer}
+use Rattle.bplist_objects.specs.Heads.{Content, Spells}
+use Rattle.bplist_objects.specs.Value.{Value}
+use Rattle.bplist_objects.specs.File.{FileHolds}
+use Rattle.bplist_objects.specs.Announced.{HasHead}
+use Rattle.bplist_objects.specs.Rules.{KeepsAll, IsFirstFault}
+use Rattle.bplist_objects.specs.ObjectRules.{KeepsByObject, object_rules}
+use Rattle.bplist_objects.specs.Reach.{Reach, top, Founded}
+use Rattle.bplist_objects.specs.Spelled.{refs_at}
+use Rattle.bplist_objects.proofs.KeptOrBroken.{frame_kept_or_fault, object_kept_or_fault}
+use Rattle.bplist_objects.proofs.ExtentSums.{shape_extent}
+use Rattle.bplist_objects.proofs.FrameTies.{trailer_is_frame}
+use Rattle.bplist_objects.proofs.ReachedObjects.{refs_iff, refs_within}
+use Rattle.bplist_objects.proofs.Lists.{Either, all_or_first}
+use Rattle.bplist_objects.proofs.RuleLaws.{first_fault_after, first_fault_among, kept_all_after}
+use Rattle.bplist_objects.proofs.HeadTies.{keeps_iff, shape_announced}
+use Rattle.bplist_cert.proofs.DecidedObjects.{fault_at}
+use Rattle.bplist_cert.proofs.DecidedKeys.{dict_decided, texts_or_first, differ_or_first}
+use Rattle.bplist_lint.specs.ReachRules.{KeepsByReach, BreaksAtReach, KeepReachBelow, IsReachFault, Sums, reach_rules}
+use Rattle.bplist_lint.specs.KeyRules.{KeepsByKeys, BreaksAtKeys, KeepKeysBelow, IsKeysFault, key_rules}
+use Rattle.bplist_lint.specs.FileFault.{IsCircle, IsObjectsFault, IsFileFault, IsFramedCircle, IsFileCircle}
+use Rattle.bplist_lint.specs.WellFormed.{IsWellFormed}
+use Rattle.bplist_lint.proofs.FiniteGraphs.{reach_decided, founded_or_circle}
+use Rattle.bplist_lint.proofs.HeldValues.{formed_holds}
+use Rattle.bplist_lint.proofs.ReferenceGraph.{reach_iff, founded_iff, circle_iff}
+use Rattle.bplist_lint.proofs.KeySteps.{kept_other, kept_keys, keyless, twice}
+use Rattle.bplist_lint.proofs.KeptRules.{kept_spells, kept_formed}
+use Rattle.bplist_lint.proofs.TallySteps.{sums_none, sums_more, sums_same, not_overfull, overfull}
+
+module _ (f : List ℕ) (F : Frame) (frame : IsFrame f F) where
+  -- ---- the graph of the references is finite
+  refs_inside : (n m : ℕ) → Contains (refs_at f F n) m → m < F.objects
+  refs_inside n m c = refs_within f F n m ((refs_iff f F n m).1 c)
+
+  reached_or_not : (n : ℕ) → Either (Reach f F n)
+  reached_or_not n = elim (reach_decided (refs_at f F) F.objects refs_inside F.top.0 frame.top n) [
+    | inl r ↦ inl ((reach_iff f F n).0 r)
+    | inr no1 ↦ inr (λ r. no1 ((reach_iff f F n).1 r))
+  ]
+
+  -- ---- rules 14 to 20 and 31
+  -- the reached objects below n keep these rules and take t bytes, for which there is room
+  record IsPassed (n t : ℕ) : Type 0 where
+    kept : KeepReachBelow f F n
+    sums : Sums f F (Reach f F) n t
+    room : t + 8 ≤ F.table
+
+  keep_more : (n : ℕ) → KeepReachBelow f F n → (Reach f F n → KeepsAll (KeepsByReach f F n) reach_rules) → KeepReachBelow f F (suc n)
+  keep_more n below own m lt r = elim (cases_lt m n) [
+    | inl l ↦ below m l r
+    | inr h ↦
+        let e : n ≡ m = omega (arith, lt, h) in
+        subst (λ k. KeepsAll (KeepsByReach f F k) reach_rules) e (own (subst (Reach f F) (sym e) r))
+  ]
+
+  module _ (n t : ℕ) (lt : n < F.objects) (p : IsPassed n t) (r : Reach f F n) where
+    own_fault : (fault : Fault) → IsFirstFault (KeepsByReach f F n) (BreaksAtReach f F n) reach_rules fault → IsReachFault f F fault
+    own_fault fault first = record { object = n; reached = r; first = first; least = p.kept }
+
+    pass_kept : KeepsAll (KeepsByObject f F n) object_rules → ((u : ℕ) × IsPassed (suc n) u) ⊎ ((fault : Fault) × IsReachFault f F fault)
+    pass_kept kept =
+        let s = (keeps_iff f F n frame lt).0 kept in
+        let head = s.1.shape in
+        let u = t + (head.«end» - off f F n) in
+        let sums = sums_more f F (Reach f F) n (head.«end» - off f F n) t r (shape_extent f F n head s.1.has) p.sums in
+        elim (cases_lt F.table (u + 8)) [
+          | inl full ↦
+              let fault = fault_at rules.Overfull n (off f F n) in
+              inr (
+                fault,
+                own_fault fault (first_fault_after (KeepsByReach f F n) (BreaksAtReach f F n) object_rules (rules.Overfull ∷ []) fault kept
+                    (inl (refl, (refl, (overfull f F (Reach f F) n u sums full, refl))))),
+              )
+          | inr room ↦ inl (
+            u,
+            record {
+              kept = keep_more n p.kept (λ on. kept_all_after (KeepsByReach f F n) object_rules (rules.Overfull ∷ []) kept (not_overfull f F (Reach f F) n u sums room, tt));
+              sums = sums;
+              room = room;
+            },
+          )
+        ]
+
+    pass_reached : ((u : ℕ) × IsPassed (suc n) u) ⊎ ((fault : Fault) × IsReachFault f F fault)
+    pass_reached = elim (object_kept_or_fault f F n object_rules) [
+      | inl kept ↦ pass_kept kept
+      | inr broken ↦ inr (broken.0, own_fault broken.0 (first_fault_among (KeepsByReach f F n) (BreaksAtReach f F n) object_rules (rules.Overfull ∷ []) broken.0 broken.1))
+    ]
+
+  pass : (n : ℕ) → n ≤ F.objects → ((t : ℕ) × IsPassed n t) ⊎ ((fault : Fault) × IsReachFault f F fault)
+  pass zero l = inl (0, record { kept = λ m lt r. absurd (omega (arith, lt)); sums = sums_none f F (Reach f F); room = omega (arith, frame.table_early) })
+  pass (suc n) l = elim (pass n (omega (arith, l))) [
+    | inr fault ↦ inr fault
+    | inl before ↦ elim (reached_or_not n) [
+      | inl r ↦ pass_reached n before.0 (omega (arith, l)) before.1 r
+      | inr never ↦ inl (
+        before.0,
+        record {
+          kept = keep_more n before.1.kept (λ r. absurd (never r));
+          sums = sums_same f F (Reach f F) n before.0 never before.1.sums;
+          room = before.1.room;
+        },
+      )
+    ]
+  ]
+
+  -- ---- rules 21 and 22
+  keys_or_fault : (n : ℕ) (c : Content) → Spells f F n c → KeepsAll (KeepsByKeys f F n) key_rules ⊎ ((fault : Fault) × IsFirstFault (KeepsByKeys f F n) (BreaksAtKeys f F n) key_rules fault)
+  keys_or_fault n c s = elim (dict_decided head.kind) [
+    | inr other ↦ inl (kept_other f F n head there other)
+    | inl dict ↦ elim (texts_or_first f F frame head) [
+      | inr (i, first) ↦
+          let fault = fault_at rules.KeyKind n (head.body + i * F.ref_size) in
+          inr (fault, keyless f F n head there fault dict (refl, refl, (i, first, refl)))
+      | inl texts ↦ elim (differ_or_first f F frame head) [
+        | inr (j, first) ↦
+            let fault = fault_at rules.KeyTwice n (head.body + j * F.ref_size) in
+            inr (fault, twice f F n head there fault dict texts (refl, refl, (j, first, refl)))
+        | inl differ ↦ inl (kept_keys f F n head there texts differ)
+      ]
+    ]
+  ]
+    where
+      head : Head
+      head = s.shape
+
+      there : HasHead f F n head
+      there = shape_announced f F n head s.has
+
+  module _ (reach : KeepReachBelow f F F.objects) where
+    pass_keys : KeepKeysBelow f F F.objects ⊎ ((fault : Fault) × IsKeysFault f F fault)
+    pass_keys = elim (all_or_first (λ n. Reach f F n → KeepsAll (KeepsByKeys f F n) key_rules) Broken each F.objects) [
+      | inl all ↦ inl (λ n lt r. all n lt r)
+      | inr first ↦ inr (first.2.1.0, record { object = first.0; reached = first.2.0; first = first.2.1.1; least = λ m lt r. first.3 m lt r })
+    ]
+      where
+        Broken : ℕ → Type 0
+        Broken n = Reach f F n × ((fault : Fault) × IsFirstFault (KeepsByKeys f F n) (BreaksAtKeys f F n) key_rules fault)
+
+        each : (n : ℕ) → (Reach f F n → KeepsAll (KeepsByKeys f F n) key_rules) ⊎ Broken n
+        each n = elim (reached_or_not n) [
+          | inr never ↦ inl (λ r. absurd (never r))
+          | inl r ↦ let s = kept_spells f F frame reach n r in elim (keys_or_fault n s.0 s.1) [
+            | inl kept ↦ inl (λ on. kept)
+            | inr broken ↦ inr (r, broken)
+          ]
+        ]
+
+    -- ---- the circle
+    pub ends_or_circle : Founded f F F.top.0 ⊎ ((circle : List ℕ) × IsCircle f F circle)
+    ends_or_circle = elim (founded_or_circle (refs_at f F) F.objects refs_inside F.top.0 frame.top) [
+      | inl is ↦ inl ((founded_iff f F (kept_spells f F frame reach) F.top.0 top).0 is)
+      | inr circle ↦ inr (circle.0, (circle_iff f F (kept_spells f F frame reach) circle.0).0 circle.1)
+    ]
+
+  -- with this frame the file is well formed, or an object or a circle is its first fault
+  pub formed_or_objects : IsWellFormed f F ⊎ (((fault : Fault) × IsObjectsFault f F fault) ⊎ ((circle : List ℕ) × IsFramedCircle f F circle))
+  formed_or_objects = elim (pass F.objects (omega arith)) [
+    | inr fault ↦ inr (inl (fault.0, inl fault.1))
+    | inl passed ↦ elim (pass_keys passed.1.kept) [
+      | inr fault ↦ inr (inl (fault.0, inr (passed.1.kept, fault.1)))
+      | inl keys ↦ elim (ends_or_circle passed.1.kept) [
+        | inl is ↦ inl (kept_formed f F frame passed.1.kept keys is)
+        | inr circle ↦ inr (inr (circle.0, (passed.1.kept, keys, circle.1)))
+      ]
+    ]
+  ]
+
+-- a file is well formed, or a rule or a circle is its first fault
+pub formed_or_fault : (f : List ℕ) → ((F : Frame) × IsWellFormed f F) ⊎ (((fault : Fault) × IsFileFault f fault) ⊎ ((circle : List ℕ) × IsFileCircle f circle))
+formed_or_fault f = elim (frame_kept_or_fault f) [
+  | inr fault ↦ inr (inl (fault.0, inl fault.1))
+  | inl kept ↦ let F = trailer f in let frame = trailer_is_frame f kept in elim (formed_or_objects f F frame) [
+    | inl w ↦ inl (F, w)
+    | inr r ↦ elim r [
+      | inl fault ↦ inr (inl (fault.0, inr (F, frame, fault.1)))
+      | inr circle ↦ inr (inr (circle.0, (F, frame, circle.1)))
+    ]
+  ]
+]
+
+-- a file that is well formed holds a value
+pub value_or_fault : (f : List ℕ) → ((v : Value) × FileHolds f v) ⊎ (((fault : Fault) × IsFileFault f fault) ⊎ ((circle : List ℕ) × IsFileCircle f circle))
+value_or_fault f = elim (formed_or_fault f) [
+  | inl w ↦ inl (formed_holds f w.0 w.1)
+  | inr r ↦ inr r
+]

@@ -1,0 +1,46 @@
+use Rattle.std.proofs.Common.{◌≡◌, arith, rules, length, replicate, false, sym, ◌∙◌}
+use Rattle.std.proofs.lemmas.List.{get_or_read}
+use Rattle.bplist_lint.proofs.TrailSteps.{placed_none, placed_more, leading_more, leading_start, is_circle, is_next, founded_all}
+use Rattle.bplist_lint.proofs.circle.circle.Goals as goal
+use Rattle.bplist_lint.proofs.circle.circle.Goals.{else-walk-test, then-walk-test+in_ok-push+in_ok-m+in-None}
+
+pub walk-init : goal.walk-init
+walk-init g c =
+    let all_new : c.in_ok-met.met.items ≡ replicate (length c.args.heights.now) false = search rules in
+    record {
+      same = cc;
+      reads = cc;
+      inside = c.requires.top;
+      placed = rw (all_new, c.new-trail.ensures.items, ← c.requires.all_heights) (placed_none _);
+      leading = λ honest whole. rw c.new-trail.ensures.items (leading_start _ _ _ (c.requires.heights honest) c.requires.circular);
+    }
+
+pub walk-preserved : goal.walk-preserved
+walk-preserved g c =
+    let p = c.walk.invariant.placed in
+    let first = rw c.in-Some.is at (rw (c.walk.invariant.same, c.walk.invariant.reads) at c.in_ok-m.ensures.first) in
+    let inside = rw c.in-Some.is at (rw c.walk.invariant.same at c.in_ok-m.ensures.inside) in
+    let new = sym (get_or_read c.walk.met.items c.walk.x c.index.result.now (omega (arith, p.all_met, c.walk.invariant.inside)) c.index.ensures false) ∙ c.walk-test.true in
+    record {
+      same = c.in_ok-m.ensures.same ∙ c.walk.invariant.same;
+      reads = c.in_ok-m.ensures.reads ∙ c.walk.invariant.reads;
+      inside = inside;
+      placed = rw c.in_ok-push.ensures.items (placed_more _ _ _ _ p c.walk.invariant.inside new);
+      leading = λ honest whole.
+          let l = c.walk.invariant.leading honest whole in
+          let n = is_next _ _ _ _ _ (c.requires.heights honest) l.reached (first honest (whole _ l.reached)) in
+          rw c.in_ok-push.ensures.items (leading_more _ _ _ _ _ l n.0 n.1);
+    }
+
+pub returns-clause-circle : goal.returns-clause-circle
+returns-clause-circle g c = λ honest whole.
+    let l = c.walk.invariant.leading honest whole in
+    let p = c.walk.invariant.placed in
+    elim c.walk-test.branch [
+      | else-walk-test w ↦
+          let found = rw (c.deref.ensures.value, w.trail-is) at c.in_ok-trail_from.ensures in
+          rw found.2 (is_circle _ _ _ _ _ _ _ p l found.1)
+      | then-walk-test+in_ok-push+in_ok-m+in-None w ↦
+          let have = (rw w.in-None.is at (rw (c.walk.invariant.same, c.walk.invariant.reads) at w.in_ok-m.ensures.first)) honest (whole _ l.reached) in
+          absurd (l.not_founded (founded_all _ _ _ _ (c.requires.heights honest) have))
+    ]

@@ -1,0 +1,14 @@
+use Rattle.std.proofs.Common.{ap}
+use Rattle.std.proofs.lemmas.Result.{err_from_is_err_and}
+use Rattle.bplist_objects.specs.declared.head.Head.{Head}
+use Rattle.bplist_lint.proofs.linter.top_kind.Goals as goal
+
+pub returns-clause-exact : goal.returns-clause-exact
+returns-clause-exact g c = λ honest x has.
+    let framed = c.requires.framed honest in
+    ap (λ (h : Head). h.kind) (c.in_ok-head.ensures.shaped honest framed (c.requires.placed honest c.args.frame.now.top.0 c.requires.frame.top) x has)
+
+pub returns-in_err-head-clause-exact : goal.returns-in_err-head-clause-exact
+returns-in_err-head-clause-exact g c = λ honest x has.
+    let p = err_from_is_err_and c.from_residual.result c.from_residual.ensures.1 in
+    rw (p.1, p.2) (c.in_err-head.ensures.shaped honest (c.requires.framed honest) (c.requires.placed honest c.args.frame.now.top.0 c.requires.frame.top) x has)

@@ -1,0 +1,57 @@
+use Rattle.std.proofs.Common.{◌≡◌, ◌<◌, ◌+◌, arith, true, false, not, length, get_or, refl, sym, ◌∙◌, below_more, vec_len}
+use Rattle.std.proofs.lemmas.Grind.{common_steps, elements}
+use Rattle.std.proofs.lemmas.List.{get_or_read}
+use Rattle.bplist_lint.proofs.VisitSteps.{count-set}
+use Rattle.bplist_lint.proofs.MarkSteps.{noted_none, note_old, note_later, note_new}
+use Rattle.bplist_lint.proofs.walk.mark_block.Goals as goal
+use Rattle.bplist_lint.proofs.walk.mark_block.Goals.{then-not-index+then-m-worklist+in_ok-push, then-not-index+else-m-worklist, else-not-index}
+
+pub loop-number-init : goal.loop-number-init
+loop-number-init c = record {
+  steady = c.requires.steady;
+  current = refl;
+  work = omega arith;
+  below = λ k low. absurd (omega arith);
+  noted = noted_none _ _ _ _;
+}
+
+pub loop-number-preserved : goal.loop-number-preserved
+loop-number-preserved c =
+    let i = c.loop-number.invariant in
+    let number = get_or c.args.numbers.now c.loop-number.number-index 0 in
+    let all = i.steady.all_marks in
+    let stack_in = i.steady.stack_in in
+    let fits : number < length c.loop-number.worklist.marks.items = grind (arith, common_steps) in
+    let read = get_or_read c.loop-number.worklist.marks.items number c.index.result.now fits c.index.ensures false in
+    let more = count-set not c.loop-number.worklist.marks.items number true false fits in
+    let below = below_more _ _ i.below c.if-number-frame.false in
+    elim c.if-not-index.branch [
+      | then-not-index+then-m-worklist+in_ok-push w ↦
+          let unmarked : get_or c.loop-number.worklist.marks.items number false ≡ false = sym read ∙ w.if-not-index.true in
+          let less = rw unmarked at more in
+          let long : vec_len w.push.new.self ≡ vec_len c.loop-number.worklist.stack + 1 = grind (arith, common_steps) in
+          rw w.worklist-is (record {
+            steady = record { all_marks = grind (arith, common_steps); stack_in = grind (arith, elements) };
+            current = i.current;
+            work = omega (arith, less, long, i.work);
+            below = below;
+            noted = rw w.in_ok-push.ensures.items (note_new _ _ _ _ _ _ _ i.noted number c.loop-number-test.true refl fits unmarked (omega (arith, i.current, w.if-m-worklist.true)));
+          })
+      | then-not-index+else-m-worklist w ↦
+          let unmarked : get_or c.loop-number.worklist.marks.items number false ≡ false = sym read ∙ w.if-not-index.true in
+          let less = rw unmarked at more in
+          rw w.worklist-is (record {
+            steady = record { all_marks = grind (arith, common_steps); stack_in = stack_in };
+            current = i.current;
+            work = omega (arith, less, i.work);
+            below = below;
+            noted = note_later _ _ _ _ _ _ _ i.noted number c.loop-number-test.true refl fits (omega (arith, i.current, w.if-m-worklist.false));
+          })
+      | else-not-index w ↦ rw w.worklist-is (record {
+        steady = i.steady;
+        current = i.current;
+        work = i.work;
+        below = below;
+        noted = note_old _ _ _ _ _ _ _ i.noted (sym read ∙ w.if-not-index.false);
+      })
+    ]

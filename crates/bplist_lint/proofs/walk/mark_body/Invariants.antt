@@ -1,0 +1,20 @@
+use Rattle.std.proofs.Common.{◌≡◌, ◌+◌, ◌≤◌, ◌-◌, not, IsTrue, count_by, length, vec_len}
+use Rattle.bplist_objects.specs.Heads.{content_at, refs}
+use Rattle.bplist_objects.specs.Scan.{AreBelow}
+use Rattle.bplist_lint.specs.Walks.{IsSteady, Noted}
+use Rattle.bplist_lint.proofs.walk.mark_body.Given as goal
+
+abbrev pub invariant-loop-done : goal.invariant-loop-done
+invariant-loop-done g l = record {
+  reads : g.S.Source.means l.src ≡ g.S.Source.means l.fn.src;
+  few : l.done ≤ l.count;
+  room : length l.numbers ≡ 32;
+  steady : IsSteady l.frame.objects l.worklist;
+  current : l.worklist.current ≡ l.fn.worklist.current;
+  work : count_by not l.worklist.marks.items + vec_len l.worklist.stack ≤ count_by not l.fn.worklist.marks.items + vec_len l.fn.worklist.stack;
+  below : IsTrue (g.S.Source.means l.fn.src).honest → AreBelow (g.S.Source.means l.fn.src).octets l.head.body l.frame.ref_size l.done l.frame.objects;
+  noted : IsTrue (g.S.Source.means l.fn.src).honest → Noted (refs (content_at (g.S.Source.means l.fn.src).octets l.frame l.head)) (l.fn.worklist.current + 1) l.done l.fn.worklist.marks.items l.fn.worklist.stack.items l.worklist.marks.items l.worklist.stack.items;
+}
+
+abbrev pub decreases-loop-done : goal.decreases-loop-done
+decreases-loop-done g l = l.count - l.done

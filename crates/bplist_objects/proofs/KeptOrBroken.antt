@@ -1,0 +1,298 @@
+-- Each rule is kept or broken, and so either all rules are kept or there is a first fault.
+use Rattle.std.proofs.Common.{◌≡◌, ℕ, ◌<◌, ◌≤◌, ◌+◌, ◌-◌, ◌*◌, ◌^◌, ◌⊎◌, inl, inr, true, false, IsTrue, List, [], ◌∷◌, length, slice_index, Option, Some, None, refl, sym, ap, ◌∙◌, subst, arith}
+use Rattle.std.proofs.lemmas.Bool.{cases_lt, cases_eq, cases_Bool}
+use Rattle.bplist_objects.specs.declared.rule.Rule.{Rule}
+use Rattle.bplist_objects.specs.declared.rule.Rule.TheVariants as rules
+use Rattle.bplist_objects.specs.declared.fault.Fault.{Fault}
+use Rattle.bplist_objects.specs.declared.frame.Frame.{Frame}
+use Rattle.bplist_objects.specs.declared.frame.ObjectNo.{ObjectNo}
+use Rattle.bplist_objects.specs.declared.head.Head.{Head}
+use Rattle.bplist_objects.specs.declared.kind.Kind.{Kind}
+use Rattle.bplist_objects.specs.declared.kind.Kind.TheVariants as kinds
+use Rattle.bplist_objects.specs.Numbers.{num_at}
+use Rattle.bplist_objects.specs.Frame.{off, trailer, header}
+use Rattle.bplist_objects.specs.Rules.{KeepsAll, IsFirstFault}
+use Rattle.bplist_objects.specs.Scan.{AreBelow, IsFirstNotBelow, nth_number}
+use Rattle.bplist_objects.specs.FrameRules.{Keeps, Breaks, frame_rules, IsFrameFault}
+use Rattle.bplist_objects.specs.Announced.{Marks, IsMarker, is_counted, least_marker, IsLong, IsCountForm, HasHead}
+use Rattle.bplist_objects.specs.ObjectRules.{KeepsByObject, BreaksByObject, BreaksAt, IsObjectFault}
+use Rattle.bplist_objects.specs.Safe.{ref_count}
+use Rattle.bplist_objects.specs.Spelled.{kind_at, head_found}
+use Rattle.bplist_objects.proofs.SpelledContents.{found_head, head_is_found}
+use Rattle.bplist_objects.proofs.Lists.{Either, all_or_first}
+use Rattle.bplist_objects.proofs.HeadLaws.{kind_marked}
+use Rattle.bplist_objects.proofs.BodyLaws.{HasHead-unique}
+
+low_or_high : (a b : ℕ) → (a ≤ b) ⊎ (b < a)
+low_or_high a b = elim (cases_lt b a) [
+  | inl l ↦ inr l
+  | inr h ↦ inl h
+]
+
+between : (a low high : ℕ) → Either ((low ≤ a) × (a ≤ high))
+between a low high = elim (cases_lt a low) [
+  | inl l ↦ inr (λ b. omega (arith, b.0, l))
+  | inr b ↦ elim (cases_lt high a) [
+    | inl l ↦ inr (λ c. omega (arith, c.1, l))
+    | inr c ↦ inl (b, c)
+  ]
+]
+
+-- numbers are below a bound, or there is a first one that is not
+below_or_first : (f : List ℕ) (place size count bound : ℕ) → AreBelow f place size count bound ⊎ ((i : ℕ) × IsFirstNotBelow f place size count bound i)
+below_or_first f place size count bound =
+    elim (all_or_first (λ k. nth_number f place size k < bound) (λ k. bound ≤ nth_number f place size k) (λ k. cases_lt (nth_number f place size k) bound) count) [
+      | inl all ↦ inl all
+      | inr first ↦ inr (first.0, record { within = first.1; high = first.2; before = first.3 })
+    ]
+
+-- ---- each rule of a list
+abbrev Decided : (Rule → Type 0) → (Rule → Option ObjectNo → ℕ → Type 0) → Type 0
+Decided keeps breaks = (rule : Rule) → keeps rule ⊎ ((object : Option ObjectNo) × (place : ℕ) × breaks rule object place)
+
+pub kept_or_first_fault : (keeps : Rule → Type 0) (breaks : Rule → Option ObjectNo → ℕ → Type 0) → Decided keeps breaks
+    → (list : List Rule) → KeepsAll keeps list ⊎ ((fault : Fault) × IsFirstFault keeps breaks list fault)
+kept_or_first_fault keeps breaks each [] = inl tt
+kept_or_first_fault keeps breaks each (rule ∷ rest) = go (each rule) (kept_or_first_fault keeps breaks each rest)
+  where
+    go : keeps rule ⊎ ((object : Option ObjectNo) × (place : ℕ) × breaks rule object place) → KeepsAll keeps rest ⊎ ((fault : Fault) × IsFirstFault keeps breaks rest fault)
+        → KeepsAll keeps (rule ∷ rest) ⊎ ((fault : Fault) × IsFirstFault keeps breaks (rule ∷ rest) fault)
+    go (inl k) (inl ks) = inl (k, ks)
+    go (inl k) (inr (fault, h)) = inr (fault, inr (k, h))
+    go (inr (object, place, b)) r = inr (record { rule = rule; object = object; place = place }, inl (refl, b))
+
+-- ---- rules 1 to 13
+within_or_not : (a : ℕ) → ((1 ≤ a) × (a ≤ 8)) ⊎ ((a < 1) ⊎ (8 < a))
+within_or_not a = elim (cases_lt a 1) [
+  | inl low ↦ inr (inl low)
+  | inr low ↦ elim (cases_lt 8 a) [
+    | inl high ↦ inr (inr high)
+    | inr high ↦ inl (low, high)
+  ]
+]
+
+-- the number that a size has room for
+narrow_or_not : (size n bound : ℕ) → (size < 8 → n < bound) ⊎ ((size < 8) × (bound ≤ n))
+narrow_or_not size n bound = elim (cases_lt n bound) [
+  | inl l ↦ inl (λ s. l)
+  | inr h ↦ elim (cases_lt size 8) [
+    | inl s ↦ inr (s, h)
+    | inr s ↦ inl (λ r. absurd (omega (arith, r, s)))
+  ]
+]
+
+module _ (f : List ℕ) (long : 41 ≤ length f) where
+  abbrev F : Frame
+  F = trailer f
+
+  -- a rule whose place is so far from the end
+  from_end : (k : ℕ) → k ≤ 41 → length f - k + k ≡ length f
+  from_end k l = omega (arith, l, long)
+
+  frame_rule_decided : Decided (Keeps f) (Breaks f)
+  frame_rule_decided rules.TooLarge = elim (cases_lt 4294967295 (length f)) [
+    | inl l ↦ inr (None, length f, (l, refl, refl))
+    | inr h ↦ inl h
+  ]
+  frame_rule_decided rules.TooShort = inl long
+  frame_rule_decided rules.Magic = elim (all_or_first (λ k. slice_index f k ≡ slice_index header k) (λ k. slice_index f k ≡ slice_index header k → ⊥) (λ k. cases_eq (slice_index f k) (slice_index header k)) 8) [
+    | inl all ↦ inl all
+    | inr first ↦ inr (None, first.0, (record { within = first.1; wrong = first.2; before = first.3 }, refl))
+  ]
+  frame_rule_decided rules.NoObjects = elim (cases_lt F.objects 1) [
+    | inl l ↦ inr (None, length f - 24, (l, refl, from_end 24 (omega arith)))
+    | inr h ↦ inl h
+  ]
+  frame_rule_decided rules.Top = elim (cases_lt F.top.0 F.objects) [
+    | inl l ↦ inl l
+    | inr h ↦ inr (None, length f - 16, (h, refl, from_end 16 (omega arith)))
+  ]
+  frame_rule_decided rules.TableEarly = elim (cases_lt F.table 9) [
+    | inl l ↦ inr (None, length f - 8, (l, refl, from_end 8 (omega arith)))
+    | inr h ↦ inl h
+  ]
+  frame_rule_decided rules.TableLate = elim (cases_lt F.table (length f - 32)) [
+    | inl l ↦ inl l
+    | inr h ↦ inr (None, length f - 8, (h, refl, from_end 8 (omega arith)))
+  ]
+  frame_rule_decided rules.OffsetSize = elim (within_or_not F.offset_size) [
+    | inl k ↦ inl k
+    | inr b ↦ inr (None, length f - 26, (b, refl, from_end 26 (omega arith)))
+  ]
+  frame_rule_decided rules.RefSize = elim (within_or_not F.ref_size) [
+    | inl k ↦ inl k
+    | inr b ↦ inr (None, length f - 25, (b, refl, from_end 25 (omega arith)))
+  ]
+  frame_rule_decided rules.Length = elim (cases_eq (F.table + F.objects * F.offset_size + 32) (length f)) [
+    | inl e ↦ inl e
+    | inr b ↦ inr (None, length f - 32, (b, refl, from_end 32 (omega arith)))
+  ]
+  frame_rule_decided rules.RefNarrow = elim (narrow_or_not F.ref_size F.objects (256 ^ F.ref_size)) [
+    | inl k ↦ inl k
+    | inr b ↦ inr (None, length f - 25, (b.0, b.1, refl, from_end 25 (omega arith)))
+  ]
+  frame_rule_decided rules.OffsetNarrow = elim (narrow_or_not F.offset_size F.table (256 ^ F.offset_size)) [
+    | inl k ↦ inl k
+    | inr b ↦ inr (None, length f - 26, (b.0, b.1, refl, from_end 26 (omega arith)))
+  ]
+  frame_rule_decided rules.OffsetHigh = elim (all_or_first (λ n. off f F n < F.table) (λ n. F.table ≤ off f F n) (λ n. cases_lt (off f F n) F.table) F.objects) [
+    | inl all ↦ inl all
+    | inr first ↦
+        inr (
+          Some (record { 0 = first.0 }),
+          F.table + first.0 * F.offset_size,
+          (first.0, record { within = first.1; high = first.2; before = first.3 }, refl, refl),
+        )
+  ]
+  frame_rule_decided _ = inl tt
+
+-- a file keeps rules 1 to 13, or one of them is the first that it breaks
+pub frame_kept_or_fault : (f : List ℕ) → KeepsAll (Keeps f) frame_rules ⊎ ((fault : Fault) × IsFrameFault f fault)
+frame_kept_or_fault f = elim (cases_lt (length f) 41) [
+  | inl short ↦ inr (record { rule = rules.TooShort; object = None; place = length f }, inr (omega (arith, short), inl (refl, (short, refl, refl))))
+  | inr long ↦ kept_or_first_fault (Keeps f) (Breaks f) (frame_rule_decided f long) frame_rules
+]
+
+-- ---- rules 14 to 20
+marks_decided : (m : ℕ) (kind : Kind) → Either (Marks m kind)
+marks_decided m kinds.Null = cases_eq m 0
+marks_decided m kinds.False = cases_eq m 8
+marks_decided m kinds.True = cases_eq m 9
+marks_decided m kinds.Int = between m 16 20
+marks_decided m kinds.Real = between m 34 35
+marks_decided m kinds.Date = cases_eq m 51
+marks_decided m kinds.Bytes = between m 64 79
+marks_decided m kinds.Ascii = between m 80 95
+marks_decided m kinds.Wide = between m 96 111
+marks_decided m kinds.Uid = between m 128 143
+marks_decided m kinds.Array = between m 160 175
+marks_decided m kinds.Set = between m 192 207
+marks_decided m kinds.Dict = between m 208 223
+
+marker_decided : (m : ℕ) → Either (IsMarker m)
+marker_decided m = elim (marks_decided m (kind_at m)) [
+  | inl h ↦ inl (kind_at m, h)
+  | inr no1 ↦ inr (λ is. no1 (subst (Marks m) (sym (kind_marked m is.0 is.1)) is.1))
+]
+
+-- a long marker is of its kind
+long_marks : (m : ℕ) (kind : Kind) → IsTrue (is_counted kind) → m ≡ least_marker kind + 15 → Marks m kind
+long_marks m kinds.Bytes c e = (omega (arith, e), omega (arith, e))
+long_marks m kinds.Ascii c e = (omega (arith, e), omega (arith, e))
+long_marks m kinds.Wide c e = (omega (arith, e), omega (arith, e))
+long_marks m kinds.Array c e = (omega (arith, e), omega (arith, e))
+long_marks m kinds.Set c e = (omega (arith, e), omega (arith, e))
+long_marks m kinds.Dict c e = (omega (arith, e), omega (arith, e))
+long_marks m _ c e = absurd (cc c)
+
+-- a long marker is so of the kind that is found
+long_decided : (m : ℕ) → Either (IsLong m)
+long_decided m = go (cases_Bool (is_counted (kind_at m))) (cases_eq m (least_marker (kind_at m) + 15))
+  where
+    own : (is : IsLong m) → kind_at m ≡ is.0
+    own is = kind_marked m is.0 (long_marks m is.0 is.1 is.2)
+
+    go : (is_counted (kind_at m) ≡ true) ⊎ (is_counted (kind_at m) ≡ false) → Either (m ≡ least_marker (kind_at m) + 15) → Either (IsLong m)
+    go (inl c) (inl e) = inl (kind_at m, c, e)
+    go (inl c) (inr no1) = inr (λ is. no1 (subst (λ k. m ≡ least_marker k + 15) (sym (own is)) is.2))
+    go (inr c) e = inr (λ is. let d : is_counted (kind_at m) ≡ true = ap is_counted (own is) ∙ is.1 in cc)
+
+ascii_decided : (kind : Kind) → Either (kind ≡ kinds.Ascii)
+ascii_decided kinds.Ascii = inl refl
+ascii_decided _ = inr (λ e. cc e)
+
+uid_decided : (kind : Kind) → Either (kind ≡ kinds.Uid)
+uid_decided kinds.Uid = inl refl
+uid_decided _ = inr (λ e. cc e)
+
+module _ (f : List ℕ) (F : Frame) (n : ℕ) where
+  -- of the head that is announced, if one is, one of two things holds
+  with_head : (P Q : Head → Type 0) → ((head : Head) → P head ⊎ Q head) → ((head : Head) → HasHead f F n head → P head) ⊎ ((head : Head) × HasHead f F n head × Q head)
+  with_head P Q each = go (head_found f F n) refl
+    where
+      go : (found : Option Head) → head_found f F n ≡ found → ((head : Head) → HasHead f F n head → P head) ⊎ ((head : Head) × HasHead f F n head × Q head)
+      go None e = inl (λ head h. let a = head_is_found f F n head h in cc)
+      go (Some head) e = elim (each head) [
+        | inl p ↦ inl (λ other k. subst P (HasHead-unique f F n head other (found_head f F n head e) k) p)
+        | inr q ↦ inr (head, found_head f F n head e, q)
+      ]
+
+  abbrev o : ℕ
+  o = off f F n
+
+  count_decided : Either (IsLong (slice_index f o)) → (o + 1 < F.table) ⊎ (F.table ≤ o + 1) → Either (IsCountForm (slice_index f (o + 1)))
+      → KeepsByObject f F n rules.Count ⊎ ((place : ℕ) × BreaksByObject f F n rules.Count place)
+  count_decided (inr no1) r c = inl (λ long. absurd (no1 long))
+  count_decided (inl long) (inr late) c = inl (λ long1 r. absurd (omega (arith, late, r)))
+  count_decided (inl long) (inl r) (inl form) = inl (λ long1 r1. form)
+  count_decided (inl long) (inl r) (inr no1) = inr (o + 1, (long, r, no1, refl))
+
+  extent_decided : Either (IsLong (slice_index f o)) → (o + 1 < F.table) ⊎ (F.table ≤ o + 1)
+      → (((head : Head) → HasHead f F n head → head.«end» ≤ F.table) ⊎ ((head : Head) × HasHead f F n head × (F.table < head.«end»)))
+      → KeepsByObject f F n rules.Extent ⊎ ((place : ℕ) × BreaksByObject f F n rules.Extent place)
+  extent_decided l r (inr late) = inr (o, (inr late, refl))
+  extent_decided (inl long) (inr late) (inl all) = inr (o, (inl (long, late), refl))
+  extent_decided (inl long) (inl r) (inl all) = inl ((λ long1. r), all)
+  extent_decided (inr no1) r (inl all) = inl ((λ long. absurd (no1 long)), all)
+
+  object_rule_decided : (rule : Rule) → KeepsByObject f F n rule ⊎ ((place : ℕ) × BreaksByObject f F n rule place)
+  object_rule_decided rules.OffsetLow = elim (cases_lt o 8) [
+    | inl l ↦ inr (F.table + n * F.offset_size, (l, refl))
+    | inr h ↦ inl h
+  ]
+  object_rule_decided rules.Marker = elim (marker_decided (slice_index f o)) [
+    | inl k ↦ inl k
+    | inr b ↦ inr (o, (b, refl))
+  ]
+  object_rule_decided rules.Count = count_decided (long_decided (slice_index f o)) (cases_lt (o + 1) F.table) (between (slice_index f (o + 1)) 16 20)
+  object_rule_decided rules.Extent =
+      extent_decided (long_decided (slice_index f o)) (cases_lt (o + 1) F.table)
+      (with_head (λ head. head.«end» ≤ F.table) (λ head. F.table < head.«end») (λ head. low_or_high head.«end» F.table))
+  object_rule_decided rules.NotAscii =
+      elim (with_head (λ head. head.kind ≡ kinds.Ascii → AreBelow f head.body 1 head.count 128)
+      (λ head. (head.kind ≡ kinds.Ascii) × ((i : ℕ) × IsFirstNotBelow f head.body 1 head.count 128 i)) ascii_each) [
+        | inl k ↦ inl k
+        | inr b ↦ inr (b.0.body + b.2.1.0, (b.0, b.2.1.0, b.1, b.2.0, b.2.1.1, refl))
+      ]
+    where
+      ascii_each : (head : Head) → (head.kind ≡ kinds.Ascii → AreBelow f head.body 1 head.count 128) ⊎ ((head.kind ≡ kinds.Ascii) × ((i : ℕ) × IsFirstNotBelow f head.body 1 head.count 128 i))
+      ascii_each head = elim (ascii_decided head.kind) [
+        | inr no1 ↦ inl (λ e. absurd (no1 e))
+        | inl e ↦ elim (below_or_first f head.body 1 head.count 128) [
+          | inl all ↦ inl (λ e1. all)
+          | inr first ↦ inr (e, first)
+        ]
+      ]
+  object_rule_decided rules.UidLarge =
+      elim (with_head (λ head. head.kind ≡ kinds.Uid → num_at f head.body head.count ≤ 4294967295)
+      (λ head. (head.kind ≡ kinds.Uid) × (4294967295 < num_at f head.body head.count)) uid_each) [
+        | inl k ↦ inl k
+        | inr b ↦ inr (o, (b.0, b.1, b.2.0, b.2.1, refl))
+      ]
+    where
+      uid_each : (head : Head) → (head.kind ≡ kinds.Uid → num_at f head.body head.count ≤ 4294967295) ⊎ ((head.kind ≡ kinds.Uid) × (4294967295 < num_at f head.body head.count))
+      uid_each head = elim (uid_decided head.kind) [
+        | inr no1 ↦ inl (λ e. absurd (no1 e))
+        | inl e ↦ elim (low_or_high (num_at f head.body head.count) 4294967295) [
+          | inl low ↦ inl (λ e1. low)
+          | inr high ↦ inr (e, high)
+        ]
+      ]
+  object_rule_decided rules.RefHigh =
+      elim (with_head (λ head. AreBelow f head.body F.ref_size (ref_count head.kind head.count) F.objects)
+      (λ head. (i : ℕ) × IsFirstNotBelow f head.body F.ref_size (ref_count head.kind head.count) F.objects i)
+      (λ head. below_or_first f head.body F.ref_size (ref_count head.kind head.count) F.objects)) [
+        | inl k ↦ inl k
+        | inr b ↦ inr (b.0.body + b.2.0 * F.ref_size, (b.0, b.2.0, b.1, b.2.1, refl))
+      ]
+  object_rule_decided _ = inl tt
+
+  -- an object keeps rules, or one of them is the first that it breaks
+  pub object_kept_or_fault : (list : List Rule) → KeepsAll (KeepsByObject f F n) list ⊎ ((fault : Fault) × IsObjectFault f F n list fault)
+  object_kept_or_fault = kept_or_first_fault (KeepsByObject f F n) (BreaksAt f F n) each
+    where
+      each : Decided (KeepsByObject f F n) (BreaksAt f F n)
+      each rule = elim (object_rule_decided rule) [
+        | inl k ↦ inl k
+        | inr b ↦ inr (Some (record { 0 = n }), b.0, (refl, b.1))
+      ]

@@ -1,0 +1,219 @@
+-- The definitions hold of small files.
+use Rattle.std.proofs.Common.{ℕ, zero, suc, ◌<◌, ◌≤◌, ◌+◌, List, [], ◌∷◌, true, inl, refl, arith, drop}
+use Rattle.bplist_octets.specs.Octets.{num}
+use Rattle.bplist_objects.specs.declared.frame.Frame.{Frame}
+use Rattle.bplist_objects.specs.declared.kind.Kind.TheVariants as kinds
+use Rattle.bplist_objects.specs.Frame.{trailer, off, IsFrame}
+use Rattle.bplist_objects.specs.Value.{boolean, text, leaf, array, value, no_values, dict, pair, no_pairs}
+use Rattle.bplist_objects.specs.Heads.{Content, Spells}
+use Rattle.bplist_objects.specs.Reach.{Reach}
+use Rattle.bplist_objects.specs.Extents.{HaveRoom, AtMost}
+use Rattle.bplist_objects.specs.File.{FileHolds}
+use Rattle.bplist_objects.specs.Rows.{row_true, row_array, row_dict}
+use Rattle.bplist_objects.proofs.Lists.{all_weaker}
+use Rattle.bplist_objects.proofs.ExtentSums.{most_none, most_more, shape_extent}
+use Rattle.bplist_objects.proofs.ReachedObjects.{reach_within}
+
+-- what all objects take bounds what the reached take
+reached_room : (f : List ℕ) (F : Frame) (t : ℕ) → F.top.0 < F.objects → AtMost f F (λ m. Reach f F m × (m < F.objects)) t → t + 8 ≤ F.table → HaveRoom f F (Reach f F)
+reached_room f F t top most room ns r d a taken =
+    let b = most ns r d (all_weaker (Reach f F) _ (λ m e. (e, reach_within f F top m e)) ns a) taken in
+    omega (arith, b, room)
+
+-- ---- true
+true_offsets : (n : ℕ) → n < 1 → off row_true (trailer row_true) n < 9
+unfolding num
+true_offsets zero h = omega arith
+true_offsets (suc n) h = absurd (omega arith)
+
+frame_true : IsFrame row_true (trailer row_true)
+unfolding num
+frame_true = record {
+  large = omega arith;
+  short = omega arith;
+  magic = refl;
+  spelled = refl;
+  objects = omega arith;
+  top = omega arith;
+  table_early = omega arith;
+  table_late = omega arith;
+  offset_size = omega arith;
+  ref_size = omega arith;
+  whole = refl;
+  ref_narrow = λ _. omega arith;
+  offset_narrow = λ _. omega arith;
+  offsets = true_offsets;
+}
+
+true_0 : Spells row_true (trailer row_true) 0 (Content.leaf (boolean true))
+unfolding num
+true_0 = record {
+  shape = record { kind = kinds.True; count = 0; body = 9; «end» = 9 };
+  has = record { front = 9 ∷ []; rest = drop 9 row_true; low = omega arith; spelled = refl; is_front = (refl, refl); body = refl; «end» = refl; inside = omega arith };
+  proper = tt;
+  means = refl;
+  refs = tt;
+}
+
+true_most : AtMost row_true (trailer row_true) (λ m. Reach row_true (trailer row_true) m × (m < 1)) 1
+unfolding num true_0
+true_most =
+    let f = row_true in
+    let F = trailer f in
+    let R = Reach f F in
+    most_more f F R 0 1 0 (shape_extent f F 0 true_0.shape true_0.has)
+    (most_none f F R)
+
+-- the file holds its value
+pub file_true : FileHolds row_true (leaf (boolean true))
+unfolding num
+file_true = record {
+  frame = trailer row_true;
+  is = frame_true;
+  holds = true_0;
+  room = reached_room row_true (trailer row_true) 1 (omega arith) true_most (omega arith);
+}
+
+-- ---- an array that has one object twice
+array_offsets : (n : ℕ) → n < 2 → off row_array (trailer row_array) n < 12
+unfolding num
+array_offsets zero h = omega arith
+array_offsets (suc zero) h = omega arith
+array_offsets (suc (suc n)) h = absurd (omega arith)
+
+frame_array : IsFrame row_array (trailer row_array)
+unfolding num
+frame_array = record {
+  large = omega arith;
+  short = omega arith;
+  magic = refl;
+  spelled = refl;
+  objects = omega arith;
+  top = omega arith;
+  table_early = omega arith;
+  table_late = omega arith;
+  offset_size = omega arith;
+  ref_size = omega arith;
+  whole = refl;
+  ref_narrow = λ _. omega arith;
+  offset_narrow = λ _. omega arith;
+  offsets = array_offsets;
+}
+
+array_0 : Spells row_array (trailer row_array) 0 (Content.array (1 ∷ 1 ∷ []))
+unfolding num
+array_0 = record {
+  shape = record { kind = kinds.Array; count = 2; body = 9; «end» = 11 };
+  has = record { front = 162 ∷ []; rest = drop 9 row_array; low = omega arith; spelled = refl; is_front = inl (omega arith, refl); body = refl; «end» = refl; inside = omega arith };
+  proper = tt;
+  means = refl;
+  refs = (omega arith, (omega arith, tt));
+}
+
+array_1 : Spells row_array (trailer row_array) 1 (Content.leaf (boolean true))
+unfolding num
+array_1 = record {
+  shape = record { kind = kinds.True; count = 0; body = 12; «end» = 12 };
+  has = record { front = 9 ∷ []; rest = drop 12 row_array; low = omega arith; spelled = refl; is_front = (refl, refl); body = refl; «end» = refl; inside = omega arith };
+  proper = tt;
+  means = refl;
+  refs = tt;
+}
+
+array_most : AtMost row_array (trailer row_array) (λ m. Reach row_array (trailer row_array) m × (m < 2)) 4
+unfolding num array_0 array_1
+array_most =
+    let f = row_array in
+    let F = trailer f in
+    let R = Reach f F in
+    most_more f F R 1 1 3 (shape_extent f F 1 array_1.shape array_1.has)
+    (most_more f F R 0 3 0 (shape_extent f F 0 array_0.shape array_0.has)
+    (most_none f F R))
+
+-- the file holds its value
+pub file_array : FileHolds row_array (array (value (leaf (boolean true)) (value (leaf (boolean true)) no_values)))
+unfolding num
+file_array = record {
+  frame = trailer row_array;
+  is = frame_array;
+  holds = (1 ∷ 1 ∷ [], array_0, (array_1, (array_1, tt)));
+  room = reached_room row_array (trailer row_array) 4 (omega arith) array_most (omega arith);
+}
+
+-- ---- a dictionary
+dict_offsets : (n : ℕ) → n < 3 → off row_dict (trailer row_dict) n < 14
+unfolding num
+dict_offsets zero h = omega arith
+dict_offsets (suc zero) h = omega arith
+dict_offsets (suc (suc zero)) h = omega arith
+dict_offsets (suc (suc (suc n))) h = absurd (omega arith)
+
+frame_dict : IsFrame row_dict (trailer row_dict)
+unfolding num
+frame_dict = record {
+  large = omega arith;
+  short = omega arith;
+  magic = refl;
+  spelled = refl;
+  objects = omega arith;
+  top = omega arith;
+  table_early = omega arith;
+  table_late = omega arith;
+  offset_size = omega arith;
+  ref_size = omega arith;
+  whole = refl;
+  ref_narrow = λ _. omega arith;
+  offset_narrow = λ _. omega arith;
+  offsets = dict_offsets;
+}
+
+dict_0 : Spells row_dict (trailer row_dict) 0 (Content.dict (1 ∷ []) (2 ∷ []))
+unfolding num
+dict_0 = record {
+  shape = record { kind = kinds.Dict; count = 1; body = 9; «end» = 11 };
+  has = record { front = 209 ∷ []; rest = drop 9 row_dict; low = omega arith; spelled = refl; is_front = inl (omega arith, refl); body = refl; «end» = refl; inside = omega arith };
+  proper = tt;
+  means = refl;
+  refs = (omega arith, (omega arith, tt));
+}
+
+dict_1 : Spells row_dict (trailer row_dict) 1 (Content.leaf (text (97 ∷ [])))
+unfolding num
+dict_1 = record {
+  shape = record { kind = kinds.Ascii; count = 1; body = 12; «end» = 13 };
+  has = record { front = 81 ∷ []; rest = drop 12 row_dict; low = omega arith; spelled = refl; is_front = inl (omega arith, refl); body = refl; «end» = refl; inside = omega arith };
+  proper = (omega arith, tt);
+  means = refl;
+  refs = tt;
+}
+
+dict_2 : Spells row_dict (trailer row_dict) 2 (Content.leaf (boolean true))
+unfolding num
+dict_2 = record {
+  shape = record { kind = kinds.True; count = 0; body = 14; «end» = 14 };
+  has = record { front = 9 ∷ []; rest = drop 14 row_dict; low = omega arith; spelled = refl; is_front = (refl, refl); body = refl; «end» = refl; inside = omega arith };
+  proper = tt;
+  means = refl;
+  refs = tt;
+}
+
+dict_most : AtMost row_dict (trailer row_dict) (λ m. Reach row_dict (trailer row_dict) m × (m < 3)) 6
+unfolding num dict_0 dict_1 dict_2
+dict_most =
+    let f = row_dict in
+    let F = trailer f in
+    let R = Reach f F in
+    most_more f F R 2 1 5 (shape_extent f F 2 dict_2.shape dict_2.has)
+    (most_more f F R 1 2 3 (shape_extent f F 1 dict_1.shape dict_1.has)
+    (most_more f F R 0 3 0 (shape_extent f F 0 dict_0.shape dict_0.has)
+    (most_none f F R)))
+
+-- the file holds its value
+pub file_dict : FileHolds row_dict (dict (pair (97 ∷ []) (leaf (boolean true)) no_pairs))
+unfolding num
+file_dict = record {
+  frame = trailer row_dict;
+  is = frame_dict;
+  holds = (1 ∷ [], 2 ∷ [], dict_0, (dict_1, dict_2, tt), λ i j d h l. absurd (omega arith));
+  room = reached_room row_dict (trailer row_dict) 6 (omega arith) dict_most (omega arith);
+}
