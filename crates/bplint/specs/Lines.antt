@@ -8,6 +8,8 @@ use Rattle.clap.specs.declared.parser.matches.ArgMatches.{ArgMatches}
 use Rattle.bplint.specs.declared.args.Line.{Line}
 use Rattle.bplint.specs.declared.args.Line.TheVariants.{Explain, Look, Run}
 use Rattle.bplint.specs.declared.args.Line.TheVariants as lines
+use Rattle.bplint.specs.declared.args.Lint.{Lint as LintLine}
+use Rattle.bplint.specs.declared.args.Run.{Run as RunLine}
 use Rattle.bplint.specs.declared.args.Shown.{Shown}
 use Rattle.bplint.specs.declared.args.Shown.TheVariants.{Map, Members, Text, Values}
 use Rattle.bplist_objects.specs.Words.{word_of}
@@ -83,12 +85,26 @@ abbrev pub IsShownAs : List ℕ → ArgMatches → Shown → Type 0
 IsShownAs name matches Map = bytes_eq name (codes "map") ≡ true
 IsShownAs name matches shown = IsShownBy (bytes_eq name (codes "ls")) matches shown
 
--- the line is of the subcommand of this name, and has what its first arguments say
+-- a line of `lint` has its files and flags
+abbrev pub IsLint : ArgMatches → LintLine → Type 0
+IsLint matches lint = (map (λ file. file.now) lint.files.items ≡ texts_in matches (codes "FILE"))
+    × IsFlag matches (codes "hex") lint.hex × IsFlag matches (codes "quiet") lint.quiet × IsFlag matches (codes "explain") lint.explain
+
+-- a line of one command of the engine has what its arguments say; `--sorted` is of `certify` alone, `--explain` of `check`
+abbrev pub IsRun : ArgMatches → RunLine → Type 0
+IsRun matches run = (run.command.paths ≡ paths_in run.command.verb matches)
+    × IsLimit matches run.command.limit × IsFlag matches (codes "hex") run.command.hex
+    × (run.command.verb ≡ Certify → IsFlag matches (codes "sorted") run.command.sorted)
+    × (run.command.verb ≡ Check → IsFlag matches (codes "explain") run.explain)
+    × (run.file.now ≡ text_in matches (codes "FILE") [])
+    × (run.cert.now ≡ text_in matches (codes "CERT") [])
+    × (run.out.now ≡ text_in matches (codes "OUT") (codes "-"))
+
+-- the line is of the subcommand of this name, and has what its arguments say
 abbrev pub IsLineOf : List ℕ → ArgMatches → Line → Type 0
-IsLineOf name matches (lines.Lint lint) = (bytes_eq name (codes "lint") ≡ true)
-    × (map (λ file. file.now) lint.files.items ≡ texts_in matches (codes "FILE"))
-IsLineOf name matches (Run run) = (verb_named name ≡ Some run.command.verb)
-    × (run.command.paths ≡ paths_in run.command.verb matches) × (run.file.now ≡ text_in matches (codes "FILE") [])
-IsLineOf name matches (Look look) = (look.file.now ≡ text_in matches (codes "FILE") []) × IsShownAs name matches look.shown
+IsLineOf name matches (lines.Lint lint) = (bytes_eq name (codes "lint") ≡ true) × IsLint matches lint
+IsLineOf name matches (Run run) = (verb_named name ≡ Some run.command.verb) × IsRun matches run
+IsLineOf name matches (Look look) = (look.file.now ≡ text_in matches (codes "FILE") []) × IsFlag matches (codes "hex") look.hex
+    × IsShownAs name matches look.shown
 IsLineOf name matches (Explain rule) = (bytes_eq name (codes "explain") ≡ true)
     × (word_of rule ≡ text_in matches (codes "WORD") [])

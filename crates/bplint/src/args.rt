@@ -268,11 +268,7 @@ pub fn read_line<'a>(alloc: Global, words: &'a [String]) -> Result<Line<'a>, Err
 }
 
 /// The line of a subcommand with what was matched below it.
-fn line_of<'a>(
-    alloc: Global,
-    name: &str,
-    matches: &ArgMatches<'a>,
-) -> Result<Line<'a>, Error>
+fn line_of<'a>(alloc: Global, name: &str, matches: &ArgMatches<'a>) -> Result<Line<'a>, Error>
     ensures named { IfOk result (IsLineOf name.now matches.now) }
     ensures one_path { IfOk result RunsOnePath }
 {

@@ -91,11 +91,7 @@ fn has_length<R: Files<File = File>>(rt: &R, name: &str) -> bool {
     }
 }
 
-fn read_file<R: Files<File = File>>(
-    rt: &R,
-    alloc: Global,
-    name: &str,
-) -> Result<Vec<u8>, RunFault>
+fn read_file<R: Files<File = File>>(rt: &R, alloc: Global, name: &str) -> Result<Vec<u8>, RunFault>
     ensures bounded { IfOk result (λ v. vec_len v ≤ WHOLE_LIMIT) }
     ensures faults { IfErr result IsInputFault }
 {

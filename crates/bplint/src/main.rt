@@ -28,9 +28,7 @@ mod output;
 mod subcommands;
 
 use args::{Line, Lint, Look, Run, Shown};
-use bplint_engine::{
-    Command, Verb, list_on, run_on, run_over, show_on, show_text_on, undo_hex,
-};
+use bplint_engine::{Command, Verb, list_on, run_on, run_over, show_on, show_text_on, undo_hex};
 use bplint_lines::{RunFault, Said, explain, rule_text};
 use bplint_map::map_on;
 use bplist_objects::Rule;

@@ -213,7 +213,9 @@ fn path_line<S: Source>(
     ensures reads { OnlyReads (read_failed result) (S.means src.old) (S.means src.new) }
 {
     match path_to(alloc, src, frame, object)? {
-        ObjectPath::Path(path) if path.is_empty() => { Ok(String::from_str(alloc, "  path: the top\n")?) }
+        ObjectPath::Path(path) if path.is_empty() => {
+            Ok(String::from_str(alloc, "  path: the top\n")?)
+        }
         ObjectPath::Path(path) => {
             let text = String::from_utf8_lossy(alloc, &path)?;
             Ok(format!(in alloc; "  path: {text}\n")?)
