@@ -6,9 +6,13 @@ use Rattle.std.specs.Str.Parse.{IsNumeral, digits_value, without_leading_plus}
 use Rattle.clap.specs.Words.{first_value, found_of, matched_of, one_text, raw_values}
 use Rattle.clap.specs.declared.parser.matches.ArgMatches.{ArgMatches}
 use Rattle.bplint.specs.declared.args.Line.{Line}
-use Rattle.bplint.specs.declared.args.Line.TheVariants.{Run}
+use Rattle.bplint.specs.declared.args.Line.TheVariants.{Explain, Look, Run}
+use Rattle.bplint.specs.declared.args.Line.TheVariants as lines
+use Rattle.bplint.specs.declared.args.Lint.{Lint as LintLine}
+use Rattle.bplint.specs.declared.args.Run.{Run as RunLine}
 use Rattle.bplint.specs.declared.args.Shown.{Shown}
 use Rattle.bplint.specs.declared.args.Shown.TheVariants.{Map, Members, Text, Values}
+use Rattle.bplist_objects.specs.Words.{word_of}
 use Rattle.bplint_engine.specs.Commands.{PrintsOnePath}
 use Rattle.bplint_engine.specs.declared.command.Verb.{Verb}
 use Rattle.bplint_engine.specs.declared.command.Verb.TheVariants.{Lint, Check, Get, Certify, Print}
@@ -70,3 +74,37 @@ IsShownBy ls matches (Text path limit) =
     (ls ≡ false) × (path.now ≡ text_in matches (codes "PATH") []) × IsLimit matches limit
 IsShownBy ls matches (Values paths) =
     (ls ≡ false) × (map (λ path. string_bytes path) paths.items ≡ shown_in (texts_in matches (codes "PATH")))
+
+-- the line explains the rule that has this word
+abbrev pub ExplainsWord : List ℕ → Line → Type 0
+ExplainsWord word (Explain rule) = word_of rule ≡ word
+ExplainsWord word _ = ⊥
+
+-- what is shown is what the subcommand names: of `map` the map, else what `show` and `ls` show
+abbrev pub IsShownAs : List ℕ → ArgMatches → Shown → Type 0
+IsShownAs name matches Map = bytes_eq name (codes "map") ≡ true
+IsShownAs name matches shown = IsShownBy (bytes_eq name (codes "ls")) matches shown
+
+-- a line of `lint` has its files and flags
+abbrev pub IsLint : ArgMatches → LintLine → Type 0
+IsLint matches lint = (map (λ file. file.now) lint.files.items ≡ texts_in matches (codes "FILE"))
+    × IsFlag matches (codes "hex") lint.hex × IsFlag matches (codes "quiet") lint.quiet × IsFlag matches (codes "explain") lint.explain
+
+-- a line of one command of the engine has what its arguments say; `--sorted` is of `certify` alone, `--explain` of `check`
+abbrev pub IsRun : ArgMatches → RunLine → Type 0
+IsRun matches run = (run.command.paths ≡ paths_in run.command.verb matches)
+    × IsLimit matches run.command.limit × IsFlag matches (codes "hex") run.command.hex
+    × (run.command.verb ≡ Certify → IsFlag matches (codes "sorted") run.command.sorted)
+    × (run.command.verb ≡ Check → IsFlag matches (codes "explain") run.explain)
+    × (run.file.now ≡ text_in matches (codes "FILE") [])
+    × (run.cert.now ≡ text_in matches (codes "CERT") [])
+    × (run.out.now ≡ text_in matches (codes "OUT") (codes "-"))
+
+-- the line is of the subcommand of this name, and has what its arguments say
+abbrev pub IsLineOf : List ℕ → ArgMatches → Line → Type 0
+IsLineOf name matches (lines.Lint lint) = (bytes_eq name (codes "lint") ≡ true) × IsLint matches lint
+IsLineOf name matches (Run run) = (verb_named name ≡ Some run.command.verb) × IsRun matches run
+IsLineOf name matches (Look look) = (look.file.now ≡ text_in matches (codes "FILE") []) × IsFlag matches (codes "hex") look.hex
+    × IsShownAs name matches look.shown
+IsLineOf name matches (Explain rule) = (bytes_eq name (codes "explain") ≡ true)
+    × (word_of rule ≡ text_in matches (codes "WORD") [])

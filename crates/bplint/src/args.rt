@@ -1,12 +1,13 @@
 //! The command line, by `clap`.
-ghost use Rattle.std.specs.Prelude.{◌≡◌, ◌≢◌, ◌∷◌, [], IfOk, codes, false, map, string_bytes};
-ghost use Rattle.bplint.specs.Lines.{IsFlag, IsLimit, IsShownBy, RunsOnePath, paths_in, shown_in, text_in, texts_in, verb_named};
+ghost use Rattle.std.specs.Prelude.{◌≡◌, ◌≢◌, ◌≤◌, ◌<◌, ◌∷◌, [], IfOk, codes, false, length, map, string_bytes, true};
+ghost use Rattle.bplint.specs.Lines.{ExplainsWord, IsFlag, IsLimit, IsLineOf, IsShownBy, RunsOnePath, paths_in, shown_in, text_in, texts_in, verb_named};
 ghost use Rattle.std.specs.Str.{bytes_eq};
 ghost use Rattle.bplint_engine.specs.Commands.{PrintsOnePath};
 
 use crate::subcommands::bplint;
-use bplint_engine::{Command, RULES, Verb, rule_of_word};
-use bplist_objects::{Rule, rule_name};
+use bplint_engine::{Command, Verb};
+use bplint_lines::rule_of_word;
+use bplist_objects::{Rule, rule_name, rule_of_number};
 use clap::error::ErrorKind;
 use clap::{ArgMatches, Error};
 use std::alloc::{AllocError, Global};
@@ -215,6 +216,7 @@ fn shown_of<'a>(
 fn look_of<'a>(alloc: Global, name: &str, matches: &ArgMatches<'a>) -> Result<Look<'a>, AllocError>
     ensures file { IfOk result (λ look. look.file.now ≡ text_in matches.now (codes "FILE") []) }
     ensures hex { IfOk result (λ look. IsFlag matches.now (codes "hex") look.hex) }
+    ensures shown { IfOk result (λ look. IsShownBy (bytes_eq name.now (codes "ls")) matches.now look.shown) }
 {
     Ok(Look {
         file: matches.get_str("FILE").unwrap_or(""),
@@ -236,7 +238,12 @@ fn map_of<'a>(matches: &ArgMatches<'a>) -> Look<'a>
 }
 
 /// Whether a line of `show --text` names more than its one path.
-fn has_spare_path(name: &str, matches: &ArgMatches<'_>) -> bool {
+fn has_spare_path(name: &str, matches: &ArgMatches<'_>) -> bool
+    ensures other { bytes_eq name.now (codes "show") ≡ false → result ≡ false }
+    ensures few { length (texts_in matches.now (codes "PATH")) ≤ 1 → result ≡ false }
+    ensures text { bytes_eq name.now (codes "show") ≡ true → 1 < length (texts_in matches.now (codes "PATH"))
+        → IsFlag matches.now (codes "text") result }
+{
     name == "show" && matches.get_flag("text") && matches.get_strs("PATH").unwrap_or(&[]).len() > 1
 }
 
@@ -257,20 +264,28 @@ pub fn read_line<'a>(alloc: Global, words: &'a [String]) -> Result<Line<'a>, Err
     if has_spare_path(name, below) {
         return Err(spare_path(alloc)?);
     }
+    line_of(alloc, name, below)
+}
+
+/// The line of a subcommand with what was matched below it.
+fn line_of<'a>(alloc: Global, name: &str, matches: &ArgMatches<'a>) -> Result<Line<'a>, Error>
+    ensures named { IfOk result (IsLineOf name.now matches.now) }
+    ensures one_path { IfOk result RunsOnePath }
+{
     if let Some(verb) = verb_of(name) {
-        return Ok(Line::Run(run_of(alloc, verb, below)?));
+        return Ok(Line::Run(run_of(alloc, verb, matches)?));
     }
     match name {
-        "lint" => Ok(Line::Lint(lint_of(alloc, below)?)),
-        "map" => Ok(Line::Look(map_of(below))),
-        "explain" => explain_of(alloc, below.get_str("WORD").unwrap_or("")),
-        _ => Ok(Line::Look(look_of(alloc, name, below)?)),
+        "lint" => Ok(Line::Lint(lint_of(alloc, matches)?)),
+        "map" => Ok(Line::Look(map_of(matches))),
+        "explain" => explain_of(alloc, matches.get_str("WORD").unwrap_or("")),
+        _ => Ok(Line::Look(look_of(alloc, name, matches)?)),
     }
 }
 
 /// The line that explains the rule of a word.
 fn explain_of<'a>(alloc: Global, word: &str) -> Result<Line<'a>, Error>
-    ensures { IfOk result RunsOnePath }
+    ensures { IfOk result (ExplainsWord word.now) }
 {
     match rule_of_word(word) {
         Some(rule) => Ok(Line::Explain(rule)),
@@ -281,7 +296,10 @@ fn explain_of<'a>(alloc: Global, word: &str) -> Result<Line<'a>, Error>
 /// The error for a word that no rule has, which lists the words.
 fn unknown_word(alloc: Global, word: &str) -> Result<Error, AllocError> {
     let mut message = format!(in alloc; "no rule has the word '{word}'; the words:")?;
-    for rule in RULES {
+    for number in 1..u32::MAX {
+        let Some(rule) = rule_of_number(number) else {
+            break;
+        };
         let known = rule_name(rule);
         write!(message, " {known}")?;
     }

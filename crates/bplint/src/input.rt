@@ -1,9 +1,12 @@
 //! Inputs: FILE, which is read by place or whole, and CERT, which is read whole.
-ghost use Rattle.std.specs.Prelude.{◌≡◌, ◌≤◌, ◌<◌, IfErr, IfOk, IfSome, length, vec_len};
-ghost use Rattle.bplint.specs.Inputs.{IsWholeFault};
+ghost use Rattle.std.specs.Prelude.{◌≡◌, ◌≤◌, ◌<◌, [], IfErr, IfOk, IfSome, MatchResult, codes, false, length, true, vec_len};
+ghost use Rattle.std.specs.Str.{bytes_eq};
+ghost use Rattle.bplint.specs.Inputs.{IsInputFault, IsReadWhole, IsWholeFault};
+ghost use Rattle.bplint_engine.specs.Said.{takes_cert};
 
 use crate::args::Run;
-use bplint_engine::{RunFault, Verb};
+use bplint_engine::Verb;
+use bplint_lines::RunFault;
 use bplist_octets::{FileSource, ReadFault};
 use std::alloc::Global;
 use std::fs::{self, File, Files};
@@ -63,7 +66,11 @@ pub fn open_operand<R: Files<File = File> + Input>(
     alloc: Global,
     name: &str,
     hex: bool,
-) -> Result<Operand, RunFault> {
+) -> Result<Operand, RunFault>
+    ensures hex { hex ≡ true → IfOk result IsReadWhole }
+    ensures input { bytes_eq name.now (codes "-") ≡ true → IfOk result IsReadWhole }
+    ensures faults { IfErr result IsInputFault }
+{
     if name == "-" {
         return Ok(Operand::Whole(read_whole(alloc, &mut rt.reader())?));
     }
@@ -84,11 +91,10 @@ fn has_length<R: Files<File = File>>(rt: &R, name: &str) -> bool {
     }
 }
 
-fn read_file<R: Files<File = File>>(
-    rt: &R,
-    alloc: Global,
-    name: &str,
-) -> Result<Vec<u8>, RunFault> {
+fn read_file<R: Files<File = File>>(rt: &R, alloc: Global, name: &str) -> Result<Vec<u8>, RunFault>
+    ensures bounded { IfOk result (λ v. vec_len v ≤ WHOLE_LIMIT) }
+    ensures faults { IfErr result IsInputFault }
+{
     let mut file = File::open(rt, name).map_err(|_| RunFault::Open)?;
     read_whole(alloc, &mut file)
 }
@@ -98,7 +104,10 @@ pub fn read_certificate<R: Files<File = File>>(
     rt: &R,
     alloc: Global,
     run: &Run<'_>,
-) -> Result<Vec<u8>, RunFault> {
+) -> Result<Vec<u8>, RunFault>
+    ensures none { takes_cert run.now.command.verb ≡ false → MatchResult result (λ cert. cert.items ≡ []) (λ _. ⊥) }
+    ensures faults { IfErr result IsInputFault }
+{
     match run.command.verb {
         Verb::Lint | Verb::Certify => Ok(Vec::new(alloc)),
         Verb::Check | Verb::Get | Verb::Print => read_file(rt, alloc, run.cert),

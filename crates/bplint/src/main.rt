@@ -13,12 +13,13 @@
 //! | `output` | OUT, which is created with its first byte |
 //! | here | the runs: one command over one FILE by the engine, several FILEs of `lint`, `explain` |
 //!
-//! What is written is proved in bplint_engine; the functions here pass it on.
+//! What is written is proved in bplint_engine, bplint_map and bplint_lines; the functions here pass it on.
 #![tactic(auto)]
 
-ghost use Rattle.std.specs.Prelude.{◌≡◌, max};
-ghost use Rattle.bplint.specs.Lines.{RunsOnePath};
+ghost use Rattle.std.specs.Prelude.{◌≡◌, ◌≤◌, Err, IsTrue, MatchResult, max};
+ghost use Rattle.bplint.specs.Endings.{EndsWith, IsRefusedWith, LeavesShown};
 ghost use Rattle.bplint_engine.specs.Commands.{PrintsOnePath};
+ghost use Rattle.clap.specs.Values.{kind_of};
 
 mod args;
 mod input;
@@ -27,10 +28,9 @@ mod output;
 mod subcommands;
 
 use args::{Line, Lint, Look, Run, Shown};
-use bplint_engine::{
-    Command, RunFault, Said, Verb, explain, list_on, map_on, rule_text, run_on, run_over, show_on,
-    show_text_on, undo_hex,
-};
+use bplint_engine::{Command, Verb, list_on, run_on, run_over, show_on, show_text_on, undo_hex};
+use bplint_lines::{RunFault, Said, explain, rule_text};
+use bplint_map::map_on;
 use bplist_objects::Rule;
 use bplist_octets::{Pane, SliceSource, Source, Window, Windows};
 use clap::Error;
@@ -143,7 +143,10 @@ fn look_on<S: Source + Drop, W: Write>(
     shown: &Shown<'_>,
     src: S,
     out: &mut W,
-) -> Result<Said, RunFault> {
+) -> Result<Said, RunFault>
+    ensures { IsTrue (S.means src).honest
+        → LeavesShown (S.means src).octets shown.now (W.contents out.old) (W.contents out.new) result }
+{
     let mut src = src;
     match shown {
         Shown::Values(paths) => show_on(alloc, src, paths, out).0,
@@ -206,7 +209,9 @@ fn lint_files<R: Files<File = File> + Input + Print + Eprint>(
     rt: &R,
     alloc: Global,
     lint: &Lint<'_>,
-) -> u8 {
+) -> u8
+    ensures { result ≤ 4 }
+{
     let mut status = 0;
     for name in &lint.files {
         let next = match prefix_in(alloc, lint, name) {
@@ -239,7 +244,9 @@ fn worse(status: u8, next: u8) -> u8
 }
 
 /// Prints a fault's line behind the prefix and what is said under it, and gives the exit status.
-fn end<R: Eprint>(rt: &R, alloc: Global, prefix: &str, ending: Result<Ending, RunFault>) -> u8 {
+fn end<R: Eprint>(rt: &R, alloc: Global, prefix: &str, ending: Result<Ending, RunFault>) -> u8
+    ensures { MatchResult ending (λ ended. EndsWith ended.answer result) (λ fault. EndsWith (Err fault) result) }
+{
     match ending {
         Ok(Ending { answer, under }) => {
             let status = finish(rt, alloc, prefix, answer);
@@ -251,7 +258,9 @@ fn end<R: Eprint>(rt: &R, alloc: Global, prefix: &str, ending: Result<Ending, Ru
 }
 
 /// Prints a fault's line behind the prefix, and gives the exit status.
-fn finish<R: Eprint>(rt: &R, alloc: Global, prefix: &str, answer: Result<Said, RunFault>) -> u8 {
+fn finish<R: Eprint>(rt: &R, alloc: Global, prefix: &str, answer: Result<Said, RunFault>) -> u8
+    ensures { EndsWith answer result }
+{
     match answer {
         Ok(Said::All) => 0,
         Ok(Said::SomeMissing) => 1,
@@ -274,7 +283,9 @@ fn line_behind(alloc: Global, prefix: &str, fault: &RunFault) -> Result<String, 
 }
 
 /// Prints what `clap` says of a command line, and gives the exit status.
-fn refuse<R: Print + Eprint>(rt: &R, alloc: Global, error: Error) -> u8 {
+fn refuse<R: Print + Eprint>(rt: &R, alloc: Global, error: Error) -> u8
+    ensures { IsRefusedWith (kind_of error) result }
+{
     match error.kind() {
         ErrorKind::OutOfMemory => finish(rt, alloc, "", Err(RunFault::Memory)),
         kind => {
@@ -287,11 +298,14 @@ fn refuse<R: Print + Eprint>(rt: &R, alloc: Global, error: Error) -> u8 {
     }
 }
 
+/// Does what the words of a command line ask, and gives the exit status.
 fn start<R: Files<File = File> + Input + Print + Eprint>(
     rt: &R,
     alloc: Global,
     words: &[String],
-) -> u8 {
+) -> u8
+    ensures { result ≤ 4 }
+{
     match args::read_line(alloc, words) {
         Ok(Line::Lint(lint)) => lint_files(rt, alloc, &lint),
         Ok(Line::Run(line)) => end(rt, alloc, "", run(rt, alloc, &line)),

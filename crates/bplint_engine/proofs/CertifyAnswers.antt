@@ -4,9 +4,9 @@ use Rattle.bplist_lint.specs.declared.refusal.LintRefusal.{LintRefusal}
 use Rattle.bplist_lint.specs.declared.refusal.LintRefusal.TheVariants as lint_refusals
 use Rattle.bplist_lint.specs.FileFault.{IsFileFault, IsFileCircle}
 use Rattle.bplist_lint.specs.Refusals.{Refuses}
-use Rattle.bplint_engine.specs.Answers.{IsRefusal}
-use Rattle.bplint_engine.specs.Certifying.{SortedSays}
-use Rattle.bplint_engine.specs.Faults.{lint_fault}
+use Rattle.bplint_lines.specs.Answers.{IsRefusal}
+use Rattle.bplint_engine.specs.Certify.{SortedSays}
+use Rattle.bplint_lines.specs.Faults.{lint_fault}
 
 -- the file holds no value
 pub lint_refused : (hex : Bool) (f : List ℕ) (refusal : LintRefusal) → Refuses (IsFileFault f) (IsFileCircle f) refusal

@@ -6,14 +6,14 @@ use Rattle.bplist_objects.specs.Holds.{Holds}
 use Rattle.bplist_cert.specs.Lists.{Lists}
 use Rattle.bplist_cursor.specs.declared.reply.Query.{Query}
 use Rattle.bplist_cursor.specs.Replies.{reply}
-use Rattle.bplint_engine.specs.declared.fault.RunFault.{RunFault}
-use Rattle.bplint_engine.specs.declared.fault.RunFault.TheVariants as faults
-use Rattle.bplint_engine.specs.declared.output.Output.{Output}
-use Rattle.bplint_engine.specs.Answers.{Answer, Answers, IsRefusal}
-use Rattle.bplint_engine.specs.Asking.{AreQueries}
-use Rattle.bplint_engine.specs.Faults.{Gives, IsExcused}
-use Rattle.bplint_engine.specs.Getting.{GetSays, said_of, reply_lines}
-use Rattle.bplint_engine.specs.Vouching.{IsVouchedFor}
+use Rattle.bplint_lines.specs.declared.fault.RunFault.{RunFault}
+use Rattle.bplint_lines.specs.declared.fault.RunFault.TheVariants as faults
+use Rattle.bplint_lines.specs.declared.output.Output.{Output}
+use Rattle.bplint_lines.specs.Answers.{Answer, Answers, IsRefusal}
+use Rattle.bplint_engine.specs.PathQueries.{AreQueries}
+use Rattle.bplint_lines.specs.Faults.{Gives, IsExcused}
+use Rattle.bplint_engine.specs.Get.{GetSays, said_of, reply_lines}
+use Rattle.bplint_engine.specs.CertifiedFile.{IsVouchedFor}
 
 -- a read failed or memory was refused
 pub excused_refused : (Says : Answer → Type 0) (fault : RunFault) → IsExcused fault → IsRefusal Says fault

@@ -19,21 +19,21 @@ use Rattle.bplist_lint.specs.declared.refusal.LintRefusal.TheVariants as lint_re
 use Rattle.bplist_lint.specs.FileFault.{IsFileFault, IsFileCircle}
 use Rattle.bplist_lint.specs.Linted.{IsLinted, IsLintedBy}
 use Rattle.bplist_lint.specs.Refusals.{Refuses}
-use Rattle.bplint_engine.specs.declared.fault.RunFault.{RunFault}
-use Rattle.bplint_engine.specs.declared.fault.RunFault.TheVariants as faults
-use Rattle.bplint_engine.specs.declared.output.Output.{Output}
-use Rattle.bplint_engine.specs.declared.said.Said.{Said}
-use Rattle.bplint_engine.specs.Answers.{Answer, gives, refuses, Answers, IsRefusal, Leaves, LeavesBy}
-use Rattle.bplint_engine.specs.Asking.{AreQueries}
-use Rattle.bplint_engine.specs.Faults.{Gives, IsExcused, lint_fault}
-use Rattle.bplint_engine.specs.Getting.{said_of, reply_lines}
-use Rattle.bplint_engine.specs.Linting.{LintSays, IsLintFault}
-use Rattle.bplint_engine.specs.Listing.{ListGives, ListSays}
-use Rattle.bplint_engine.specs.Printing.{PathSays}
-use Rattle.bplint_engine.specs.Showing.{IsShowFault, ShowSays, TextSays}
-use Rattle.bplint_engine.specs.Vouching.{IsLeastFor}
+use Rattle.bplint_lines.specs.declared.fault.RunFault.{RunFault}
+use Rattle.bplint_lines.specs.declared.fault.RunFault.TheVariants as faults
+use Rattle.bplint_lines.specs.declared.output.Output.{Output}
+use Rattle.bplint_lines.specs.declared.said.Said.{Said}
+use Rattle.bplint_lines.specs.Answers.{Answer, gives, refuses, Answers, IsRefusal, Leaves, LeavesBy}
+use Rattle.bplint_engine.specs.PathQueries.{AreQueries}
+use Rattle.bplint_lines.specs.Faults.{Gives, IsExcused, lint_fault}
+use Rattle.bplint_engine.specs.Get.{said_of, reply_lines}
+use Rattle.bplint_engine.specs.Lint.{LintSays, IsLintFault}
+use Rattle.bplint_engine.specs.Ls.{ListGives, ListSays}
+use Rattle.bplint_engine.specs.Print.{PathSays}
+use Rattle.bplint_engine.specs.Show.{IsShowFault, ShowSays, TextSays}
+use Rattle.bplint_engine.specs.CertifiedFile.{IsLeastFor}
 use Rattle.bplint_engine.proofs.GetAnswers.{excused_refused}
-use Rattle.bplint_engine.proofs.Leaving.{said_as}
+use Rattle.bplint_engine.proofs.LeftBytes.{said_as}
 use Rattle.bplint_engine.proofs.PrintAnswers.{path_to_print}
 
 -- the file holds no value

@@ -6,10 +6,10 @@ use Rattle.bplist_objects.specs.declared.kind.Kind.TheVariants as kinds
 use Rattle.bplist_objects.specs.Heads.{content_of, content_at}
 use Rattle.bplist_lint.specs.declared.answer.Lint.{Lint}
 use Rattle.bplist_lint.specs.Linted.{IsLintedWithKind}
-use Rattle.bplint_engine.specs.declared.said.Said.TheVariants.{All}
-use Rattle.bplint_engine.specs.Answers.{gives}
-use Rattle.bplint_engine.specs.Linting.{LintSays}
-use Rattle.bplint_engine.specs.OutputLines.{lint_line, content_word, kind_word}
+use Rattle.bplint_lines.specs.declared.said.Said.TheVariants.{All}
+use Rattle.bplint_lines.specs.Answers.{gives}
+use Rattle.bplint_engine.specs.Lint.{LintSays}
+use Rattle.bplint_lines.specs.OutputLines.{lint_line, content_word, kind_word}
 
 -- the kind of a head has the word of what the object spells
 word_of_body : (f : List ℕ) (F : Frame) (kind : Kind) (count body : ℕ) → kind_word kind ≡ content_word (content_of f F kind count body)

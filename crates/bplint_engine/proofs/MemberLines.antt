@@ -9,9 +9,10 @@ use Rattle.bplist_cursor.specs.Members.{nth_value, nth_of_pairs, member_of}
 use Rattle.bplist_cursor.specs.Replies.{count, face}
 use Rattle.bplint_engine.specs.declared.member_lines.Members.{Members}
 use Rattle.bplint_engine.specs.declared.member_lines.Members.TheVariants.{Array, Set, Dict}
-use Rattle.bplint_engine.specs.Faults.{IsExcused, cursor_fault}
-use Rattle.bplint_engine.specs.Listing.{IsContainer, IsLeaf, bracketed, first_lines, index_name, key_name, line_of_member, line_of_pair, listed, member_line, named_line}
-use Rattle.bplint_engine.specs.OutputLines.{face_line}
+use Rattle.bplint_lines.specs.Faults.{IsExcused, cursor_fault}
+use Rattle.bplint_engine.specs.Ls.{IsContainer, IsLeaf, first_lines, line_of_member, line_of_pair, listed, member_line, named_line}
+use Rattle.bplint_lines.specs.MemberNames.{bracketed, index_name, key_name}
+use Rattle.bplint_lines.specs.OutputLines.{face_line}
 
 -- each member of an array or a set is there
 item_there : (vs : Values) (n i : ℕ) → count vs ≡ n → i < n → (m : Value) × (nth_value vs i ≡ Some m)

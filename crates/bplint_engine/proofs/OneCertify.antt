@@ -4,10 +4,10 @@ use Rattle.bplist_cert.specs.Encoding.{octets_of}
 use Rattle.bplist_lint.specs.Linted.{IsLintedBy}
 use Rattle.bplist_lint.specs.Upgraded.{IsUpgraded}
 use Rattle.bplist_lint.proofs.FirstFaults.{one_frame}
-use Rattle.bplint_engine.specs.Answers.{Answer, gives, refuses}
-use Rattle.bplint_engine.specs.Certifying.{LeastSays, SortedSays, CertifySays, written}
-use Rattle.bplint_engine.proofs.OneListing.{one_upgraded}
-use Rattle.bplint_engine.proofs.OneParts.{same_gives, open_bytes}
+use Rattle.bplint_lines.specs.Answers.{Answer, gives, refuses}
+use Rattle.bplint_engine.specs.Certify.{LeastSays, SortedSays, CertifySays, written}
+use Rattle.bplint_engine.proofs.OneKeyLists.{one_upgraded}
+use Rattle.bplint_engine.proofs.EqualAnswers.{same_gives, open_bytes}
 use Rattle.bplint_engine.proofs.OneLint.{one_lint_fault, not_linted, same_heights}
 
 module _ (hex : Bool) (f : List ℕ) where

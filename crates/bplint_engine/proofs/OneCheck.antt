@@ -12,12 +12,12 @@ use Rattle.bplist_cert.specs.PairFault.{IsPairFault}
 use Rattle.bplist_cert.proofs.AcceptedCertificates.{fault_refutes}
 use Rattle.bplist_cert.proofs.CertificateBytes.{octets_once, magic_kept, length_kept}
 use Rattle.bplist_cert.proofs.OneFault.{one_pair_fault}
-use Rattle.bplint_engine.specs.declared.fault.RunFault.TheVariants as faults
-use Rattle.bplint_engine.specs.Answers.{Answer, gives, refuses}
-use Rattle.bplint_engine.specs.Checking.{CheckSays}
-use Rattle.bplint_engine.specs.OutputLines.{check_line}
-use Rattle.bplint_engine.specs.Vouching.{IsVouchedFor, IsVouchingFault}
-use Rattle.bplint_engine.proofs.OneParts.{same_gives}
+use Rattle.bplint_lines.specs.declared.fault.RunFault.TheVariants as faults
+use Rattle.bplint_lines.specs.Answers.{Answer, gives, refuses}
+use Rattle.bplint_engine.specs.Check.{CheckSays}
+use Rattle.bplint_lines.specs.OutputLines.{check_line}
+use Rattle.bplint_engine.specs.CertifiedFile.{IsVouchedFor, IsVouchingFault}
+use Rattle.bplint_engine.proofs.EqualAnswers.{same_gives}
 
 -- ---- the bytes of a certificate
 octets_kept : (cert : List ℕ) (lists : Lists) (a : Fault) → IsCertificate lists → cert ≡ octets_of lists → IsOctetsFault cert a → ⊥

@@ -11,13 +11,13 @@ use Rattle.bplist_cursor.specs.declared.reply.Query.TheVariants as queries
 use Rattle.bplist_cursor.specs.Path.{IsPathOf, IsNoPath, units}
 use Rattle.bplist_cursor.specs.Replies.{reply}
 use Rattle.bplist_cursor.proofs.Escapes.{same_place, same_written}
-use Rattle.bplint_engine.specs.declared.fault.RunFault.{RunFault}
-use Rattle.bplint_engine.specs.declared.fault.RunFault.TheVariants as faults
-use Rattle.bplint_engine.specs.Answers.{Answer, gives, refuses}
-use Rattle.bplint_engine.specs.Asking.{IsQueryOf, AreQueries, IsWrongAmong, IsAskingFault}
-use Rattle.bplint_engine.specs.Getting.{GetSays, said_of, reply_lines}
-use Rattle.bplint_engine.specs.Vouching.{IsVouchedFor}
-use Rattle.bplint_engine.proofs.OneParts.{same_gives, open_bytes, open_said}
+use Rattle.bplint_lines.specs.declared.fault.RunFault.{RunFault}
+use Rattle.bplint_lines.specs.declared.fault.RunFault.TheVariants as faults
+use Rattle.bplint_lines.specs.Answers.{Answer, gives, refuses}
+use Rattle.bplint_engine.specs.PathQueries.{IsQueryOf, AreQueries, IsWrongAmong, IsAskingFault}
+use Rattle.bplint_engine.specs.Get.{GetSays, said_of, reply_lines}
+use Rattle.bplint_engine.specs.CertifiedFile.{IsVouchedFor}
+use Rattle.bplint_engine.proofs.EqualAnswers.{same_gives, open_bytes, open_said}
 use Rattle.bplint_engine.proofs.OneCheck.{same_frame, not_vouched, one_vouching}
 
 -- ---- path texts

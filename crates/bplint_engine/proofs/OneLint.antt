@@ -9,12 +9,12 @@ use Rattle.bplist_lint.specs.ReachRules.{number_below}
 use Rattle.bplist_lint.specs.Trail.{number}
 use Rattle.bplist_lint.proofs.LintAnswers.{fault_not_held, circle_not_held, formed_by_valid, least_heights_one}
 use Rattle.bplist_lint.proofs.FirstFaults.{one_frame, one_file_fault, one_file_circle, fault_or_circle}
-use Rattle.bplint_engine.specs.declared.fault.RunFault.{RunFault}
-use Rattle.bplint_engine.specs.declared.fault.RunFault.TheVariants as faults
-use Rattle.bplint_engine.specs.Answers.{Answer, gives, refuses}
-use Rattle.bplint_engine.specs.Linting.{IsLintFault, LintSays}
-use Rattle.bplint_engine.specs.OutputLines.{content_word, lint_line}
-use Rattle.bplint_engine.proofs.OneParts.{same_gives, same_numbers}
+use Rattle.bplint_lines.specs.declared.fault.RunFault.{RunFault}
+use Rattle.bplint_lines.specs.declared.fault.RunFault.TheVariants as faults
+use Rattle.bplint_lines.specs.Answers.{Answer, gives, refuses}
+use Rattle.bplint_engine.specs.Lint.{IsLintFault, LintSays}
+use Rattle.bplint_lines.specs.OutputLines.{content_word, lint_line}
+use Rattle.bplint_engine.proofs.EqualAnswers.{same_gives, same_numbers}
 
 module _ (f : List ℕ) where
   pub one_lint_fault : (a b : RunFault) → IsLintFault f a → IsLintFault f b → a ≡ b

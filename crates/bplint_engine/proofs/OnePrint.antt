@@ -13,14 +13,14 @@ use Rattle.bplist_cursor.specs.Look.{Missing, look}
 use Rattle.bplist_cursor.specs.OldStyle.{value_text}
 use Rattle.bplist_cursor.proofs.FormlessObjects.{one_formless}
 use Rattle.bplist_ascii.specs.Printed.{FitsLimit, IsTooLong}
-use Rattle.bplint_engine.specs.declared.fault.RunFault.{RunFault}
-use Rattle.bplint_engine.specs.declared.fault.RunFault.TheVariants as faults
-use Rattle.bplint_engine.specs.declared.said.Said.{Said}
-use Rattle.bplint_engine.specs.Answers.{Answer, gives, refuses}
-use Rattle.bplint_engine.specs.Asking.{IsAskingFault}
-use Rattle.bplint_engine.specs.Printing.{PrintGives, PrintRefuses, PathSays, ValueSays, PrintSays}
-use Rattle.bplint_engine.proofs.OneEnd.{one_end}
-use Rattle.bplint_engine.proofs.OneParts.{same_gives}
+use Rattle.bplint_lines.specs.declared.fault.RunFault.{RunFault}
+use Rattle.bplint_lines.specs.declared.fault.RunFault.TheVariants as faults
+use Rattle.bplint_lines.specs.declared.said.Said.{Said}
+use Rattle.bplint_lines.specs.Answers.{Answer, gives, refuses}
+use Rattle.bplint_engine.specs.PathQueries.{IsAskingFault}
+use Rattle.bplint_engine.specs.Print.{PrintGives, PrintRefuses, PathSays, ValueSays, PrintSays}
+use Rattle.bplint_engine.proofs.OneLocation.{one_end}
+use Rattle.bplint_engine.proofs.EqualAnswers.{same_gives}
 use Rattle.bplint_engine.proofs.OneCheck.{same_frame}
 use Rattle.bplint_engine.proofs.OneGet.{one_queries, one_asking, not_asking}
 

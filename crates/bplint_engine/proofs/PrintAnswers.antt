@@ -22,18 +22,18 @@ use Rattle.bplist_ascii.specs.declared.sink.WriteFault.{WriteFault}
 use Rattle.bplist_ascii.specs.declared.print_fault.PrintFault.{PrintFault}
 use Rattle.bplist_ascii.specs.declared.print_fault.PrintFault.TheVariants as print_faults
 use Rattle.bplist_ascii.proofs.SinkSteps.{out_start, out_takes, out_end, out_part, cut_more, takes_then_part}
-use Rattle.bplint_engine.specs.declared.fault.RunFault.{RunFault}
-use Rattle.bplint_engine.specs.declared.fault.RunFault.TheVariants as faults
-use Rattle.bplint_engine.specs.declared.output.Output.{Output}
-use Rattle.bplint_engine.specs.declared.said.Said.{Said}
-use Rattle.bplint_engine.specs.declared.said.Said.TheVariants.{All, SomeMissing}
-use Rattle.bplint_engine.specs.Answers.{Answer, gives, refuses, Answers, BeginsAnswer, IsRefusal, Leaves, LeavesBy, LeavesFault}
-use Rattle.bplint_engine.specs.Asking.{AreQueries}
-use Rattle.bplint_engine.specs.Faults.{cursor_fault, print_fault}
-use Rattle.bplint_engine.specs.OutputLines.{missing_line}
-use Rattle.bplint_engine.specs.Printing.{NodeSays, PathSays, PrintSays, PrintGives}
-use Rattle.bplint_engine.specs.Vouching.{IsVouchedFor}
-use Rattle.bplint_engine.proofs.Leaving.{begins_nothing, kept_self, said_as}
+use Rattle.bplint_lines.specs.declared.fault.RunFault.{RunFault}
+use Rattle.bplint_lines.specs.declared.fault.RunFault.TheVariants as faults
+use Rattle.bplint_lines.specs.declared.output.Output.{Output}
+use Rattle.bplint_lines.specs.declared.said.Said.{Said}
+use Rattle.bplint_lines.specs.declared.said.Said.TheVariants.{All, SomeMissing}
+use Rattle.bplint_lines.specs.Answers.{Answer, gives, refuses, Answers, BeginsAnswer, IsRefusal, Leaves, LeavesBy, LeavesFault}
+use Rattle.bplint_engine.specs.PathQueries.{AreQueries}
+use Rattle.bplint_lines.specs.Faults.{cursor_fault, print_fault}
+use Rattle.bplint_lines.specs.OutputLines.{missing_line}
+use Rattle.bplint_engine.specs.Print.{NodeSays, PathSays, PrintSays, PrintGives}
+use Rattle.bplint_engine.specs.CertifiedFile.{IsVouchedFor}
+use Rattle.bplint_engine.proofs.LeftBytes.{begins_nothing, kept_self, said_as}
 
 -- the cursor met a failed read or a refused growth
 pub cursor_stopped : (Says : Answer → Type 0) (most : ℕ) (old : Option (List ℕ)) (fault : CursorFault) → IsExcused fault

@@ -2,15 +2,15 @@
 use Rattle.std.specs.Prelude.{◌≡◌, ℕ, List, [], Bool, true, false, MatchResult}
 use Rattle.bplint_engine.specs.declared.command.Verb.{Verb}
 use Rattle.bplint_engine.specs.declared.command.Verb.TheVariants.{Lint, Check, Get, Certify, Print}
-use Rattle.bplint_engine.specs.declared.fault.RunFault.TheVariants.{Hex}
-use Rattle.bplint_engine.specs.Answers.{Answer, refuses}
-use Rattle.bplint_engine.specs.Certifying.{CertifySays}
-use Rattle.bplint_engine.specs.Checking.{CheckSays}
+use Rattle.bplint_lines.specs.declared.fault.RunFault.TheVariants.{Hex}
+use Rattle.bplint_lines.specs.Answers.{Answer, refuses}
+use Rattle.bplint_engine.specs.Certify.{CertifySays}
+use Rattle.bplint_engine.specs.Check.{CheckSays}
 use Rattle.bplint_engine.specs.Commands.{Asked}
-use Rattle.bplint_engine.specs.Getting.{GetSays}
+use Rattle.bplint_engine.specs.Get.{GetSays}
 use Rattle.bplint_engine.specs.Hexadecimal.{spelled}
-use Rattle.bplint_engine.specs.Linting.{LintSays}
-use Rattle.bplint_engine.specs.Printing.{PrintSays}
+use Rattle.bplint_engine.specs.Lint.{LintSays}
+use Rattle.bplint_engine.specs.Print.{PrintSays}
 
 -- the answer of each verb
 abbrev pub SaysBy : Verb → Asked → List ℕ → List ℕ → Answer → Type 0

@@ -2,7 +2,7 @@
 ghost use Rattle.std.specs.Prelude.{◌≡◌, ◌⊎◌, IfOk, IfErr, Ok, IsErr};
 ghost use Rattle.bplint_engine.specs.Hexadecimal.{digits_of, spelled};
 
-use crate::fault::RunFault;
+use bplint_lines::RunFault;
 use hex::FromHexError;
 use std::alloc::Global;
 

@@ -1,22 +1,17 @@
 //! The lines of the members of containers.
-ghost use Rattle.std.specs.Prelude.{◌≡◌, ◌++◌, ◌∷◌, [], ◌*◌, ◌^◌, ◌<◌, IfOk, IsTrue, MatchOption, OnOk, Some, encode_utf8_all, false, string_bytes, true};
-ghost use Rattle.std.specs.Char.Utf16.{utf16_lossy_chars};
-ghost use Rattle.std.specs.List.{flat_map, list_any};
+ghost use Rattle.std.specs.Prelude.{◌≡◌, ◌++◌, ◌∷◌, [], ◌*◌, ◌^◌, ◌<◌, IsTrue, OnOk, Some};
 ghost use Rattle.bplist_objects.specs.Holds.{Holds};
 ghost use Rattle.bplist_objects.specs.Value.{Value};
 ghost use Rattle.bplist_cert.specs.Valid.{IsVouchedBy};
 ghost use Rattle.bplist_cursor.specs.Kept.{Keeps};
 ghost use Rattle.bplist_cursor.specs.Members.{member_of};
-ghost use Rattle.bplist_cursor.specs.Path.{escaped};
 ghost use Rattle.bplist_cursor.specs.Replies.{face as face_of};
-ghost use Rattle.bplint_engine.specs.Answers.{read_failed};
-ghost use Rattle.bplint_engine.specs.Faults.{Gives};
-ghost use Rattle.bplint_engine.specs.Listing.{IsContainer, bracketed, first_lines, has_path_text, index_name, key_name, member_line, path_behind};
-ghost use Rattle.bplint_engine.specs.Listing as spec;
-ghost use Rattle.bplint_engine.specs.OutputLines.{face_line};
+ghost use Rattle.bplint_lines.specs.Answers.{read_failed};
+ghost use Rattle.bplint_lines.specs.Faults.{Gives};
+ghost use Rattle.bplint_engine.specs.Ls.{IsContainer, first_lines, member_line};
+ghost use Rattle.bplint_lines.specs.OutputLines.{face_line};
 
-use crate::fault::RunFault;
-use crate::output_lines::add_face;
+use bplint_lines::{RunFault, add_face, add_index_name, add_key_name, add_place};
 use bplist_cert::Checked;
 use bplist_cursor::{Face, Node, face, member};
 use bplist_octets::Source;
@@ -132,91 +127,4 @@ pub(crate) fn add_value(alloc: Global, shown: &Face, lines: &mut Vec<u8>) -> Res
     lines.push(b'\t')?;
     add_face(alloc, shown, lines)?;
     Ok(lines.push(b'\n')?)
-}
-
-/// Adds the path text of member `i` of an array.
-pub(crate) fn add_index_name(
-    alloc: Global,
-    path: &str,
-    i: u64,
-    lines: &mut Vec<u8>,
-) -> Result<(), AllocError>
-    ensures { OnOk result (lines.new.items ≡ lines.old.items ++ index_name path.now i) }
-{
-    lines.extend_from_slice(path.as_bytes())?;
-    let token = format!(in alloc; "/{i}")?;
-    lines.extend_from_slice(token.as_bytes())
-}
-
-/// Adds a place in brackets.
-fn add_place(alloc: Global, i: u64, lines: &mut Vec<u8>) -> Result<(), AllocError>
-    ensures { OnOk result (lines.new.items ≡ lines.old.items ++ bracketed i) }
-{
-    let place = format!(in alloc; "[{i}]")?;
-    lines.extend_from_slice(place.as_bytes())
-}
-
-/// Adds the path text of the value of a key with these units, which is number `i`, or its place where it has none that
-/// can be shown.
-pub(crate) fn add_key_name(
-    alloc: Global,
-    path: &str,
-    i: u64,
-    units: &[u16],
-    lines: &mut Vec<u8>,
-) -> Result<(), AllocError>
-    ensures { OnOk result (lines.new.items ≡ lines.old.items ++ key_name path.now i units.now) }
-{
-    match key_text(alloc, units)? {
-        Some(text) => add_path(path, text.as_bytes(), lines),
-        None => add_place(alloc, i, lines),
-    }
-}
-
-/// The text of a key, where it is UTF-16 and stays on its line.
-fn key_text(alloc: Global, units: &[u16]) -> Result<Option<String>, AllocError>
-    ensures { IfOk result (λ key. MatchOption key (has_path_text units.now ≡ false)
-        (λ text. (has_path_text units.now ≡ true) × (string_bytes text ≡ encode_utf8_all (utf16_lossy_chars units.now)))) }
-{
-    if have_control(units) {
-        return Ok(None);
-    }
-    match String::from_utf16(alloc, units)? {
-        Ok(text) => Ok(Some(text)),
-        Err(_) => Ok(None),
-    }
-}
-
-fn have_control(units: &[u16]) -> bool
-    ensures { result ≡ list_any spec.is_control units.now }
-{
-    units.iter().any(|unit| is_control(*unit))
-}
-
-fn is_control(unit: u16) -> bool
-    ensures { result ≡ spec.is_control unit }
-{
-    unit < 0x20 || unit == 0x7F
-}
-
-/// Adds a path text, `/` and a token, in which `~0` stands for `~` and `~1` for `/`.
-fn add_path(path: &str, token: &[u8], lines: &mut Vec<u8>) -> Result<(), AllocError>
-    ensures { OnOk result (lines.new.items ≡ lines.old.items ++ path_behind path.now token.now) }
-{
-    lines.extend_from_slice(path.as_bytes())?;
-    lines.push(b'/')?;
-    add_token(token, lines)
-}
-
-fn add_token(token: &[u8], lines: &mut Vec<u8>) -> Result<(), AllocError>
-    ensures { OnOk result (lines.new.items ≡ lines.old.items ++ flat_map escaped token.now) }
-{
-    for byte in token {
-        match byte {
-            b'~' => lines.extend_from_slice(b"~0")?,
-            b'/' => lines.extend_from_slice(b"~1")?,
-            _ => lines.push(*byte)?,
-        }
-    }
-    Ok(())
 }

@@ -1,6 +1,6 @@
 //! The lines and exit statuses of faults.
 
-use bplint_engine::RunFault;
+use bplint_lines::RunFault;
 use bplist_lint::ObjectNos;
 use bplist_objects::{Fault, ObjectNo, Rule};
 use bplist_octets::ReadFault;

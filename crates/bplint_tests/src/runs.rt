@@ -3,7 +3,8 @@
 ghost use Rattle.std.specs.Prelude.{◌≢◌, IfOk};
 ghost use Rattle.bplint_engine.specs.Commands.{PrintsOnePath};
 
-use bplint_engine::{Command, RunFault, Said, Verb, run_over};
+use bplint_engine::{Command, Verb, run_over};
+use bplint_lines::{RunFault, Said};
 use std::alloc::{AllocError, Global};
 use std::test::Fail;
 

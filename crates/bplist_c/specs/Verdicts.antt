@@ -6,7 +6,6 @@ use Rattle.bplist_objects.specs.declared.frame.Frame.{Frame}
 use Rattle.bplist_objects.specs.declared.frame.ObjectNo.{ObjectNo}
 use Rattle.bplist_objects.specs.declared.head.Head.{Head}
 use Rattle.bplist_objects.specs.declared.rule.Rule.{Rule}
-use Rattle.bplist_objects.specs.declared.rule.Rule.TheVariants as rules
 use Rattle.bplist_objects.specs.Frame.{IsFrame}
 use Rattle.bplist_objects.specs.Heads.{IsHeadOf}
 use Rattle.bplist_lint.specs.declared.answer.Lint.{Lint}
@@ -17,44 +16,9 @@ use Rattle.bplist_c.specs.declared.status.Status.TheVariants as statuses
 use Rattle.bplist_c.specs.declared.verdict.BplistVerdict.{BplistVerdict}
 use Rattle.bplist_c.specs.declared.verdict.Top.{Top}
 use Rattle.bplist_c.specs.Reading.{kind_number}
-use Rattle.bplist_objects.specs.Words.{word_of}
+use Rattle.bplist_objects.specs.Words.{number_of as number_of_rule, word_of}
 use Rattle.bplist_lint.specs.Trail.{number}
 use Rattle.bplist_c.specs.Statuses.{PutsAll, number_of}
-
--- the number of a rule
-abbrev pub rule_number : Rule → ℕ
-rule_number rules.TooLarge = 1
-rule_number rules.TooShort = 2
-rule_number rules.Magic = 3
-rule_number rules.NoObjects = 4
-rule_number rules.Top = 5
-rule_number rules.TableEarly = 6
-rule_number rules.TableLate = 7
-rule_number rules.OffsetSize = 8
-rule_number rules.RefSize = 9
-rule_number rules.Length = 10
-rule_number rules.RefNarrow = 11
-rule_number rules.OffsetNarrow = 12
-rule_number rules.OffsetHigh = 13
-rule_number rules.OffsetLow = 14
-rule_number rules.Marker = 15
-rule_number rules.Count = 16
-rule_number rules.Extent = 17
-rule_number rules.NotAscii = 18
-rule_number rules.UidLarge = 19
-rule_number rules.RefHigh = 20
-rule_number rules.KeyKind = 21
-rule_number rules.KeyTwice = 22
-rule_number rules.Circle = 23
-rule_number rules.CertMagic = 24
-rule_number rules.CertLength = 25
-rule_number rules.CertCount = 26
-rule_number rules.TopNotVouched = 27
-rule_number rules.ChildNotVouched = 28
-rule_number rules.HeightNotLess = 29
-rule_number rules.PathText = 30
-rule_number rules.Overfull = 31
-rule_number rules.KeyOrder = 32
 
 -- a verdict that says nothing
 abbrev pub no_verdict : BplistVerdict
@@ -96,7 +60,7 @@ object_or_0 (Some n) = n.0
 -- the verdict on a file with this fault
 abbrev pub fault_verdict : Fault → BplistVerdict
 fault_verdict fault = record no_verdict {
-  rule = rule_number fault.rule;
+  rule = number_of_rule fault.rule;
   has_object = has_object fault.object;
   object = object_or_0 fault.object;
   place = fault.place;
@@ -134,7 +98,7 @@ ShowsLint f (Err refusal) verdict status =
 -- the word of the rule with this number is put, or there is none and all is unchanged
 abbrev pub NamesRule : ℕ → List ℕ → List ℕ → ℕ → ℕ → ℕ → Type 0
 NamesRule n old new was count status =
-    ((rule : Rule) × (rule_number rule ≡ n) × PutsAll (word_of rule) old new count status)
+    ((rule : Rule) × (number_of_rule rule ≡ n) × PutsAll (word_of rule) old new count status)
     ⊎ (((n ≡ 0) ⊎ (32 < n)) × (status ≡ 16) × (new ≡ old) × (count ≡ was))
 
 -- the objects of the linter's circle, or refused memory, or that there is none

@@ -1,6 +1,6 @@
 //! The linter, for C.
 
-ghost use Rattle.std.specs.Prelude.{◌≡◌, ◌⊎◌, ◌<◌, ℕ, Result, MatchOption, MatchResult, map, Vec as vec};
+ghost use Rattle.std.specs.Prelude.{◌≡◌, ℕ, Result, MatchResult, map, Vec as vec};
 ghost use Rattle.bplist_lint.specs.declared.answer.Lint.{Lint as lint_answer};
 ghost use Rattle.bplist_lint.specs.declared.refusal.LintRefusal.{LintRefusal as lint_refusal};
 ghost use Rattle.bplist_lint.specs.FileFault.{IsFileFault, IsFileCircle};
@@ -11,13 +11,13 @@ ghost use Rattle.std.specs.Global.{Global as global};
 ghost use Rattle.bplist_c.specs.declared.status.Status.{Status as status};
 ghost use Rattle.bplist_c.specs.declared.status.Status.TheVariants.{Memory};
 ghost use Rattle.bplist_c.specs.Statuses.{Puts};
-ghost use Rattle.bplist_c.specs.Verdicts.{CircleSays, IsTop, NamesRule, ShowsLint, rule_number};
+ghost use Rattle.bplist_c.specs.Verdicts.{CircleSays, IsTop, NamesRule, ShowsLint};
 
 use crate::object::number_of as kind_number;
 use crate::status::{Status, put_all, put_answer};
 use crate::verdict::{BplistVerdict, Top, refused};
 use bplist_lint::{Lint, LintRefusal, lint};
-use bplist_objects::{ObjectNo, Rule, frame_of, rule_name, shape_of};
+use bplist_objects::{ObjectNo, frame_of, rule_name, rule_of_number, shape_of};
 use bplist_octets::SliceSource;
 use std::alloc::Global;
 
@@ -85,53 +85,12 @@ pub extern "C" fn bplist_lint(alloc: Global, file: &[u8], out: &mut BplistVerdic
     show(file, &answer, out)
 }
 
-/// The rule with this number.
-fn rule_of(number: u32) -> Option<Rule>
-    ensures { MatchOption result ((number ≡ 0) ⊎ (32 < number)) (λ rule. rule_number rule ≡ number) }
-{
-    match number {
-        1 => Some(Rule::TooLarge),
-        2 => Some(Rule::TooShort),
-        3 => Some(Rule::Magic),
-        4 => Some(Rule::NoObjects),
-        5 => Some(Rule::Top),
-        6 => Some(Rule::TableEarly),
-        7 => Some(Rule::TableLate),
-        8 => Some(Rule::OffsetSize),
-        9 => Some(Rule::RefSize),
-        10 => Some(Rule::Length),
-        11 => Some(Rule::RefNarrow),
-        12 => Some(Rule::OffsetNarrow),
-        13 => Some(Rule::OffsetHigh),
-        14 => Some(Rule::OffsetLow),
-        15 => Some(Rule::Marker),
-        16 => Some(Rule::Count),
-        17 => Some(Rule::Extent),
-        18 => Some(Rule::NotAscii),
-        19 => Some(Rule::UidLarge),
-        20 => Some(Rule::RefHigh),
-        21 => Some(Rule::KeyKind),
-        22 => Some(Rule::KeyTwice),
-        23 => Some(Rule::Circle),
-        24 => Some(Rule::CertMagic),
-        25 => Some(Rule::CertLength),
-        26 => Some(Rule::CertCount),
-        27 => Some(Rule::TopNotVouched),
-        28 => Some(Rule::ChildNotVouched),
-        29 => Some(Rule::HeightNotLess),
-        30 => Some(Rule::PathText),
-        31 => Some(Rule::Overfull),
-        32 => Some(Rule::KeyOrder),
-        _ => None,
-    }
-}
-
 /// The name of a rule, by its number.
 #[unsafe(no_mangle)]
 pub extern "C" fn bplist_rule_name(rule: u32, name: &mut [u8], count: &mut u64) -> u32
     ensures exact { NamesRule rule name.old name.new count.old count.new result }
 {
-    match rule_of(rule) {
+    match rule_of_number(rule) {
         Some(rule) => put_all(rule_name(rule).as_bytes(), name, count),
         None => Status::NoRule.number(),
     }

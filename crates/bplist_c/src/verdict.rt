@@ -1,11 +1,11 @@
 //! What was found of a file, for C.
 
 ghost use Rattle.std.specs.Prelude.{◌≡◌};
-ghost use Rattle.bplist_c.specs.Verdicts.{circle_verdict, fault_verdict, lint_refusal, no_verdict, rule_number, top_verdict};
+ghost use Rattle.bplist_c.specs.Verdicts.{circle_verdict, fault_verdict, lint_refusal, no_verdict, top_verdict};
 
 use crate::status::Status;
 use bplist_lint::{LintRefusal, ObjectNos};
-use bplist_objects::{Fault, Rule};
+use bplist_objects::{Fault, rule_number};
 
 /// What was found of a file. Numbers of which nothing is said are 0.
 #[repr(C)]
@@ -46,13 +46,6 @@ pub(crate) struct Top {
     pub(crate) kind: u32,
     /// Its height.
     pub(crate) height: u32,
-}
-
-/// The number of a rule.
-pub(crate) fn number_of(rule: Rule) -> u32
-    ensures { result ≡ rule_number rule }
-{
-    rule as u32
 }
 
 impl BplistVerdict {
@@ -99,7 +92,7 @@ impl BplistVerdict {
             None => (0, 0),
         };
         BplistVerdict {
-            rule: number_of(fault.rule),
+            rule: rule_number(fault.rule),
             has_object,
             object,
             place: fault.place,

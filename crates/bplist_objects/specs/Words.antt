@@ -1,4 +1,4 @@
--- The words of the rules. Source: profile.
+-- The words and numbers of the rules. Source: profile.
 use Rattle.std.specs.Prelude.{ℕ, List, codes}
 use Rattle.bplist_objects.specs.declared.rule.Rule.{Rule}
 use Rattle.bplist_objects.specs.declared.rule.Rule.TheVariants as rules
@@ -37,3 +37,38 @@ word_of rules.HeightNotLess = codes "HeightNotLess"
 word_of rules.PathText = codes "PathText"
 word_of rules.Overfull = codes "Overfull"
 word_of rules.KeyOrder = codes "KeyOrder"
+
+-- the number of a rule
+abbrev pub number_of : Rule → ℕ
+number_of rules.TooLarge = 1
+number_of rules.TooShort = 2
+number_of rules.Magic = 3
+number_of rules.NoObjects = 4
+number_of rules.Top = 5
+number_of rules.TableEarly = 6
+number_of rules.TableLate = 7
+number_of rules.OffsetSize = 8
+number_of rules.RefSize = 9
+number_of rules.Length = 10
+number_of rules.RefNarrow = 11
+number_of rules.OffsetNarrow = 12
+number_of rules.OffsetHigh = 13
+number_of rules.OffsetLow = 14
+number_of rules.Marker = 15
+number_of rules.Count = 16
+number_of rules.Extent = 17
+number_of rules.NotAscii = 18
+number_of rules.UidLarge = 19
+number_of rules.RefHigh = 20
+number_of rules.KeyKind = 21
+number_of rules.KeyTwice = 22
+number_of rules.Circle = 23
+number_of rules.CertMagic = 24
+number_of rules.CertLength = 25
+number_of rules.CertCount = 26
+number_of rules.TopNotVouched = 27
+number_of rules.ChildNotVouched = 28
+number_of rules.HeightNotLess = 29
+number_of rules.PathText = 30
+number_of rules.Overfull = 31
+number_of rules.KeyOrder = 32

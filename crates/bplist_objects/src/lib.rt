@@ -20,7 +20,7 @@
 //! | a source with its frame | [`Framed`], [`Plist`] |
 //! | the same calls over that | [`shape_in`], [`head_in`], [`offset_in`], [`read_offsets_in`], [`read_refs_in`], [`ref_place`] |
 //! | one visit of an object: head, body and references | [`visit`], [`Step`] |
-//! | broken rules and their words | [`Rule`], [`rule_name`], [`Fault`], [`ObjectFault`] |
+//! | broken rules, their words and numbers | [`Rule`], [`rule_name`], [`rule_number`], [`rule_of_number`], [`Fault`], [`ObjectFault`] |
 //!
 //! The laws tie the definitions: an object has at most one head and one value (`one_head`, `one_value`), rules are kept exactly
 //! where there is a head (`kept_iff_head`), and the first fault is one (`one_first_fault`).
@@ -62,7 +62,7 @@ pub use leaf_laws::{leaves_by_parts, units_are_ordered};
 pub use plist::{head_in, offset_in, read_offsets_in, read_refs_in, ref_place, shape_in};
 pub use ref_blocks::RefBlocks;
 pub use refs::{read_refs, ref_at, refs_of};
-pub use rule::{Rule, rule_name};
+pub use rule::{Rule, rule_name, rule_number, rule_of_number};
 pub use table::{high_entry, offset_of, read_offsets};
 pub use text::{key_cmp, read_units, unit_at};
 pub use visits::{Step, visit};

@@ -1,7 +1,7 @@
 //! The rules of files and certificates, 1 to 32.
 
-ghost use Rattle.std.specs.Prelude.{◌≡◌};
-ghost use Rattle.bplist_objects.specs.Words.{word_of};
+ghost use Rattle.std.specs.Prelude.{◌≡◌, ◌⊎◌, ◌<◌, MatchOption};
+ghost use Rattle.bplist_objects.specs.Words.{number_of, word_of};
 
 /// A rule of a file, a certificate or a path text. A variant's number is the rule's, and its line has the
 /// number too, and says when the rule is broken.
@@ -114,5 +114,53 @@ pub fn rule_name(rule: Rule) -> &'static str
         Rule::PathText => "PathText",
         Rule::Overfull => "Overfull",
         Rule::KeyOrder => "KeyOrder",
+    }
+}
+
+/// The number of a rule.
+pub fn rule_number(rule: Rule) -> u32
+    ensures { result ≡ number_of rule }
+{
+    rule as u32
+}
+
+/// The rule with this number, if there is one.
+pub fn rule_of_number(number: u32) -> Option<Rule>
+    ensures { MatchOption result ((number ≡ 0) ⊎ (32 < number)) (λ rule. number_of rule ≡ number) }
+{
+    match number {
+        1 => Some(Rule::TooLarge),
+        2 => Some(Rule::TooShort),
+        3 => Some(Rule::Magic),
+        4 => Some(Rule::NoObjects),
+        5 => Some(Rule::Top),
+        6 => Some(Rule::TableEarly),
+        7 => Some(Rule::TableLate),
+        8 => Some(Rule::OffsetSize),
+        9 => Some(Rule::RefSize),
+        10 => Some(Rule::Length),
+        11 => Some(Rule::RefNarrow),
+        12 => Some(Rule::OffsetNarrow),
+        13 => Some(Rule::OffsetHigh),
+        14 => Some(Rule::OffsetLow),
+        15 => Some(Rule::Marker),
+        16 => Some(Rule::Count),
+        17 => Some(Rule::Extent),
+        18 => Some(Rule::NotAscii),
+        19 => Some(Rule::UidLarge),
+        20 => Some(Rule::RefHigh),
+        21 => Some(Rule::KeyKind),
+        22 => Some(Rule::KeyTwice),
+        23 => Some(Rule::Circle),
+        24 => Some(Rule::CertMagic),
+        25 => Some(Rule::CertLength),
+        26 => Some(Rule::CertCount),
+        27 => Some(Rule::TopNotVouched),
+        28 => Some(Rule::ChildNotVouched),
+        29 => Some(Rule::HeightNotLess),
+        30 => Some(Rule::PathText),
+        31 => Some(Rule::Overfull),
+        32 => Some(Rule::KeyOrder),
+        _ => None,
     }
 }

@@ -1,6 +1,6 @@
 use Rattle.std.proofs.Common.{◌∙◌, ◌++◌, ap, add-one, append_assoc}
 use Rattle.std.proofs.lemmas.Result.{err_from_is_err_and}
-use Rattle.bplint_engine.specs.Listing.{first_lines, member_line}
+use Rattle.bplint_engine.specs.Ls.{first_lines, member_line}
 use Rattle.bplint_engine.proofs.member_lines.add_members.Goals as goal
 
 pub returns-in_err-add_member-clause-exact : goal.returns-in_err-add_member-clause-exact

@@ -2,7 +2,7 @@ use Rattle.std.proofs.Common.{◌≡◌, ◌++◌, IsTrue}
 use Rattle.bplist_objects.specs.Value.{Value}
 use Rattle.bplist_objects.specs.Holds.{Holds}
 use Rattle.bplist_cert.specs.Valid.{IsVouchedBy}
-use Rattle.bplint_engine.specs.Listing.{IsContainer, first_lines}
+use Rattle.bplint_engine.specs.Ls.{IsContainer, first_lines}
 use Rattle.bplint_engine.proofs.member_lines.add_members.Given as goal
 
 -- the lines of the members so far stand behind the lines

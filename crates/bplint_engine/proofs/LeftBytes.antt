@@ -1,0 +1,68 @@
+-- What is left with a writer.
+use Rattle.std.proofs.Common.{◌⊎◌, inl, inr, ℕ, List, [], append-nil, sym, ◌∙◌, Option, None, Some, Result, Ok, Err, refl, arith}
+use Rattle.std.specs.Io.KnownBytes.{Appends, Keeps}
+use Rattle.bplist_ascii.specs.Sending.{SendsSome}
+use Rattle.bplint_lines.specs.declared.fault.RunFault.{RunFault}
+use Rattle.bplint_lines.specs.declared.fault.RunFault.TheVariants as faults
+use Rattle.bplint_lines.specs.declared.output.Output.{Output}
+use Rattle.bplint_lines.specs.declared.said.Said.{Said}
+use Rattle.bplint_lines.specs.Answers.{Answer, gives, refuses, Answers, BeginsAnswer, IsRefusal, LeavesBy, LeavesFault, Sends}
+
+-- nothing was added
+nothing : (old new : Option (List ℕ)) → Keeps old new → Appends old new []
+nothing None new h = tt
+nothing (Some xs) None h = h
+nothing (Some xs) (Some ys) h = h ∙ sym (append-nil xs)
+
+pub begins_nothing : (Says : Answer → Type 0) (most : ℕ) (old new : Option (List ℕ)) → Keeps old new → BeginsAnswer Says most old new
+begins_nothing Says most old new kept = (([], omega arith, nothing old new kept), inl kept)
+
+pub kept_self : (old : Option (List ℕ)) → Keeps old old
+kept_self None = tt
+kept_self (Some xs) = refl
+
+-- what was refused before anything was written
+pub refused : (Says : Answer → Type 0) (most : ℕ) (old new : Option (List ℕ)) (fault : RunFault) → IsRefusal Says fault → Keeps old new
+    → LeavesFault Says most old new fault
+refused Says most old new (faults.Write _) h kept = absurd h
+refused Says most old new (faults.Read _) h kept = begins_nothing Says most old new kept
+refused Says most old new faults.Memory h kept = begins_nothing Says most old new kept
+refused Says most old new (faults.Fault _) h kept = (h, kept)
+refused Says most old new (faults.Circle _) h kept = (h, kept)
+refused Says most old new (faults.Path _) h kept = (h, kept)
+refused Says most old new (faults.NoAsciiForm _) h kept = (h, kept)
+refused Says most old new faults.TooLong h kept = (h, kept)
+refused Says most old new faults.Hex h kept = (h, kept)
+refused Says most old new faults.Changed h kept = (h, kept)
+refused Says most old new faults.Open h kept = (h, kept)
+refused Says most old new faults.InputTooLong h kept = (h, kept)
+
+-- what was made was sent
+pub sent : (Says : Answer → Type 0) (most : ℕ) (old new : Option (List ℕ)) (made : Result Output RunFault) (result : Result Said RunFault)
+    → Answers Says made → Sends old new made result → LeavesBy Says most old new result
+sent Says most old new (Ok output) (Ok said) says sends = (output.bytes.items, rw sends.0 says, sends.1)
+sent Says most old new (Ok output) (Err fault) says (n, is, cut) = rw is (output.said, output.bytes.items, says, cut)
+sent Says most old new (Err fault) result says (is, kept) = rw is (refused Says most old new fault says kept)
+
+begins_as : (P Q : Answer → Type 0) (old new : Option (List ℕ)) → ((a : Answer) → P a → Q a)
+    → Keeps old new ⊎ ((said : Said) × (bytes : List ℕ) × P (gives said bytes) × SendsSome old new bytes)
+    → Keeps old new ⊎ ((said : Said) × (bytes : List ℕ) × Q (gives said bytes) × SendsSome old new bytes)
+begins_as P Q old new to (inl kept) = inl kept
+begins_as P Q old new to (inr (said, bytes, says, some)) = inr (said, bytes, to (gives said bytes) says, some)
+
+-- another way to say the answer
+pub said_as : (P Q : Answer → Type 0) (most : ℕ) (old new : Option (List ℕ)) (result : Result Said RunFault) → ((a : Answer) → P a → Q a)
+    → LeavesBy P most old new result → LeavesBy Q most old new result
+said_as P Q most old new (Ok said) to (bytes, says, added) = (bytes, to (gives said bytes) says, added)
+said_as P Q most old new (Err (faults.Write n)) to (said, bytes, says, cut) = (said, bytes, to (gives said bytes) says, cut)
+said_as P Q most old new (Err (faults.Read fault)) to (bound, begun) = (bound, begins_as P Q old new to begun)
+said_as P Q most old new (Err faults.Memory) to (bound, begun) = (bound, begins_as P Q old new to begun)
+said_as P Q most old new (Err (faults.Fault fault)) to (h, kept) = (to (refuses (faults.Fault fault)) h, kept)
+said_as P Q most old new (Err (faults.Circle ns)) to (h, kept) = (to (refuses (faults.Circle ns)) h, kept)
+said_as P Q most old new (Err (faults.Path place)) to (h, kept) = (to (refuses (faults.Path place)) h, kept)
+said_as P Q most old new (Err (faults.NoAsciiForm n)) to (h, kept) = (to (refuses (faults.NoAsciiForm n)) h, kept)
+said_as P Q most old new (Err faults.TooLong) to (h, kept) = (to (refuses faults.TooLong) h, kept)
+said_as P Q most old new (Err faults.Hex) to (h, kept) = (to (refuses faults.Hex) h, kept)
+said_as P Q most old new (Err faults.Changed) to (h, kept) = (to (refuses faults.Changed) h, kept)
+said_as P Q most old new (Err faults.Open) to (h, kept) = (to (refuses faults.Open) h, kept)
+said_as P Q most old new (Err faults.InputTooLong) to (h, kept) = (to (refuses faults.InputTooLong) h, kept)

@@ -1,6 +1,0 @@
-use Rattle.std.proofs.Common.{◌≡◌, string_bytes, take}
-use Rattle.bplint_engine.specs.FaultLines.{circle_line}
-use Rattle.bplint_engine.proofs.fault.line_of_circle.Given as goal
-
-abbrev pub invariant-loop-object : goal.invariant-loop-object
-invariant-loop-object l = string_bytes l.line ≡ circle_line (take l.object-index l.objects)

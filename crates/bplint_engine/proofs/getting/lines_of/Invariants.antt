@@ -1,6 +1,0 @@
-use Rattle.std.proofs.Common.{◌≡◌, take}
-use Rattle.bplint_engine.specs.Getting.{reply_lines}
-use Rattle.bplint_engine.proofs.getting.lines_of.Given as goal
-
-abbrev pub invariant-loop-reply : goal.invariant-loop-reply
-invariant-loop-reply l = l.bytes.items ≡ reply_lines (take l.reply-index l.replies)

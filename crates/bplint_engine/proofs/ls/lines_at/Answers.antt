@@ -1,0 +1,28 @@
+use Rattle.std.proofs.Common.{◌≡◌, ◌++◌, ◌∙◌, [], ap, rules}
+use Rattle.std.proofs.lemmas.Result.{err_from_is_err_and}
+use Rattle.bplint_engine.specs.Ls.{first_lines}
+use Rattle.bplint_engine.proofs.MemberLines.{container_listed}
+use Rattle.bplint_engine.proofs.ls.lines_at.Goals as goal
+
+pub members_of-requires : goal.members_of-requires
+members_of-requires g c = rw c.len-length.ensures c.in_ok-shown.ensures.room
+
+pub add_members-requires : goal.add_members-requires
+add_members-requires g c = rw c.in-Some.is at c.members_of.ensures.room
+
+pub returns-in_err-add_members-clause-exact : goal.returns-in_err-add_members-clause-exact
+returns-in_err-add_members-clause-exact g c =
+    λ honest vouched w holds. let shown = c.in_ok-shown.ensures.value honest vouched w holds in
+    let is = rw c.in-Some.is at (c.members_of.ensures.exact w shown) in
+    let p = err_from_is_err_and c.from_residual-in_err-add_members.result c.from_residual-in_err-add_members.ensures.1 in
+    let stops = rw c.in_ok-shown.ensures.reads at c.in_err-add_members.ensures.exact in
+    rw (p.1, p.2) (stops honest vouched w holds is)
+
+pub returns-clause-exact : goal.returns-clause-exact
+returns-clause-exact g c =
+    λ honest vouched w holds. let shown = c.in_ok-shown.ensures.value honest vouched w holds in
+    let is = rw c.in-Some.is at (c.members_of.ensures.exact w shown) in
+    let added = rw c.in_ok-shown.ensures.reads at c.in_ok-add_members.ensures.exact in
+    let empty : c.new-lines.result.items ≡ [] = search rules in
+    added honest vouched w holds is ∙ ap (λ xs. xs ++ first_lines c.args.path.now w c.in-Some.count) empty
+    ∙ container_listed c.in-Some.members c.in-Some.count c.args.path.now w is

@@ -1,0 +1,8 @@
+use Rattle.std.proofs.lemmas.Grind.{merely}
+use Rattle.bplint_engine.specs.Ls.{ListSays}
+use Rattle.bplint_engine.proofs.LeftBytes.{sent}
+use Rattle.bplint_engine.proofs.ls.list_on.Goals as goal
+
+pub returns-clause-exact : goal.returns-clause-exact
+returns-clause-exact g c =
+    λ honest. merely (sent (ListSays (g.S.Source.means c.args.src).octets c.args.path.now) 0 _ _ _ _ (c.list_output.ensures.exact honest) c.send_made.ensures.sent)

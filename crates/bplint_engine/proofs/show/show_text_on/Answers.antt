@@ -1,0 +1,19 @@
+use Rattle.std.proofs.Common.{◌∷◌, []}
+use Rattle.std.proofs.lemmas.Grind.{merely}
+use Rattle.bplist_cursor.specs.declared.reply.Query.TheVariants.{Get}
+use Rattle.bplint_engine.specs.Show.{TextSays}
+use Rattle.bplint_engine.proofs.LeftBytes.{kept_self, refused}
+use Rattle.bplint_engine.proofs.LeastAnswers.{refused_as, text_fault, text_leaves}
+use Rattle.bplint_engine.proofs.show.show_text_on.Goals as goal
+
+pub returns-in-Ok-check_least-clause-exact : goal.returns-in-Ok-check_least-clause-exact
+returns-in-Ok-check_least-clause-exact g c =
+    λ honest. let same = c.in-Ok-check_least.ensures.handed in
+    let left = rw same at c.print_checked.ensures.exact in
+    text_leaves _ _ _ _ _ _ _ _ _ c.in-Ok.ensures (c.in-Ok-check_least.ensures.exact honest) (c.in-Ok-check_least.ensures.value honest) (left honest)
+
+pub returns-clause-exact : goal.returns-clause-exact
+returns-clause-exact g c =
+    λ honest. merely (refused (TextSays (g.S.Source.means c.args.src).octets c.args.path.now c.args.limit) c.args.limit _ _ _
+    (refused_as _ (TextSays (g.S.Source.means c.args.src).octets c.args.path.now c.args.limit) _ (λ x h. text_fault _ c.args.path.now c.args.limit (Get c.in-Ok.path ∷ []) x c.in-Ok.ensures h)
+    (c.in-Err-check_least.ensures.exact honest)) (kept_self _))

@@ -1,0 +1,27 @@
+-- What `lint` says. Source: profile.
+use Rattle.std.specs.Prelude.{◌≡◌, ◌∷◌, ◌++◌, ℕ, List, [], map}
+use Rattle.bplist_objects.specs.declared.frame.Frame.{Frame}
+use Rattle.bplist_objects.specs.Frame.{IsFrame}
+use Rattle.bplist_objects.specs.Heads.{Content, Spells}
+use Rattle.bplist_lint.specs.declared.answer.Lint.{Lint}
+use Rattle.bplist_lint.specs.FileFault.{IsFileFault, IsFileCircle}
+use Rattle.bplist_lint.specs.Linted.{IsLintedBy}
+use Rattle.bplist_lint.specs.Trail.{number}
+use Rattle.bplint_lines.specs.declared.said.Said.TheVariants.{All}
+use Rattle.bplint_lines.specs.declared.fault.RunFault.{RunFault}
+use Rattle.bplint_lines.specs.declared.fault.RunFault.TheVariants as faults
+use Rattle.bplint_lines.specs.Answers.{Answer, gives, refuses}
+use Rattle.bplint_lines.specs.OutputLines.{lint_line, content_word}
+
+-- the first broken rule of a file, or its circle
+abbrev pub IsLintFault : List ℕ → RunFault → Type 0
+IsLintFault f (faults.Fault fault) = IsFileFault f fault
+IsLintFault f (faults.Circle objects) = IsFileCircle f (map number objects)
+IsLintFault f _ = ⊥
+
+-- `lint` answers the number of reached objects, the top's least height and its kind
+abbrev pub LintSays : List ℕ → Answer → Type 0
+LintSays f (gives said bytes) =
+    (F : Frame) × (lint : Lint) × (c : Content) × IsFrame f F × IsLintedBy f F lint × Spells f F F.top.0 c
+    × (said ≡ All) × (bytes ≡ lint_line lint.reached lint.height (content_word c) ++ 10 ∷ [])
+LintSays f (refuses fault) = IsLintFault f fault

@@ -1,0 +1,78 @@
+-- What `ls` says: the members of a value, one line each. Source: the path texts RFC 6901; the lines profile.
+use Rattle.std.specs.Prelude.{◌≡◌, ◌∷◌, ◌++◌, ℕ, zero, suc, ◌+◌, ◌*◌, length, List, [], Option, None, Some, Result, Ok, Err, ⊤}
+use Rattle.bplist_objects.specs.declared.frame.Frame.{Frame}
+use Rattle.bplist_objects.specs.Frame.{IsFrame}
+use Rattle.bplist_objects.specs.Holds.{Holds}
+use Rattle.bplist_objects.specs.Value.{Value, leaf, array, set, dict, text, keys}
+use Rattle.bplist_cursor.specs.declared.reply.Query.TheVariants.{Get}
+use Rattle.bplist_cursor.specs.Look.{Missing, look}
+use Rattle.bplist_cursor.specs.Members.{member_of}
+use Rattle.bplist_cursor.specs.Replies.{count, face}
+use Rattle.bplist_lint.specs.declared.answer.Lint.{Lint}
+use Rattle.bplist_lint.specs.Linted.{IsLintedBy}
+use Rattle.bplint_engine.specs.declared.member_lines.Members.{Members}
+use Rattle.bplint_engine.specs.declared.member_lines.Members.TheVariants.{Array, Set, Dict}
+use Rattle.bplint_lines.specs.declared.said.Said.{Said}
+use Rattle.bplint_lines.specs.declared.said.Said.TheVariants.{All, SomeMissing}
+use Rattle.bplint_lines.specs.Answers.{Answer, gives, refuses}
+use Rattle.bplint_engine.specs.PathQueries.{AreQueries}
+use Rattle.bplint_lines.specs.MemberNames.{bracketed, index_name, key_name}
+use Rattle.bplint_lines.specs.OutputLines.{face_line, missing_line}
+use Rattle.bplint_engine.specs.Show.{IsShowFault}
+
+-- the value is a leaf
+abbrev pub IsLeaf : Value → Type 0
+IsLeaf (leaf l) = ⊤
+IsLeaf _ = ⊥
+
+-- the value is a container of this kind with so many members, or pairs
+abbrev pub IsContainer : Members → ℕ → Value → Type 0
+IsContainer Array n (array vs) = count vs ≡ n
+IsContainer Set n (set vs) = count vs ≡ n
+IsContainer Dict n (dict ps) = length (keys ps) ≡ n
+IsContainer _ n w = ⊥
+
+-- a value's line: name, tab, line of `get`
+abbrev pub named_line : List ℕ → Value → List ℕ
+named_line name w = name ++ 9 ∷ (face_line (face w) ++ 10 ∷ [])
+
+-- the line of a member, if there is one
+abbrev pub line_of_member : List ℕ → Option Value → List ℕ
+line_of_member name None = []
+line_of_member name (Some w) = named_line name w
+
+-- the line of a key's value, if there is one
+abbrev pub line_of_pair : List ℕ → ℕ → Option Value → Option Value → List ℕ
+line_of_pair path i (Some (leaf (text units))) member = line_of_member (key_name path i units) member
+line_of_pair path i _ member = []
+
+-- the line of member or pair i; a leaf has none
+abbrev pub member_line : List ℕ → Value → ℕ → List ℕ
+member_line path (leaf l) i = []
+member_line path (array vs) i = line_of_member (index_name path i) (member_of (array vs) i)
+member_line path (set vs) i = line_of_member (bracketed i) (member_of (set vs) i)
+member_line path (dict ps) i = line_of_pair path i (member_of (dict ps) (2 * i)) (member_of (dict ps) (2 * i + 1))
+
+-- the lines of the first n members
+abbrev pub first_lines : List ℕ → Value → ℕ → List ℕ
+first_lines path w zero = []
+first_lines path w (suc n) = first_lines path w n ++ member_line path w n
+
+-- all lines of a value: of its members, or of the leaf
+abbrev pub listed : List ℕ → Value → List ℕ
+listed path (leaf l) = named_line path (leaf l)
+listed path (array vs) = first_lines path (array vs) (count vs)
+listed path (set vs) = first_lines path (set vs) (count vs)
+listed path (dict ps) = first_lines path (dict ps) (length (keys ps))
+
+-- what `ls` writes of a found value, or of a path that leads nowhere
+abbrev pub ListGives : List ℕ → Result Value Missing → Said → List ℕ → Type 0
+ListGives path (Ok w) said bytes = (said ≡ All) × (bytes ≡ listed path w)
+ListGives path (Err missing) said bytes = (said ≡ SomeMissing) × (bytes ≡ missing_line missing.step missing.why ++ 10 ∷ [])
+
+-- `ls` answers the members under a path of the file's value
+abbrev pub ListSays : List ℕ → List ℕ → Answer → Type 0
+ListSays f path (gives said bytes) =
+    (steps : List (List ℕ)) × (F : Frame) × (lint : Lint) × AreQueries (path ∷ []) (Get steps ∷ []) × IsFrame f F × IsLintedBy f F lint
+    × ((v : Value) → Holds f F F.top.0 v → ListGives path (look v steps) said bytes)
+ListSays f path (refuses fault) = IsShowFault f (path ∷ []) fault

@@ -1,0 +1,30 @@
+-- Path texts, and what is asked about the paths. Source: profile.
+use Rattle.std.specs.Prelude.{◌⊎◌, ℕ, List, [], ◌∷◌}
+use Rattle.std.specs.List.{AllZip}
+use Rattle.bplist_cursor.specs.declared.reply.Query.{Query}
+use Rattle.bplist_cursor.specs.declared.reply.Query.TheVariants.{Get}
+use Rattle.bplist_cursor.specs.Path.{IsPathOf, IsNoPath}
+use Rattle.bplint_lines.specs.declared.fault.RunFault.{RunFault}
+use Rattle.bplint_lines.specs.declared.fault.RunFault.TheVariants as faults
+use Rattle.bplint_engine.specs.CertifiedFile.{IsVouchingFault}
+
+-- the query asks for the path of this text
+abbrev pub IsQueryOf : List ℕ → Query → Type 0
+IsQueryOf text (Get steps) = IsPathOf text steps
+IsQueryOf text _ = ⊥
+
+-- the queries ask for the paths of these texts, in order
+abbrev pub AreQueries : List (List ℕ) → List Query → Type 0
+AreQueries texts queries = AllZip IsQueryOf texts queries
+
+-- the first wrong path text is wrong at this place
+abbrev pub IsWrongAmong : List (List ℕ) → ℕ → Type 0
+IsWrongAmong [] place = ⊥
+IsWrongAmong (text ∷ texts) place =
+    IsNoPath text place ⊎ ((query : Query) × IsQueryOf text query × IsWrongAmong texts place)
+
+-- the first fault of path texts, certificate bytes, and the pair, in this order
+abbrev pub IsAskingFault : List ℕ → List ℕ → List (List ℕ) → RunFault → Type 0
+IsAskingFault f cert texts (faults.Path place) = IsWrongAmong texts place
+IsAskingFault f cert texts (faults.Fault fault) = (queries : List Query) × AreQueries texts queries × IsVouchingFault f cert fault
+IsAskingFault f cert texts _ = ⊥

@@ -1,0 +1,114 @@
+//! The answer of `certify`.
+ghost use Rattle.std.specs.Prelude.{◌≡◌, IfOk, IsTrue};
+ghost use Rattle.bplist_octets.specs.Meaning.{OnlyReads};
+ghost use Rattle.bplist_cert.specs.Encoding.{octets_of};
+ghost use Rattle.bplist_cert.specs.Lists.{Lists, IsCertificate};
+ghost use Rattle.bplist_lint.specs.Upgraded.{IsUpgraded};
+ghost use Rattle.bplint_lines.specs.Answers.{Answers, read_failed};
+ghost use Rattle.bplint_engine.specs.Certify.{CertifySays, LeastSays, SortedSays, written};
+ghost use Rattle.bplint_lines.specs.Faults.{Gives};
+
+use bplint_lines::{Output, RunFault, Said};
+use bplist_cert::{Certificate, Checked, check};
+use bplist_lint::{UpgradeFault, lint, upgrade};
+use bplist_octets::Source;
+use std::alloc::{AllocError, Global};
+
+/// The bytes of a certificate of the file, and the source again.
+pub(crate) fn certify_output<S: Source>(
+    alloc: Global,
+    src: S,
+    sorted: bool,
+    hex: bool,
+) -> (Result<Output, RunFault>, S)
+    ensures source { OnlyReads (read_failed result.0) (S.means src) (S.means result.1) }
+    ensures exact { IsTrue (S.means src).honest → Answers (CertifySays sorted hex (S.means src).octets) result.0 }
+{
+    if sorted {
+        return sorted_output(alloc, src, hex);
+    }
+    let mut src = src;
+    (least_output(alloc, &mut src, hex), src)
+}
+
+/// The bytes of the certificate of the least heights.
+fn least_output<S: Source>(alloc: Global, src: &mut S, hex: bool) -> Result<Output, RunFault>
+    ensures reads { OnlyReads (read_failed result) (S.means src.old) (S.means src.new) }
+    ensures exact { IsTrue (S.means src.old).honest → Answers (LeastSays hex (S.means src.old).octets) result }
+{
+    let found = lint(alloc, src)?;
+    Ok(output_of(alloc, &found.certificate, hex)?)
+}
+
+/// The bytes of the certificate of the least heights with key lists, and the source again.
+fn sorted_output<S: Source>(alloc: Global, src: S, hex: bool) -> (Result<Output, RunFault>, S)
+    ensures source { OnlyReads (read_failed result.0) (S.means src) (S.means result.1) }
+    ensures exact { IsTrue (S.means src).honest → Answers (SortedSays hex (S.means src).octets) result.0 }
+{
+    let mut src = src;
+    let found = match lint(alloc, &mut src) {
+        Ok(found) => found,
+        Err(refusal) => return (Err(RunFault::from(refusal)), src),
+    };
+    match check(alloc, src, found.certificate) {
+        Ok(checked) => upgraded_output(alloc, checked, hex),
+        // The linter has found a value and made the certificate, so a broken rule means that the file has changed.
+        Err((refusal, src, _)) => (Err(RunFault::from(UpgradeFault::from(refusal))), src),
+    }
+}
+
+/// The bytes of the certificate of a checked file with key lists, and its source.
+fn upgraded_output<S: Source>(
+    alloc: Global,
+    checked: Checked<S>,
+    hex: bool,
+) -> (Result<Output, RunFault>, S)
+    ensures source { OnlyReads (read_failed result.0) checked.source (S.means result.1) }
+    ensures exact { IsTrue checked.source.honest → Gives (λ output. (lists : Lists)
+        × IsCertificate lists × ∥ IsUpgraded checked.source.octets checked.frame checked.certificate.heights lists ∥₁
+        × (output.said ≡ Said.All) × (output.bytes.items ≡ written hex (octets_of lists))) result.0 }
+{
+    let mut checked = checked;
+    let made = output_with_keys(alloc, &mut checked, hex);
+    (made, checked.into_parts().0)
+}
+
+/// The bytes of the certificate of a checked file with key lists.
+fn output_with_keys<S: Source>(
+    alloc: Global,
+    checked: &mut Checked<S>,
+    hex: bool,
+) -> Result<Output, RunFault>
+    ensures reads { OnlyReads (read_failed result) checked.old.source checked.new.source }
+    ensures exact { IsTrue checked.old.source.honest → Gives (λ output. (lists : Lists)
+        × IsCertificate lists × ∥ IsUpgraded checked.old.source.octets checked.old.frame checked.old.certificate.heights lists ∥₁
+        × (output.said ≡ Said.All) × (output.bytes.items ≡ written hex (octets_of lists))) result }
+{
+    let certificate = upgrade(alloc, checked)?;
+    Ok(output_of(alloc, &certificate, hex)?)
+}
+
+/// What is written for a certificate.
+fn output_of(alloc: Global, certificate: &Certificate, hex: bool) -> Result<Output, AllocError>
+    ensures { IfOk result (λ output. IsCertificate certificate.now × (output.said ≡ Said.All)
+        × (output.bytes.items ≡ written hex (octets_of certificate.now))) }
+{
+    let bytes = bytes_of(alloc, certificate, hex)?;
+    Ok(Output {
+        said: Said::All,
+        bytes,
+    })
+}
+
+/// The bytes of a certificate, or with `hex` their text and a line feed.
+fn bytes_of(alloc: Global, certificate: &Certificate, hex: bool) -> Result<Vec<u8>, AllocError>
+    ensures { IfOk result (λ bytes. IsCertificate certificate.now × (bytes.items ≡ written hex (octets_of certificate.now))) }
+{
+    let octets = certificate.to_octets(alloc)?;
+    if !hex {
+        return Ok(octets);
+    }
+    let mut text = hex::encode(alloc, &octets)?;
+    text.push('\n')?;
+    Ok(text.into_bytes())
+}

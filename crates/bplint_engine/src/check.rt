@@ -1,0 +1,45 @@
+//! The answer of `check`.
+ghost use Rattle.std.specs.Prelude.{◌≡◌, ◌∷◌, ◌++◌, [], IfErr, IfOk, IsTrue, slice_index};
+ghost use Rattle.bplist_octets.specs.Meaning.{OnlyReads};
+ghost use Rattle.bplint_lines.specs.Answers.{Answers, read_failed};
+ghost use Rattle.bplint_engine.specs.Check.{CheckSays};
+ghost use Rattle.bplint_lines.specs.OutputLines.{check_line};
+
+use crate::certified_file::check_octets;
+use bplint_lines::{Output, RunFault, Said, add_check};
+use bplist_cert::Checked;
+use bplist_octets::Source;
+use std::alloc::Global;
+
+/// The line of `check`, and the source again.
+pub(crate) fn check_output<S: Source>(
+    alloc: Global,
+    src: S,
+    cert: &[u8],
+) -> (Result<Output, RunFault>, S)
+    ensures source { OnlyReads (read_failed result.0) (S.means src) (S.means result.1) }
+    ensures exact { IsTrue (S.means src).honest → Answers (CheckSays (S.means src).octets cert.now) result.0 }
+{
+    match check_octets(alloc, src, cert) {
+        Ok(checked) => {
+            let made = yes_of(alloc, &checked);
+            (made, checked.into_parts().0)
+        }
+        Err((fault, src)) => (Err(fault), src),
+    }
+}
+
+fn yes_of<S: Source>(alloc: Global, checked: &Checked<S>) -> Result<Output, RunFault>
+    ensures made { IfOk result (λ output. (output.said ≡ Said.All) × (output.bytes.items
+        ≡ check_line checked.now.frame.objects (slice_index checked.now.certificate.heights checked.now.frame.top.0) ++ 10 ∷ [])) }
+    ensures refused { IfErr result (λ fault. fault ≡ RunFault.Memory) }
+{
+    let frame = checked.frame();
+    let mut bytes = Vec::new(alloc);
+    add_check(alloc, frame.objects, checked.height(frame.top), &mut bytes)?;
+    bytes.push(b'\n')?;
+    Ok(Output {
+        said: Said::All,
+        bytes,
+    })
+}

@@ -1,0 +1,120 @@
+//! The answer of `get`.
+ghost use Rattle.std.specs.Prelude.{◌≡◌, ◌++◌, IfOk, IsTrue, OnOk, map, string_bytes};
+ghost use Rattle.std.specs.List.{list_any};
+ghost use Rattle.bplist_octets.specs.Meaning.{OnlyReads};
+ghost use Rattle.bplist_objects.specs.Holds.{Holds};
+ghost use Rattle.bplist_objects.specs.Value.{Value};
+ghost use Rattle.bplist_cursor.specs.Kept.{Keeps};
+ghost use Rattle.bplist_cursor.specs.Replies.{reply};
+ghost use Rattle.bplint_lines.specs.Answers.{Answers, read_failed};
+ghost use Rattle.bplint_lines.specs.Faults.{Gives};
+ghost use Rattle.bplint_engine.specs.Get.{GetSays, reply_line, reply_lines};
+ghost use Rattle.bplint_engine.specs.Get as spec;
+
+use crate::certified_file::check_octets;
+use crate::path_queries::queries_of;
+use bplint_lines::{Output, RunFault, Said, add_face, add_missing};
+use bplist_cert::Checked;
+use bplist_cursor::{Query, Reply, answer_all};
+use bplist_octets::Source;
+use std::alloc::{AllocError, Global};
+
+/// The lines of `get`, one for each path text, and the source again.
+pub(crate) fn get_output<S: Source>(
+    alloc: Global,
+    src: S,
+    cert: &[u8],
+    texts: &[String],
+) -> (Result<Output, RunFault>, S)
+    ensures source { OnlyReads (read_failed result.0) (S.means src) (S.means result.1) }
+    ensures exact { IsTrue (S.means src).honest
+        → Answers (GetSays (S.means src).octets cert.now (map (λ text. string_bytes text) texts.now)) result.0 }
+{
+    let queries = match queries_of(alloc, texts) {
+        Ok(queries) => queries,
+        Err(fault) => return (Err(fault), src),
+    };
+    match check_octets(alloc, src, cert) {
+        Ok(checked) => answer_queries(alloc, checked, &queries),
+        Err((fault, src)) => (Err(fault), src),
+    }
+}
+
+/// The lines of the answers, and the source again.
+pub(crate) fn answer_queries<S: Source>(
+    alloc: Global,
+    checked: Checked<S>,
+    queries: &[Query],
+) -> (Result<Output, RunFault>, S)
+    ensures source { OnlyReads (read_failed result.0) checked.source (S.means result.1) }
+    ensures exact { IsTrue checked.source.honest → Gives (λ output. (v : Value)
+        → Holds checked.source.octets checked.frame checked.frame.top.0 v
+        → (output.said ≡ spec.said_of (map (reply v) queries.now)) × (output.bytes.items ≡ reply_lines (map (reply v) queries.now))) result.0 }
+{
+    let mut checked = checked;
+    let made = lines_for(alloc, &mut checked, queries);
+    (made, checked.into_parts().0)
+}
+
+/// The lines of the answers.
+fn lines_for<S: Source>(
+    alloc: Global,
+    checked: &mut Checked<S>,
+    queries: &[Query],
+) -> Result<Output, RunFault>
+    ensures reads { Keeps (read_failed result) checked.old checked.new }
+    ensures exact { IsTrue checked.old.source.honest → Gives (λ output. (v : Value)
+        → Holds checked.old.source.octets checked.old.frame checked.old.frame.top.0 v
+        → (output.said ≡ spec.said_of (map (reply v) queries.now)) × (output.bytes.items ≡ reply_lines (map (reply v) queries.now))) result }
+{
+    let replies = answer_all(alloc, checked, queries)?;
+    Ok(lines_of(alloc, &replies)?)
+}
+
+/// The lines of replies, and whether one of them says that a path leads nowhere.
+fn lines_of(alloc: Global, replies: &[Reply]) -> Result<Output, AllocError>
+    ensures { IfOk result (λ output. (output.said ≡ spec.said_of replies.now) × (output.bytes.items ≡ reply_lines replies.now)) }
+{
+    let mut bytes = Vec::new(alloc);
+    for reply in replies {
+        add_reply(alloc, reply, &mut bytes)?;
+    }
+    Ok(Output {
+        said: said_of(replies),
+        bytes,
+    })
+}
+
+fn said_of(replies: &[Reply]) -> Said
+    ensures { result ≡ spec.said_of replies.now }
+{
+    if have_missing(replies) {
+        Said::SomeMissing
+    } else {
+        Said::All
+    }
+}
+
+fn have_missing(replies: &[Reply]) -> bool
+    ensures { result ≡ list_any spec.is_missing replies.now }
+{
+    replies.iter().any(|reply| is_missing(reply))
+}
+
+fn is_missing(reply: &Reply) -> bool
+    ensures { result ≡ spec.is_missing reply.now }
+{
+    matches!(reply, Reply::Missing { .. })
+}
+
+/// Adds the line of a reply, with its line feed. Nothing but faces is asked for, and other replies add nothing.
+fn add_reply(alloc: Global, reply: &Reply, lines: &mut Vec<u8>) -> Result<(), AllocError>
+    ensures { OnOk result (lines.new.items ≡ lines.old.items ++ reply_line reply.now) }
+{
+    match reply {
+        Reply::Face(face) => add_face(alloc, face, lines)?,
+        Reply::Missing { step, why } => add_missing(alloc, *step, *why, lines)?,
+        _ => return Ok(()),
+    }
+    Ok(lines.push(b'\n')?)
+}

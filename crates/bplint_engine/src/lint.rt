@@ -1,0 +1,44 @@
+//! The answer of `lint`.
+ghost use Rattle.std.specs.Prelude.{◌≡◌, ◌∷◌, ◌++◌, [], IfOk, IsTrue};
+ghost use Rattle.bplist_octets.specs.Meaning.{OnlyReads};
+ghost use Rattle.bplint_lines.specs.Answers.{Answers, read_failed};
+ghost use Rattle.bplint_engine.specs.Lint.{LintSays};
+ghost use Rattle.bplint_lines.specs.OutputLines.{kind_word, lint_line};
+
+use bplint_lines::{Output, RunFault, Said, add_lint};
+use bplist_lint::lint_with_kind;
+use bplist_objects::Kind;
+use bplist_octets::Source;
+use std::alloc::{AllocError, Global};
+
+/// The line of `lint`, and the source again.
+pub(crate) fn lint_output<S: Source>(alloc: Global, src: S) -> (Result<Output, RunFault>, S)
+    ensures source { OnlyReads (read_failed result.0) (S.means src) (S.means result.1) }
+    ensures exact { IsTrue (S.means src).honest → Answers (LintSays (S.means src).octets) result.0 }
+{
+    let mut src = src;
+    let made = line_of(alloc, &mut src);
+    (made, src)
+}
+
+/// The line of `lint`.
+fn line_of<S: Source>(alloc: Global, src: &mut S) -> Result<Output, RunFault>
+    ensures reads { OnlyReads (read_failed result) (S.means src.old) (S.means src.new) }
+    ensures exact { IsTrue (S.means src.old).honest → Answers (LintSays (S.means src.old).octets) result }
+{
+    let (found, top) = lint_with_kind(alloc, src)?;
+    let bytes = yes_of(alloc, found.reached, found.height, top)?;
+    Ok(Output {
+        said: Said::All,
+        bytes,
+    })
+}
+
+fn yes_of(alloc: Global, reached: u64, height: u32, top: Kind) -> Result<Vec<u8>, AllocError>
+    ensures { IfOk result (λ line. line.items ≡ lint_line reached height (kind_word top) ++ 10 ∷ []) }
+{
+    let mut line = Vec::new(alloc);
+    add_lint(alloc, reached, height, top, &mut line)?;
+    line.push(b'\n')?;
+    Ok(line)
+}

@@ -1,0 +1,147 @@
+//! The members of a value in a file, with no certificate at hand.
+ghost use Rattle.std.specs.Prelude.{◌≡◌, ◌*◌, ◌^◌, ◌<◌, IfSome, IsTrue, MatchOption};
+ghost use Rattle.bplist_octets.specs.Meaning.{OnlyReads};
+ghost use Rattle.bplist_objects.specs.Holds.{Holds};
+ghost use Rattle.bplist_objects.specs.Value.{Value};
+ghost use Rattle.bplist_cert.specs.Valid.{IsVouchedBy};
+ghost use Rattle.bplist_cursor.specs.Kept.{Keeps};
+ghost use Rattle.bplist_cursor.specs.Look.{look};
+ghost use Rattle.bplist_cursor.specs.Replies.{face as face_of};
+ghost use Rattle.bplist_cursor.specs.Shown.{HasRoom};
+ghost use Rattle.bplint_lines.specs.Answers.{Answers, Leaves, read_failed};
+ghost use Rattle.bplint_lines.specs.Faults.{Gives};
+ghost use Rattle.bplint_engine.specs.Ls.{IsContainer, IsLeaf, ListGives, ListSays, listed};
+
+use crate::certified_file::check_least;
+use crate::member_lines::{Container, Members, add_members, add_value};
+use crate::path_queries::path_in;
+use crate::print::missing_output;
+use bplint_lines::{Output, RunFault, Said, send_made};
+use bplist_cert::Checked;
+use bplist_cursor::{Face, Found, Node, Path, face, locate};
+use bplist_octets::Source;
+use std::alloc::Global;
+use std::io::Write;
+
+/// Writes one line for each member of the value under this path text, of a dictionary for each pair, of a leaf one for
+/// itself, and hands the source back.
+///
+/// A line has the member's own path text, a tab, and the line of `Get` for it. The place in brackets, counted from 0,
+/// stands for the path of a set's member, and of a key whose path text could not be shown on one line of UTF-8: it has
+/// a control character or a surrogate without its other half. A path that leads nowhere gets its line as with `Get`.
+///
+/// The answer is the first fault: `Path` for a wrong path text, or else `Fault` or `Circle` as `Lint` answers it. Nothing
+/// went out then. `Read`, `Memory`, `Write` and `Changed` are those of [`crate::run_on`].
+pub fn list_on<S: Source, W: Write>(
+    alloc: Global,
+    src: S,
+    path: &str,
+    out: &mut W,
+) -> (Result<Said, RunFault>, S)
+    ensures source { OnlyReads (read_failed result.0) (S.means src) (S.means result.1) }
+    ensures exact { IsTrue (S.means src).honest → Leaves (ListSays (S.means src).octets path.now) 0
+        (W.contents out.old) (W.contents out.new) result.0 }
+{
+    send_made(list_output(alloc, src, path), out)
+}
+
+/// The lines of `ls`, and the source again.
+fn list_output<S: Source>(alloc: Global, src: S, text: &str) -> (Result<Output, RunFault>, S)
+    ensures source { OnlyReads (read_failed result.0) (S.means src) (S.means result.1) }
+    ensures exact { IsTrue (S.means src).honest → Answers (ListSays (S.means src).octets text.now) result.0 }
+{
+    let path = match path_in(alloc, text) {
+        Ok(path) => path,
+        Err(fault) => return (Err(fault), src),
+    };
+    match check_least(alloc, src) {
+        Ok(checked) => list_checked(alloc, checked, &path, text),
+        Err((fault, src)) => (Err(fault), src),
+    }
+}
+
+/// The lines for what a checked file has under a path with this text, and its source.
+fn list_checked<S: Source>(
+    alloc: Global,
+    checked: Checked<S>,
+    path: &Path,
+    text: &str,
+) -> (Result<Output, RunFault>, S)
+    ensures source { OnlyReads (read_failed result.0) checked.source (S.means result.1) }
+    ensures exact { IsTrue checked.source.honest → (v : Value)
+        → Holds checked.source.octets checked.frame checked.frame.top.0 v
+        → Gives (λ output. ListGives text.now (look v path.now) output.said output.bytes.items) result.0 }
+{
+    let mut checked = checked;
+    let made = list_path(alloc, &mut checked, path, text);
+    (made, checked.into_parts().0)
+}
+
+/// The lines for what a checked file has under a path with this text.
+fn list_path<S: Source>(
+    alloc: Global,
+    checked: &mut Checked<S>,
+    path: &Path,
+    text: &str,
+) -> Result<Output, RunFault>
+    ensures reads { Keeps (read_failed result) checked.old checked.new }
+    ensures exact { IsTrue checked.old.source.honest → (v : Value)
+        → Holds checked.old.source.octets checked.old.frame checked.old.frame.top.0 v
+        → Gives (λ output. ListGives text.now (look v path.now) output.said output.bytes.items) result }
+{
+    match locate(checked, path)? {
+        Found::At(node) => {
+            let bytes = lines_at(alloc, checked, node, text)?;
+            Ok(Output {
+                said: Said::All,
+                bytes,
+            })
+        }
+        Found::Missing { step, why } => missing_output(alloc, step, why),
+    }
+}
+
+/// The lines for a node's value, which stands under the path of this text.
+fn lines_at<S: Source>(
+    alloc: Global,
+    checked: &mut Checked<S>,
+    node: Node,
+    path: &str,
+) -> Result<Vec<u8>, RunFault>
+    ensures reads { Keeps (read_failed result) checked.old checked.new }
+    ensures exact { IsTrue checked.old.source.honest → IsVouchedBy checked.old.certificate.heights node.object.0 → (w : Value)
+        → Holds checked.old.source.octets checked.old.frame node.object.0 w
+        → Gives (λ lines. lines.items ≡ listed path.now w) result }
+{
+    let length = checked.len();
+    let shown = face(alloc, checked, node)?;
+    let mut lines = Vec::new(alloc);
+    let Some((members, count)) = members_of(&shown, length) else {
+        lines.extend_from_slice(path.as_bytes())?;
+        add_value(alloc, &shown, &mut lines)?;
+        return Ok(lines);
+    };
+    let container = Container {
+        node,
+        members,
+        count,
+        path,
+    };
+    add_members(alloc, checked, &container, &mut lines)?;
+    Ok(lines)
+}
+
+/// Which members a value shows to have in a file of this length, and how many. A leaf has none.
+fn members_of(shown: &Face, length: u64) -> Option<(Members, u64)>
+    requires { HasRoom length shown.now }
+    ensures exact { (w : Value) → shown.now ≡ face_of w
+        → MatchOption result (IsLeaf w) (λ found. IsContainer found.0 found.1 w) }
+    ensures room { IfSome result (λ found. found.0 ≡ Members.Dict → 2 * found.1 < 2 ^ 64) }
+{
+    match shown {
+        Face::Array(count) => Some((Members::Array, *count)),
+        Face::Set(count) => Some((Members::Set, *count)),
+        Face::Dict(count) => Some((Members::Dict, *count)),
+        _ => None,
+    }
+}

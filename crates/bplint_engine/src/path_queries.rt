@@ -1,0 +1,41 @@
+//! Path texts, and what is asked about the paths.
+ghost use Rattle.std.specs.Prelude.{◌≡◌, ◌∷◌, [], MatchResult, length, map, string_bytes};
+ghost use Rattle.bplint_engine.specs.PathQueries.{AreQueries, IsWrongAmong};
+ghost use Rattle.bplint_lines.specs.Faults.{OnPath};
+
+use bplint_lines::RunFault;
+use bplist_cursor::{Path, Query};
+use std::alloc::Global;
+
+/// Asks what lies under the path of each text, in their order. The fault is the first wrong text.
+pub(crate) fn queries_of(alloc: Global, texts: &[String]) -> Result<Vec<Query>, RunFault>
+    ensures { MatchResult result
+        (λ queries. AreQueries (map (λ text. string_bytes text) texts.now) queries.items)
+        (OnPath (IsWrongAmong (map (λ text. string_bytes text) texts.now))) }
+{
+    let mut queries = Vec::new(alloc);
+    for text in texts {
+        let path = Path::parse(alloc, text.as_str())?;
+        queries.push(Query::Get(path))?;
+    }
+    Ok(queries)
+}
+
+/// The path of the one text that there is.
+pub(crate) fn path_of(alloc: Global, texts: &[String]) -> Result<Path, RunFault>
+    requires { length texts.now ≡ 1 }
+    ensures { MatchResult result
+        (λ path. AreQueries (map (λ text. string_bytes text) texts.now) (Query.Get path ∷ []))
+        (OnPath (IsWrongAmong (map (λ text. string_bytes text) texts.now))) }
+{
+    path_in(alloc, texts[0].as_str())
+}
+
+/// The path of a text.
+pub(crate) fn path_in(alloc: Global, text: &str) -> Result<Path, RunFault>
+    ensures { MatchResult result
+        (λ path. AreQueries (text.now ∷ []) (Query.Get path ∷ []))
+        (OnPath (IsWrongAmong (text.now ∷ []))) }
+{
+    Ok(Path::parse(alloc, text)?)
+}

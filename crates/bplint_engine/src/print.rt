@@ -1,0 +1,131 @@
+//! The answer of `print`.
+ghost use Rattle.std.specs.Prelude.{◌≡◌, ◌∷◌, ◌++◌, [], IfErr, IfOk, IsTrue, OnOk, length, map, string_bytes};
+ghost use Rattle.bplist_octets.specs.Meaning.{OnlyReads};
+ghost use Rattle.bplist_objects.specs.Holds.{Holds};
+ghost use Rattle.bplist_objects.specs.Value.{Value};
+ghost use Rattle.bplist_cert.specs.Valid.{IsVouchedBy};
+ghost use Rattle.bplist_cursor.specs.Kept.{Keeps};
+ghost use Rattle.bplist_ascii.specs.Sending.{Takes, TakesPart};
+ghost use Rattle.bplint_lines.specs.Answers.{Leaves, LeavesBy, read_failed};
+ghost use Rattle.bplint_lines.specs.OutputLines.{missing_line};
+ghost use Rattle.bplint_engine.specs.Print.{NodeSays, PathSays, PrintSays};
+
+use crate::certified_file::check_octets;
+use crate::path_queries::path_of;
+use bplint_lines::{Output, RunFault, Said, add_missing, send_output};
+use bplist_ascii::{Sink, WriteFault, print_into};
+use bplist_cert::Checked;
+use bplist_cursor::{Found, Node, Path, Why, locate, measure};
+use bplist_octets::Source;
+use std::alloc::Global;
+use std::io::Write;
+
+/// Writes the text of the value under a path and a line feed, or the line for a path that leads nowhere, and hands
+/// the source back.
+pub(crate) fn print_answer<S: Source, W: Write>(
+    alloc: Global,
+    src: S,
+    cert: &[u8],
+    texts: &[String],
+    limit: u64,
+    out: &mut W,
+) -> (Result<Said, RunFault>, S)
+    requires { length texts.now ≡ 1 }
+    ensures source { OnlyReads (read_failed result.0) (S.means src) (S.means result.1) }
+    ensures exact { IsTrue (S.means src).honest
+        → Leaves (PrintSays (S.means src).octets cert.now (map (λ text. string_bytes text) texts.now) limit) limit
+        (W.contents out.old) (W.contents out.new) result.0 }
+{
+    let path = match path_of(alloc, texts) {
+        Ok(path) => path,
+        Err(fault) => return (Err(fault), src),
+    };
+    match check_octets(alloc, src, cert) {
+        Ok(checked) => print_checked(alloc, checked, &path, limit, out),
+        Err((fault, src)) => (Err(fault), src),
+    }
+}
+
+/// Writes what a checked file has under a path, and hands its source back.
+pub(crate) fn print_checked<S: Source, W: Write>(
+    alloc: Global,
+    checked: Checked<S>,
+    path: &Path,
+    limit: u64,
+    out: &mut W,
+) -> (Result<Said, RunFault>, S)
+    ensures source { OnlyReads (read_failed result.0) checked.source (S.means result.1) }
+    ensures exact { IsTrue checked.source.honest → (v : Value)
+        → Holds checked.source.octets checked.frame checked.frame.top.0 v
+        → LeavesBy (PathSays checked.source.octets checked.frame limit path.now v) limit
+        (W.contents out.old) (W.contents out.new) result.0 }
+{
+    let mut checked = checked;
+    let answer = print_path(alloc, &mut checked, path, limit, out);
+    (answer, checked.into_parts().0)
+}
+
+/// Writes what a checked file has under a path.
+fn print_path<S: Source, W: Write>(
+    alloc: Global,
+    checked: &mut Checked<S>,
+    path: &Path,
+    limit: u64,
+    out: &mut W,
+) -> Result<Said, RunFault>
+    ensures reads { Keeps (read_failed result) checked.old checked.new }
+    ensures exact { IsTrue checked.old.source.honest → (v : Value)
+        → Holds checked.old.source.octets checked.old.frame checked.old.frame.top.0 v
+        → LeavesBy (PathSays checked.old.source.octets checked.old.frame limit path.now v) limit
+        (W.contents out.old) (W.contents out.new) result }
+{
+    match locate(checked, path)? {
+        Found::At(node) => print_node(alloc, checked, node, limit, out),
+        Found::Missing { step, why } => send_output(missing_output(alloc, step, why), out),
+    }
+}
+
+pub(crate) fn missing_output(alloc: Global, step: u64, why: Why) -> Result<Output, RunFault>
+    ensures made { IfOk result (λ output. (output.said ≡ Said.SomeMissing)
+        × (output.bytes.items ≡ missing_line step why ++ 10 ∷ [])) }
+    ensures refused { IfErr result (λ fault. fault ≡ RunFault.Memory) }
+{
+    let mut bytes = Vec::new(alloc);
+    add_missing(alloc, step, why, &mut bytes)?;
+    bytes.push(b'\n')?;
+    Ok(Output {
+        said: Said::SomeMissing,
+        bytes,
+    })
+}
+
+/// Writes the text of a node's value and a line feed.
+fn print_node<S: Source, W: Write>(
+    alloc: Global,
+    checked: &mut Checked<S>,
+    node: Node,
+    limit: u64,
+    out: &mut W,
+) -> Result<Said, RunFault>
+    ensures reads { Keeps (read_failed result) checked.old checked.new }
+    ensures exact { IsTrue checked.old.source.honest → IsVouchedBy checked.old.certificate.heights node.object.0 → (w : Value)
+        → Holds checked.old.source.octets checked.old.frame node.object.0 w
+        → LeavesBy (NodeSays checked.old.source.octets checked.old.frame limit node.object.0 w) limit
+        (W.contents out.old) (W.contents out.new) result }
+{
+    let measures = measure(alloc, checked)?;
+    let mut sink = Sink::new();
+    print_into(alloc, checked, &measures, node, limit, &mut sink, out)?;
+    end_line(&mut sink, out)?;
+    Ok(Said::All)
+}
+
+/// Puts a line feed in, and sends what the sink holds.
+fn end_line<W: Write>(sink: &mut Sink, out: &mut W) -> Result<(), WriteFault>
+    ensures taken { OnOk result (Takes (W.contents out.old) (W.contents out.new) sink.old sink.new (10 ∷ [])) }
+    ensures empty { OnOk result (sink.new.held ≡ []) }
+    ensures part { IfErr result (λ fault. TakesPart (W.contents out.old) (W.contents out.new) sink.old (10 ∷ []) fault.sent) }
+{
+    sink.put(out, b"\n")?;
+    sink.flush(out)
+}

@@ -1,0 +1,75 @@
+//! Values under paths of a file, with no certificate at hand.
+ghost use Rattle.std.specs.Prelude.{◌≡◌, IsTrue, map, string_bytes};
+ghost use Rattle.bplist_octets.specs.Meaning.{OnlyReads};
+ghost use Rattle.bplint_lines.specs.Answers.{Answers, Leaves, read_failed};
+ghost use Rattle.bplint_engine.specs.Show.{ShowSays, TextSays};
+
+use crate::certified_file::check_least;
+use crate::get::answer_queries;
+use crate::path_queries::{path_in, queries_of};
+use crate::print::print_checked;
+use bplint_lines::{Output, RunFault, Said, send_made};
+use bplist_octets::Source;
+use std::alloc::Global;
+use std::io::Write;
+
+/// Writes what `Get` writes for these path texts with the least certificate of the file, and hands the source back.
+///
+/// The answer is the first fault: `Path` for the first wrong path text, or else `Fault` or `Circle` as `Lint` answers it.
+/// Nothing went out then. `Read`, `Memory`, `Write` and `Changed` are those of [`crate::run_on`].
+pub fn show_on<S: Source, W: Write>(
+    alloc: Global,
+    src: S,
+    paths: &[String],
+    out: &mut W,
+) -> (Result<Said, RunFault>, S)
+    ensures source { OnlyReads (read_failed result.0) (S.means src) (S.means result.1) }
+    ensures exact { IsTrue (S.means src).honest
+        → Leaves (ShowSays (S.means src).octets (map (λ text. string_bytes text) paths.now)) 0
+        (W.contents out.old) (W.contents out.new) result.0 }
+{
+    send_made(show_output(alloc, src, paths), out)
+}
+
+/// The lines of `show`, one for each path text, and the source again.
+fn show_output<S: Source>(alloc: Global, src: S, texts: &[String]) -> (Result<Output, RunFault>, S)
+    ensures source { OnlyReads (read_failed result.0) (S.means src) (S.means result.1) }
+    ensures exact { IsTrue (S.means src).honest
+        → Answers (ShowSays (S.means src).octets (map (λ text. string_bytes text) texts.now)) result.0 }
+{
+    let queries = match queries_of(alloc, texts) {
+        Ok(queries) => queries,
+        Err(fault) => return (Err(fault), src),
+    };
+    match check_least(alloc, src) {
+        Ok(checked) => answer_queries(alloc, checked, &queries),
+        Err((fault, src)) => (Err(fault), src),
+    }
+}
+
+/// Writes what `Print` writes for this path text and limit with the least certificate of the file, and hands the source
+/// back.
+///
+/// The answer is the first fault: `Path` for a wrong path text; `Fault` or `Circle` as `Lint` answers it; `NoAsciiForm`
+/// and then `TooLong`. Nothing went out then. `Read`, `Memory`, `Write` and `Changed` are those of [`crate::run_on`] with
+/// `Print`.
+pub fn show_text_on<S: Source, W: Write>(
+    alloc: Global,
+    src: S,
+    path: &str,
+    limit: u64,
+    out: &mut W,
+) -> (Result<Said, RunFault>, S)
+    ensures source { OnlyReads (read_failed result.0) (S.means src) (S.means result.1) }
+    ensures exact { IsTrue (S.means src).honest → Leaves (TextSays (S.means src).octets path.now limit) limit
+        (W.contents out.old) (W.contents out.new) result.0 }
+{
+    let path = match path_in(alloc, path) {
+        Ok(path) => path,
+        Err(fault) => return (Err(fault), src),
+    };
+    match check_least(alloc, src) {
+        Ok(checked) => print_checked(alloc, checked, &path, limit, out),
+        Err((fault, src)) => (Err(fault), src),
+    }
+}

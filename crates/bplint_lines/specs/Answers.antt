@@ -1,0 +1,63 @@
+-- Answers to a command, and what they leave with the writer. Source: profile.
+use Rattle.std.specs.Prelude.{◌≡◌, ◌⊎◌, ℕ, List, Bool, true, false, Option, Result, Ok, Err}
+use Rattle.std.specs.Io.KnownBytes.{Appends, Keeps}
+use Rattle.bplist_ascii.specs.Sending.{SendsSome, IsCut, AtMost}
+use Rattle.bplint_lines.specs.declared.fault.RunFault.{RunFault}
+use Rattle.bplint_lines.specs.declared.fault.RunFault.TheVariants as faults
+use Rattle.bplint_lines.specs.declared.output.Output.{Output}
+use Rattle.bplint_lines.specs.declared.said.Said.{Said}
+
+-- bytes to write and what they say, or a fault
+pub data Answer : Type 0 where
+  gives : Said → List ℕ → Answer
+  refuses : RunFault → Answer
+
+-- the error is a failed read
+abbrev pub is_read : RunFault → Bool
+is_read (faults.Read _) = true
+is_read _ = false
+
+-- the answer is a failed read
+abbrev pub read_failed : {X : Type 0} → Result X RunFault → Bool
+read_failed (Ok _) = false
+read_failed (Err fault) = is_read fault
+
+-- a fault before anything is written; nothing is said of a failed read or of refused memory
+abbrev pub IsRefusal : (Answer → Type 0) → RunFault → Type 0
+IsRefusal Says (faults.Write _) = ⊥
+IsRefusal Says (faults.Read _) = Unit {0}
+IsRefusal Says faults.Memory = Unit {0}
+IsRefusal Says fault = Says (refuses fault)
+
+-- bytes to write, or a fault, are the answer
+abbrev pub Answers : (Answer → Type 0) → Result Output RunFault → Type 0
+Answers Says (Ok output) = Says (gives output.said output.bytes.items)
+Answers Says (Err fault) = IsRefusal Says fault
+
+-- what was made is sent: all its bytes went out, or where a write failed a first part of them; of a fault nothing does
+abbrev pub Sends : Option (List ℕ) → Option (List ℕ) → Result Output RunFault → Result Said RunFault → Type 0
+Sends old new (Ok output) (Ok said) = (said ≡ output.said) × Appends old new output.bytes.items
+Sends old new (Ok output) (Err fault) = (sent : ℕ) × (fault ≡ faults.Write sent) × IsCut old new output.bytes.items sent
+Sends old new (Err fault) result = (result ≡ Err fault) × Keeps old new
+
+-- nothing went out, or a first part of the answer of at most `most` bytes
+abbrev pub BeginsAnswer : (Answer → Type 0) → ℕ → Option (List ℕ) → Option (List ℕ) → Type 0
+BeginsAnswer Says most old new =
+    AtMost old new most × (Keeps old new ⊎ ((said : Said) × (bytes : List ℕ) × Says (gives said bytes) × SendsSome old new bytes))
+
+-- the fault is the answer and nothing is written, except for a first part after `Write`, `Read` and `Memory`
+abbrev pub LeavesFault : (Answer → Type 0) → ℕ → Option (List ℕ) → Option (List ℕ) → RunFault → Type 0
+LeavesFault Says most old new (faults.Write sent) =
+    (said : Said) × (bytes : List ℕ) × Says (gives said bytes) × IsCut old new bytes sent
+LeavesFault Says most old new (faults.Read _) = BeginsAnswer Says most old new
+LeavesFault Says most old new faults.Memory = BeginsAnswer Says most old new
+LeavesFault Says most old new fault = Says (refuses fault) × Keeps old new
+
+-- what a run leaves with the writer: the answer's bytes, or what its fault allows
+abbrev pub LeavesBy : (Answer → Type 0) → ℕ → Option (List ℕ) → Option (List ℕ) → Result Said RunFault → Type 0
+LeavesBy Says most old new (Ok said) = (bytes : List ℕ) × Says (gives said bytes) × Appends old new bytes
+LeavesBy Says most old new (Err fault) = LeavesFault Says most old new fault
+
+-- the same as a bare fact
+abbrev pub Leaves : (Answer → Type 0) → ℕ → Option (List ℕ) → Option (List ℕ) → Result Said RunFault → Type 0
+Leaves Says most old new result = ∥ LeavesBy Says most old new result ∥₁

@@ -1,0 +1,30 @@
+-- The names that lines have for the members of containers. Source: the path texts RFC 6901; the places profile.
+use Rattle.std.specs.Prelude.{◌∷◌, ◌++◌, ℕ, ◌==◌, ◌||◌, ◌&&◌, not, nat_lt, List, [], Bool, if◌then◌else◌, encode_utf8_all}
+use Rattle.std.specs.List.{flat_map, list_any}
+use Rattle.std.specs.Fmt.{decimal}
+use Rattle.std.specs.Char.Utf16.{has_unpaired_surrogate, utf16_lossy_chars}
+use Rattle.bplist_cursor.specs.Path.{escaped}
+
+-- a control character
+abbrev pub is_control : ℕ → Bool
+is_control u = nat_lt u 0x20 || u == 0x7F
+
+-- the key's path text is UTF-8 and stays on its line
+abbrev pub has_path_text : List ℕ → Bool
+has_path_text units = not (list_any is_control units) && not (has_unpaired_surrogate units)
+
+-- a member's path text: its container's, `/`, and the escaped token
+abbrev pub path_behind : List ℕ → List ℕ → List ℕ
+path_behind path token = path ++ 0x2F ∷ flat_map escaped token
+
+-- a place among the members, in brackets
+abbrev pub bracketed : ℕ → List ℕ
+bracketed i = 0x5B ∷ (decimal i ++ 0x5D ∷ [])
+
+-- the name of member i of an array
+abbrev pub index_name : List ℕ → ℕ → List ℕ
+index_name path i = path ++ 0x2F ∷ decimal i
+
+-- the name of value i: the path by its key, or its place if that cannot be shown
+abbrev pub key_name : List ℕ → ℕ → List ℕ → List ℕ
+key_name path i units = if has_path_text units then path_behind path (encode_utf8_all (utf16_lossy_chars units)) else bracketed i

@@ -1,0 +1,46 @@
+//! The way of an answer to the writer.
+ghost use Rattle.std.specs.Prelude.{◌≡◌, MatchResult};
+ghost use Rattle.std.specs.Io.KnownBytes.{Appends};
+ghost use Rattle.bplist_ascii.specs.Sending.{IsCut};
+ghost use Rattle.bplint_lines.specs.Answers.{Sends, read_failed};
+
+use crate::fault::RunFault;
+use crate::output::Output;
+use crate::said::Said;
+use bplist_ascii::{Sink, WriteFault};
+use bplist_octets::Source;
+use std::io::Write;
+
+/// Writes what was made, and hands the source on.
+pub fn send_made<S: Source, W: Write>(
+    made: (Result<Output, RunFault>, S),
+    out: &mut W,
+) -> (Result<Said, RunFault>, S)
+    ensures sent { Sends (W.contents out.old) (W.contents out.new) made.0 result.0 }
+    ensures reads { read_failed result.0 ≡ read_failed made.0 }
+    ensures source { S.means result.1 ≡ S.means made.1 }
+{
+    let (made, src) = made;
+    (send_output(made, out), src)
+}
+
+/// Writes what was made, or hands its fault on.
+pub fn send_output<W: Write>(made: Result<Output, RunFault>, out: &mut W) -> Result<Said, RunFault>
+    ensures sent { Sends (W.contents out.old) (W.contents out.new) made result }
+    ensures reads { read_failed result ≡ read_failed made }
+{
+    let output = made?;
+    send(out, &output.bytes)?;
+    Ok(output.said)
+}
+
+/// Writes all of the bytes.
+fn send<W: Write>(out: &mut W, bytes: &[u8]) -> Result<(), WriteFault>
+    ensures { MatchResult result
+        (λ _. Appends (W.contents out.old) (W.contents out.new) bytes.now)
+        (λ fault. IsCut (W.contents out.old) (W.contents out.new) bytes.now fault.sent) }
+{
+    let mut sink = Sink::new();
+    sink.put(out, bytes)?;
+    sink.flush(out)
+}

@@ -1,0 +1,248 @@
+//! Why a run gives no answer, the line that says so, and the exit status.
+ghost use Rattle.std.specs.Prelude.{◌≡◌, IfOk, string_bytes};
+ghost use Rattle.bplint_lines.specs.declared.fault.RunFault.TheVariants.{Memory, Read, Write};
+ghost use Rattle.bplint_lines.specs.Faults.{octets_fault, check_fault, lint_fault, path_fault, cursor_fault, upgrade_fault, print_fault};
+ghost use Rattle.bplint_lines.specs.FaultLines.{line_of, status_of, fault_line, read_line, circle_line};
+
+use bplist_ascii::{PrintFault, WriteFault};
+use bplist_cert::{CertRefusal, Refusal};
+use bplist_cursor::{CursorFault, PathFault};
+use bplist_lint::{LintRefusal, ObjectNos, UpgradeFault};
+use bplist_objects::{Fault, ObjectNo, Rule, rule_name};
+use bplist_octets::ReadFault;
+use std::alloc::{AllocError, AllocFailed, Global};
+
+/// Why a run gives no answer.
+#[derive(Debug, Drop)]
+pub enum RunFault {
+    /// A broken rule of the file or the certificate.
+    Fault(Fault),
+    /// The objects of a reference circle.
+    Circle(ObjectNos),
+    /// A wrong path text.
+    Path {
+        /// The byte at which it is wrong, counted from the text's first.
+        place: usize,
+    },
+    /// The first object, in the order of writing, whose kind has no old-style text.
+    NoAsciiForm(ObjectNo),
+    /// The text is longer than the limit.
+    TooLong,
+    /// A read of the file failed.
+    Read(ReadFault),
+    /// A wrong hexadecimal text.
+    Hex,
+    /// The file changed between two reads.
+    Changed,
+    /// A write failed.
+    Write {
+        /// How many bytes of the answer had gone out, fewer than all.
+        sent: u64,
+    },
+    /// Memory was refused.
+    Memory,
+    /// A file could not be opened.
+    Open,
+    /// An input that is read whole is longer than the program takes.
+    InputTooLong,
+}
+
+impl From<ReadFault> for RunFault {
+    ghost from_gives = { λ error fault. fault ≡ Read error };
+
+    fn from(error: ReadFault) -> RunFault {
+        RunFault::Read(error)
+    }
+}
+
+impl From<LintRefusal> for RunFault {
+    ghost from_gives = { λ refusal fault. fault ≡ lint_fault refusal };
+
+    fn from(refusal: LintRefusal) -> RunFault {
+        match refusal {
+            LintRefusal::Fault(fault) => RunFault::Fault(fault),
+            LintRefusal::Circle(objects) => RunFault::Circle(objects),
+            LintRefusal::Read(fault) => RunFault::Read(fault),
+            LintRefusal::Memory => RunFault::Memory,
+        }
+    }
+}
+
+impl From<CertRefusal> for RunFault {
+    ghost from_gives = { λ refusal fault. fault ≡ octets_fault refusal };
+
+    fn from(refusal: CertRefusal) -> RunFault {
+        match refusal {
+            CertRefusal::Fault(fault) => RunFault::Fault(fault),
+            CertRefusal::Memory => RunFault::Memory,
+        }
+    }
+}
+
+impl From<Refusal> for RunFault {
+    ghost from_gives = { λ refusal fault. fault ≡ check_fault refusal };
+
+    fn from(refusal: Refusal) -> RunFault {
+        match refusal {
+            Refusal::Fault(fault) => RunFault::Fault(fault),
+            Refusal::Read(fault) => RunFault::Read(fault),
+            Refusal::Memory => RunFault::Memory,
+        }
+    }
+}
+
+impl From<PathFault> for RunFault {
+    ghost from_gives = { λ refusal fault. fault ≡ path_fault refusal };
+
+    fn from(refusal: PathFault) -> RunFault {
+        match refusal {
+            PathFault::Text { place } => RunFault::Path { place },
+            PathFault::Memory => RunFault::Memory,
+        }
+    }
+}
+
+impl From<CursorFault> for RunFault {
+    ghost from_gives = { λ refusal fault. fault ≡ cursor_fault refusal };
+
+    fn from(refusal: CursorFault) -> RunFault {
+        match refusal {
+            CursorFault::Read(fault) => RunFault::Read(fault),
+            CursorFault::Changed => RunFault::Changed,
+            CursorFault::Memory => RunFault::Memory,
+        }
+    }
+}
+
+impl From<UpgradeFault> for RunFault {
+    ghost from_gives = { λ refusal fault. fault ≡ upgrade_fault refusal };
+
+    fn from(refusal: UpgradeFault) -> RunFault {
+        match refusal {
+            UpgradeFault::Read(fault) => RunFault::Read(fault),
+            UpgradeFault::Changed => RunFault::Changed,
+            UpgradeFault::Memory => RunFault::Memory,
+        }
+    }
+}
+
+impl From<PrintFault> for RunFault {
+    ghost from_gives = { λ refusal fault. fault ≡ print_fault refusal };
+
+    fn from(refusal: PrintFault) -> RunFault {
+        match refusal {
+            PrintFault::NoAsciiForm(object) => RunFault::NoAsciiForm(object),
+            PrintFault::TooLong => RunFault::TooLong,
+            PrintFault::Write { sent } => RunFault::Write { sent },
+            PrintFault::Read(fault) => RunFault::Read(fault),
+            PrintFault::Changed => RunFault::Changed,
+            PrintFault::Memory => RunFault::Memory,
+        }
+    }
+}
+
+impl From<WriteFault> for RunFault {
+    ghost from_gives = { λ error fault. fault ≡ Write error.sent };
+
+    fn from(error: WriteFault) -> RunFault {
+        RunFault::Write { sent: error.sent }
+    }
+}
+
+impl From<AllocError> for RunFault {
+    ghost from_gives = { λ _ fault. fault ≡ Memory };
+
+    fn from(_error: AllocError) -> RunFault {
+        RunFault::Memory
+    }
+}
+
+impl<T: Drop> From<AllocFailed<T>> for RunFault {
+    ghost from_gives = { λ _ fault. fault ≡ Memory };
+
+    fn from(_error: AllocFailed<T>) -> RunFault {
+        RunFault::Memory
+    }
+}
+
+impl RunFault {
+    /// The exit status.
+    pub fn status(&self) -> u8
+        ensures { result ≡ status_of self.now }
+    {
+        match self {
+            RunFault::Fault(fault) => match fault.rule {
+                Rule::PathText => 2,
+                _ => 1,
+            },
+            RunFault::Circle(_) | RunFault::NoAsciiForm(_) | RunFault::TooLong => 1,
+            RunFault::Path { .. } => 2,
+            RunFault::Read(_)
+            | RunFault::Hex
+            | RunFault::Changed
+            | RunFault::Write { .. }
+            | RunFault::Open
+            | RunFault::InputTooLong => 3,
+            RunFault::Memory => 4,
+        }
+    }
+
+    /// The printed line, without its line feed. Only memory can be refused.
+    pub fn line(&self, alloc: Global) -> Result<String, AllocError>
+        ensures { IfOk result (λ text. string_bytes text ≡ line_of self.now) }
+    {
+        match self {
+            RunFault::Fault(fault) => line_of_rule(alloc, fault.rule, fault.object, fault.place),
+            RunFault::Circle(objects) => line_of_circle(alloc, objects.as_slice()),
+            RunFault::Path { place } => line_of_rule(alloc, Rule::PathText, None, *place as u64),
+            RunFault::NoAsciiForm(object) => {
+                let number = object.0;
+                format!(in alloc; "form NoAsciiForm object {number}")
+            }
+            RunFault::TooLong => String::from_str(alloc, "form TooLong"),
+            RunFault::Read(fault) => String::from_str(alloc, line_of_read(*fault)),
+            RunFault::Hex => String::from_str(alloc, "read Hex"),
+            RunFault::Changed => String::from_str(alloc, "changed"),
+            RunFault::Write { sent } => format!(in alloc; "write {sent}"),
+            RunFault::Memory => String::from_str(alloc, "memory"),
+            RunFault::Open => String::from_str(alloc, "read Open"),
+            RunFault::InputTooLong => String::from_str(alloc, "read TooLong"),
+        }
+    }
+}
+
+fn line_of_read(fault: ReadFault) -> &'static str
+    ensures { result.now ≡ read_line fault }
+{
+    match fault {
+        ReadFault::Device => "read Device",
+        ReadFault::Ended => "read Ended",
+        ReadFault::TooManyTurns => "read TooManyTurns",
+    }
+}
+
+fn line_of_rule(
+    alloc: Global,
+    rule: Rule,
+    object: Option<ObjectNo>,
+    place: u64,
+) -> Result<String, AllocError>
+    ensures { IfOk result (λ text. string_bytes text ≡ fault_line rule object place) }
+{
+    let word = rule_name(rule);
+    match object {
+        Some(ObjectNo(number)) => format!(in alloc; "fault {word} object {number} place {place}"),
+        None => format!(in alloc; "fault {word} object none place {place}"),
+    }
+}
+
+fn line_of_circle(alloc: Global, objects: &[ObjectNo]) -> Result<String, AllocError>
+    ensures { IfOk result (λ text. string_bytes text ≡ circle_line objects.now) }
+{
+    let mut line = String::from_str(alloc, "circle")?;
+    for object in objects {
+        let number = object.0;
+        write!(line, " {number}")?;
+    }
+    Ok(line)
+}

@@ -1,0 +1,98 @@
+//! The names that lines have for the members of containers.
+//!
+//! Each call adds its name to the bytes. The one refusal is that of a growth.
+ghost use Rattle.std.specs.Prelude.{◌≡◌, ◌++◌, IfOk, MatchOption, OnOk, encode_utf8_all, false, string_bytes, true};
+ghost use Rattle.std.specs.Char.Utf16.{utf16_lossy_chars};
+ghost use Rattle.std.specs.List.{flat_map, list_any};
+ghost use Rattle.bplist_cursor.specs.Path.{escaped};
+ghost use Rattle.bplint_lines.specs.MemberNames.{bracketed, has_path_text, index_name, key_name, path_behind};
+ghost use Rattle.bplint_lines.specs.MemberNames as spec;
+
+use std::alloc::{AllocError, Global};
+
+/// Adds the path text of member `i` of an array.
+pub fn add_index_name(
+    alloc: Global,
+    path: &str,
+    i: u64,
+    lines: &mut Vec<u8>,
+) -> Result<(), AllocError>
+    ensures { OnOk result (lines.new.items ≡ lines.old.items ++ index_name path.now i) }
+{
+    lines.extend_from_slice(path.as_bytes())?;
+    let token = format!(in alloc; "/{i}")?;
+    lines.extend_from_slice(token.as_bytes())
+}
+
+/// Adds a place in brackets, which names a member of a set.
+pub fn add_place(alloc: Global, i: u64, lines: &mut Vec<u8>) -> Result<(), AllocError>
+    ensures { OnOk result (lines.new.items ≡ lines.old.items ++ bracketed i) }
+{
+    let place = format!(in alloc; "[{i}]")?;
+    lines.extend_from_slice(place.as_bytes())
+}
+
+/// Adds the path text of the value of a key with these units, which is number `i`, or its place where it has none that
+/// can be shown.
+pub fn add_key_name(
+    alloc: Global,
+    path: &str,
+    i: u64,
+    units: &[u16],
+    lines: &mut Vec<u8>,
+) -> Result<(), AllocError>
+    ensures { OnOk result (lines.new.items ≡ lines.old.items ++ key_name path.now i units.now) }
+{
+    match key_text(alloc, units)? {
+        Some(text) => add_path(path, text.as_bytes(), lines),
+        None => add_place(alloc, i, lines),
+    }
+}
+
+/// The text of a key, where it is UTF-16 and stays on its line.
+fn key_text(alloc: Global, units: &[u16]) -> Result<Option<String>, AllocError>
+    ensures { IfOk result (λ key. MatchOption key (has_path_text units.now ≡ false)
+        (λ text. (has_path_text units.now ≡ true) × (string_bytes text ≡ encode_utf8_all (utf16_lossy_chars units.now)))) }
+{
+    if have_control(units) {
+        return Ok(None);
+    }
+    match String::from_utf16(alloc, units)? {
+        Ok(text) => Ok(Some(text)),
+        Err(_) => Ok(None),
+    }
+}
+
+fn have_control(units: &[u16]) -> bool
+    ensures { result ≡ list_any spec.is_control units.now }
+{
+    units.iter().any(|unit| is_control(*unit))
+}
+
+fn is_control(unit: u16) -> bool
+    ensures { result ≡ spec.is_control unit }
+{
+    unit < 0x20 || unit == 0x7F
+}
+
+/// Adds a path text, `/` and a token, in which `~0` stands for `~` and `~1` for `/`.
+fn add_path(path: &str, token: &[u8], lines: &mut Vec<u8>) -> Result<(), AllocError>
+    ensures { OnOk result (lines.new.items ≡ lines.old.items ++ path_behind path.now token.now) }
+{
+    lines.extend_from_slice(path.as_bytes())?;
+    lines.push(b'/')?;
+    add_token(token, lines)
+}
+
+fn add_token(token: &[u8], lines: &mut Vec<u8>) -> Result<(), AllocError>
+    ensures { OnOk result (lines.new.items ≡ lines.old.items ++ flat_map escaped token.now) }
+{
+    for byte in token {
+        match byte {
+            b'~' => lines.extend_from_slice(b"~0")?,
+            b'/' => lines.extend_from_slice(b"~1")?,
+            _ => lines.push(*byte)?,
+        }
+    }
+    Ok(())
+}

@@ -1,0 +1,250 @@
+//! The path from the top to an object, in files that need not be sound.
+//!
+//! It goes by members of arrays and by values of dictionaries, as paths do. An object that breaks a rule of marker and
+//! count leads nowhere.
+ghost use Rattle.std.specs.Prelude.{◌<◌, IfOk, IfSome, length};
+ghost use Rattle.bplist_octets.specs.Meaning.{OnlyReads};
+ghost use Rattle.bplist_objects.specs.Safe.{IsSafe, IsSafeFrame, IsSafeHead, ref_count};
+ghost use Rattle.bplint_lines.specs.Answers.{read_failed};
+
+use crate::fault::RunFault;
+use crate::member_names::{add_index_name, add_key_name};
+use bplist_objects::{Frame, Head, Kind, ObjectFault, ObjectNo, read_units, ref_at, shape_of};
+use bplist_octets::Source;
+use std::alloc::{AllocError, Global};
+
+/// How many units of a key are read for a path.
+const KEY_UNITS: u64 = 4096;
+
+/// One step: by member or pair `index` of object `from`.
+#[derive(Clone, Copy, Debug, Drop)]
+struct Step {
+    from: u32,
+    index: u64,
+}
+
+/// The objects that were met, in their order, and the step by which each was met first.
+#[derive(Drop)]
+struct Search {
+    /// By number, the step to each object that was met. That to the top is one from itself.
+    steps: Vec<Option<Step>>,
+    /// The objects that were met.
+    met: Vec<u32>,
+    /// How many references may still be looked at. A file whose objects do not overlap has fewer than bytes.
+    budget: u64,
+}
+
+/// How an object is reached from the top.
+#[derive(Debug, Drop)]
+pub(crate) enum ObjectPath {
+    /// By this path text.
+    Path(Vec<u8>),
+    /// No path leads to the object.
+    None,
+    /// The objects overlap, and not all ways were tried.
+    Unknown,
+}
+
+/// The path text of the first way from the top to an object.
+pub(crate) fn path_to<S: Source>(
+    alloc: Global,
+    src: &mut S,
+    frame: &Frame,
+    target: ObjectNo,
+) -> Result<ObjectPath, RunFault>
+    requires { IsSafeFrame (length (S.means src.old).octets) frame.now }
+    ensures reads { OnlyReads (read_failed result) (S.means src.old) (S.means src.new) }
+{
+    let search = search_for(alloc, src, frame, target.0)?;
+    match search.steps_back(alloc, frame.top.0, target.0)? {
+        Some(steps) => Ok(ObjectPath::Path(path_of(alloc, src, frame, &steps)?)),
+        None if search.budget == 0 => Ok(ObjectPath::Unknown),
+        None => Ok(ObjectPath::None),
+    }
+}
+
+/// Looks for an object from the top on, nearer ones first.
+fn search_for<S: Source>(
+    alloc: Global,
+    src: &mut S,
+    frame: &Frame,
+    target: u32,
+) -> Result<Search, RunFault>
+    requires { IsSafeFrame (length (S.means src.old).octets) frame.now }
+    ensures reads { OnlyReads (read_failed result) (S.means src.old) (S.means src.new) }
+{
+    let mut search = Search {
+        steps: vec![in alloc; None; frame.objects as usize]?,
+        met: Vec::new(alloc),
+        budget: frame.table,
+    };
+    let top = frame.top.0;
+    search.meet(
+        top as u64,
+        Step {
+            from: top,
+            index: 0,
+        },
+    )?;
+    for k in 0..frame.objects as usize {
+        match search.met.get(k) {
+            Some(n) if *n != target && *n < frame.objects => {
+                let n = *n;
+                search.go_on(src, frame, ObjectNo(n))?;
+            }
+            _ => break,
+        }
+    }
+    Ok(search)
+}
+
+impl Search {
+    /// Meets the objects that a step leads to from object `n`.
+    fn go_on<S: Source>(&mut self, src: &mut S, frame: &Frame, n: ObjectNo) -> Result<(), RunFault>
+        requires safe { IsSafe (length (S.means src.old).octets) frame.now }
+        requires within { n.0 < frame.now.objects }
+        ensures reads { OnlyReads (read_failed result) (S.means src.old) (S.means src.new) }
+    {
+        let Some(head) = head_in(src, frame, n)? else {
+            return Ok(());
+        };
+        let first = match head.kind {
+            Kind::Array => 0,
+            Kind::Dict => head.count,
+            _ => return Ok(()),
+        };
+        for index in 0..head.count {
+            if self.budget == 0 {
+                return Ok(());
+            }
+            self.budget -= 1;
+            let m = ref_at(src, frame, &head, first + index)?;
+            self.meet(m, Step { from: n.0, index })?;
+        }
+        Ok(())
+    }
+
+    /// Keeps the step to an object that was not met before.
+    fn meet(&mut self, object: u64, step: Step) -> Result<(), AllocError> {
+        let Ok(n) = u32::try_from(object) else {
+            return Ok(());
+        };
+        if let Some(slot) = self.steps.get_mut(n as usize) {
+            if slot.is_none() {
+                *slot = Some(step);
+                self.met.push(n)?;
+            }
+        }
+        Ok(())
+    }
+
+    /// The steps from an object back to the top, the last first, if it was met.
+    fn steps_back(
+        &self,
+        alloc: Global,
+        top: u32,
+        target: u32,
+    ) -> Result<Option<Vec<Step>>, AllocError> {
+        let mut steps = Vec::new(alloc);
+        let mut n = target;
+        for _ in 0..self.steps.len() {
+            if n == top {
+                return Ok(Some(steps));
+            }
+            let Some(Some(step)) = self.steps.get(n as usize) else {
+                return Ok(None);
+            };
+            steps.push(*step)?;
+            n = step.from;
+        }
+        Ok(None)
+    }
+}
+
+/// The path text of steps, of which the last comes first.
+fn path_of<S: Source>(
+    alloc: Global,
+    src: &mut S,
+    frame: &Frame,
+    steps: &[Step],
+) -> Result<Vec<u8>, RunFault>
+    requires { IsSafe (length (S.means src.old).octets) frame.now }
+    ensures reads { OnlyReads (read_failed result) (S.means src.old) (S.means src.new) }
+{
+    let mut path = Vec::new(alloc);
+    for k in 0..steps.len() {
+        let step = steps[steps.len() - 1 - k];
+        add_step(alloc, src, frame, step, &mut path)?;
+    }
+    Ok(path)
+}
+
+/// Adds the token of a step to a path text.
+fn add_step<S: Source>(
+    alloc: Global,
+    src: &mut S,
+    frame: &Frame,
+    step: Step,
+    path: &mut Vec<u8>,
+) -> Result<(), RunFault>
+    requires { IsSafe (length (S.means src.old).octets) frame.now }
+    ensures reads { OnlyReads (read_failed result) (S.means src.old) (S.means src.new) }
+{
+    if step.from >= frame.objects {
+        return Ok(());
+    }
+    let Some(head) = head_in(src, frame, ObjectNo(step.from))? else {
+        return Ok(());
+    };
+    if head.kind == Kind::Dict && step.index < head.count {
+        let units = key_units(alloc, src, frame, &head, step.index)?;
+        return Ok(add_key_name(alloc, "", step.index, &units, path)?);
+    }
+    Ok(add_index_name(alloc, "", step.index, path)?)
+}
+
+/// The first units of a key of a dictionary, none where it is no text.
+pub(crate) fn key_units<S: Source>(
+    alloc: Global,
+    src: &mut S,
+    frame: &Frame,
+    head: &Head,
+    index: u64,
+) -> Result<Vec<u16>, RunFault>
+    requires safe { IsSafe (length (S.means src.old).octets) frame.now }
+    requires head { IsSafeHead frame.now head.now }
+    requires within { index < ref_count head.now.kind head.now.count }
+    ensures reads { OnlyReads (read_failed result) (S.means src.old) (S.means src.new) }
+{
+    let key = ref_at(src, frame, head, index)?;
+    if key >= frame.objects as u64 {
+        return Ok(Vec::new(alloc));
+    }
+    let _length = src.len();
+    match head_in(src, frame, ObjectNo(key as u32))? {
+        Some(text) if text.kind == Kind::Ascii || text.kind == Kind::Wide => {
+            let mut units = vec![in alloc; 0u16; text.count.min(KEY_UNITS) as usize]?;
+            read_units(src, &text, 0, &mut units)?;
+            Ok(units)
+        }
+        _ => Ok(Vec::new(alloc)),
+    }
+}
+
+/// The head of an object, if it keeps the rules of marker and count.
+pub(crate) fn head_in<S: Source>(
+    src: &mut S,
+    frame: &Frame,
+    n: ObjectNo,
+) -> Result<Option<Head>, RunFault>
+    requires safe { IsSafe (length (S.means src.old).octets) frame.now }
+    requires within { n.0 < frame.now.objects }
+    ensures reads { OnlyReads (read_failed result) (S.means src.old) (S.means src.new) }
+    ensures safe { IfOk result (λ found. IfSome found (IsSafeHead frame.now)) }
+{
+    match shape_of(src, frame, n) {
+        Ok(head) => Ok(Some(head)),
+        Err(ObjectFault::Fault(_)) => Ok(None),
+        Err(ObjectFault::Read(fault)) => Err(RunFault::Read(fault)),
+    }
+}

@@ -1,0 +1,144 @@
+//! The lines of standard output.
+//!
+//! Each call adds its line to the bytes, without a line feed. The one refusal is that of a growth.
+
+ghost use Rattle.std.specs.Prelude.{◌≡◌, ◌++◌, OnOk};
+ghost use Rattle.std.specs.Fmt.{decimal};
+ghost use Rattle.hex.specs.Hex.{encode_lower};
+ghost use Rattle.bplint_lines.specs.OutputLines.{kind_word, why_word, lint_line, check_line, face_line, missing_line};
+
+use bplist_ascii::{text_of_bytes, text_of_units};
+use bplist_cursor::{Face, Why};
+use bplist_objects::Kind;
+use std::alloc::{AllocError, Global};
+
+/// The line of `lint`.
+pub fn add_lint(
+    alloc: Global,
+    reached: u64,
+    height: u32,
+    top: Kind,
+    lines: &mut Vec<u8>,
+) -> Result<(), AllocError>
+    ensures { OnOk result (lines.new.items ≡ lines.old.items ++ lint_line reached height (kind_word top)) }
+{
+    let word = kind_name(top);
+    let line = format!(in alloc; "ok reached {reached} height {height} top {word}")?;
+    lines.extend_from_slice(line.as_bytes())
+}
+
+/// The line of `check`.
+pub fn add_check(
+    alloc: Global,
+    objects: u32,
+    height: u32,
+    lines: &mut Vec<u8>,
+) -> Result<(), AllocError>
+    ensures { OnOk result (lines.new.items ≡ lines.old.items ++ check_line objects height) }
+{
+    let line = format!(in alloc; "ok objects {objects} height {height}")?;
+    lines.extend_from_slice(line.as_bytes())
+}
+
+/// The line of `get` for what lies under a path.
+pub fn add_face(alloc: Global, face: &Face, lines: &mut Vec<u8>) -> Result<(), AllocError>
+    ensures { OnOk result (lines.new.items ≡ lines.old.items ++ face_line face.now) }
+{
+    match face {
+        Face::Null => lines.extend_from_slice(b"null"),
+        Face::Bool(false) => lines.extend_from_slice(b"false"),
+        Face::Bool(true) => lines.extend_from_slice(b"true"),
+        Face::Int(number) => add_integer(alloc, *number, lines),
+        Face::Real(bytes) => add_hexadecimal(alloc, b"real ", bytes.as_slice(), lines),
+        Face::Date(bytes) => add_hexadecimal(alloc, b"date ", bytes.as_slice(), lines),
+        Face::Bytes(bytes) => {
+            lines.extend_from_slice(b"data ")?;
+            lines.extend_from_slice(&text_of_bytes(alloc, bytes.as_slice())?)
+        }
+        Face::Text(units) => {
+            lines.extend_from_slice(b"text ")?;
+            lines.extend_from_slice(&text_of_units(alloc, units.as_slice())?)
+        }
+        Face::Uid(number) => add_number(alloc, b"uid ", *number as u64, lines),
+        Face::Array(count) => add_number(alloc, b"array ", *count, lines),
+        Face::Set(count) => add_number(alloc, b"set ", *count, lines),
+        Face::Dict(count) => add_number(alloc, b"dict ", *count, lines),
+    }
+}
+
+/// The line for a path that leads nowhere.
+pub fn add_missing(
+    alloc: Global,
+    step: u64,
+    why: Why,
+    lines: &mut Vec<u8>,
+) -> Result<(), AllocError>
+    ensures { OnOk result (lines.new.items ≡ lines.old.items ++ missing_line step why) }
+{
+    let word = reason_of(why);
+    let line = format!(in alloc; "missing {step} {word}")?;
+    lines.extend_from_slice(line.as_bytes())
+}
+
+fn add_integer(alloc: Global, number: i128, lines: &mut Vec<u8>) -> Result<(), AllocError>
+    ensures { OnOk result (lines.new.items ≡ lines.old.items ++ face_line (Face.Int number)) }
+{
+    let line = format!(in alloc; "int {number}")?;
+    lines.extend_from_slice(line.as_bytes())
+}
+
+fn add_number(
+    alloc: Global,
+    word: &[u8],
+    number: u64,
+    lines: &mut Vec<u8>,
+) -> Result<(), AllocError>
+    ensures { OnOk result (lines.new.items ≡ lines.old.items ++ (word.now ++ decimal number)) }
+{
+    lines.extend_from_slice(word)?;
+    let digits = format!(in alloc; "{number}")?;
+    lines.extend_from_slice(digits.as_bytes())
+}
+
+fn add_hexadecimal(
+    alloc: Global,
+    word: &[u8],
+    bytes: &[u8],
+    lines: &mut Vec<u8>,
+) -> Result<(), AllocError>
+    ensures { OnOk result (lines.new.items ≡ lines.old.items ++ (word.now ++ encode_lower bytes.now)) }
+{
+    lines.extend_from_slice(word)?;
+    let digits = hex::encode(alloc, bytes)?;
+    lines.extend_from_slice(digits.as_bytes())
+}
+
+/// The word that lines have for a kind.
+pub fn kind_name(kind: Kind) -> &'static str
+    ensures { result.now ≡ kind_word kind }
+{
+    match kind {
+        Kind::Null => "null",
+        Kind::False => "false",
+        Kind::True => "true",
+        Kind::Int => "int",
+        Kind::Real => "real",
+        Kind::Date => "date",
+        Kind::Bytes => "data",
+        Kind::Ascii | Kind::Wide => "text",
+        Kind::Uid => "uid",
+        Kind::Array => "array",
+        Kind::Set => "set",
+        Kind::Dict => "dict",
+    }
+}
+
+fn reason_of(why: Why) -> &'static str
+    ensures { result.now ≡ why_word why }
+{
+    match why {
+        Why::NoKey => "NoKey",
+        Why::NoIndex => "NoIndex",
+        Why::NotSteppable => "NotSteppable",
+    }
+}

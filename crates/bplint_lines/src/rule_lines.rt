@@ -1,0 +1,38 @@
+//! Rules in plain words: of a fault, and by their words.
+ghost use Rattle.std.specs.Prelude.{◌≡◌, IfOk, IfSome, string_bytes};
+ghost use Rattle.bplist_objects.specs.Words.{word_of};
+ghost use Rattle.bplint_lines.specs.Explanation.{rule_line, rule_page};
+
+use crate::rule_texts::{breach_of, demand_of};
+use bplist_objects::{Rule, rule_name, rule_number, rule_of_number};
+use std::alloc::{AllocError, Global};
+
+/// The rule of a word, as fault lines have it.
+pub fn rule_of_word(word: &str) -> Option<Rule>
+    ensures { IfSome result (λ rule. word_of rule ≡ word.now) }
+{
+    for number in 1..u32::MAX {
+        let rule = rule_of_number(number)?;
+        if rule_name(rule) == word {
+            return Some(rule);
+        }
+    }
+    None
+}
+
+/// What a rule asks, with its number and its word, and something that breaks it, in two lines.
+pub fn rule_text(alloc: Global, rule: Rule) -> Result<String, AllocError>
+    ensures { IfOk result (λ text. string_bytes text ≡ rule_page rule) }
+{
+    let (number, word) = (rule_number(rule), rule_name(rule));
+    let (demand, breach) = (demand_of(rule), breach_of(rule));
+    format!(in alloc; "rule {number} {word}: {demand}\nbroken by: {breach}\n")
+}
+
+/// The line of a rule under a fault of it.
+pub(crate) fn rule_line_of(alloc: Global, rule: Rule) -> Result<String, AllocError>
+    ensures { IfOk result (λ text. string_bytes text ≡ rule_line rule) }
+{
+    let (number, demand) = (rule_number(rule), demand_of(rule));
+    format!(in alloc; "  rule {number}: {demand}\n")
+}

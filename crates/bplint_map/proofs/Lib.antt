@@ -1,0 +1,4 @@
+mod Findings
+mod Layouts
+mod Orders
+mod Texts

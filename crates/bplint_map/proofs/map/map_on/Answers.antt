@@ -1,0 +1,42 @@
+use Rattle.std.proofs.lemmas.Result.{err_from_is_err_and}
+use Rattle.bplint_map.proofs.Findings.{findings_of}
+use Rattle.bplint_map.proofs.Texts.{all_out, end_cut, map_cut}
+use Rattle.bplint_map.proofs.map.map_on.Goals as goal
+
+pub returns-in_err-put_map-clause-exact : goal.returns-in_err-put_map-clause-exact
+returns-in_err-put_map-clause-exact g c = λ honest.
+    let p = err_from_is_err_and c.from_residual-in_err-put_map.result c.from_residual-in_err-put_map.ensures.1 in
+    let f = (g.S.Source.means c.args.src.now).octets in
+    let F = c.in-Ok.frame in
+    let frame = c.in-Ok.ensures.exact honest in
+    let linted = rw c.in-Ok.ensures.reads at c.in_ok-verdict.ensures.exact in
+    let objects = rw (c.in_ok-verdict.ensures.reads, c.in-Ok.ensures.reads) at c.in_ok-objects.ensures.exact in
+    let o = objects honest in
+    let puts = rw (c.in_ok-objects.ensures.reads, c.in_ok-verdict.ensures.reads, c.in-Ok.ensures.reads) at c.in_err-put_map.ensures.exact in
+    let findings = findings_of f F frame in
+    rw (p.1, p.2) (map_cut f F frame c.in_ok-verdict.verdict (linted honest) o.0 o.1 _ _ c.new-sink.result _ c.new-sink.ensures (puts honest frame o.0 o.2 findings.0 findings.1))
+
+pub returns-in_err-flush-clause-exact : goal.returns-in_err-flush-clause-exact
+returns-in_err-flush-clause-exact g c = λ honest.
+    let p = err_from_is_err_and c.from_residual-in_err-flush.result c.from_residual-in_err-flush.ensures.1 in
+    let f = (g.S.Source.means c.args.src.now).octets in
+    let F = c.in-Ok.frame in
+    let frame = c.in-Ok.ensures.exact honest in
+    let linted = rw c.in-Ok.ensures.reads at c.in_ok-verdict.ensures.exact in
+    let objects = rw (c.in_ok-verdict.ensures.reads, c.in-Ok.ensures.reads) at c.in_ok-objects.ensures.exact in
+    let o = objects honest in
+    let puts = rw (c.in_ok-objects.ensures.reads, c.in_ok-verdict.ensures.reads, c.in-Ok.ensures.reads) at c.in_ok-put_map.ensures.exact in
+    let findings = findings_of f F frame in
+    rw (p.1, p.2) (end_cut f F frame c.in_ok-verdict.verdict (linted honest) o.0 o.1 _ _ _ c.new-sink.result c.put_map.new.sink c.flush.new.self c.new-sink.ensures (puts honest frame o.0 o.2 findings.0 findings.1) _ c.in_err-flush.ensures.part)
+
+pub returns-clause-exact : goal.returns-clause-exact
+returns-clause-exact g c = λ honest.
+    let f = (g.S.Source.means c.args.src.now).octets in
+    let F = c.in-Ok.frame in
+    let frame = c.in-Ok.ensures.exact honest in
+    let linted = rw c.in-Ok.ensures.reads at c.in_ok-verdict.ensures.exact in
+    let objects = rw (c.in_ok-verdict.ensures.reads, c.in-Ok.ensures.reads) at c.in_ok-objects.ensures.exact in
+    let o = objects honest in
+    let puts = rw (c.in_ok-objects.ensures.reads, c.in_ok-verdict.ensures.reads, c.in-Ok.ensures.reads) at c.in_ok-put_map.ensures.exact in
+    let findings = findings_of f F frame in
+    all_out f F frame c.in_ok-verdict.verdict (linted honest) o.0 o.1 _ _ _ c.new-sink.result c.put_map.new.sink c.flush.new.self c.new-sink.ensures (puts honest frame o.0 o.2 findings.0 findings.1) c.in_ok-flush.ensures.taken c.in_ok-flush.ensures.empty

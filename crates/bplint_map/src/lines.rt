@@ -1,0 +1,108 @@
+//! The lines of a map.
+//!
+//! Each call adds its lines to the text. The one refusal is that of a growth.
+ghost use Rattle.std.specs.Prelude.{◌≡◌, ◌++◌, [], ◌∷◌, OnOk, string_bytes};
+ghost use Rattle.bplist_objects.specs.declared.head.Head.{Head as head_type};
+ghost use Rattle.bplist_objects.specs.Words.{word_of as word_of_rule};
+ghost use Rattle.bplint_map.specs.Layout.{before, gap, object, row_end};
+ghost use Rattle.bplint_map.specs.Lines.{bare_line, bare_lines, found_line, head_columns, note, part_lines};
+
+use crate::rows::{Finding, Row};
+use crate::verdict::Verdict;
+use bplint_lines::kind_name;
+use bplist_objects::{Head, rule_name};
+use std::alloc::AllocError;
+
+/// Adds the line of bytes that are no object.
+pub(crate) fn add_bare(line: &mut String, from: u64, to: u64, word: &str) -> Result<(), AllocError>
+    ensures { OnOk result (string_bytes line.new ≡ string_bytes line.old ++ bare_line from to word.now) }
+{
+    write!(line, "{from}\t{to}\t-\t{word}\t-\t-\n")
+}
+
+/// Adds the line of bytes that are no object, where there are any.
+pub(crate) fn add_any(line: &mut String, from: u64, to: u64, word: &str) -> Result<(), AllocError>
+    ensures { OnOk result (string_bytes line.new ≡ string_bytes line.old ++ bare_lines from to word.now) }
+{
+    if from < to {
+        add_bare(line, from, to, word)?;
+    }
+    Ok(())
+}
+
+/// Adds the lines of what lies before an object, up to which the objects before it reach, and its own.
+pub(crate) fn add_row(
+    line: &mut String,
+    reached: u64,
+    row: &Row,
+    verdict: &Verdict,
+) -> Result<(), AllocError>
+    ensures { OnOk result (string_bytes line.new ≡ string_bytes line.old
+        ++ part_lines verdict.now (before reached row.now ++ object row.now ∷ [])) }
+{
+    add_any(line, reached, row.place, "gap")?;
+    add_any(line, row.place, reached.min(end_of(row)), "overlap")?;
+    add_object(line, row, verdict)
+}
+
+/// Where the object of a row ends.
+pub(crate) fn end_of(row: &Row) -> u64
+    ensures { result ≡ row_end row.now }
+{
+    match &row.finding {
+        Finding::Whole(head) | Finding::Wrong(head, _) => head.end,
+        Finding::Lost(_) => row.place,
+    }
+}
+
+/// Adds the line of an object.
+fn add_object(line: &mut String, row: &Row, verdict: &Verdict) -> Result<(), AllocError>
+    ensures { OnOk result (string_bytes line.new ≡ string_bytes line.old
+        ++ found_line verdict.now row.now.place row.now.number row.now.finding) }
+{
+    let (place, number) = (row.place, row.number);
+    match &row.finding {
+        Finding::Whole(head) => {
+            add_head(line, place, number, head)?;
+            add_note(line, verdict, number)?;
+            line.push('\n')
+        }
+        Finding::Wrong(head, rule) => {
+            add_head(line, place, number, head)?;
+            line.push_str(rule_name(*rule))?;
+            line.push('\n')
+        }
+        Finding::Lost(rule) => {
+            let word = rule_name(*rule);
+            write!(line, "{place}\t-\t{number}\t-\t-\t{word}\n")
+        }
+    }
+}
+
+/// Adds the columns of an object with this head but the last.
+fn add_head(line: &mut String, place: u64, number: u32, head: &Head) -> Result<(), AllocError>
+    ensures { OnOk result (string_bytes line.new ≡ string_bytes line.old ++ head_columns place number head.now) }
+{
+    let (end, kind, count) = (head.end, kind_name(head.kind), head.count);
+    write!(line, "{place}\t{end}\t{number}\t{kind}\t{count}\t")
+}
+
+/// Adds the last column of an object that breaks no rule by itself.
+fn add_note(line: &mut String, verdict: &Verdict, number: u32) -> Result<(), AllocError>
+    ensures { OnOk result (string_bytes line.new ≡ string_bytes line.old ++ note verdict.now number) }
+{
+    match verdict {
+        Verdict::Heights(heights) => match heights.get(number as usize) {
+            Some(height) if *height > 0 => {
+                let height = *height;
+                write!(line, "{height}")
+            }
+            _ => line.push_str("unreached"),
+        },
+        Verdict::Fault(fault) => match fault.object {
+            Some(object) if object.0 == number => line.push_str(rule_name(fault.rule)),
+            _ => line.push_str("-"),
+        },
+        Verdict::Circle => line.push_str("-"),
+    }
+}

@@ -1,0 +1,90 @@
+//! What is found of each object by itself.
+ghost use Rattle.std.specs.Prelude.{◌≡◌, ℕ, ◌<◌, IfOk, is_err, length};
+ghost use Rattle.bplist_octets.specs.Meaning.{OnlyReads};
+ghost use Rattle.bplist_objects.specs.Frame.{off};
+ghost use Rattle.bplist_objects.specs.Framed.{HonestlyBy};
+ghost use Rattle.bplist_objects.specs.Heads.{HasShape};
+ghost use Rattle.bplist_objects.specs.Safe.{IsSafe};
+ghost use Rattle.bplint_map.specs.Rows.{AreFindings, IsFinding, left_behind, placed, row};
+
+use crate::placed::Placed;
+use bplist_objects::{Frame, Head, ObjectFault, ObjectNo, Rule, head_at, shape_at};
+use bplist_octets::{ReadFault, Source};
+
+/// What rules 14 to 20 say of an object by itself.
+#[derive(Clone, Copy, Debug, Drop)]
+pub(crate) enum Finding {
+    /// It has this head, and no rule is known to be broken.
+    Whole(Head),
+    /// It has this head, and its body breaks this rule.
+    Wrong(Head, Rule),
+    /// It breaks this rule of marker and count.
+    Lost(Rule),
+}
+
+/// An object, and what is found of it.
+#[derive(Clone, Copy, Debug, Drop)]
+pub(crate) struct Row {
+    /// Its number.
+    pub number: u32,
+    /// Where it begins.
+    pub place: u64,
+    /// What is found of it.
+    pub finding: Finding,
+}
+
+/// The row of an object. Its body is looked at where it has no more than the bytes that are left, and takes from them.
+pub(crate) fn row_of<S: Source>(
+    src: &mut S,
+    frame: &Frame,
+    object: Placed,
+    left: &mut u64,
+) -> Result<Row, ReadFault>
+    requires safe { IsSafe (length (S.means src.old).octets) frame.now }
+    requires within { object.number < frame.now.objects }
+    ensures reads { OnlyReads (is_err result) (S.means src.old) (S.means src.new) }
+    ensures exact { HonestlyBy (S.means src.old) frame.now (λ f F. object ≡ placed f F object.number
+        → (findings : ℕ → Finding) → AreFindings f F findings → IfOk result (λ found.
+        (found ≡ row f F findings left.old object.number)
+        × (left.new ≡ left_behind left.old object.place (findings object.number)))) }
+{
+    let n = ObjectNo(object.number);
+    let finding = match shape_at(src, frame, n, object.place) {
+        Ok(head) => {
+            let taken = head.end - object.place;
+            if taken <= *left {
+                *left -= taken;
+                finding_of(src, frame, object, head)?
+            } else {
+                Finding::Whole(head)
+            }
+        }
+        Err(ObjectFault::Fault(fault)) => Finding::Lost(fault.rule),
+        Err(ObjectFault::Read(fault)) => return Err(fault),
+    };
+    Ok(Row {
+        number: object.number,
+        place: object.place,
+        finding,
+    })
+}
+
+/// What the body of an object with this head says.
+fn finding_of<S: Source>(
+    src: &mut S,
+    frame: &Frame,
+    object: Placed,
+    head: Head,
+) -> Result<Finding, ReadFault>
+    requires safe { IsSafe (length (S.means src.old).octets) frame.now }
+    requires within { object.number < frame.now.objects }
+    ensures reads { OnlyReads (is_err result) (S.means src.old) (S.means src.new) }
+    ensures exact { HonestlyBy (S.means src.old) frame.now (λ f F. object.place ≡ off f F object.number
+        → HasShape f F object.number head → IfOk result (IsFinding f F object.number)) }
+{
+    match head_at(src, frame, ObjectNo(object.number), object.place) {
+        Ok(_) => Ok(Finding::Whole(head)),
+        Err(ObjectFault::Fault(fault)) => Ok(Finding::Wrong(head, fault.rule)),
+        Err(ObjectFault::Read(fault)) => Err(fault),
+    }
+}
