@@ -22,8 +22,8 @@ ghost use Rattle.bplint_engine.specs.Commands.{PrintsOnePath};
 ghost use Rattle.clap.specs.Values.{kind_of};
 
 mod args;
-mod input;
 mod file_names;
+mod input;
 mod output;
 mod subcommands;
 
@@ -233,7 +233,7 @@ fn prefix_in(alloc: Global, lint: &Lint<'_>, name: &str) -> Result<String, Alloc
     if lint.files.len() == 1 {
         return Ok(String::new(alloc));
     }
-    naming::prefix_of(alloc, name)
+    file_names::prefix_of(alloc, name)
 }
 
 /// The exit status of several runs, of which the next ended with `next`.
