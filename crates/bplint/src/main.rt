@@ -8,7 +8,7 @@
 //! | module | has |
 //! |---|---|
 //! | `args`, `subcommands` | the command line, by clap: a function for each argument and subcommand |
-//! | `naming` | names of files in lines |
+//! | `file_names` | names of files in lines |
 //! | `input` | FILE and CERT: a file through windows, or read whole |
 //! | `output` | OUT, which is created with its first byte |
 //! | here | the runs: one command over one FILE by the engine, several FILEs of `lint`, `explain` |
