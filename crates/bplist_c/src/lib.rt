@@ -12,14 +12,14 @@
 //!
 //! | module | exports |
 //! |---|---|
-//! | `linting` | `bplist_lint`, `bplist_circle`, `bplist_rule_name` |
-//! | `opening` | `bplist_open`, `bplist_open_certified`, `bplist_close`, `bplist_certificate` |
-//! | `finding` | `bplist_find`, `bplist_find_key` |
-//! | `reading` | `bplist_face`, `bplist_int`, `bplist_uid`, `bplist_member`, `bplist_units` |
-//! | `sizing`, `text` | `bplist_size`, `bplist_text` |
+//! | `linter` | `bplist_lint`, `bplist_circle`, `bplist_rule_name` |
+//! | `open` | `bplist_open`, `bplist_open_certified`, `bplist_close`, `bplist_certificate` |
+//! | `found` | `bplist_find`, `bplist_find_key` |
+//! | `object` | `bplist_face`, `bplist_int`, `bplist_uid`, `bplist_member`, `bplist_units` |
+//! | `sizes`, `text` | `bplist_size`, `bplist_text` |
 //!
 //! A handle (`handle`) owns a `session`: frame and certificate of a file without its bytes. Each call takes the bytes again and
-//! makes the `Checked` of both by moves (`lending`). `status` and `verdict` turn answers into numbers.
+//! makes the `Checked` of both by moves (`loan`). `status` and `verdict` turn answers into numbers.
 #![tactic(auto)]
 
 mod found;
