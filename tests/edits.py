@@ -185,14 +185,15 @@ def write_table(crate, rows):
 
 
 def tried(rt, crate, edits):
-    """Each edit with its goals. One that has none among others is tried again alone, since a check leaves goals out."""
+    """Each edit with its goals. One that has none among others, or was not read, is tried again alone: a check leaves goals out,
+    and does not try a function that calls one which another edit spoils."""
     with tempfile.TemporaryDirectory(prefix="edits-") as kept:
         shutil.copytree(pathlib.Path(crate.folder, "out/incremental"), kept, dirs_exist_ok=True)
         for group in rounds(edits):
             lines = check(rt, crate, group, kept)
             for edit in group:
                 goals = list(edit.goals(lines))
-                if not goals and len(group) > 1:
+                if verdict(goals) in ("PROVED", "unread") and len(group) > 1:
                     goals = list(edit.goals(check(rt, crate, [edit], kept)))
                 yield edit, goals
 
