@@ -1,6 +1,6 @@
 -- Each rule is kept or broken, and so either all rules are kept or there is a first fault.
-use Rattle.std.proofs.Common.{◌≡◌, ℕ, ◌<◌, ◌≤◌, ◌+◌, ◌-◌, ◌*◌, ◌^◌, ◌⊎◌, inl, inr, true, false, IsTrue, List, [], ◌∷◌, length, slice_index, Option, Some, None, refl, sym, ap, ◌∙◌, subst, arith}
-use Rattle.std.proofs.lemmas.Bool.{cases_lt, cases_eq, cases_Bool}
+use Rattle.std.proofs.Common.{◌≡◌, ℕ, ◌<◌, ◌≤◌, ◌+◌, ◌-◌, ◌*◌, ◌^◌, ◌⊎◌, inl, inr, List, [], ◌∷◌, length, slice_index, Option, Some, None, refl, sym, subst, arith}
+use Rattle.std.proofs.lemmas.Bool.{cases_lt, cases_eq}
 use Rattle.bplist_objects.specs.declared.rule.Rule.{Rule}
 use Rattle.bplist_objects.specs.declared.rule.Rule.TheVariants as rules
 use Rattle.bplist_objects.specs.declared.fault.Fault.{Fault}
@@ -14,13 +14,12 @@ use Rattle.bplist_objects.specs.Frame.{off, trailer, header}
 use Rattle.bplist_objects.specs.Rules.{KeepsAll, IsFirstFault}
 use Rattle.bplist_objects.specs.Scan.{AreBelow, IsFirstNotBelow, nth_number}
 use Rattle.bplist_objects.specs.FrameRules.{Keeps, Breaks, frame_rules, IsFrameFault}
-use Rattle.bplist_objects.specs.Announced.{Marks, IsMarker, is_counted, least_marker, IsLong, IsCountForm, HasHead}
+use Rattle.bplist_objects.specs.Announced.{Form, plain, counted, form_of, least, greatest, Marks, IsMarker, IsLong, IsLongOf, IsCountForm, HasHead}
 use Rattle.bplist_objects.specs.ObjectRules.{KeepsByObject, BreaksByObject, BreaksAt, IsObjectFault}
 use Rattle.bplist_objects.specs.Safe.{ref_count}
 use Rattle.bplist_objects.specs.Spelled.{kind_at, head_found}
-use Rattle.bplist_objects.proofs.SpelledContents.{found_head, head_is_found}
 use Rattle.bplist_objects.proofs.Lists.{Either, all_or_first}
-use Rattle.bplist_objects.proofs.HeadLaws.{kind_marked}
+use Rattle.bplist_objects.proofs.HeadLaws.{kind_marked, long_marks, found_head, head_is_found}
 use Rattle.bplist_objects.proofs.BodyLaws.{HasHead-unique}
 
 low_or_high : (a b : ℕ) → (a ≤ b) ⊎ (b < a)
@@ -154,48 +153,22 @@ frame_kept_or_fault f = elim (cases_lt (length f) 41) [
 ]
 
 -- ---- rules 14 to 20
-marks_decided : (m : ℕ) (kind : Kind) → Either (Marks m kind)
-marks_decided m kinds.Null = cases_eq m 0
-marks_decided m kinds.False = cases_eq m 8
-marks_decided m kinds.True = cases_eq m 9
-marks_decided m kinds.Int = between m 16 20
-marks_decided m kinds.Real = between m 34 35
-marks_decided m kinds.Date = cases_eq m 51
-marks_decided m kinds.Bytes = between m 64 79
-marks_decided m kinds.Ascii = between m 80 95
-marks_decided m kinds.Wide = between m 96 111
-marks_decided m kinds.Uid = between m 128 143
-marks_decided m kinds.Array = between m 160 175
-marks_decided m kinds.Set = between m 192 207
-marks_decided m kinds.Dict = between m 208 223
-
 marker_decided : (m : ℕ) → Either (IsMarker m)
-marker_decided m = elim (marks_decided m (kind_at m)) [
+marker_decided m = elim (between m (least (form_of (kind_at m))) (greatest (form_of (kind_at m)))) [
   | inl h ↦ inl (kind_at m, h)
   | inr no1 ↦ inr (λ is. no1 (subst (Marks m) (sym (kind_marked m is.0 is.1)) is.1))
 ]
 
--- a long marker is of its kind
-long_marks : (m : ℕ) (kind : Kind) → IsTrue (is_counted kind) → m ≡ least_marker kind + 15 → Marks m kind
-long_marks m kinds.Bytes c e = (omega (arith, e), omega (arith, e))
-long_marks m kinds.Ascii c e = (omega (arith, e), omega (arith, e))
-long_marks m kinds.Wide c e = (omega (arith, e), omega (arith, e))
-long_marks m kinds.Array c e = (omega (arith, e), omega (arith, e))
-long_marks m kinds.Set c e = (omega (arith, e), omega (arith, e))
-long_marks m kinds.Dict c e = (omega (arith, e), omega (arith, e))
-long_marks m _ c e = absurd (cc c)
-
 -- a long marker is so of the kind that is found
 long_decided : (m : ℕ) → Either (IsLong m)
-long_decided m = go (cases_Bool (is_counted (kind_at m))) (cases_eq m (least_marker (kind_at m) + 15))
+long_decided m = elim (each (form_of (kind_at m))) [
+  | inl l ↦ inl (kind_at m, l)
+  | inr no1 ↦ inr (λ is. no1 (subst (λ k. IsLongOf (form_of k) m) (sym (kind_marked m is.0 (long_marks m (form_of is.0) is.1))) is.1))
+]
   where
-    own : (is : IsLong m) → kind_at m ≡ is.0
-    own is = kind_marked m is.0 (long_marks m is.0 is.1 is.2)
-
-    go : (is_counted (kind_at m) ≡ true) ⊎ (is_counted (kind_at m) ≡ false) → Either (m ≡ least_marker (kind_at m) + 15) → Either (IsLong m)
-    go (inl c) (inl e) = inl (kind_at m, c, e)
-    go (inl c) (inr no1) = inr (λ is. no1 (subst (λ k. m ≡ least_marker k + 15) (sym (own is)) is.2))
-    go (inr c) e = inr (λ is. let d : is_counted (kind_at m) ≡ true = ap is_counted (own is) ∙ is.1 in cc)
+    each : (form : Form) → Either (IsLongOf form m)
+    each (plain low high says) = inr (λ l. l)
+    each (counted high) = cases_eq m (16 * high + 15)
 
 ascii_decided : (kind : Kind) → Either (kind ≡ kinds.Ascii)
 ascii_decided kinds.Ascii = inl refl
