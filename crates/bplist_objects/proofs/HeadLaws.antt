@@ -63,29 +63,31 @@ module _ (f : List ℕ) (p : ℕ) where
   if_some true x y e = (refl, same_Some x y e)
   if_some false x y e = absurd (cc e)
 
-  if_true : {X : Type 0} {t : Bool} (x y : X) → t ≡ true → (if t then x else y) ≡ x
-  if_true x y e = ap (λ t. if t then x else y) e
+  if_true : {X : Type 0} {t : Bool} {x z : X} (y : X) → t ≡ true → x ≡ z → (if t then x else y) ≡ z
+  if_true {x = x} y e same = ap (λ t. if t then x else y) e ∙ same
+
+  if_false : {X : Type 0} {t : Bool} {y z : X} (x : X) → t ≡ false → y ≡ z → (if t then x else y) ≡ z
+  if_false {y = y} x e same = ap (λ t. if t then x else y) e ∙ same
 
   -- a count behind the marker is found
   long_is_found : (count body : ℕ) → HasLongCount f p count body → long_found f p ≡ Some (count, body)
   long_is_found count body (w, w4, form, c, b) =
       let t : (nat_le 16 next && nat_le next 20) ≡ true = grind (arith, nat_tests) in
       let same : next - 16 ≡ w = omega (arith, form) in
-      if_true _ None t ∙ ap₂ (λ x y. Some (x, y)) (ap (λ x. num_at f (p + 2) (2 ^ x)) same ∙ sym c) (ap (λ x. p + 2 + 2 ^ x) same ∙ sym b)
+      if_true _ t (ap₂ (λ x y. Some (x, y)) (ap (λ x. num_at f (p + 2) (2 ^ x)) same ∙ sym c) (ap (λ x. p + 2 + 2 ^ x) same ∙ sym b))
 
   -- what is announced is found
   announced_found : (form : Form) (count body : ℕ) → AnnouncesAs f p form count body → count_found f p form ≡ Some (count, body)
   announced_found (plain low high says) count body (l, h, c, b) =
       let t : (nat_le low m && nat_le m high) ≡ true = grind (arith, nat_tests) in
-      if_true (Some (says m, p + 1)) None t ∙ ap₂ (λ x y. Some (x, y)) (sym c) (sym b)
+      if_true _ t (ap₂ (λ x y. Some (x, y)) (sym c) (sym b))
   announced_found (counted high) count body (inl (low, at, b)) =
       let t : (nat_le (16 * high) m && nat_lt m (16 * high + 15)) ≡ true = grind (arith, nat_tests) in
-      if_true (Some (m - 16 * high, p + 1)) _ t ∙ ap₂ (λ x y. Some (x, y)) (omega (arith, at)) (sym b)
+      if_true _ t (ap₂ (λ x y. Some (x, y)) (omega (arith, at)) (sym b))
   announced_found (counted high) count body (inr (at, long)) =
       let t : (nat_le (16 * high) m && nat_lt m (16 * high + 15)) ≡ false = grind (arith, nat_tests) in
       let u : nat_eq m (16 * high + 15) ≡ true = grind (arith, nat_tests) in
-      ap (λ t. if t then Some (m - 16 * high, p + 1) else if nat_eq m (16 * high + 15) then long_found f p else None) t
-      ∙ if_true (long_found f p) None u ∙ long_is_found count body long
+      if_false _ t (if_true _ u (long_is_found count body long))
 
   -- what is found is announced
   found_announced : (form : Form) (x : ℕ × ℕ) → count_found f p form ≡ Some x → AnnouncesAs f p form x.0 x.1

@@ -14,10 +14,11 @@ use Rattle.bplist_objects.specs.Heads.{Content, refs, unit, HasShape, content_at
 use Rattle.bplist_objects.specs.Rules.{KeepsAll}
 use Rattle.bplist_objects.specs.Scan.{AreBelow, nth_number}
 use Rattle.bplist_objects.specs.Announced.{form_of, IsLong, HasHead}
-use Rattle.bplist_objects.specs.ObjectRules.{KeepsByObject, shape_rules, object_rules}
+use Rattle.bplist_objects.specs.ObjectRules.{KeepsByObject, shape_rules, body_rules, object_rules}
 use Rattle.bplist_objects.proofs.Fronts.{shape_has_head, one_shape}
 use Rattle.bplist_objects.specs.Safe.{ref_count}
 use Rattle.bplist_objects.proofs.AnnouncedHeads.{fronted, announced_short, something_announced}
+use Rattle.bplist_objects.proofs.RuleLaws.{kept_all_after}
 use Rattle.bplist_objects.proofs.References.{all_refs, each_ref}
 use Rattle.bplist_objects.proofs.ShapeLaws.{shape_kept}
 use Rattle.bplist_objects.proofs.Parts.{num-part_one, get_or-part}
@@ -114,24 +115,12 @@ module _ (f : List ℕ) (F : Frame) (n : ℕ) where
     pub spells_keeps : (c : Content) → Spells f F n c → KeepsAll (KeepsByObject f F n) object_rules
     spells_keeps c s =
         let head = s.shape in
-        let own = shape_keeps head s.has in
-        let below = each_ref f F (λ m. m < F.objects) head.kind head.count head.body (subst (λ x. AllByRecursion (λ m. m < F.objects) (refs x)) s.means s.refs) in (
-          own.0,
+        let below = each_ref f F (λ m. m < F.objects) head.kind head.count head.body (subst (λ x. AllByRecursion (λ m. m < F.objects) (refs x)) s.means s.refs) in
+        kept_all_after (KeepsByObject f F n) shape_rules body_rules (shape_keeps head s.has) (
+          λ other k. subst (λ x. x.kind ≡ kinds.Ascii → AreBelow f x.body 1 x.count 128) (announced_same head other s.has k) (spelled_ascii head s.has s.proper),
           (
-            own.1.0,
-            (
-              own.1.1.0,
-              (
-                own.1.1.1.0,
-                (
-                  λ other k. subst (λ x. x.kind ≡ kinds.Ascii → AreBelow f x.body 1 x.count 128) (announced_same head other s.has k) (spelled_ascii head s.has s.proper),
-                  (
-                    λ other k. subst (λ x. x.kind ≡ kinds.Uid → num_at f x.body x.count ≤ 4294967295) (announced_same head other s.has k) (spelled_uid head s.proper),
-                    (λ other k. subst (λ x. AreBelow f x.body F.ref_size (ref_count x.kind x.count) F.objects) (announced_same head other s.has k) below, tt),
-                  ),
-                ),
-              ),
-            ),
+            λ other k. subst (λ x. x.kind ≡ kinds.Uid → num_at f x.body x.count ≤ 4294967295) (announced_same head other s.has k) (spelled_uid head s.proper),
+            (λ other k. subst (λ x. AreBelow f x.body F.ref_size (ref_count x.kind x.count) F.objects) (announced_same head other s.has k) below, tt),
           ),
         )
 

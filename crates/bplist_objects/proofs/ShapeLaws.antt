@@ -1,7 +1,7 @@
 -- How the rules of marker and count are kept and broken.
 use Rattle.std.proofs.Common.{◌≡◌, ◌⊎◌, ℕ, ◌+◌, ◌-◌, ◌*◌, ◌<◌, ◌≤◌, List, slice_index, Some, sym, ap, ◌∙◌, arith, refl, inl, inr, subst}
 use Rattle.std.proofs.Math.Nat.{mul-le-mul_left}
-use Rattle.bplist_objects.specs.declared.rule.Rule.TheVariants.{Extent}
+use Rattle.bplist_objects.specs.declared.rule.Rule.TheVariants.{Count, Extent}
 use Rattle.bplist_objects.specs.declared.fault.Fault.{Fault}
 use Rattle.bplist_objects.specs.declared.frame.Frame.{Frame}
 use Rattle.bplist_objects.specs.declared.head.Head.{Head}
@@ -10,7 +10,7 @@ use Rattle.bplist_objects.specs.declared.kind.Kind.TheVariants as kinds
 use Rattle.bplist_objects.specs.Rules.{KeepsAll}
 use Rattle.bplist_objects.specs.Frame.{off}
 use Rattle.bplist_objects.specs.Heads.{unit}
-use Rattle.bplist_objects.specs.Announced.{Form, plain, counted, form_of, Marks, IsLong, IsLongOf, IsCountForm, HasLongCount, AnnouncesAs, HasHead}
+use Rattle.bplist_objects.specs.Announced.{Form, plain, counted, form_of, Marks, IsMarker, IsLong, IsLongOf, IsCountForm, HasLongCount, AnnouncesAs, HasHead}
 use Rattle.bplist_objects.specs.ObjectRules.{KeepsByObject, IsObjectFault, shape_rules}
 use Rattle.bplist_objects.specs.Counts.{IsLongCountFault, IsCountFault}
 use Rattle.bplist_objects.specs.Answers.{GivesFault}
@@ -42,52 +42,37 @@ no_room table body count unit h one (inl l) =
 no_room table body count unit h one (inr l) = omega arith
 
 module _ (f : List ℕ) (F : Frame) (n : ℕ) (far : 8 ≤ off f F n) where
-  -- the head that is announced lies before the table
-  pub shape_kept : (head : Head) → HasHead f F n head → head.«end» ≤ F.table → KeepsAll (KeepsByObject f F n) shape_rules
-  shape_kept head h l =
-      let long : IsLong (slice_index f (off f F n)) → HasLongCount f (off f F n) head.count head.body = λ m. long-Announces f (off f F n) head.kind head.count head.body m h.0 in (
-        far,
-        (
-          (head.kind, announced_marks f (off f F n) (form_of head.kind) head.count head.body h.0),
-          (
-            λ m _. form-HasLongCount f (off f F n) head.count head.body (long m),
-            ((λ m. let e = long m in omega arith, λ other k. subst (λ (x : Head). x.«end» ≤ F.table) (HasHead-unique f F n head other h k) l), tt),
-          ),
-        ),
-      )
+  abbrev o : ℕ
+  o = off f F n
 
-  -- the head that is announced does not lie before the table
-  pub shape_extent : (head : Head) → HasHead f F n head → F.table < head.«end» → (fault : Fault) → fault ≡ record { rule = Extent; object = Some (record { 0 = n }); place = off f F n } → IsObjectFault f F n shape_rules fault
-  shape_extent head h l fault e =
-      inr (
-        far,
-        inr (
-          (head.kind, announced_marks f (off f F n) (form_of head.kind) head.count head.body h.0),
-          inr (
-            λ m _. form-HasLongCount f (off f F n) head.count head.body (long-Announces f (off f F n) head.kind head.count head.body m h.0),
-            inl (ap (λ f. f.rule) e, (ap (λ f. f.object) e, (inr (head, h, l), ap (λ f. f.place) e))),
-          ),
-        ),
-      )
+  module _ (head : Head) (h : HasHead f F n head) where
+    marker_kept : IsMarker (slice_index f o)
+    marker_kept = (head.kind, announced_marks f o (form_of head.kind) head.count head.body h.0)
+
+    long_count : IsLong (slice_index f o) → HasLongCount f o head.count head.body
+    long_count m = long-Announces f o head.kind head.count head.body m h.0
+
+    count_kept : KeepsByObject f F n Count
+    count_kept m l = form-HasLongCount f o head.count head.body (long_count m)
+
+    -- the head that is announced lies before the table
+    pub shape_kept : head.«end» ≤ F.table → KeepsAll (KeepsByObject f F n) shape_rules
+    shape_kept l =
+        (far, (marker_kept, (count_kept, ((λ m. let e = long_count m in omega arith, λ other k. subst (λ (x : Head). x.«end» ≤ F.table) (HasHead-unique f F n head other h k) l), tt))))
+
+    -- the head that is announced does not lie before the table
+    pub shape_extent : F.table < head.«end» → (fault : Fault) → fault.rule ≡ Extent → fault.object ≡ Some (record { 0 = n }) → fault.place ≡ o → IsObjectFault f F n shape_rules fault
+    shape_extent l fault rule object place = inr (far, inr (marker_kept, inr (count_kept, inl (rule, (object, (inr (head, h, l), place))))))
 
   -- what is wrong with a long count is the first that is wrong with the object
-  pub shape_long : (kind : Kind) → Marks (slice_index f (off f F n)) kind → IsLongOf (form_of kind) (slice_index f (off f F n)) → (fault : Fault) → IsLongCountFault f F.table (off f F n) n fault → IsObjectFault f F n shape_rules fault
+  pub shape_long : (kind : Kind) → Marks (slice_index f o) kind → IsLongOf (form_of kind) (slice_index f o) → (fault : Fault) → IsLongCountFault f F.table o n fault → IsObjectFault f F n shape_rules fault
   shape_long kind marks long fault (object, inl (rule, inside, wrong, place)) =
       inr (far, inr ((kind, marks), inl (rule, (object, ((kind, long), inside, wrong, place)))))
   shape_long kind marks long fault (object, inr (rule, place, inl late)) =
       inr (far, inr ((kind, marks), inr (λ m l. absurd (omega arith), inl (rule, (object, (inl ((kind, long), late), place))))))
   shape_long kind marks long fault (object, inr (rule, place, inr (count, body, has, late))) =
       let head : Head = record { kind = kind; count = count; body = body; «end» = body + count * unit F.ref_size kind } in
-      inr (
-        far,
-        inr (
-          (kind, marks),
-          inr (
-            λ m l. form-HasLongCount f (off f F n) count body has,
-            inl (rule, (object, (inr (head, (announced_behind f (off f F n) (form_of kind) count body long has, refl), omega arith), place))),
-          ),
-        ),
-      )
+      shape_extent head (announced_behind f o (form_of kind) count body long has, refl) (omega arith) fault rule object place
 
 -- the same of what a call answers
 pub shape_count : (f : List ℕ) (F : Frame) (n place marker : ℕ) (kind : Kind) (e : ObjectFault) → place ≡ off f F n → 8 ≤ place → Marks marker kind → slice_index f place ≡ marker → GivesFault (IsCountFault f F.table place n kind marker) e → GivesFault (IsObjectFault f F n shape_rules) e
