@@ -3,7 +3,7 @@ pub mod Answers
 pub mod Reaching
 pub mod Visits
 pub mod Trail
-pub mod ObjectReferences
+pub mod Referring
 pub mod Tallies
 pub mod Places
 pub mod PlaceSets
