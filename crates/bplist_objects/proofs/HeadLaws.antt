@@ -11,6 +11,11 @@ use Rattle.bplist_objects.specs.Frame.{off}
 use Rattle.bplist_objects.specs.Announced.{Form, plain, counted, form_of, least, greatest, Marks, IsLong, IsLongOf, HasLongCount, AnnouncesAs, Announces, HasHead}
 use Rattle.bplist_objects.specs.Spelled.{kind_at, long_found, count_found, head_with, head_found}
 
+-- what is found under a test
+pub if_some : {X : Type 0} (t : Bool) (x y : X) → (if t then Some x else None) ≡ Some y → (t ≡ true) × (x ≡ y)
+if_some true x y e = (refl, same_Some x y e)
+if_some false x y e = absurd (cc e)
+
 -- ---- the kind
 -- a marker is of the kind that is found
 pub kind_marked : (m : ℕ) (kind : Kind) → Marks m kind → kind_at m ≡ kind
@@ -59,10 +64,6 @@ module _ (f : List ℕ) (p : ℕ) where
       go (counted high) l (inr a) = a.1
 
   -- ---- count and body
-  if_some : {X : Type 0} (t : Bool) (x y : X) → (if t then Some x else None) ≡ Some y → (t ≡ true) × (x ≡ y)
-  if_some true x y e = (refl, same_Some x y e)
-  if_some false x y e = absurd (cc e)
-
   if_true : {X : Type 0} {t : Bool} {x z : X} (y : X) → t ≡ true → x ≡ z → (if t then x else y) ≡ z
   if_true {x = x} y e same = ap (λ t. if t then x else y) e ∙ same
 

@@ -1,8 +1,7 @@
 -- The function that finds what an object spells finds exactly that.
-use Rattle.std.proofs.Common.{◌≡◌, ℕ, ◌<◌, ◌≤◌, ◌↔◌, Bool, true, false, List, [], ◌∷◌, length, Option, Some, None, nat_lt, nat_le, if◌then◌else◌, refl, sym, ap, ◌∙◌, subst, arith, length-drop, length-append}
+use Rattle.std.proofs.Common.{◌≡◌, ℕ, ◌<◌, ◌≤◌, ◌↔◌, Bool, List, [], ◌∷◌, length, Option, Some, None, nat_lt, nat_le, if◌then◌else◌, refl, sym, ap, ◌∙◌, subst, arith, length-drop, length-append}
 use Rattle.std.specs.Bool.{Decides}
 use Rattle.std.specs.List.{AllByRecursion, list_all}
-use Rattle.std.proofs.lemmas.Option.{same_Some}
 use Rattle.std.proofs.lemmas.Bool.{leb-true, le-leb}
 use Rattle.std.proofs.lemmas.Bool.Decides.{Decides-and, Decides-ltb}
 use Rattle.bplist_objects.specs.declared.frame.Frame.{Frame}
@@ -15,7 +14,7 @@ use Rattle.bplist_octets.specs.Octets.{part}
 use Rattle.bplist_objects.specs.Heads.{Content, refs, content_at, IsProperLeaf, Spells}
 use Rattle.bplist_objects.specs.Announced.{form_of, HasHead}
 use Rattle.bplist_objects.specs.Spelled.{head_found, is_proper, is_spelled, content_found, spelled_at}
-use Rattle.bplist_objects.proofs.HeadLaws.{found_head, head_is_found}
+use Rattle.bplist_objects.proofs.HeadLaws.{if_some, found_head, head_is_found}
 use Rattle.bplist_objects.proofs.AnnouncedHeads.{fronted, announced_short}
 use Rattle.bplist_objects.proofs.HeadTies.{shape_announced}
 
@@ -78,8 +77,6 @@ module _ (f : List ℕ) (F : Frame) (n : ℕ) where
 
       from : (found : Option Head) → head_found f F n ≡ found → content_found f F n found ≡ Some c → Spells f F n c
       from None e r = absurd (cc r)
-      from (Some head) e r = go (is_spelled f F n head) refl r
-        where
-          go : (t : Bool) → is_spelled f F n head ≡ t → (if t then Some (content_at f F head) else None) ≡ Some c → Spells f F n c
-          go true s r = subst (Spells f F n) (same_Some _ _ r) (found_spells head (found_head f F n head e) ((spelled_decides head).0 s))
-          go false s r = absurd (cc r)
+      from (Some head) e r =
+          let t = if_some (is_spelled f F n head) (content_at f F head) c r in
+          subst (Spells f F n) t.1 (found_spells head (found_head f F n head e) ((spelled_decides head).0 t.0))

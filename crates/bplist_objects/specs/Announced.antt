@@ -8,8 +8,7 @@ use Rattle.bplist_objects.specs.Numbers.{num_at}
 use Rattle.bplist_objects.specs.Frame.{off}
 use Rattle.bplist_objects.specs.Heads.{unit}
 
--- how the markers of a kind say its count: each from the least to the greatest says one, or the sixteen with this high half hold it
--- in the low half, of which 15 says that it follows
+-- how markers say a count: each from the least to the greatest its own, or all with this high half in the low half, where 15 says that it follows
 pub data Form : Type 0 where
   plain : (least greatest : ℕ) → (ℕ → ℕ) → Form
   counted : (high : ℕ) → Form
