@@ -18,10 +18,10 @@ mod AddSteps
 mod LengthSteps
 mod ObjectSteps
 mod OrderSteps
-mod Digits2
+mod BinaryDigits
 mod Keys
 mod KeyLists
 mod PlaceSteps
 mod FoundSteps
-mod Pushing
+mod ListItems
 mod KeyReplies
