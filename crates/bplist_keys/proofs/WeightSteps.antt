@@ -3,7 +3,7 @@ use Rattle.std.proofs.Common.{◌≡◌, ℕ, ◌<◌, max, List, slice_index, s
 use Rattle.bplist_objects.specs.declared.frame.Frame.{Frame}
 use Rattle.bplist_objects.specs.declared.head.Head.{Head}
 use Rattle.bplist_objects.specs.Units.{units_of}
-use Rattle.bplist_objects.proofs.SpelledContents.{head_is_found}
+use Rattle.bplist_objects.proofs.HeadLaws.{head_is_found}
 use Rattle.bplist_objects.proofs.HeadTies.{shape_announced}
 use Rattle.bplist_keys.specs.declared.weight.Weight.TheVariants.{Fingerprint, Prefix}
 use Rattle.bplist_keys.specs.Texts.{IsTextHead, units_found, text_units}

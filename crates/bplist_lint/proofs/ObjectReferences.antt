@@ -11,7 +11,8 @@ use Rattle.bplist_objects.specs.Heads.{Content, HasShape, IsProperLeaf, Spells, 
 use Rattle.bplist_objects.specs.Safe.{ref_count}
 use Rattle.bplist_objects.specs.Spelled.{spelled_at, head_found, refs_found, refs_at}
 use Rattle.bplist_objects.proofs.Fronts.{one_shape}
-use Rattle.bplist_objects.proofs.SpelledContents.{head_is_found, spells_iff}
+use Rattle.bplist_objects.proofs.HeadLaws.{head_is_found}
+use Rattle.bplist_objects.proofs.SpelledContents.{spells_iff}
 use Rattle.bplist_objects.proofs.References.{length-refs}
 use Rattle.bplist_objects.specs.Scan.{AreBelow, nth_number}
 use Rattle.bplist_objects.proofs.References.{nth-refs, each_ref, all_refs}

@@ -1,6 +1,7 @@
 -- How the rules of bodies are kept and broken.
 use Rattle.std.proofs.Common.{◌≡◌, ℕ, ◌+◌, ◌*◌, ◌≤◌, List, sym, ap, ◌∙◌, arith}
 use Rattle.std.proofs.Math.Nat.{mul-le-mul_left, mul_assoc, mul_comm}
+use Rattle.std.proofs.lemmas.Option.{same_Some}
 use Rattle.bplist_objects.specs.declared.fault.ObjectFault.{ObjectFault}
 use Rattle.bplist_objects.specs.declared.fault.ObjectFault.TheVariants as errors
 use Rattle.bplist_objects.specs.declared.frame.Frame.{Frame}
@@ -9,33 +10,23 @@ use Rattle.bplist_objects.specs.declared.kind.Kind.{Kind}
 use Rattle.bplist_objects.specs.declared.kind.Kind.TheVariants as kinds
 use Rattle.bplist_objects.specs.Rules.{KeepsAll}
 use Rattle.bplist_objects.specs.Answers.{GivesFault}
-use Rattle.bplist_objects.specs.Frame.{off}
 use Rattle.bplist_objects.specs.Heads.{unit}
 use Rattle.bplist_objects.specs.Safe.{IsSafe, IsSafeHead, ref_count}
 use Rattle.bplist_objects.specs.Announced.{HasHead}
 use Rattle.bplist_objects.specs.ObjectRules.{KeepsByObject, BreaksAt, IsObjectFault, shape_rules, body_rules, object_rules}
-use Rattle.bplist_objects.proofs.HeadLaws.{Announces-unique}
+use Rattle.bplist_objects.proofs.HeadLaws.{head_is_found}
 use Rattle.bplist_objects.proofs.RuleLaws.{first_fault_after}
 use Rattle.bplist_objects.proofs.ScanLaws.{block_within}
 
 -- references lie in the body
 pub refs_fit : (ref_size count : ℕ) (kind : Kind) → 1 ≤ ref_size → (ref_count kind count * ref_size ≤ count * unit ref_size kind) × (ref_count kind count ≤ count * unit ref_size kind)
-refs_fit r c kinds.Null h = (omega arith, omega arith)
-refs_fit r c kinds.False h = (omega arith, omega arith)
-refs_fit r c kinds.True h = (omega arith, omega arith)
-refs_fit r c kinds.Int h = (omega arith, omega arith)
-refs_fit r c kinds.Real h = (omega arith, omega arith)
-refs_fit r c kinds.Date h = (omega arith, omega arith)
-refs_fit r c kinds.Bytes h = (omega arith, omega arith)
-refs_fit r c kinds.Ascii h = (omega arith, omega arith)
-refs_fit r c kinds.Wide h = (omega arith, omega arith)
-refs_fit r c kinds.Uid h = (omega arith, omega arith)
 refs_fit r c kinds.Array h = let one : c * 1 ≤ c * r = mul-le-mul_left c h in (omega arith, omega arith)
 refs_fit r c kinds.Set h = let one : c * 1 ≤ c * r = mul-le-mul_left c h in (omega arith, omega arith)
 refs_fit r c kinds.Dict h =
     let one : (2 * c) * 1 ≤ (2 * c) * r = mul-le-mul_left (2 * c) h in
     let turned : (2 * c) * r ≡ c * (2 * r) = ap (λ x. x * r) (mul_comm 2 c) ∙ mul_assoc c 2 r in
     (omega arith, omega arith)
+refs_fit r c _ h = (omega arith, omega arith)
 
 -- so many references from one of them on lie in the source
 pub refs_within : (len from many : ℕ) (F : Frame) (head : Head) → IsSafe len F → IsSafeHead F head → from + many ≤ ref_count head.kind head.count → (head.body + from * F.ref_size) + many * F.ref_size ≤ len
@@ -47,13 +38,7 @@ refs_within len from many F head safe inside few =
 module _ (f : List ℕ) (F : Frame) (n : ℕ) where
   -- at most one head
   pub HasHead-unique : (head other : Head) → HasHead f F n head → HasHead f F n other → head ≡ other
-  HasHead-unique head other h k =
-      let one = Announces-unique f (off f F n) head.kind other.kind head.count head.body other.count other.body h.0 k.0 in
-      let ends : head.«end» ≡ other.«end» = h.1 ∙ ap (λ x. x + head.count * unit F.ref_size head.kind) one.2 ∙ ap (λ x. other.body + x * unit F.ref_size head.kind) one.1 ∙ ap (λ x. other.body + other.count * unit F.ref_size x) one.0 ∙ sym k.1 in
-      ap (λ x. record { kind = x; count = head.count; body = head.body; «end» = head.«end» }) one.0
-      ∙ ap (λ x. record { kind = other.kind; count = x; body = head.body; «end» = head.«end» }) one.1
-      ∙ ap (λ x. record { kind = other.kind; count = other.count; body = x; «end» = head.«end» }) one.2
-      ∙ ap (λ x. record { kind = other.kind; count = other.count; body = other.body; «end» = x }) ends
+  HasHead-unique head other h k = same_Some head other (sym (head_is_found f F n head h) ∙ head_is_found f F n other k)
 
   -- rules of marker and count that are kept stand before a fault of the body
   pub object_fault_after : (e : ObjectFault) → KeepsAll (KeepsByObject f F n) shape_rules → GivesFault (IsObjectFault f F n body_rules) e → GivesFault (IsObjectFault f F n object_rules) e

@@ -1,70 +1,22 @@
--- Laws of heads: at one place there is at most one, and what the rules of marker and count come to.
-use Rattle.std.proofs.Common.{◌≡◌, ◌⊎◌, ℕ, ◌+◌, ◌*◌, ◌/◌, ◌%◌, ◌^◌, ◌<◌, ◌≤◌, List, slice_index, sym, ap, ◌∙◌, arith, refl, inl, inr, subst}
+-- Laws of heads: what marker and count announce is what is found there, and so at one place at most one head is announced.
+use Rattle.std.proofs.Common.{◌≡◌, ℕ, ◌+◌, ◌-◌, ◌*◌, ◌^◌, ◌<◌, ◌≤◌, Bool, true, false, ◌&&◌, nat_le, nat_lt, nat_eq, if◌then◌else◌, List, slice_index, Option, Some, None, sym, ap, ap₂, ◌∙◌, arith, refl, inl, inr, subst}
 use Rattle.std.proofs.lemmas.Bool.Decides.{nat_tests}
+use Rattle.std.proofs.lemmas.Option.{same_Some}
+use Rattle.bplist_objects.specs.declared.frame.Frame.{Frame}
+use Rattle.bplist_objects.specs.declared.head.Head.{Head}
 use Rattle.bplist_objects.specs.declared.kind.Kind.{Kind}
 use Rattle.bplist_objects.specs.declared.kind.Kind.TheVariants as kinds
 use Rattle.bplist_objects.specs.Numbers.{num_at}
-use Rattle.bplist_objects.specs.Announced.{Marks, least_marker, IsLong, HasLongCount, HasCount, Announces}
-use Rattle.bplist_objects.specs.Spelled.{kind_at}
+use Rattle.bplist_objects.specs.Frame.{off}
+use Rattle.bplist_objects.specs.Announced.{Form, plain, counted, form_of, least, greatest, Marks, IsLong, IsLongOf, HasLongCount, AnnouncesAs, Announces, HasHead}
+use Rattle.bplist_objects.specs.Spelled.{kind_at, long_found, count_found, head_with, head_found}
 
--- the upper half of a counted kind's least marker
-half : Kind → ℕ
-half kind = least_marker kind / 16
+-- what is found under a test
+pub if_some : {X : Type 0} (t : Bool) (x y : X) → (if t then Some x else None) ≡ Some y → (t ≡ true) × (x ≡ y)
+if_some true x y e = (refl, same_Some x y e)
+if_some false x y e = absurd (cc e)
 
--- least markers are multiples of 16
-least_marker-half : (kind : Kind) → least_marker kind ≡ 16 * half kind
-unfolding half
-least_marker-half kinds.Null = refl
-least_marker-half kinds.False = refl
-least_marker-half kinds.True = refl
-least_marker-half kinds.Int = refl
-least_marker-half kinds.Real = refl
-least_marker-half kinds.Date = refl
-least_marker-half kinds.Bytes = refl
-least_marker-half kinds.Ascii = refl
-least_marker-half kinds.Wide = refl
-least_marker-half kinds.Uid = refl
-least_marker-half kinds.Array = refl
-least_marker-half kinds.Set = refl
-least_marker-half kinds.Dict = refl
-
--- what a long marker is as a number
-pub IsLong-bounds : (m : ℕ) → IsLong m → (m % 16 ≡ 15) × (64 ≤ m) × ((m < 128) ⊎ (160 ≤ m))
-IsLong-bounds m (kinds.Null, c, e) = absurd (cc)
-IsLong-bounds m (kinds.False, c, e) = absurd (cc)
-IsLong-bounds m (kinds.True, c, e) = absurd (cc)
-IsLong-bounds m (kinds.Int, c, e) = absurd (cc)
-IsLong-bounds m (kinds.Real, c, e) = absurd (cc)
-IsLong-bounds m (kinds.Date, c, e) = absurd (cc)
-IsLong-bounds m (kinds.Bytes, c, e) = (omega arith, omega arith, inl (omega arith))
-IsLong-bounds m (kinds.Ascii, c, e) = (omega arith, omega arith, inl (omega arith))
-IsLong-bounds m (kinds.Wide, c, e) = (omega arith, omega arith, inl (omega arith))
-IsLong-bounds m (kinds.Uid, c, e) = absurd (cc)
-IsLong-bounds m (kinds.Array, c, e) = (omega arith, omega arith, inr (omega arith))
-IsLong-bounds m (kinds.Set, c, e) = (omega arith, omega arith, inr (omega arith))
-IsLong-bounds m (kinds.Dict, c, e) = (omega arith, omega arith, inr (omega arith))
-
--- a count behind a long marker is a long one
-long-HasCount : (f : List ℕ) (place : ℕ) (kind : Kind) (count body : ℕ) → slice_index f place % 16 ≡ 15 → HasCount f place kind count body → HasLongCount f place count body
-long-HasCount f place kind count body e (inl (low, at, b)) = absurd (omega (arith, least_marker-half kind))
-long-HasCount f place kind count body e (inr (at, long)) = long
-
--- what a long marker announces has its count behind the marker
-pub long-Announces : (f : List ℕ) (place : ℕ) (kind : Kind) (count body : ℕ) → IsLong (slice_index f place) → Announces f place kind count body → HasLongCount f place count body
-long-Announces f place kinds.Null count body l a = absurd (omega (arith, IsLong-bounds _ l))
-long-Announces f place kinds.False count body l a = absurd (omega (arith, IsLong-bounds _ l))
-long-Announces f place kinds.True count body l a = absurd (omega (arith, IsLong-bounds _ l))
-long-Announces f place kinds.Int count body l a = absurd (omega (arith, IsLong-bounds _ l))
-long-Announces f place kinds.Real count body l a = absurd (omega (arith, IsLong-bounds _ l))
-long-Announces f place kinds.Date count body l a = absurd (omega (arith, IsLong-bounds _ l))
-long-Announces f place kinds.Uid count body l a = absurd (omega (arith, IsLong-bounds _ l))
-long-Announces f place kinds.Bytes count body l a = long-HasCount f place kinds.Bytes count body (IsLong-bounds _ l).0 a
-long-Announces f place kinds.Ascii count body l a = long-HasCount f place kinds.Ascii count body (IsLong-bounds _ l).0 a
-long-Announces f place kinds.Wide count body l a = long-HasCount f place kinds.Wide count body (IsLong-bounds _ l).0 a
-long-Announces f place kinds.Array count body l a = long-HasCount f place kinds.Array count body (IsLong-bounds _ l).0 a
-long-Announces f place kinds.Set count body l a = long-HasCount f place kinds.Set count body (IsLong-bounds _ l).0 a
-long-Announces f place kinds.Dict count body l a = long-HasCount f place kinds.Dict count body (IsLong-bounds _ l).0 a
-
+-- ---- the kind
 -- a marker is of the kind that is found
 pub kind_marked : (m : ℕ) (kind : Kind) → Marks m kind → kind_at m ≡ kind
 unfolding kind_at
@@ -82,63 +34,104 @@ kind_marked m kinds.Array h = grind (arith, nat_tests)
 kind_marked m kinds.Set h = grind (arith, nat_tests)
 kind_marked m kinds.Dict h = grind (arith, nat_tests)
 
--- a marker is of one kind
-pub Marks-unique : (m : ℕ) (kind other : Kind) → Marks m kind → Marks m other → kind ≡ other
-Marks-unique m kind other h k = sym (kind_marked m kind h) ∙ kind_marked m other k
+-- a marker that says that its count follows is one
+pub long_marks : (m : ℕ) (form : Form) → IsLongOf form m → (least form ≤ m) × (m ≤ greatest form)
+long_marks m (plain low high says) l = absurd l
+long_marks m (counted high) l = (omega arith, omega arith)
 
-marks-HasCount : (f : List ℕ) (place : ℕ) (kind : Kind) (count body : ℕ) → HasCount f place kind count body → (least_marker kind ≤ slice_index f place) × (slice_index f place ≤ least_marker kind + 15)
-marks-HasCount f place kind count body (inl h) = (omega arith, omega arith)
-marks-HasCount f place kind count body (inr h) = (omega arith, omega arith)
+module _ (f : List ℕ) (p : ℕ) where
+  abbrev m : ℕ
+  m = slice_index f p
 
--- what a marker announces is of the marker's kind
-pub marks-Announces : (f : List ℕ) (place : ℕ) (kind : Kind) (count body : ℕ) → Announces f place kind count body → Marks (slice_index f place) kind
-marks-Announces f place kinds.Null count body h = h.0
-marks-Announces f place kinds.False count body h = h.0
-marks-Announces f place kinds.True count body h = h.0
-marks-Announces f place kinds.Int count body h = (omega arith, omega arith)
-marks-Announces f place kinds.Real count body h = (omega arith, omega arith)
-marks-Announces f place kinds.Date count body h = h.0
-marks-Announces f place kinds.Bytes count body h = marks-HasCount f place kinds.Bytes count body h
-marks-Announces f place kinds.Ascii count body h = marks-HasCount f place kinds.Ascii count body h
-marks-Announces f place kinds.Wide count body h = marks-HasCount f place kinds.Wide count body h
-marks-Announces f place kinds.Uid count body h = (omega arith, omega arith)
-marks-Announces f place kinds.Array count body h = marks-HasCount f place kinds.Array count body h
-marks-Announces f place kinds.Set count body h = marks-HasCount f place kinds.Set count body h
-marks-Announces f place kinds.Dict count body h = marks-HasCount f place kinds.Dict count body h
+  abbrev next : ℕ
+  next = slice_index f (p + 1)
 
--- a count behind a marker is one
-HasLongCount-unique : (f : List ℕ) (place c b d e : ℕ) → HasLongCount f place c b → HasLongCount f place d e → (c ≡ d) × (b ≡ e)
-HasLongCount-unique f place c b d e (w, hw, fw, cw, bw) (v, hv, fv, cv, bv) =
-    let same : w ≡ v = omega arith in
-    (cw ∙ ap (λ x. num_at f (place + 2) (2 ^ x)) same ∙ sym cv, bw ∙ ap (λ x. place + 2 + 2 ^ x) same ∙ sym bv)
+  -- what a marker announces is of the marker's form
+  pub announced_marks : (form : Form) (count body : ℕ) → AnnouncesAs f p form count body → (least form ≤ m) × (m ≤ greatest form)
+  announced_marks (plain low high says) count body a = (a.0, a.1)
+  announced_marks (counted high) count body (inl a) = (omega arith, omega arith)
+  announced_marks (counted high) count body (inr a) = (omega arith, omega arith)
 
-HasCount-unique : (f : List ℕ) (place : ℕ) (kind : Kind) (c b d e : ℕ) → HasCount f place kind c b → HasCount f place kind d e → (c ≡ d) × (b ≡ e)
-HasCount-unique f place kind c b d e (inl h) (inl k) = (omega arith, omega arith)
-HasCount-unique f place kind c b d e (inl h) (inr k) = absurd (omega arith)
-HasCount-unique f place kind c b d e (inr h) (inl k) = absurd (omega arith)
-HasCount-unique f place kind c b d e (inr h) (inr k) = HasLongCount-unique f place c b d e h.1 k.1
+  -- what a long marker announces has its count behind the marker
+  pub long-Announces : (kind : Kind) (count body : ℕ) → IsLong m → Announces f p kind count body → HasLongCount f p count body
+  long-Announces kind count body (other, l) a =
+      let same : other ≡ kind = sym (kind_marked m other (long_marks m (form_of other) l)) ∙ kind_marked m kind (announced_marks (form_of kind) count body a) in
+      go (form_of kind) (subst (λ k. IsLongOf (form_of k) m) same l) a
+    where
+      go : (form : Form) → IsLongOf form m → AnnouncesAs f p form count body → HasLongCount f p count body
+      go (plain low high says) l a = absurd l
+      go (counted high) l (inl a) = absurd (omega arith)
+      go (counted high) l (inr a) = a.1
 
--- one kind's count and body are determined
-Announces-same : (f : List ℕ) (place : ℕ) (kind : Kind) (c b d e : ℕ) → Announces f place kind c b → Announces f place kind d e → (c ≡ d) × (b ≡ e)
-Announces-same f place kinds.Null c b d e h k = (omega arith, omega arith)
-Announces-same f place kinds.False c b d e h k = (omega arith, omega arith)
-Announces-same f place kinds.True c b d e h k = (omega arith, omega arith)
-Announces-same f place kinds.Int c b d e (w, hw, fw, cw, bw) (v, hv, fv, cv, bv) =
-    let same : w ≡ v = omega arith in (cw ∙ ap (λ x. 2 ^ x) same ∙ sym cv, bw ∙ sym bv)
-Announces-same f place kinds.Real c b d e (w, lw, hw, fw, cw, bw) (v, lv, hv, fv, cv, bv) =
-    let same : w ≡ v = omega arith in (cw ∙ ap (λ x. 2 ^ x) same ∙ sym cv, bw ∙ sym bv)
-Announces-same f place kinds.Date c b d e h k = (omega arith, omega arith)
-Announces-same f place kinds.Bytes c b d e h k = HasCount-unique f place kinds.Bytes c b d e h k
-Announces-same f place kinds.Ascii c b d e h k = HasCount-unique f place kinds.Ascii c b d e h k
-Announces-same f place kinds.Wide c b d e h k = HasCount-unique f place kinds.Wide c b d e h k
-Announces-same f place kinds.Uid c b d e h k = (omega arith, omega arith)
-Announces-same f place kinds.Array c b d e h k = HasCount-unique f place kinds.Array c b d e h k
-Announces-same f place kinds.Set c b d e h k = HasCount-unique f place kinds.Set c b d e h k
-Announces-same f place kinds.Dict c b d e h k = HasCount-unique f place kinds.Dict c b d e h k
+  -- ---- count and body
+  if_true : {X : Type 0} {t : Bool} {x z : X} (y : X) → t ≡ true → x ≡ z → (if t then x else y) ≡ z
+  if_true {x = x} y e same = ap (λ t. if t then x else y) e ∙ same
 
--- at one place at most one kind, count and body are announced
-pub Announces-unique : (f : List ℕ) (place : ℕ) (kind other : Kind) (c b d e : ℕ) → Announces f place kind c b → Announces f place other d e → (kind ≡ other) × (c ≡ d) × (b ≡ e)
-Announces-unique f place kind other c b d e h k =
-    let one = Marks-unique (slice_index f place) kind other (marks-Announces f place kind c b h) (marks-Announces f place other d e k) in
-    let rest = Announces-same f place other c b d e (subst (λ x. Announces f place x c b) one h) k in
-    (one, rest.0, rest.1)
+  if_false : {X : Type 0} {t : Bool} {y z : X} (x : X) → t ≡ false → y ≡ z → (if t then x else y) ≡ z
+  if_false {y = y} x e same = ap (λ t. if t then x else y) e ∙ same
+
+  -- a count behind the marker is found
+  long_is_found : (count body : ℕ) → HasLongCount f p count body → long_found f p ≡ Some (count, body)
+  long_is_found count body (w, w4, form, c, b) =
+      let t : (nat_le 16 next && nat_le next 20) ≡ true = grind (arith, nat_tests) in
+      let same : next - 16 ≡ w = omega (arith, form) in
+      if_true _ t (ap₂ (λ x y. Some (x, y)) (ap (λ x. num_at f (p + 2) (2 ^ x)) same ∙ sym c) (ap (λ x. p + 2 + 2 ^ x) same ∙ sym b))
+
+  -- what is announced is found
+  announced_found : (form : Form) (count body : ℕ) → AnnouncesAs f p form count body → count_found f p form ≡ Some (count, body)
+  announced_found (plain low high says) count body (l, h, c, b) =
+      let t : (nat_le low m && nat_le m high) ≡ true = grind (arith, nat_tests) in
+      if_true _ t (ap₂ (λ x y. Some (x, y)) (sym c) (sym b))
+  announced_found (counted high) count body (inl (low, at, b)) =
+      let t : (nat_le (16 * high) m && nat_lt m (16 * high + 15)) ≡ true = grind (arith, nat_tests) in
+      if_true _ t (ap₂ (λ x y. Some (x, y)) (omega (arith, at)) (sym b))
+  announced_found (counted high) count body (inr (at, long)) =
+      let t : (nat_le (16 * high) m && nat_lt m (16 * high + 15)) ≡ false = grind (arith, nat_tests) in
+      let u : nat_eq m (16 * high + 15) ≡ true = grind (arith, nat_tests) in
+      if_false _ t (if_true _ u (long_is_found count body long))
+
+  -- what is found is announced
+  found_announced : (form : Form) (x : ℕ × ℕ) → count_found f p form ≡ Some x → AnnouncesAs f p form x.0 x.1
+  found_announced (plain low high says) x e =
+      let r = if_some (nat_le low m && nat_le m high) (says m, p + 1) x e in
+      let t = r.0 in
+      let b : (low ≤ m) × (m ≤ high) = grind (arith, nat_tests) in
+      (b.0, b.1, sym (ap (λ y. y.0) r.1), sym (ap (λ y. y.1) r.1))
+  found_announced (counted high) x e = go (nat_le (16 * high) m && nat_lt m (16 * high + 15)) refl (nat_eq m (16 * high + 15)) refl e
+    where
+      go : (t : Bool) → (nat_le (16 * high) m && nat_lt m (16 * high + 15)) ≡ t → (u : Bool) → nat_eq m (16 * high + 15) ≡ u
+          → (if t then Some (m - 16 * high, p + 1) else if u then long_found f p else None) ≡ Some x → AnnouncesAs f p (counted high) x.0 x.1
+      go true s u v e =
+          let b : (16 * high ≤ m) × (m < 16 * high + 15) = grind (arith, nat_tests) in
+          let r = same_Some (m - 16 * high, p + 1) x e in
+          inl (omega (arith, b, ap (λ y. y.0) r), omega (arith, b, ap (λ y. y.0) r), sym (ap (λ y. y.1) r))
+      go false s true v e =
+          let r = if_some (nat_le 16 next && nat_le next 20) (num_at f (p + 2) (2 ^ (next - 16)), p + 2 + 2 ^ (next - 16)) x e in
+          let t = r.0 in
+          let at : m ≡ 16 * high + 15 = grind (arith, nat_tests) in
+          let b : (16 ≤ next) × (next ≤ 20) = grind (arith, nat_tests) in
+          inr (at, (next - 16, omega (arith, b), omega (arith, b), sym (ap (λ y. y.0) r.1), sym (ap (λ y. y.1) r.1)))
+      go false s false v e = absurd (cc e)
+
+-- ---- the head
+module _ (f : List ℕ) (F : Frame) (n : ℕ) where
+  abbrev o : ℕ
+  o = off f F n
+
+  -- a head that is found is announced
+  pub found_head : (head : Head) → head_found f F n ≡ Some head → HasHead f F n head
+  unfolding head_found
+  found_head head e = go (kind_at (slice_index f o)) (count_found f o (form_of (kind_at (slice_index f o)))) refl e
+    where
+      go : (kind : Kind) (found : Option (ℕ × ℕ)) → count_found f o (form_of kind) ≡ found → head_with f F kind found ≡ Some head → HasHead f F n head
+      go kind None s r = absurd (cc r)
+      go kind (Some x) s r = subst (HasHead f F n) (same_Some _ head r) (found_announced f o (form_of kind) x s, refl)
+
+  -- a head that is announced is found
+  pub head_is_found : (head : Head) → HasHead f F n head → head_found f F n ≡ Some head
+  unfolding head_found
+  head_is_found head h =
+      let kind : kind_at (slice_index f o) ≡ head.kind = kind_marked (slice_index f o) head.kind (announced_marks f o (form_of head.kind) head.count head.body h.0) in
+      ap (λ k. head_with f F k (count_found f o (form_of k))) kind
+      ∙ ap (head_with f F head.kind) (announced_found f o (form_of head.kind) head.count head.body h.0)
+      ∙ ap (λ x. Some (record { kind = head.kind; count = head.count; body = head.body; «end» = x })) (sym h.1)

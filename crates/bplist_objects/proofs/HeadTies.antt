@@ -1,5 +1,5 @@
 -- What is said of an object by place and index is what the definitions say.
-use Rattle.std.proofs.Common.{◌≡◌, ℕ, ◌<◌, ◌≤◌, ◌+◌, ◌*◌, ◌↔◌, List, length, drop, refl, sym, ap, ◌∙◌, subst, arith, length-drop, get_or}
+use Rattle.std.proofs.Common.{◌≡◌, ℕ, ◌<◌, ◌≤◌, ◌+◌, ◌*◌, ◌↔◌, List, slice_index, length, drop, refl, sym, ap, ◌∙◌, subst, arith, length-drop, get_or}
 use Rattle.std.specs.List.{AllByRecursion}
 use Rattle.std.proofs.lemmas.List.{length-take-le}
 use Rattle.std.proofs.lemmas.List.Elements.{recursion_from_All, All-from_get_or, All-from_recursion, All-get_or}
@@ -13,11 +13,12 @@ use Rattle.bplist_objects.specs.Frame.{off, IsFrame}
 use Rattle.bplist_objects.specs.Heads.{Content, refs, unit, HasShape, content_at, IsProperLeaf, Spells, IsHeadOf}
 use Rattle.bplist_objects.specs.Rules.{KeepsAll}
 use Rattle.bplist_objects.specs.Scan.{AreBelow, nth_number}
-use Rattle.bplist_objects.specs.Announced.{Announces, HasHead}
-use Rattle.bplist_objects.specs.ObjectRules.{KeepsByObject, shape_rules, object_rules}
-use Rattle.bplist_objects.proofs.Fronts.{one_shape}
+use Rattle.bplist_objects.specs.Announced.{form_of, IsLong, HasHead}
+use Rattle.bplist_objects.specs.ObjectRules.{KeepsByObject, shape_rules, body_rules, object_rules}
+use Rattle.bplist_objects.proofs.Fronts.{shape_has_head, one_shape}
 use Rattle.bplist_objects.specs.Safe.{ref_count}
-use Rattle.bplist_objects.proofs.AnnouncedHeads.{fronted, announced, announced_short, something_announced}
+use Rattle.bplist_objects.proofs.AnnouncedHeads.{fronted, announced_short, something_announced}
+use Rattle.bplist_objects.proofs.RuleLaws.{kept_all_after}
 use Rattle.bplist_objects.proofs.References.{all_refs, each_ref}
 use Rattle.bplist_objects.proofs.ShapeLaws.{shape_kept}
 use Rattle.bplist_objects.proofs.Parts.{num-part_one, get_or-part}
@@ -44,8 +45,7 @@ module _ (f : List ℕ) (F : Frame) (n : ℕ) where
   -- ---- marker and count
   -- the head of a shape is announced
   pub shape_announced : (head : Head) → HasShape f F n head → HasHead f F n head
-  shape_announced head h =
-      (subst (λ b. Announces f (off f F n) head.kind head.count b) (sym h.body) (announced f (off f F n) head.kind head.count h.front h.rest h.spelled h.is_front), h.end)
+  shape_announced = shape_has_head f F n
 
   -- an object with a shape keeps rules 14 to 17
   pub shape_keeps : (head : Head) → HasShape f F n head → KeepsAll (KeepsByObject f F n) shape_rules
@@ -66,7 +66,7 @@ module _ (f : List ℕ) (F : Frame) (n : ℕ) where
     -- a head that is announced, and whose rules 14 to 17 are kept, is a shape
     pub announced_shape : (head : Head) → HasHead f F n head → KeepsAll (KeepsByObject f F n) shape_rules → HasShape f F n head
     announced_shape head h kept =
-        let short = announced_short f (off f F n) head.kind head.count head.body h.0 in
+        let short = (announced_short f (off f F n) (form_of head.kind) head.count head.body h.0).1 in
         let fr = fronted f (off f F n) head.kind head.count head.body (omega (arith, place_room)) (omega (arith, place_room, short)) h.0 in
         record { front = fr.0; rest = fr.1; low = kept.0; spelled = fr.2; is_front = fr.3; body = fr.4; «end» = h.1; inside = kept.1.1.1.0.1 head h }
 
@@ -115,24 +115,12 @@ module _ (f : List ℕ) (F : Frame) (n : ℕ) where
     pub spells_keeps : (c : Content) → Spells f F n c → KeepsAll (KeepsByObject f F n) object_rules
     spells_keeps c s =
         let head = s.shape in
-        let own = shape_keeps head s.has in
-        let below = each_ref f F (λ m. m < F.objects) head.kind head.count head.body (subst (λ x. AllByRecursion (λ m. m < F.objects) (refs x)) s.means s.refs) in (
-          own.0,
+        let below = each_ref f F (λ m. m < F.objects) head.kind head.count head.body (subst (λ x. AllByRecursion (λ m. m < F.objects) (refs x)) s.means s.refs) in
+        kept_all_after (KeepsByObject f F n) shape_rules body_rules (shape_keeps head s.has) (
+          λ other k. subst (λ x. x.kind ≡ kinds.Ascii → AreBelow f x.body 1 x.count 128) (announced_same head other s.has k) (spelled_ascii head s.has s.proper),
           (
-            own.1.0,
-            (
-              own.1.1.0,
-              (
-                own.1.1.1.0,
-                (
-                  λ other k. subst (λ x. x.kind ≡ kinds.Ascii → AreBelow f x.body 1 x.count 128) (announced_same head other s.has k) (spelled_ascii head s.has s.proper),
-                  (
-                    λ other k. subst (λ x. x.kind ≡ kinds.Uid → num_at f x.body x.count ≤ 4294967295) (announced_same head other s.has k) (spelled_uid head s.proper),
-                    (λ other k. subst (λ x. AreBelow f x.body F.ref_size (ref_count x.kind x.count) F.objects) (announced_same head other s.has k) below, tt),
-                  ),
-                ),
-              ),
-            ),
+            λ other k. subst (λ x. x.kind ≡ kinds.Uid → num_at f x.body x.count ≤ 4294967295) (announced_same head other s.has k) (spelled_uid head s.proper),
+            (λ other k. subst (λ x. AreBelow f x.body F.ref_size (ref_count x.kind x.count) F.objects) (announced_same head other s.has k) below, tt),
           ),
         )
 
@@ -144,7 +132,7 @@ module _ (f : List ℕ) (F : Frame) (n : ℕ) where
     pub kept_announces : KeepsAll (KeepsByObject f F n) shape_rules → (head : Head) × HasHead f F n head
     kept_announces kept =
         let marker = kept.1.0 in
-        let a = something_announced f (off f F n) marker.0 marker.1 (λ long. kept.1.1.0 long (kept.1.1.1.0.0 long)) in
+        let a = something_announced f (off f F n) (form_of marker.0) marker.1 (λ l. let long : IsLong (slice_index f (off f F n)) = (marker.0, l) in kept.1.1.0 long (kept.1.1.1.0.0 long)) in
         (record { kind = marker.0; count = a.0; body = a.1; «end» = a.1 + a.0 * unit F.ref_size marker.0 }, (a.2, refl))
 
     pub keeps_iff : KeepsAll (KeepsByObject f F n) object_rules ↔ ((c : Content) × Spells f F n c)

@@ -1,6 +1,6 @@
 -- Each rule is kept or broken, and so either all rules are kept or there is a first fault.
-use Rattle.std.proofs.Common.{◌≡◌, ℕ, ◌<◌, ◌≤◌, ◌+◌, ◌-◌, ◌*◌, ◌^◌, ◌⊎◌, inl, inr, true, false, IsTrue, List, [], ◌∷◌, length, slice_index, Option, Some, None, refl, sym, ap, ◌∙◌, subst, arith}
-use Rattle.std.proofs.lemmas.Bool.{cases_lt, cases_eq, cases_Bool}
+use Rattle.std.proofs.Common.{◌≡◌, ℕ, ◌<◌, ◌≤◌, ◌+◌, ◌-◌, ◌*◌, ◌^◌, ◌⊎◌, inl, inr, List, [], ◌∷◌, length, slice_index, Option, Some, None, refl, sym, subst, arith}
+use Rattle.std.proofs.lemmas.Bool.{cases_lt, cases_eq}
 use Rattle.bplist_objects.specs.declared.rule.Rule.{Rule}
 use Rattle.bplist_objects.specs.declared.rule.Rule.TheVariants as rules
 use Rattle.bplist_objects.specs.declared.fault.Fault.{Fault}
@@ -14,13 +14,12 @@ use Rattle.bplist_objects.specs.Frame.{off, trailer, header}
 use Rattle.bplist_objects.specs.Rules.{KeepsAll, IsFirstFault}
 use Rattle.bplist_objects.specs.Scan.{AreBelow, IsFirstNotBelow, nth_number}
 use Rattle.bplist_objects.specs.FrameRules.{Keeps, Breaks, frame_rules, IsFrameFault}
-use Rattle.bplist_objects.specs.Announced.{Marks, IsMarker, is_counted, least_marker, IsLong, IsCountForm, HasHead}
+use Rattle.bplist_objects.specs.Announced.{Form, plain, counted, form_of, least, greatest, Marks, IsMarker, IsLong, IsLongOf, HasHead}
 use Rattle.bplist_objects.specs.ObjectRules.{KeepsByObject, BreaksByObject, BreaksAt, IsObjectFault}
 use Rattle.bplist_objects.specs.Safe.{ref_count}
 use Rattle.bplist_objects.specs.Spelled.{kind_at, head_found}
-use Rattle.bplist_objects.proofs.SpelledContents.{found_head, head_is_found}
 use Rattle.bplist_objects.proofs.Lists.{Either, all_or_first}
-use Rattle.bplist_objects.proofs.HeadLaws.{kind_marked}
+use Rattle.bplist_objects.proofs.HeadLaws.{kind_marked, long_marks, found_head, head_is_found}
 use Rattle.bplist_objects.proofs.BodyLaws.{HasHead-unique}
 
 low_or_high : (a b : ℕ) → (a ≤ b) ⊎ (b < a)
@@ -29,13 +28,31 @@ low_or_high a b = elim (cases_lt b a) [
   | inr h ↦ inl h
 ]
 
-between : (a low high : ℕ) → Either ((low ≤ a) × (a ≤ high))
-between a low high = elim (cases_lt a low) [
-  | inl l ↦ inr (λ b. omega (arith, b.0, l))
-  | inr b ↦ elim (cases_lt high a) [
-    | inl l ↦ inr (λ c. omega (arith, c.1, l))
-    | inr c ↦ inl (b, c)
-  ]
+between : (a low high : ℕ) → ((low ≤ a) × (a ≤ high)) ⊎ ((a < low) ⊎ (high < a))
+between a low high = go (low_or_high low a) (low_or_high a high)
+  where
+    go : (low ≤ a) ⊎ (a < low) → (a ≤ high) ⊎ (high < a) → ((low ≤ a) × (a ≤ high)) ⊎ ((a < low) ⊎ (high < a))
+    go (inr l) h = inr (inl l)
+    go (inl l) (inr h) = inr (inr h)
+    go (inl l) (inl h) = inl (l, h)
+
+is_between : (a low high : ℕ) → Either ((low ≤ a) × (a ≤ high))
+is_between a low high = elim (between a low high) [
+  | inl b ↦ inl b
+  | inr (inl l) ↦ inr (λ b. omega (arith, b.0, l))
+  | inr (inr h) ↦ inr (λ b. omega (arith, b.1, h))
+]
+
+-- what is kept or broken where A holds is so without it
+if_so : {A P Q : Type 0} → A ⊎ (A → ⊥) → P ⊎ Q → (A → P) ⊎ (A × Q)
+if_so (inr no1) d = inl (λ a. absurd (no1 a))
+if_so (inl a) (inl p) = inl (λ a. p)
+if_so (inl a) (inr q) = inr (a, q)
+
+is_less : (a b : ℕ) → Either (a < b)
+is_less a b = elim (cases_lt a b) [
+  | inl l ↦ inl l
+  | inr h ↦ inr (λ l. omega (arith, h, l))
 ]
 
 -- numbers are below a bound, or there is a first one that is not
@@ -62,32 +79,18 @@ kept_or_first_fault keeps breaks each (rule ∷ rest) = go (each rule) (kept_or_
     go (inr (object, place, b)) r = inr (record { rule = rule; object = object; place = place }, inl (refl, b))
 
 -- ---- rules 1 to 13
-within_or_not : (a : ℕ) → ((1 ≤ a) × (a ≤ 8)) ⊎ ((a < 1) ⊎ (8 < a))
-within_or_not a = elim (cases_lt a 1) [
-  | inl low ↦ inr (inl low)
-  | inr low ↦ elim (cases_lt 8 a) [
-    | inl high ↦ inr (inr high)
-    | inr high ↦ inl (low, high)
-  ]
-]
-
--- the number that a size has room for
-narrow_or_not : (size n bound : ℕ) → (size < 8 → n < bound) ⊎ ((size < 8) × (bound ≤ n))
-narrow_or_not size n bound = elim (cases_lt n bound) [
-  | inl l ↦ inl (λ s. l)
-  | inr h ↦ elim (cases_lt size 8) [
-    | inl s ↦ inr (s, h)
-    | inr s ↦ inl (λ r. absurd (omega (arith, r, s)))
-  ]
-]
-
 module _ (f : List ℕ) (long : 41 ≤ length f) where
   abbrev F : Frame
   F = trailer f
 
-  -- a rule whose place is so far from the end
-  from_end : (k : ℕ) → k ≤ 41 → length f - k + k ≡ length f
-  from_end k l = omega (arith, l, long)
+  -- a rule that is broken at a place so far from the end
+  at_end : {P Q : Type 0} (k : ℕ) → k ≤ 41 → P ⊎ Q → P ⊎ ((object : Option ObjectNo) × (place : ℕ) × (Q × (object ≡ None) × (place + k ≡ length f)))
+  at_end k l (inl p) = inl p
+  at_end k l (inr q) = inr (None, length f - k, (q, refl, omega (arith, l, long)))
+
+  at_end_narrow : {P Q R : Type 0} (k : ℕ) → k ≤ 41 → P ⊎ (Q × R) → P ⊎ ((object : Option ObjectNo) × (place : ℕ) × (Q × R × (object ≡ None) × (place + k ≡ length f)))
+  at_end_narrow k l (inl p) = inl p
+  at_end_narrow k l (inr (q, r)) = inr (None, length f - k, (q, r, refl, omega (arith, l, long)))
 
   frame_rule_decided : Decided (Keeps f) (Breaks f)
   frame_rule_decided rules.TooLarge = elim (cases_lt 4294967295 (length f)) [
@@ -99,42 +102,15 @@ module _ (f : List ℕ) (long : 41 ≤ length f) where
     | inl all ↦ inl all
     | inr first ↦ inr (None, first.0, (record { within = first.1; wrong = first.2; before = first.3 }, refl))
   ]
-  frame_rule_decided rules.NoObjects = elim (cases_lt F.objects 1) [
-    | inl l ↦ inr (None, length f - 24, (l, refl, from_end 24 (omega arith)))
-    | inr h ↦ inl h
-  ]
-  frame_rule_decided rules.Top = elim (cases_lt F.top.0 F.objects) [
-    | inl l ↦ inl l
-    | inr h ↦ inr (None, length f - 16, (h, refl, from_end 16 (omega arith)))
-  ]
-  frame_rule_decided rules.TableEarly = elim (cases_lt F.table 9) [
-    | inl l ↦ inr (None, length f - 8, (l, refl, from_end 8 (omega arith)))
-    | inr h ↦ inl h
-  ]
-  frame_rule_decided rules.TableLate = elim (cases_lt F.table (length f - 32)) [
-    | inl l ↦ inl l
-    | inr h ↦ inr (None, length f - 8, (h, refl, from_end 8 (omega arith)))
-  ]
-  frame_rule_decided rules.OffsetSize = elim (within_or_not F.offset_size) [
-    | inl k ↦ inl k
-    | inr b ↦ inr (None, length f - 26, (b, refl, from_end 26 (omega arith)))
-  ]
-  frame_rule_decided rules.RefSize = elim (within_or_not F.ref_size) [
-    | inl k ↦ inl k
-    | inr b ↦ inr (None, length f - 25, (b, refl, from_end 25 (omega arith)))
-  ]
-  frame_rule_decided rules.Length = elim (cases_eq (F.table + F.objects * F.offset_size + 32) (length f)) [
-    | inl e ↦ inl e
-    | inr b ↦ inr (None, length f - 32, (b, refl, from_end 32 (omega arith)))
-  ]
-  frame_rule_decided rules.RefNarrow = elim (narrow_or_not F.ref_size F.objects (256 ^ F.ref_size)) [
-    | inl k ↦ inl k
-    | inr b ↦ inr (None, length f - 25, (b.0, b.1, refl, from_end 25 (omega arith)))
-  ]
-  frame_rule_decided rules.OffsetNarrow = elim (narrow_or_not F.offset_size F.table (256 ^ F.offset_size)) [
-    | inl k ↦ inl k
-    | inr b ↦ inr (None, length f - 26, (b.0, b.1, refl, from_end 26 (omega arith)))
-  ]
+  frame_rule_decided rules.NoObjects = at_end 24 (omega arith) (low_or_high 1 F.objects)
+  frame_rule_decided rules.Top = at_end 16 (omega arith) (cases_lt F.top.0 F.objects)
+  frame_rule_decided rules.TableEarly = at_end 8 (omega arith) (low_or_high 9 F.table)
+  frame_rule_decided rules.TableLate = at_end 8 (omega arith) (cases_lt F.table (length f - 32))
+  frame_rule_decided rules.OffsetSize = at_end 26 (omega arith) (between F.offset_size 1 8)
+  frame_rule_decided rules.RefSize = at_end 25 (omega arith) (between F.ref_size 1 8)
+  frame_rule_decided rules.Length = at_end 32 (omega arith) (cases_eq (F.table + F.objects * F.offset_size + 32) (length f))
+  frame_rule_decided rules.RefNarrow = at_end_narrow 25 (omega arith) (if_so (is_less F.ref_size 8) (cases_lt F.objects (256 ^ F.ref_size)))
+  frame_rule_decided rules.OffsetNarrow = at_end_narrow 26 (omega arith) (if_so (is_less F.offset_size 8) (cases_lt F.table (256 ^ F.offset_size)))
   frame_rule_decided rules.OffsetHigh = elim (all_or_first (λ n. off f F n < F.table) (λ n. F.table ≤ off f F n) (λ n. cases_lt (off f F n) F.table) F.objects) [
     | inl all ↦ inl all
     | inr first ↦
@@ -154,48 +130,22 @@ frame_kept_or_fault f = elim (cases_lt (length f) 41) [
 ]
 
 -- ---- rules 14 to 20
-marks_decided : (m : ℕ) (kind : Kind) → Either (Marks m kind)
-marks_decided m kinds.Null = cases_eq m 0
-marks_decided m kinds.False = cases_eq m 8
-marks_decided m kinds.True = cases_eq m 9
-marks_decided m kinds.Int = between m 16 20
-marks_decided m kinds.Real = between m 34 35
-marks_decided m kinds.Date = cases_eq m 51
-marks_decided m kinds.Bytes = between m 64 79
-marks_decided m kinds.Ascii = between m 80 95
-marks_decided m kinds.Wide = between m 96 111
-marks_decided m kinds.Uid = between m 128 143
-marks_decided m kinds.Array = between m 160 175
-marks_decided m kinds.Set = between m 192 207
-marks_decided m kinds.Dict = between m 208 223
-
 marker_decided : (m : ℕ) → Either (IsMarker m)
-marker_decided m = elim (marks_decided m (kind_at m)) [
+marker_decided m = elim (is_between m (least (form_of (kind_at m))) (greatest (form_of (kind_at m)))) [
   | inl h ↦ inl (kind_at m, h)
   | inr no1 ↦ inr (λ is. no1 (subst (Marks m) (sym (kind_marked m is.0 is.1)) is.1))
 ]
 
--- a long marker is of its kind
-long_marks : (m : ℕ) (kind : Kind) → IsTrue (is_counted kind) → m ≡ least_marker kind + 15 → Marks m kind
-long_marks m kinds.Bytes c e = (omega (arith, e), omega (arith, e))
-long_marks m kinds.Ascii c e = (omega (arith, e), omega (arith, e))
-long_marks m kinds.Wide c e = (omega (arith, e), omega (arith, e))
-long_marks m kinds.Array c e = (omega (arith, e), omega (arith, e))
-long_marks m kinds.Set c e = (omega (arith, e), omega (arith, e))
-long_marks m kinds.Dict c e = (omega (arith, e), omega (arith, e))
-long_marks m _ c e = absurd (cc c)
-
 -- a long marker is so of the kind that is found
 long_decided : (m : ℕ) → Either (IsLong m)
-long_decided m = go (cases_Bool (is_counted (kind_at m))) (cases_eq m (least_marker (kind_at m) + 15))
+long_decided m = elim (each (form_of (kind_at m))) [
+  | inl l ↦ inl (kind_at m, l)
+  | inr no1 ↦ inr (λ is. no1 (subst (λ k. IsLongOf (form_of k) m) (sym (kind_marked m is.0 (long_marks m (form_of is.0) is.1))) is.1))
+]
   where
-    own : (is : IsLong m) → kind_at m ≡ is.0
-    own is = kind_marked m is.0 (long_marks m is.0 is.1 is.2)
-
-    go : (is_counted (kind_at m) ≡ true) ⊎ (is_counted (kind_at m) ≡ false) → Either (m ≡ least_marker (kind_at m) + 15) → Either (IsLong m)
-    go (inl c) (inl e) = inl (kind_at m, c, e)
-    go (inl c) (inr no1) = inr (λ is. no1 (subst (λ k. m ≡ least_marker k + 15) (sym (own is)) is.2))
-    go (inr c) e = inr (λ is. let d : is_counted (kind_at m) ≡ true = ap is_counted (own is) ∙ is.1 in cc)
+    each : (form : Form) → Either (IsLongOf form m)
+    each (plain low high says) = inr (λ l. l)
+    each (counted high) = cases_eq m (16 * high + 15)
 
 ascii_decided : (kind : Kind) → Either (kind ≡ kinds.Ascii)
 ascii_decided kinds.Ascii = inl refl
@@ -220,63 +170,42 @@ module _ (f : List ℕ) (F : Frame) (n : ℕ) where
   abbrev o : ℕ
   o = off f F n
 
-  count_decided : Either (IsLong (slice_index f o)) → (o + 1 < F.table) ⊎ (F.table ≤ o + 1) → Either (IsCountForm (slice_index f (o + 1)))
-      → KeepsByObject f F n rules.Count ⊎ ((place : ℕ) × BreaksByObject f F n rules.Count place)
-  count_decided (inr no1) r c = inl (λ long. absurd (no1 long))
-  count_decided (inl long) (inr late) c = inl (λ long1 r. absurd (omega (arith, late, r)))
-  count_decided (inl long) (inl r) (inl form) = inl (λ long1 r1. form)
-  count_decided (inl long) (inl r) (inr no1) = inr (o + 1, (long, r, no1, refl))
+  -- a rule that is broken at this place
+  at : {P Q : Type 0} (p : ℕ) → P ⊎ Q → P ⊎ ((place : ℕ) × (Q × (place ≡ p)))
+  at p (inl k) = inl k
+  at p (inr b) = inr (p, (b, refl))
 
-  extent_decided : Either (IsLong (slice_index f o)) → (o + 1 < F.table) ⊎ (F.table ≤ o + 1)
+  extent_decided : (IsLong (slice_index f o) → o + 1 < F.table) ⊎ (IsLong (slice_index f o) × (F.table ≤ o + 1))
       → (((head : Head) → HasHead f F n head → head.«end» ≤ F.table) ⊎ ((head : Head) × HasHead f F n head × (F.table < head.«end»)))
       → KeepsByObject f F n rules.Extent ⊎ ((place : ℕ) × BreaksByObject f F n rules.Extent place)
-  extent_decided l r (inr late) = inr (o, (inr late, refl))
-  extent_decided (inl long) (inr late) (inl all) = inr (o, (inl (long, late), refl))
-  extent_decided (inl long) (inl r) (inl all) = inl ((λ long1. r), all)
-  extent_decided (inr no1) r (inl all) = inl ((λ long. absurd (no1 long)), all)
+  extent_decided (inr late) h = inr (o, (inl late, refl))
+  extent_decided (inl r) (inr late) = inr (o, (inr late, refl))
+  extent_decided (inl r) (inl all) = inl (r, all)
 
   object_rule_decided : (rule : Rule) → KeepsByObject f F n rule ⊎ ((place : ℕ) × BreaksByObject f F n rule place)
-  object_rule_decided rules.OffsetLow = elim (cases_lt o 8) [
-    | inl l ↦ inr (F.table + n * F.offset_size, (l, refl))
-    | inr h ↦ inl h
-  ]
-  object_rule_decided rules.Marker = elim (marker_decided (slice_index f o)) [
-    | inl k ↦ inl k
-    | inr b ↦ inr (o, (b, refl))
-  ]
-  object_rule_decided rules.Count = count_decided (long_decided (slice_index f o)) (cases_lt (o + 1) F.table) (between (slice_index f (o + 1)) 16 20)
+  object_rule_decided rules.OffsetLow = at (F.table + n * F.offset_size) (low_or_high 8 o)
+  object_rule_decided rules.Marker = at o (marker_decided (slice_index f o))
+  object_rule_decided rules.Count =
+      elim (if_so (long_decided (slice_index f o)) (if_so (is_less (o + 1) F.table) (is_between (slice_index f (o + 1)) 16 20))) [
+        | inl k ↦ inl k
+        | inr b ↦ inr (o + 1, (b.0, b.1.0, b.1.1, refl))
+      ]
   object_rule_decided rules.Extent =
-      extent_decided (long_decided (slice_index f o)) (cases_lt (o + 1) F.table)
+      extent_decided (if_so (long_decided (slice_index f o)) (cases_lt (o + 1) F.table))
       (with_head (λ head. head.«end» ≤ F.table) (λ head. F.table < head.«end») (λ head. low_or_high head.«end» F.table))
   object_rule_decided rules.NotAscii =
       elim (with_head (λ head. head.kind ≡ kinds.Ascii → AreBelow f head.body 1 head.count 128)
-      (λ head. (head.kind ≡ kinds.Ascii) × ((i : ℕ) × IsFirstNotBelow f head.body 1 head.count 128 i)) ascii_each) [
+      (λ head. (head.kind ≡ kinds.Ascii) × ((i : ℕ) × IsFirstNotBelow f head.body 1 head.count 128 i))
+      (λ head. if_so (ascii_decided head.kind) (below_or_first f head.body 1 head.count 128))) [
         | inl k ↦ inl k
         | inr b ↦ inr (b.0.body + b.2.1.0, (b.0, b.2.1.0, b.1, b.2.0, b.2.1.1, refl))
       ]
-    where
-      ascii_each : (head : Head) → (head.kind ≡ kinds.Ascii → AreBelow f head.body 1 head.count 128) ⊎ ((head.kind ≡ kinds.Ascii) × ((i : ℕ) × IsFirstNotBelow f head.body 1 head.count 128 i))
-      ascii_each head = elim (ascii_decided head.kind) [
-        | inr no1 ↦ inl (λ e. absurd (no1 e))
-        | inl e ↦ elim (below_or_first f head.body 1 head.count 128) [
-          | inl all ↦ inl (λ e1. all)
-          | inr first ↦ inr (e, first)
-        ]
-      ]
   object_rule_decided rules.UidLarge =
       elim (with_head (λ head. head.kind ≡ kinds.Uid → num_at f head.body head.count ≤ 4294967295)
-      (λ head. (head.kind ≡ kinds.Uid) × (4294967295 < num_at f head.body head.count)) uid_each) [
+      (λ head. (head.kind ≡ kinds.Uid) × (4294967295 < num_at f head.body head.count))
+      (λ head. if_so (uid_decided head.kind) (low_or_high (num_at f head.body head.count) 4294967295))) [
         | inl k ↦ inl k
         | inr b ↦ inr (o, (b.0, b.1, b.2.0, b.2.1, refl))
-      ]
-    where
-      uid_each : (head : Head) → (head.kind ≡ kinds.Uid → num_at f head.body head.count ≤ 4294967295) ⊎ ((head.kind ≡ kinds.Uid) × (4294967295 < num_at f head.body head.count))
-      uid_each head = elim (uid_decided head.kind) [
-        | inr no1 ↦ inl (λ e. absurd (no1 e))
-        | inl e ↦ elim (low_or_high (num_at f head.body head.count) 4294967295) [
-          | inl low ↦ inl (λ e1. low)
-          | inr high ↦ inr (e, high)
-        ]
       ]
   object_rule_decided rules.RefHigh =
       elim (with_head (λ head. AreBelow f head.body F.ref_size (ref_count head.kind head.count) F.objects)

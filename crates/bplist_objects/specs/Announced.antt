@@ -1,5 +1,5 @@
 -- What the marker and the count at a place announce, by place and index. Source: the format comment of CFBinaryPList.c.
-use Rattle.std.specs.Prelude.{◌≡◌, ◌⊎◌, ℕ, ◌+◌, ◌*◌, ◌^◌, ◌<◌, ◌≤◌, Bool, true, false, IsTrue, List, slice_index}
+use Rattle.std.specs.Prelude.{◌≡◌, ◌⊎◌, ℕ, ◌+◌, ◌-◌, ◌*◌, ◌^◌, ◌<◌, ◌≤◌, Bool, true, false, List, slice_index}
 use Rattle.bplist_objects.specs.declared.frame.Frame.{Frame}
 use Rattle.bplist_objects.specs.declared.kind.Kind.{Kind}
 use Rattle.bplist_objects.specs.declared.kind.Kind.TheVariants as kinds
@@ -8,49 +8,58 @@ use Rattle.bplist_objects.specs.Numbers.{num_at}
 use Rattle.bplist_objects.specs.Frame.{off}
 use Rattle.bplist_objects.specs.Heads.{unit}
 
+-- how markers say a count: each from the least to the greatest its own, or all with this high half in the low half, where 15 says that it follows
+pub data Form : Type 0 where
+  plain : (least greatest : ℕ) → (ℕ → ℕ) → Form
+  counted : (high : ℕ) → Form
+
+-- the markers of each kind and the counts that they say
+abbrev pub form_of : Kind → Form
+form_of kinds.Null = plain 0 0 (λ marker. 0)
+form_of kinds.False = plain 8 8 (λ marker. 0)
+form_of kinds.True = plain 9 9 (λ marker. 0)
+form_of kinds.Int = plain 16 20 (λ marker. 2 ^ (marker - 16))
+form_of kinds.Real = plain 34 35 (λ marker. 2 ^ (marker - 32))
+form_of kinds.Date = plain 51 51 (λ marker. 8)
+form_of kinds.Bytes = counted 4
+form_of kinds.Ascii = counted 5
+form_of kinds.Wide = counted 6
+form_of kinds.Uid = plain 128 143 (λ marker. marker - 127)
+form_of kinds.Array = counted 10
+form_of kinds.Set = counted 12
+form_of kinds.Dict = counted 13
+
+-- the least marker of a form
+abbrev pub least : Form → ℕ
+least (plain low high says) = low
+least (counted high) = 16 * high
+
+-- the greatest marker of a form
+abbrev pub greatest : Form → ℕ
+greatest (plain low high says) = high
+greatest (counted high) = 16 * high + 15
+
 -- the byte is a marker of this kind
 abbrev pub Marks : ℕ → Kind → Type 0
-Marks marker kinds.Null = marker ≡ 0
-Marks marker kinds.False = marker ≡ 8
-Marks marker kinds.True = marker ≡ 9
-Marks marker kinds.Int = (16 ≤ marker) × (marker ≤ 20)
-Marks marker kinds.Real = (34 ≤ marker) × (marker ≤ 35)
-Marks marker kinds.Date = marker ≡ 51
-Marks marker kinds.Bytes = (64 ≤ marker) × (marker ≤ 79)
-Marks marker kinds.Ascii = (80 ≤ marker) × (marker ≤ 95)
-Marks marker kinds.Wide = (96 ≤ marker) × (marker ≤ 111)
-Marks marker kinds.Uid = (128 ≤ marker) × (marker ≤ 143)
-Marks marker kinds.Array = (160 ≤ marker) × (marker ≤ 175)
-Marks marker kinds.Set = (192 ≤ marker) × (marker ≤ 207)
-Marks marker kinds.Dict = (208 ≤ marker) × (marker ≤ 223)
+Marks marker kind = (least (form_of kind) ≤ marker) × (marker ≤ greatest (form_of kind))
 
 -- the byte is a marker
 abbrev pub IsMarker : ℕ → Type 0
 IsMarker marker = (kind : Kind) × Marks marker kind
 
--- the kinds whose marker holds a count, or says that it follows
-abbrev pub is_counted : Kind → Bool
-is_counted kinds.Bytes = true
-is_counted kinds.Ascii = true
-is_counted kinds.Wide = true
-is_counted kinds.Array = true
-is_counted kinds.Set = true
-is_counted kinds.Dict = true
-is_counted _ = false
+-- the marker holds a count, or says that it follows
+abbrev pub is_counted : Form → Bool
+is_counted (plain low high says) = false
+is_counted (counted high) = true
 
--- the least marker of a counted kind
-abbrev pub least_marker : Kind → ℕ
-least_marker kinds.Bytes = 64
-least_marker kinds.Ascii = 80
-least_marker kinds.Wide = 96
-least_marker kinds.Array = 160
-least_marker kinds.Set = 192
-least_marker kinds.Dict = 208
-least_marker _ = 0
+-- the marker is of this form, and says that the count follows
+abbrev pub IsLongOf : Form → ℕ → Type 0
+IsLongOf (plain low high says) marker = ⊥
+IsLongOf (counted high) marker = marker ≡ 16 * high + 15
 
 -- the marker says that the count follows
 abbrev pub IsLong : ℕ → Type 0
-IsLong marker = (kind : Kind) × IsTrue (is_counted kind) × (marker ≡ least_marker kind + 15)
+IsLong marker = (kind : Kind) × IsLongOf (form_of kind) marker
 
 -- the byte behind such a marker is that of an integer of 1 to 16 bytes
 abbrev pub IsCountForm : ℕ → Type 0
@@ -62,25 +71,17 @@ HasLongCount f place count body =
     (w : ℕ) × (w ≤ 4) × (slice_index f (place + 1) ≡ 16 + w) × (count ≡ num_at f (place + 2) (2 ^ w))
     × (body ≡ place + 2 + 2 ^ w)
 
--- the count of a counted kind, and the place after it
-abbrev pub HasCount : List ℕ → ℕ → Kind → ℕ → ℕ → Type 0
-HasCount f place kind count body =
-    ((count < 15) × (slice_index f place ≡ least_marker kind + count) × (body ≡ place + 1))
-    ⊎ ((slice_index f place ≡ least_marker kind + 15) × HasLongCount f place count body)
+-- marker and count are of this form and announce this count and body
+abbrev pub AnnouncesAs : List ℕ → ℕ → Form → ℕ → ℕ → Type 0
+AnnouncesAs f place (plain low high says) count body =
+    (low ≤ slice_index f place) × (slice_index f place ≤ high) × (count ≡ says (slice_index f place)) × (body ≡ place + 1)
+AnnouncesAs f place (counted high) count body =
+    ((count < 15) × (slice_index f place ≡ 16 * high + count) × (body ≡ place + 1))
+    ⊎ ((slice_index f place ≡ 16 * high + 15) × HasLongCount f place count body)
 
 -- marker and count announce this kind, count and body
 abbrev pub Announces : List ℕ → ℕ → Kind → ℕ → ℕ → Type 0
-Announces f place kinds.Null count body = (slice_index f place ≡ 0) × (count ≡ 0) × (body ≡ place + 1)
-Announces f place kinds.False count body = (slice_index f place ≡ 8) × (count ≡ 0) × (body ≡ place + 1)
-Announces f place kinds.True count body = (slice_index f place ≡ 9) × (count ≡ 0) × (body ≡ place + 1)
-Announces f place kinds.Int count body =
-    (w : ℕ) × (w ≤ 4) × (slice_index f place ≡ 16 + w) × (count ≡ 2 ^ w) × (body ≡ place + 1)
-Announces f place kinds.Real count body =
-    (w : ℕ) × (2 ≤ w) × (w ≤ 3) × (slice_index f place ≡ 32 + w) × (count ≡ 2 ^ w) × (body ≡ place + 1)
-Announces f place kinds.Date count body = (slice_index f place ≡ 51) × (count ≡ 8) × (body ≡ place + 1)
-Announces f place kinds.Uid count body =
-    (1 ≤ count) × (count ≤ 16) × (slice_index f place ≡ 127 + count) × (body ≡ place + 1)
-Announces f place kind count body = HasCount f place kind count body
+Announces f place kind count body = AnnouncesAs f place (form_of kind) count body
 
 -- marker and count of object n announce this head
 abbrev pub HasHead : List ℕ → Frame → ℕ → Head → Type 0

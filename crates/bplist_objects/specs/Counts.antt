@@ -1,9 +1,9 @@
 -- What is wrong with a count that stands behind its marker. Source: the format comment of CFBinaryPList.c; places are profile.
-use Rattle.std.specs.Prelude.{◌≡◌, ◌⊎◌, ℕ, ◌+◌, ◌<◌, ◌≤◌, IsTrue, List, slice_index, Some}
+use Rattle.std.specs.Prelude.{◌≡◌, ◌⊎◌, ℕ, ◌+◌, ◌<◌, ◌≤◌, List, slice_index, Some}
 use Rattle.bplist_objects.specs.declared.rule.Rule.TheVariants.{Count, Extent}
 use Rattle.bplist_objects.specs.declared.fault.Fault.{Fault}
 use Rattle.bplist_objects.specs.declared.kind.Kind.{Kind}
-use Rattle.bplist_objects.specs.Announced.{IsCountForm, HasLongCount, is_counted, least_marker}
+use Rattle.bplist_objects.specs.Announced.{form_of, IsLongOf, IsCountForm, HasLongCount}
 
 -- the byte behind the marker lies before the table and is no integer's marker
 abbrev pub IsFormFault : List ℕ → ℕ → ℕ → Fault → Type 0
@@ -25,4 +25,4 @@ IsLongCountFault f table place n fault =
 -- the marker of a counted kind says that the count stands behind it, and there is something wrong with that
 abbrev pub IsCountFault : List ℕ → ℕ → ℕ → ℕ → Kind → ℕ → Fault → Type 0
 IsCountFault f table place n kind marker fault =
-    IsTrue (is_counted kind) × (marker ≡ least_marker kind + 15) × IsLongCountFault f table place n fault
+    IsLongOf (form_of kind) marker × IsLongCountFault f table place n fault

@@ -3,7 +3,7 @@
 ghost use Rattle.std.specs.Prelude.{◌≡◌, ℕ, ◌+◌, ◌^◌, ◌≤◌, ◌<◌, List, false, IfOk, length, slice_index};
 ghost use Rattle.bplist_octets.specs.Meaning.{OnlyReads, Honestly};
 ghost use Rattle.bplist_objects.specs.Answers.{Gives, read_failed};
-ghost use Rattle.bplist_objects.specs.Announced.{Marks, is_counted, HasLongCount, Announces};
+ghost use Rattle.bplist_objects.specs.Announced.{Marks, form_of, is_counted, HasLongCount, Announces};
 ghost use Rattle.bplist_objects.specs.Safe.{MayCount};
 ghost use Rattle.bplist_objects.specs.Counts.{IsLongCountFault, IsCountFault};
 
@@ -62,7 +62,7 @@ fn long_count<S: Source>(
 /// The count of an object of a kind whose marker says all.
 fn fixed_count(kind: Kind, marker: u8) -> u8
     requires marks { Marks marker kind }
-    requires fixed { is_counted kind ≡ false }
+    requires fixed { is_counted (form_of kind) ≡ false }
     ensures announces { (f : List ℕ) (place : ℕ) → slice_index f place ≡ marker → Announces f place kind result (place + 1) }
     ensures may { MayCount kind result }
 {

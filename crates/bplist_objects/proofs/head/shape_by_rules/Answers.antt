@@ -25,7 +25,7 @@ returns-then-count-room-clause-rules g c = λ honest framed at.
     let head : Head = record { kind = c.in-Some.kind; count = c.in_ok-count.count; body = c.in_ok-count.body; «end» = c.in_ok-count.body + c.in_ok-count.count * unit } in
     let announced = subst (λ x. Announces f x c.in-Some.kind c.in_ok-count.count c.in_ok-count.body) at has in
     let late = no_room c.args.frame.now.table c.in_ok-count.body c.in_ok-count.count unit c.in_ok-count.ensures.safe.1 (unit-pos c.args.frame.now.ref_size c.in-Some.kind c.requires.safe.ref_low) (elim c.then-count-room.branch [ then-count-room-via-then-count-room w ↦ inl w.if-count-room.true | then-count-room-via-else-count-room+then-count-unit w ↦ inr (rw c.unit_of-unit.ensures at w.if-count-unit.true) ]) in
-    rw c.broken-then-count-room.ensures (shape_extent f c.args.frame.now c.args.n.0 (omega arith) head (announced, refl) late _ (ap (λ x. record { rule = Extent; object = Some c.args.n; place = x }) at))
+    rw c.broken-then-count-room.ensures (shape_extent f c.args.frame.now c.args.n.0 (omega arith) head (announced, refl) late (record { rule = Extent; object = Some c.args.n; place = c.args.place }) refl refl at)
 
 pub returns-clause-rules : goal.returns-clause-rules
 returns-clause-rules g c = λ honest framed at.
