@@ -25,7 +25,6 @@ mod circling;
 mod faults;
 mod heights;
 mod key_lists;
-mod key_names;
 mod keys;
 mod laws;
 mod linting;
