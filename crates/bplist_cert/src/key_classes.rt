@@ -1,7 +1,7 @@
 //! Whether the keys of vouched dictionaries are texts that differ, by the classes of the texts: rules 21 and 22 on the way to
 //! a yes.
 
-ghost use Rattle.std.specs.Prelude.{◌≡◌, ◌+◌, ◌≤◌, ◌<◌, ℕ, IsTrue, IfOk, length, slice_index};
+ghost use Rattle.std.specs.Prelude.{◌≡◌, ◌<◌, ℕ, IsTrue, IfOk, length};
 ghost use Rattle.bplist_octets.specs.Meaning.{OnlyReads};
 ghost use Rattle.bplist_objects.specs.Framed.{HonestlyBy};
 ghost use Rattle.bplist_objects.specs.Frame.{off};
@@ -11,7 +11,7 @@ ghost use Rattle.bplist_objects.specs.Rules.{KeepsAll};
 ghost use Rattle.bplist_objects.specs.ObjectRules.{KeepsByObject, object_rules};
 ghost use Rattle.bplist_objects.specs.declared.head.Head.{Head as head_record};
 ghost use Rattle.bplist_objects.specs.declared.kind.Kind.TheVariants.{Dict};
-ghost use Rattle.bplist_keys.specs.Classes.{AreClassed};
+ghost use Rattle.bplist_keys.specs.Classes.{AreClassed, IsStamped, IsNew};
 ghost use Rattle.bplist_cert.specs.Valid.{IsVouchedBy};
 ghost use Rattle.bplist_cert.specs.Looks.{AreSeen};
 ghost use Rattle.bplist_cert.specs.KeyClasses.{KeysAreSound, HasGoodKeys};
@@ -36,13 +36,12 @@ fn has_good_keys<S: Source>(
     requires within { n < frame.now.objects }
     ensures reads { OnlyReads (refused_read result) (S.means src.old) (S.means src.new) }
     ensures same { table.new.classes.table.items ≡ table.old.classes.table.items }
-    ensures low { IsTrue (S.means src.old).honest → ((x : ℕ) → slice_index table.old.seen.items x ≤ n)
-        → IfOk result (λ good. IsTrue good → (x : ℕ) → slice_index table.new.seen.items x ≤ n + 1) }
+    ensures stamped { IsStamped n table.old.seen.items table.new.seen.items }
     ensures exact { HonestlyBy (S.means src.old) frame.now (λ f F. place ≡ off f F n
         → KeepsAll (KeepsByObject f F n) object_rules
         → ((head : head_record) → HasHead f F n head → head.kind ≡ Dict
         → AreClassed f F table.old.classes.table.items head × KeysAreSound f F head)
-        → ((x : ℕ) → slice_index table.old.seen.items x ≤ n)
+        → IsNew table.old.seen.items n
         → IfOk result (λ good. IsTrue good → HasGoodKeys f F n)) }
 {
     let _objects = frame.objects;

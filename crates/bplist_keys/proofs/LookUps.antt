@@ -2,16 +2,16 @@
 use Rattle.std.proofs.Common.{◌≡◌, ◌≢◌, ℕ, ◌+◌, ◌-◌, ◌<◌, ◌≤◌, List, set, slice_index, Option, Some, None, MatchOption, IfSome, sym, ap, ◌∙◌, subst, inl, inr, arith}
 use Rattle.std.proofs.lemmas.Bool.{cases_eq}
 use Rattle.std.proofs.lemmas.List.{get_or-set_same, get_or-set_other}
-use Rattle.bplist_keys.specs.Classes.{IsFound, AreApart, IsFirstAgain, AreSeen, HaveClasses}
-use Rattle.bplist_keys.specs.declared.class_table.Found.TheVariants.{First, Again}
+use Rattle.bplist_keys.specs.Classes.{IsFound, IsStamped, IsNew, AreApart, IsFirstAgain, AreSeen, HaveClasses}
+use Rattle.bplist_keys.specs.declared.class_table.Found.{Found}
+use Rattle.bplist_keys.specs.declared.class_table.Found.TheVariants.{NoText, First, Again}
 
 -- none was looked up yet
-pub seen_none : (key : ℕ → ℕ) (classes : List ℕ) (n : ℕ) (seen : List ℕ) → ((x : ℕ) → slice_index seen x ≤ n) → AreSeen key classes n seen 0 None
-seen_none key classes n seen low = record {
+pub seen_none : (key : ℕ → ℕ) (classes : List ℕ) (n : ℕ) (seen : List ℕ) → IsNew seen n → AreSeen key classes n seen 0 None
+seen_none key classes n seen new = record {
   texts = λ i l. absurd (omega (arith, l));
   stamped = λ i l. absurd (omega (arith, l));
-  only = λ x e. absurd (let l = low x in omega (arith, l, e));
-  low = λ x. let l = low x in omega (arith, l);
+  only = λ x e. absurd (new x e);
   first = λ i j a b. absurd (omega (arith, b));
 }
 
@@ -36,10 +36,6 @@ module _ (key : ℕ → ℕ) (classes : List ℕ) (n k : ℕ) (seen : List ℕ) 
     only = λ x e. elim (cases_eq x row) [
       | inl same ↦ (k, omega arith, omega (arith, same, found.0))
       | inr d ↦ let o = s.only x (rw (old x d) at e) in (o.0, omega (arith, o.1), o.2)
-    ];
-    low = λ x. elim (cases_eq x row) [
-      | inl same ↦ rw (same, new) (omega arith)
-      | inr d ↦ rw (old x d) (s.low x)
     ];
     first = first_still again s.first;
   })
@@ -72,7 +68,6 @@ module _ (key : ℕ → ℕ) (classes : List ℕ) (n k : ℕ) (seen : List ℕ) 
       | inr d ↦ s.stamped i (omega (arith, low, d))
     ];
     only = λ x h. let o = s.only x h in (o.0, omega (arith, o.1), o.2);
-    low = s.low;
     first = first_now again s.first which;
   })
     where
@@ -89,6 +84,33 @@ module _ (key : ℕ → ℕ) (classes : List ℕ) (n k : ℕ) (seen : List ℕ) 
             }),
           )
       first_now (Some j) h is = (omega (arith, h.0, is), subst (IsFirstAgain key classes) (sym is) h.1)
+
+-- one look at a key of dictionary n stamps with its number alone
+pub stamped_more : (classes : List ℕ) (n m : ℕ) (first seen : List ℕ) → IsStamped n first seen → (found : Found) (seen' : List ℕ) → IsFound classes n m seen found seen' → IsStamped n first seen'
+stamped_more classes n m first seen before NoText seen' is = subst (IsStamped n first) (sym is.1) before
+stamped_more classes n m first seen before Again seen' is = subst (IsStamped n first) (sym is.2) before
+stamped_more classes n m first seen before First seen' is = subst (IsStamped n first) (sym is.3) (λ x. elim (cases_eq x (slice_index classes m - 1)) [
+  | inl same ↦ inl (rw same (get_or-set_same seen (slice_index classes m - 1) (n + 1) 0 is.2))
+  | inr d ↦ rw (get_or-set_other seen (slice_index classes m - 1) x (n + 1) 0 d) (before x)
+])
+
+-- where only lesser dictionaries were seen, this one was not
+pub new_low : (n : ℕ) (seen : List ℕ) → ((x : ℕ) → slice_index seen x ≤ n) → IsNew seen n
+new_low n seen low x e = absurd (let l = low x in omega (arith, l, e))
+
+-- after it no greater one was seen
+pub stamped_low : (n : ℕ) (seen seen' : List ℕ) → IsStamped n seen seen' → ((x : ℕ) → slice_index seen x ≤ n) → (x : ℕ) → slice_index seen' x ≤ n + 1
+stamped_low n seen seen' stamped low x = elim (stamped x) [
+  | inl is ↦ omega (arith, is)
+  | inr same ↦ let l = low x in omega (arith, same, l)
+]
+
+-- another dictionary that was not seen is not seen after it
+pub stamped_new : (n m : ℕ) (seen seen' : List ℕ) → IsStamped n seen seen' → m ≢ n → IsNew seen m → IsNew seen' m
+stamped_new n m seen seen' stamped other new x e = elim (stamped x) [
+  | inl is ↦ absurd (other (omega (arith, is, e)))
+  | inr same ↦ new x (sym same ∙ e)
+]
 
 -- a key before some number comes before a later one
 pub some_later : (found : Option ℕ) (a b : ℕ) → a ≤ b → IfSome found (λ j. j < a) → IfSome found (λ j. j < b)

@@ -1,5 +1,5 @@
 -- The keys of dictionaries by the classes of their texts. Source: profile.
-use Rattle.std.specs.Prelude.{◌≡◌, ◌≢◌, ◌↔◌, ℕ, ◌+◌, ◌-◌, ◌<◌, ◌≤◌, List, length, set, slice_index, Option, MatchOption}
+use Rattle.std.specs.Prelude.{◌≡◌, ◌≢◌, ◌↔◌, ◌⊎◌, ℕ, ◌+◌, ◌-◌, ◌<◌, List, length, set, slice_index, Option, MatchOption}
 use Rattle.bplist_objects.specs.declared.frame.Frame.{Frame}
 use Rattle.bplist_objects.specs.declared.head.Head.{Head}
 use Rattle.bplist_objects.specs.declared.kind.Kind.TheVariants.{Dict}
@@ -38,6 +38,14 @@ IsFound classes n m seen founds.First seen' =
 IsFound classes n m seen founds.Again seen' =
     (0 < slice_index classes m) × (slice_index seen (slice_index classes m - 1) ≡ n + 1) × (seen' ≡ seen)
 
+-- for each class the dictionary that it was seen in last is the same, or it is n now
+abbrev pub IsStamped : ℕ → List ℕ → List ℕ → Type 0
+IsStamped n seen seen' = (x : ℕ) → (slice_index seen' x ≡ n + 1) ⊎ (slice_index seen' x ≡ slice_index seen x)
+
+-- no class was seen in dictionary n yet
+abbrev pub IsNew : List ℕ → ℕ → Type 0
+IsNew seen n = (x : ℕ) → slice_index seen x ≢ n + 1
+
 module _ (key : ℕ → ℕ) (classes : List ℕ) where
   -- the first so many keys are of different classes
   abbrev pub AreApart : ℕ → Type 0
@@ -59,7 +67,6 @@ module _ (key : ℕ → ℕ) (classes : List ℕ) where
     pub texts : HaveClasses count
     pub stamped : (i : ℕ) → i < count → slice_index seen (slice_index classes (key i) - 1) ≡ n + 1
     pub only : (x : ℕ) → slice_index seen x ≡ n + 1 → (i : ℕ) × (i < count) × (slice_index classes (key i) ≡ x + 1)
-    pub low : (x : ℕ) → slice_index seen x ≤ n + 1
     pub first : MatchOption again (AreApart count) (λ j. (j < count) × IsFirstAgain j)
 
   -- what is wrong with so many keys

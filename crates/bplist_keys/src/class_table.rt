@@ -1,6 +1,6 @@
 //! The classes of the texts that are named as keys, and in which dictionary each was seen last.
 
-ghost use Rattle.std.specs.Prelude.{◌≡◌, ◌+◌, ◌-◌, ◌≤◌, ◌<◌, ◌^◌, ℕ, IsTrue, IfOk, IfSome, MatchOption, is_err, length, slice_index};
+ghost use Rattle.std.specs.Prelude.{◌≡◌, ◌+◌, ◌-◌, ◌<◌, ◌^◌, ℕ, IsTrue, IfOk, IfSome, MatchOption, is_err, length, slice_index};
 ghost use Rattle.bplist_octets.specs.Meaning.{OnlyReads};
 ghost use Rattle.bplist_objects.specs.Safe.{IsSafe, IsSafeHead};
 ghost use Rattle.bplist_objects.specs.declared.kind.Kind.TheVariants.{Dict};
@@ -52,7 +52,7 @@ fn earlier(found: Option<u64>, k: u64) -> u64
 
 impl ClassTable {
     ghost use Rattle.bplist_keys.specs.declared.class_table.Wrong.TheVariants.{NoText};
-    ghost use Rattle.bplist_keys.specs.Classes.{IsFound, AreSeen, HaveClasses, AreApart, IsWrong, wrong_key};
+    ghost use Rattle.bplist_keys.specs.Classes.{IsFound, IsStamped, IsNew, AreSeen, HaveClasses, AreApart, IsWrong, wrong_key};
 
     /// None of these classes was seen yet.
     pub fn new(alloc: Global, classes: Ranks) -> Result<ClassTable, AllocError>
@@ -103,6 +103,7 @@ impl ClassTable {
             → MatchOption result
             (AreSeen key self.old.classes.table.items n self.new.seen.items (done + length numbers.now) again.new)
             (λ i. IsWrong key self.old.classes.table.items (done + length numbers.now) (NoText i)) }
+        ensures stamped { IsStamped n self.old.seen.items self.new.seen.items }
     {
         for (k, m) in numbers.iter().enumerate() {
             match self.look_up(n, *m) {
@@ -128,12 +129,12 @@ impl ClassTable {
         requires few { n < 2 ^ 32 - 1 }
         ensures reads { OnlyReads (is_err result) (S.means src.old) (S.means src.new) }
         ensures same { self.new.classes.table.items ≡ self.old.classes.table.items }
+        ensures stamped { IsStamped n self.old.seen.items self.new.seen.items }
         ensures inside { IfOk result (λ found. IfSome found (λ wrong. wrong_key wrong < head.now.count)) }
-        ensures exact { IsTrue (S.means src.old).honest → ((x : ℕ) → slice_index self.old.seen.items x ≤ n)
+        ensures exact { IsTrue (S.means src.old).honest → IsNew self.old.seen.items n
             → IfOk result (λ found. MatchOption found
             (HaveClasses (key_ref (S.means src.old).octets frame.now head.now) self.old.classes.table.items head.now.count
-            × AreApart (key_ref (S.means src.old).octets frame.now head.now) self.old.classes.table.items head.now.count
-            × ((x : ℕ) → slice_index self.new.seen.items x ≤ n + 1))
+            × AreApart (key_ref (S.means src.old).octets frame.now head.now) self.old.classes.table.items head.now.count)
             (IsWrong (key_ref (S.means src.old).octets frame.now head.now) self.old.classes.table.items head.now.count)) }
     {
         let count = head.count;

@@ -1,6 +1,6 @@
 //! The objects that are named as keys.
 
-ghost use Rattle.std.specs.Prelude.{◌≡◌, ◌≤◌, ◌<◌, ◌^◌, ℕ, IsTrue, IfOk, OnOk, is_err, length, set, replicate, slice_index};
+ghost use Rattle.std.specs.Prelude.{◌≡◌, ◌⊎◌, Contains, ◌≤◌, ◌<◌, ◌^◌, ℕ, IsTrue, IfOk, OnOk, is_err, length, set, replicate, slice_index};
 ghost use Rattle.bplist_octets.specs.Meaning.{OnlyReads};
 ghost use Rattle.bplist_objects.specs.Safe.{IsSafe, IsSafeHead};
 ghost use Rattle.bplist_objects.specs.declared.kind.Kind.TheVariants.{Dict};
@@ -37,20 +37,22 @@ impl NamedKeys {
     {
         self.table[m as usize] = 1;
     }
-}
 
-/// Puts those of the numbers that are objects among the named.
-fn insert_all(named: &mut NamedKeys, numbers: &[u64])
-    requires { length named.old.table.items < 2 ^ 32 }
-    ensures all { length named.new.table.items ≡ length named.old.table.items }
-    ensures keeps { (m : ℕ) → 0 < slice_index named.old.table.items m → 0 < slice_index named.new.table.items m }
-    ensures named { (k : ℕ) → k < length numbers.now → slice_index numbers.now k < length named.new.table.items
-        → 0 < slice_index named.new.table.items (slice_index numbers.now k) }
-{
-    let objects = named.table.len() as u64;
-    for m in numbers {
-        if *m < objects {
-            named.insert(*m as u32);
+    /// Those of the numbers that are objects are named as keys.
+    pub fn insert_all(&mut self, numbers: &[u64])
+        requires { length self.old.table.items < 2 ^ 32 }
+        ensures all { length self.new.table.items ≡ length self.old.table.items }
+        ensures keeps { (m : ℕ) → 0 < slice_index self.old.table.items m → 0 < slice_index self.new.table.items m }
+        ensures named { (k : ℕ) → k < length numbers.now → slice_index numbers.now k < length self.new.table.items
+            → 0 < slice_index self.new.table.items (slice_index numbers.now k) }
+        ensures only { (m : ℕ) → 0 < slice_index self.new.table.items m
+            → (0 < slice_index self.old.table.items m) ⊎ Contains numbers.now m }
+    {
+        let objects = self.table.len() as u64;
+        for m in numbers {
+            if *m < objects {
+                self.insert(*m as u32);
+            }
         }
     }
 }
@@ -81,7 +83,7 @@ fn name_block<S: Source>(
     let mut buffer = [0u64; BLOCK];
     let numbers = &mut buffer[..count as usize];
     read_refs(src, frame, head, from, numbers)?;
-    insert_all(named, numbers);
+    named.insert_all(numbers);
     Ok(from + count)
 }
 

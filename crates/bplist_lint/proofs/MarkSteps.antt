@@ -1,8 +1,8 @@
 -- Steps of the walk that marks the references of one object.
-use Rattle.std.proofs.Common.{◌≡◌, ◌≢◌, ℕ, ◌+◌, ◌-◌, ◌<◌, ◌≤◌, ◌⊎◌, inl, inr, Bool, true, false, List, [], ◌∷◌, ◌++◌, length, get_or, set, Contains, sym, ◌∙◌, arith}
+use Rattle.std.proofs.Common.{◌≡◌, ◌≢◌, ℕ, ◌+◌, ◌-◌, ◌<◌, ◌≤◌, ◌⊎◌, inl, inr, Bool, true, false, List, [], ◌∷◌, ◌++◌, length, get_or, slice_index, set, take, Contains, sym, ◌∙◌, arith}
 use Rattle.std.proofs.Common.{below_more}
 use Rattle.std.proofs.lemmas.Bool.{cases_eq, cases_lt, false≢true}
-use Rattle.std.proofs.lemmas.List.{get_or-set_same, get_or-set_other, get_or_default}
+use Rattle.std.proofs.lemmas.List.{get_or-set_same, get_or-set_other, get_or-take, length-take-le, get_or_default}
 use Rattle.std.proofs.lemmas.List.Elements.{Contains-append_left, Contains-push, Contains-push_cases, Contains-get_or}
 use Rattle.bplist_lint.specs.Reaching.{IsMarked}
 use Rattle.bplist_lint.specs.Walks.{AreApart, Noted}
@@ -137,3 +137,10 @@ module _ (references : List ℕ) (next : ℕ) (marks : List Bool) (stack : List 
                 rw e at (rw (same (k - i) part) at (t.all (k - i) part))
           ];
         }
+
+-- what is named of the front of a block is named of the block
+pub named_front : (keys : ℕ) (block table : List ℕ) (j m : ℕ) → j < keys → keys ≤ length block → slice_index block j ≡ m → m < length table
+    → ((k : ℕ) → k < length (take keys block) → slice_index (take keys block) k < length table → 0 < slice_index table (slice_index (take keys block) k)) → 0 < slice_index table m
+named_front keys block table j m low few is inside named =
+    let here : slice_index (take keys block) j ≡ m = get_or-take keys block j 0 low ∙ is in
+    rw here at (named j (rw (length-take-le keys block few) low) (rw here inside))

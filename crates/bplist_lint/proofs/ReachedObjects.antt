@@ -1,5 +1,5 @@
 -- One visit of a reached object: the rules that it keeps, and its references.
-use Rattle.std.proofs.Common.{◌≡◌, ℕ, ◌<◌, ◌≤◌, inl, inr, Bool, true, List, [], ◌∷◌, ◌++◌, length, set, ap, subst, arith, Result, Ok, Err, OnOk}
+use Rattle.std.proofs.Common.{◌≡◌, ℕ, ◌<◌, ◌≤◌, inl, inr, Bool, true, List, [], ◌∷◌, ◌++◌, length, slice_index, set, ap, subst, arith, Result, Ok, Err, OnOk}
 use Rattle.bplist_objects.specs.declared.frame.Frame.{Frame}
 use Rattle.bplist_objects.specs.declared.head.Head.{Head}
 use Rattle.bplist_objects.specs.declared.kind.Kind.{Kind}
@@ -14,21 +14,27 @@ use Rattle.bplist_objects.specs.Safe.{ref_count}
 use Rattle.bplist_objects.specs.Scan.{AreBelow}
 use Rattle.bplist_objects.specs.Spelled.{refs_at}
 use Rattle.bplist_objects.proofs.BodyLaws.{HasHead-unique}
-use Rattle.bplist_objects.proofs.ReachedObjects.{refs_spelled}
+use Rattle.bplist_objects.proofs.Reaching.{refs_spelled}
 use Rattle.bplist_objects.proofs.References.{length-refs}
 use Rattle.bplist_objects.proofs.RuleLaws.{kept_all_after}
-use Rattle.bplist_objects.proofs.HeadTies.{head_tie, shape_tie}
+use Rattle.bplist_objects.proofs.Ties.{head_tie, shape_tie}
+use Rattle.bplist_keys.specs.Classes.{key_ref}
 use Rattle.bplist_lint.specs.declared.tally.Tally.{Tally}
 use Rattle.bplist_lint.specs.Tallies.{IsTalliedWith}
 use Rattle.bplist_lint.specs.Walks.{Noted, IsWalkState}
-use Rattle.bplist_lint.proofs.MarkSteps.{noted_none, fresh-set}
-use Rattle.bplist_lint.proofs.ObjectReferences.{no_refs_leaf}
+use Rattle.bplist_lint.proofs.Noting.{noted_none, fresh-set}
+use Rattle.bplist_lint.proofs.Referring.{no_refs_leaf}
 use Rattle.bplist_lint.proofs.Walks.{walking_visit}
 
 -- what holds where the answer is Ok, and what follows from it
 pub both_ok : {X E P Q R : Type 0} (r : Result X E) → OnOk r P → OnOk r Q → (P → Q → R) → OnOk r R
 both_ok (Ok x) h k then = then h k
 both_ok (Err e) h k then = h
+
+-- two facts of an answer that is Ok
+pub both_with : {X E : Type 0} (P Q : Type 0) (r : Result X E) → OnOk r P → OnOk r Q → OnOk r (P × Q)
+both_with P Q (Ok x) h k = (h, k)
+both_with P Q (Err e) h k = h
 
 module _ (f : List ℕ) (F : Frame) (n : ℕ) (head : Head) (has : HasHead f F n head) (kept : KeepsAll (KeepsByObject f F n) shape_rules) where
   -- what is said of this head is said of any that the object has
@@ -63,21 +69,25 @@ module _ (f : List ℕ) (F : Frame) (n : ℕ) (head : Head) (has : HasHead f F n
       let no1 = none_of head.kind head.count some in
       body_kept (λ e. absurd (no1.0 e)) (λ e. absurd (no1.1 e)) below
 
-  module _ (frame : IsFrame f F) (within : n < F.objects) (next : ℕ) (stack : List ℕ) (marks bare : List Bool) (tally tally' : Tally) (w : IsWalkState f F next (stack ++ n ∷ []) marks bare tally) (t : IsTalliedWith tally (off f F n) head tally') where
+  module _ (frame : IsFrame f F) (within : n < F.objects) (next : ℕ) (stack : List ℕ) (marks bare : List Bool) (keys : List ℕ) (tally tally' : Tally) (w : IsWalkState f F next (stack ++ n ∷ []) marks bare keys tally) (t : IsTalliedWith tally (off f F n) head tally') where
     -- an object without references was visited
-    pub walking_leaf : ref_count head.kind head.count ≡ 0 → KeepsAll (KeepsByObject f F n) object_rules → IsWalkState f F next stack marks (set bare n true) tally'
+    pub walking_leaf : ref_count head.kind head.count ≡ 0 → KeepsAll (KeepsByObject f F n) object_rules → IsWalkState f F next stack marks (set bare n true) keys tally'
     walking_leaf none all =
         let empty : refs_at f F n ≡ [] = no_refs_leaf f F n head ((shape_tie f F n frame within head).0 (has, kept)) none in
         let noted : Noted (refs_at f F n) next (length (refs_at f F n)) marks stack marks stack = rw (ap length empty) (noted_none (refs_at f F n) next marks stack) in
-        walking_visit f F frame next n within stack marks bare tally w head has all stack marks (set bare n true) tally' noted
-        (λ m h. elim (fresh-set bare n m h) [ inl old ↦ w.bare_known m old | inr e ↦ rw e empty ]) t
+        walking_visit f F frame next n within stack marks bare keys tally w head has all stack marks (set bare n true) keys tally' noted
+        (λ m h. elim (fresh-set bare n m h) [ inl old ↦ w.bare_known m old | inr e ↦ rw e empty ]) (λ m h. h)
+        (λ other h dict k low. let has_none : ref_count other.kind other.count ≡ 0 = subst (λ (x : Head). ref_count x.kind x.count ≡ 0) (HasHead-unique f F n head other has h) none in
+        absurd (let zero = rw dict at has_none in omega (arith, zero, low))) t
 
     -- an object whose references are marked was visited
-    pub walking_container : 0 < ref_count head.kind head.count → AreBelow f head.body F.ref_size (ref_count head.kind head.count) F.objects → (stack' : List ℕ) (marks' : List Bool)
-        → Noted (refs (content_at f F head)) next (ref_count head.kind head.count) marks stack marks' stack' → IsWalkState f F next stack' marks' bare tally'
-    walking_container some below stack' marks' noted =
+    pub walking_container : 0 < ref_count head.kind head.count → AreBelow f head.body F.ref_size (ref_count head.kind head.count) F.objects → (stack' : List ℕ) (marks' : List Bool) (keys' : List ℕ)
+        → Noted (refs (content_at f F head)) next (ref_count head.kind head.count) marks stack marks' stack'
+        → ((m : ℕ) → 0 < slice_index keys m → 0 < slice_index keys' m) → (head.kind ≡ kinds.Dict → (k : ℕ) → k < head.count → 0 < slice_index keys' (key_ref f F head k)) → IsWalkState f F next stack' marks' bare keys' tally'
+    walking_container some below stack' marks' keys' noted more named =
         let all = container_kept some below in
         let spelled = (head_tie f F n frame within head).0 (has, all) in
         let same : refs_at f F n ≡ refs (content_at f F head) = refs_spelled f F n (content_at f F head) spelled.1 in
-        walking_visit f F frame next n within stack marks bare tally w head has all stack' marks' bare tally'
-        (rw (same, length-refs f F head.kind head.count head.body) noted) w.bare_known t
+        walking_visit f F frame next n within stack marks bare keys tally w head has all stack' marks' bare keys' tally'
+        (rw (same, length-refs f F head.kind head.count head.body) noted) w.bare_known more
+        (λ other h. subst (λ (x : Head). x.kind ≡ kinds.Dict → (k : ℕ) → k < x.count → 0 < slice_index keys' (key_ref f F x k)) (HasHead-unique f F n head other has h) named) t

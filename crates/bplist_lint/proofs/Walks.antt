@@ -1,5 +1,5 @@
 -- What the one walk over the reached objects knows between two visits, and at its end.
-use Rattle.std.proofs.Common.{◌≡◌, ◌≢◌, ◌↔◌, ℕ, zero, suc, ◌+◌, ◌-◌, ◌<◌, ◌≤◌, inl, inr, Bool, true, false, cond, List, [], ◌∷◌, ◌++◌, length, get_or, set, replicate, refl, sym, ap, ◌∙◌, subst, arith}
+use Rattle.std.proofs.Common.{◌≡◌, ◌≢◌, ◌↔◌, ℕ, zero, suc, ◌+◌, ◌-◌, ◌<◌, ◌≤◌, inl, inr, Bool, true, false, cond, List, [], ◌∷◌, ◌++◌, length, get_or, slice_index, set, replicate, refl, sym, ap, ◌∙◌, subst, arith}
 use Rattle.std.proofs.lemmas.Bool.{cases_eq, false≢true, false_from_ne_true}
 use Rattle.std.proofs.lemmas.List.{get_or-set_same, get_or-set_other, length-set, length-replicate, get_or_default}
 use Rattle.std.proofs.lemmas.List.Elements.{Contains-append_left, Contains-push, Contains-push_cases}
@@ -14,20 +14,21 @@ use Rattle.bplist_objects.specs.Safe.{ref_count}
 use Rattle.bplist_objects.specs.Spelled.{refs_at}
 use Rattle.bplist_objects.specs.Heads.{content_at}
 use Rattle.bplist_objects.proofs.Lists.{none_in}
-use Rattle.bplist_objects.proofs.ReachedObjects.{refs_iff, refs_spelled}
+use Rattle.bplist_objects.proofs.Reaching.{refs_iff, refs_spelled}
 use Rattle.bplist_objects.proofs.References.{length-refs}
-use Rattle.bplist_objects.proofs.HeadLaws.{head_is_found}
-use Rattle.bplist_objects.proofs.HeadTies.{head_tie}
+use Rattle.bplist_objects.proofs.Spelling.{head_is_found}
+use Rattle.bplist_objects.proofs.Ties.{head_tie}
+use Rattle.bplist_keys.specs.Classes.{HasNamedKeys}
 use Rattle.bplist_lint.specs.declared.tally.Tally.{Tally}
-use Rattle.bplist_lint.specs.declared.walk.Reached.{Reached}
+use Rattle.bplist_lint.specs.declared.walking.Reached.{Reached}
 use Rattle.bplist_lint.specs.Reaching.{IsMarked}
 use Rattle.bplist_lint.specs.Referring.{AreBare}
 use Rattle.bplist_lint.specs.ReachRules.{sum_below, number_below, references_below, is_marked, Sums, Tallied}
 use Rattle.bplist_lint.specs.Tallies.{IsTalliedWith}
-use Rattle.bplist_lint.specs.Walks.{Noted, extent_by, extent, extents_below, IsVisited, IsWalkState, IsWalked}
-use Rattle.bplist_lint.proofs.MarkSteps.{apart_none, apart_push, apart_front, apart_last, fresh-set}
+use Rattle.bplist_lint.specs.Walks.{Noted, extent_by, extent, extents_below, IsVisited, IsWalkState, IsWalked, AreNamed}
+use Rattle.bplist_lint.proofs.Noting.{apart_none, apart_push, apart_front, apart_last, fresh-set}
 use Rattle.bplist_lint.proofs.ReachSteps.{marked_within}
-use Rattle.bplist_lint.proofs.TallySteps.{tallied_none, tallied_over, tallied_more, next_is}
+use Rattle.bplist_lint.proofs.Tallying.{tallied_none, tallied_over, tallied_more, next_is}
 use Rattle.bplist_lint.proofs.VisitSteps.{seen-set, unwritten}
 
 -- ---- sums below a number
@@ -88,8 +89,8 @@ module _ (f : List ℕ) (F : Frame) where
   extent_is n head has = ap (extent_by (off f F n)) (head_is_found f F n head has)
 
   -- ---- the beginning
-  pub walking_start : F.top.0 < F.objects → IsWalkState f F 0 [] (set (replicate F.objects false) F.top.0 true) (replicate F.objects false) (record { reached = 0; used = 0; references = 0 })
-  walking_start within =
+  pub walking_start : F.top.0 < F.objects → (keys : List ℕ) → IsWalkState f F 0 [] (set (replicate F.objects false) F.top.0 true) (replicate F.objects false) keys (record { reached = 0; used = 0; references = 0 })
+  walking_start within keys =
       let none : (m : ℕ) → is_marked (replicate F.objects false) m ≡ false = λ m. unwritten F.objects m false in
       let no1 : (m : ℕ) → IsMarked (replicate F.objects false) m → ⊥ = λ m h. false≢true (sym (none m) ∙ h) in
       let sum : (g : ℕ → ℕ) → sum_below (λ m. cond (is_marked (replicate F.objects false) m) (g m) 0) F.objects ≡ 0 =
@@ -113,13 +114,13 @@ module _ (f : List ℕ) (F : Frame) where
       }
 
   -- ---- between visits
-  -- a later mark leaves what was visited so
-  visited_more : (marks marks' : List Bool) (n : ℕ) → ((m : ℕ) → IsMarked marks m → IsMarked marks' m) → IsVisited f F marks n → IsVisited f F marks' n
-  visited_more marks marks' n keeps v = record { head = v.head; has = v.has; kept = v.kept; all = λ i low. keeps _ (v.all i low) }
+  -- later marks and names leave what was visited so
+  visited_more : (marks marks' : List Bool) (keys keys' : List ℕ) (n : ℕ) → ((m : ℕ) → IsMarked marks m → IsMarked marks' m) → ((m : ℕ) → 0 < slice_index keys m → 0 < slice_index keys' m) → IsVisited f F marks keys n → IsVisited f F marks' keys' n
+  visited_more marks marks' keys keys' n keeps more v = record { head = v.head; has = v.has; kept = v.kept; all = λ i low. keeps _ (v.all i low); named = λ head has dict k low. more _ (v.named head has dict k low) }
 
-  module _ (n : ℕ) (marks bare : List Bool) (tally : Tally) (w : IsWalkState f F n [] marks bare tally) where
+  module _ (n : ℕ) (marks bare : List Bool) (keys : List ℕ) (tally : Tally) (w : IsWalkState f F n [] marks bare keys tally) where
     -- object n, which is not marked, is passed over
-    pub walking_over : get_or marks n false ≡ false → IsWalkState f F (n + 1) [] marks bare tally
+    pub walking_over : get_or marks n false ≡ false → IsWalkState f F (n + 1) [] marks bare keys tally
     walking_over unmarked = record {
       visited = w.visited;
       all_visited = w.all_visited;
@@ -142,7 +143,7 @@ module _ (f : List ℕ) (F : Frame) where
     }
 
     -- object n, which is marked, is about to be visited
-    pub walking_on : IsMarked marks n → IsWalkState f F (n + 1) ([] ++ n ∷ []) marks bare tally
+    pub walking_on : IsMarked marks n → IsWalkState f F (n + 1) ([] ++ n ∷ []) marks bare keys tally
     walking_on marked = record {
       visited = w.visited;
       all_visited = w.all_visited;
@@ -168,17 +169,17 @@ module _ (f : List ℕ) (F : Frame) where
     }
 
   -- object n of the stack is visited
-  module _ (frame : IsFrame f F) (next0 n : ℕ) (within : n < F.objects) (stack : List ℕ) (marks bare : List Bool) (tally : Tally) (w : IsWalkState f F next0 (stack ++ n ∷ []) marks bare tally) where
-    pub walking_visit : (head : Head) → HasHead f F n head → KeepsAll (KeepsByObject f F n) object_rules → (stack' : List ℕ) (marks' bare' : List Bool) (tally' : Tally)
+  module _ (frame : IsFrame f F) (next0 n : ℕ) (within : n < F.objects) (stack : List ℕ) (marks bare : List Bool) (keys : List ℕ) (tally : Tally) (w : IsWalkState f F next0 (stack ++ n ∷ []) marks bare keys tally) where
+    pub walking_visit : (head : Head) → HasHead f F n head → KeepsAll (KeepsByObject f F n) object_rules → (stack' : List ℕ) (marks' bare' : List Bool) (keys' : List ℕ) (tally' : Tally)
         → Noted (refs_at f F n) next0 (length (refs_at f F n)) marks stack marks' stack'
-        → AreBare f F bare' → IsTalliedWith tally (off f F n) head tally' → IsWalkState f F next0 stack' marks' bare' tally'
-    walking_visit head has kept stack' marks' bare' tally' s known t =
+        → AreBare f F bare' → ((m : ℕ) → 0 < slice_index keys m → 0 < slice_index keys' m) → HasNamedKeys f F keys' n → IsTalliedWith tally (off f F n) head tally' → IsWalkState f F next0 stack' marks' bare' keys' tally'
+    walking_visit head has kept stack' marks' bare' keys' tally' s known more named t =
         let here : n < length w.visited = omega (arith, w.all_visited) in
         let on = w.waiting n (Contains-push stack n) in
         let at_n : Reach f F n = w.sound n on.0 in
         let spelled = (head_tie f F n frame within head).0 (has, kept) in
         let references : length (refs_at f F n) ≡ ref_count head.kind head.count = ap length (refs_spelled f F n (content_at f F head) spelled.1) ∙ length-refs f F head.kind head.count head.body in
-        let own : IsVisited f F marks' n = record { head = head; has = has; kept = kept; all = s.all } in
+        let own : IsVisited f F marks' keys' n = record { head = head; has = has; kept = kept; all = s.all; named = named } in
         record {
           visited = set w.visited n true;
           all_visited = length-set w.visited n true ∙ w.all_visited;
@@ -205,7 +206,7 @@ module _ (f : List ℕ) (F : Frame) where
             | inr new ↦ elim new.1 [ inl above ↦ inl above | inr waits ↦ inr (inl waits) ]
           ];
           each = λ m h. elim (fresh-set w.visited n m h) [
-            | inl before ↦ let v = w.each m before in (s.keeps_marks m v.0, v.1, visited_more _ _ m s.keeps_marks v.2)
+            | inl before ↦ let v = w.each m before in (s.keeps_marks m v.0, v.1, visited_more _ _ _ _ m s.keeps_marks more v.2)
             | inr e ↦ rw e (s.keeps_marks n on.0, on.2, own)
           ];
           bare_known = known;
@@ -215,7 +216,7 @@ module _ (f : List ℕ) (F : Frame) where
         }
 
   -- ---- the end
-  module _ (frame : IsFrame f F) (reached : Reached) (all_marks : length reached.marks.items ≡ F.objects) (w : IsWalkState f F F.objects [] reached.marks.items reached.bare.items reached.tally) (room : reached.tally.used + 8 ≤ F.table) where
+  module _ (frame : IsFrame f F) (reached : Reached) (all_marks : length reached.marks.items ≡ F.objects) (keys : List ℕ) (w : IsWalkState f F F.objects [] reached.marks.items reached.bare.items keys reached.tally) (room : reached.tally.used + 8 ≤ F.table) where
     visited_as : (m : ℕ) → IsMarked reached.marks.items m → IsMarked w.visited m
     visited_as m h = elim (w.closed m h) [
       | inl above ↦ absurd (let low = marked_within reached.marks.items m h in omega arith)
@@ -280,9 +281,12 @@ module _ (f : List ℕ) (F : Frame) where
         subst (λ k. Tallied f F reached.marks.items k t) (sym (next_is n))
         (tallied_next n (omega (arith, low)) before t refl refl refl one bytes more (tallied_to n (omega (arith, low)) before refl refl refl) (is_marked reached.marks.items n) refl)
 
-    pub walking_end : IsWalked f F reached
-    walking_end = record {
+    walked : IsWalked f F reached
+    walked = record {
       marked = λ n. (w.sound n, reach_marked n);
       bare = w.bare_known;
       tallied = tallied_to F.objects (omega arith) reached.tally (w.reached ∙ same_sum (λ m. 1)) (w.used ∙ same_sum (extent f F)) (w.references ∙ same_sum (λ m. length (refs_at f F m)));
     }
+
+    pub walking_end : IsWalked f F reached × AreNamed f F keys
+    walking_end = (walked, λ n r. (w.each n (visited_as n (reach_marked n r))).2.named)

@@ -10,6 +10,7 @@ use Rattle.bplist_objects.specs.ObjectRules.{KeepsByObject, object_rules}
 use Rattle.bplist_objects.specs.Reach.{Reach}
 use Rattle.bplist_objects.specs.Rules.{KeepsAll}
 use Rattle.bplist_objects.specs.Spelled.{head_found, refs_at}
+use Rattle.bplist_keys.specs.Classes.{HasNamedKeys}
 use Rattle.bplist_lint.specs.declared.tally.Tally.{Tally}
 use Rattle.bplist_lint.specs.declared.walk.Stop.{Stop}
 use Rattle.bplist_lint.specs.declared.walk.Stop.TheVariants as stops
@@ -47,6 +48,7 @@ pub record IsSteady (size : ℕ) (w : Worklist) : Type 0 where
 pub record IsSteadyWalk (F : Frame) (p : Progress) : Type 0 where
   pub worklist : IsSteady F.objects p.worklist
   pub all_bare : vec_len p.bare ≡ F.objects
+  pub all_named : length p.named.table.items ≡ F.objects
   pub roomy : IsRoomy F p.tally
 
 -- there is a mark of either kind for each object, and there is room for the reached ones
@@ -83,16 +85,17 @@ module _ (f : List ℕ) (F : Frame) where
   abbrev pub extents_below : (ℕ → Bool) → ℕ → ℕ
   extents_below p n = sum_below (λ m. cond (p m) (extent m) 0) n
 
-  -- object n keeps rules 14 to 20, and its references are marked
-  pub record IsVisited (marks : List Bool) (n : ℕ) : Type 0 where
+  -- object n keeps rules 14 to 20, its references are marked, and its keys are named
+  pub record IsVisited (marks : List Bool) (keys : List ℕ) (n : ℕ) : Type 0 where
     pub head : Head
     pub has : HasHead f F n head
     pub kept : KeepsAll (KeepsByObject f F n) object_rules
     pub all : HasMarks marks (refs_at f F n)
+    pub named : HasNamedKeys f F keys n
 
   -- between two visits: what is marked is reached; it is from next on, on the stack, or was visited once; and the tally
   -- is that of what was visited
-  pub record IsWalkState (next : ℕ) (stack : List ℕ) (marks bare : List Bool) (tally : Tally) : Type 0 where
+  pub record IsWalkState (next : ℕ) (stack : List ℕ) (marks bare : List Bool) (keys : List ℕ) (tally : Tally) : Type 0 where
     pub visited : List Bool
     pub all_visited : length visited ≡ F.objects
     pub begun : IsMarked marks F.top.0
@@ -100,7 +103,7 @@ module _ (f : List ℕ) (F : Frame) where
     pub waiting : (m : ℕ) → Contains stack m → IsMarked marks m × (IsMarked visited m → ⊥) × (m < next)
     pub apart : AreApart stack
     pub closed : (m : ℕ) → IsMarked marks m → (next ≤ m) ⊎ (Contains stack m ⊎ IsMarked visited m)
-    pub each : (m : ℕ) → IsMarked visited m → IsMarked marks m × (m < next) × IsVisited marks m
+    pub each : (m : ℕ) → IsMarked visited m → IsMarked marks m × (m < next) × IsVisited marks keys m
     pub bare_known : AreBare f F bare
     pub reached : tally.reached ≡ number_below (is_marked visited) F.objects
     pub used : tally.used ≡ extents_below (is_marked visited) F.objects
@@ -108,10 +111,14 @@ module _ (f : List ℕ) (F : Frame) where
 
   -- the same of the walk's progress, with this stack
   abbrev pub Walking : ℕ → List ℕ → Progress → Type 0
-  Walking next stack p = IsWalkState next stack p.worklist.marks.items p.bare.items p.tally
+  Walking next stack p = IsWalkState next stack p.worklist.marks.items p.bare.items p.named.table.items p.tally
 
   -- exactly the reached objects are marked, they keep rules 14 to 20 and 31, and this is their tally
   pub record IsWalked (reached : Reached) : Type 0 where
     pub marked : (n : ℕ) → IsMarked reached.marks.items n ↔ Reach f F n
     pub bare : AreBare f F reached.bare.items
     pub tallied : Tallied f F reached.marks.items F.objects reached.tally
+
+  -- the keys of the reached dictionaries are named
+  abbrev pub AreNamed : List ℕ → Type 0
+  AreNamed keys = (n : ℕ) → Reach f F n → HasNamedKeys f F keys n

@@ -3,7 +3,7 @@
 //! Each text that is named as a key has a class, which is found once for all dictionaries. A repeated key is a repeated
 //! class, and a key without one is no text.
 
-ghost use Rattle.std.specs.Prelude.{◌≡◌, ◌↔◌, ◌+◌, ◌*◌, ◌≤◌, ℕ, ◌<◌, IsTrue, IfOk, OnOk, length, slice_index};
+ghost use Rattle.std.specs.Prelude.{◌≡◌, ◌↔◌, ◌+◌, ◌*◌, ℕ, ◌<◌, IsTrue, IfOk, length, slice_index};
 ghost use Rattle.bplist_octets.specs.Meaning.{OnlyReads};
 ghost use Rattle.bplist_objects.specs.Answers.{Never};
 ghost use Rattle.bplist_objects.specs.Frame.{off, IsFrame};
@@ -20,17 +20,28 @@ ghost use Rattle.bplist_keys.specs.Ranks.{AreClasses};
 ghost use Rattle.bplist_lint.specs.Reaching.{IsMarked};
 ghost use Rattle.bplist_lint.specs.Referring.{AreBare};
 ghost use Rattle.bplist_lint.specs.ReachRules.{KeepReachBelow};
+ghost use Rattle.bplist_lint.specs.Walks.{AreNamed};
 ghost use Rattle.bplist_lint.specs.KeyRules.{KeepsByKeys, BreaksAtKeys, key_rules, KeepKeysBelow, IsKeysFault};
-ghost use Rattle.bplist_keys.specs.Classes.{AreClassed, wrong_key};
+ghost use Rattle.bplist_keys.specs.Classes.{AreClassed, IsStamped, IsNew, wrong_key};
 ghost use Rattle.bplist_lint.specs.KeyClasses.{IsWrongFault};
 ghost use Rattle.bplist_objects.specs.declared.head.Head.{Head as head_record};
 
-use crate::key_names::{Reached, named_keys};
 use bplist_cert::Refusal;
 use bplist_keys::{ClassTable, KeysFault, NamedKeys, Ranks, Wrong, classes_of};
 use bplist_objects::{Fault, Frame, Head, Kind, ObjectNo, Rule, shape_at};
 use bplist_octets::Source;
 use std::alloc::Global;
+
+/// The objects of a file whose keys are looked at.
+#[derive(Clone, Copy)]
+pub struct Looked<'a> {
+    /// The places of all objects.
+    pub places: &'a [u32],
+    /// Those that are marked are reached.
+    pub marks: &'a [bool],
+    /// Marked objects have no references.
+    pub bare: &'a [bool],
+}
 
 /// The classes of the texts that are named as keys.
 fn key_classes<S: Source>(
@@ -100,15 +111,14 @@ fn check_object<S: Source>(
     requires within { n < frame.now.objects }
     ensures reads { OnlyReads (refused_read result) (S.means src.old) (S.means src.new) }
     ensures same { table.new.classes.table.items ≡ table.old.classes.table.items }
-    ensures low { IsTrue (S.means src.old).honest → ((x : ℕ) → slice_index table.old.seen.items x ≤ n)
-        → OnOk result ((x : ℕ) → slice_index table.new.seen.items x ≤ n + 1) }
+    ensures stamped { IsStamped n table.old.seen.items table.new.seen.items }
     ensures exact { IsTrue (S.means src.old).honest → IsFrame (S.means src.old).octets frame.now
         → place ≡ off (S.means src.old).octets frame.now n
         → KeepsAll (KeepsByObject (S.means src.old).octets frame.now n) object_rules
         → ((head : head_record) → HasHead (S.means src.old).octets frame.now n head → head.kind ≡ Dict
         → AreClassed (S.means src.old).octets frame.now table.old.classes.table.items head
         × KeysAreSound (S.means src.old).octets frame.now head)
-        → ((x : ℕ) → slice_index table.old.seen.items x ≤ n)
+        → IsNew table.old.seen.items n
         → Judges (λ _. KeepsAll (KeepsByKeys (S.means src.old).octets frame.now n) key_rules)
         (IsFirstFault (KeepsByKeys (S.means src.old).octets frame.now n)
         (BreaksAtKeys (S.means src.old).octets frame.now n) key_rules) result }
@@ -125,35 +135,35 @@ fn check_object<S: Source>(
     }
 }
 
-/// Looks at the keys of each marked dictionary, in the order of the objects' numbers, where `marks` marks exactly the
-/// reached objects, all of them keep rules 14 to 20, and `bare` marks only objects that have no references.
+/// Looks at the keys of each marked dictionary, in the order of the objects' numbers, where exactly the reached objects are
+/// marked, all of them keep rules 14 to 20, and what they name as keys is named.
 pub fn check_keys<S: Source>(
     alloc: Global,
     src: &mut S,
     frame: &Frame,
-    places: &[u32],
-    marks: &[bool],
-    bare: &[bool],
+    looked: &Looked,
+    named: NamedKeys,
 ) -> Result<(), Refusal>
     requires safe { IsSafe (length (S.means src.old).octets) frame.now }
-    requires places { length places.now ≡ frame.now.objects }
-    requires marks { length marks.now ≡ frame.now.objects }
-    requires bare { length bare.now ≡ frame.now.objects }
+    requires places { length looked.now.places.now ≡ frame.now.objects }
+    requires marks { length looked.now.marks.now ≡ frame.now.objects }
+    requires bare { length looked.now.bare.now ≡ frame.now.objects }
+    requires all_named { length named.table.items ≡ frame.now.objects }
     ensures reads { OnlyReads (refused_read result) (S.means src.old) (S.means src.new) }
     ensures exact { IsTrue (S.means src.old).honest → IsFrame (S.means src.old).octets frame.now
-        → AreOffsets (S.means src.old).octets frame.now places.now
-        → ((n : ℕ) → IsMarked marks.now n ↔ Reach (S.means src.old).octets frame.now n)
+        → AreOffsets (S.means src.old).octets frame.now looked.now.places.now
+        → ((n : ℕ) → IsMarked looked.now.marks.now n ↔ Reach (S.means src.old).octets frame.now n)
         → KeepReachBelow (S.means src.old).octets frame.now frame.now.objects
-        → AreBare (S.means src.old).octets frame.now bare.now
+        → AreBare (S.means src.old).octets frame.now looked.now.bare.now
+        → AreNamed (S.means src.old).octets frame.now named.table.items
         → Judges (λ _. KeepKeysBelow (S.means src.old).octets frame.now frame.now.objects)
         (IsKeysFault (S.means src.old).octets frame.now) result }
 {
-    let reached = Reached {
+    let Looked {
         places,
         marks,
         bare,
-    };
-    let named = named_keys(alloc, src, frame, &reached)?;
+    } = *looked;
     let classes = key_classes(alloc, src, frame, places, named)?;
     let mut table = ClassTable::new(alloc, classes)?;
     for n in 0..frame.objects {

@@ -25,7 +25,6 @@ mod circle;
 mod reach_rules;
 mod heights;
 mod key_lists;
-mod key_names;
 mod keys;
 mod laws;
 mod linter;

@@ -18,7 +18,7 @@ ghost use Rattle.bplist_keys.specs.Texts.{AreOffsets};
 ghost use Rattle.bplist_lint.specs.Referring.{AreBare};
 ghost use Rattle.bplist_lint.specs.Trail.{number};
 ghost use Rattle.bplist_lint.specs.ReachRules.{IsReachFault, KeepReachBelow};
-ghost use Rattle.bplist_lint.specs.Walks.{Fits, IsWalked};
+ghost use Rattle.bplist_lint.specs.Walks.{Fits, IsWalked, AreNamed};
 ghost use Rattle.bplist_lint.specs.FileFault.{IsObjectsFault, IsFileFault, IsFileCircle, IsFramedCircle};
 ghost use Rattle.bplist_lint.specs.Refusals.{Lints, lint_failed, no_circle};
 ghost use Rattle.bplist_lint.specs.Linted.{IsSifted, IsLintedBy, IsLinted, IsLintedWithKind, HasNoHeights};
@@ -27,7 +27,7 @@ use crate::answer::Lint;
 use crate::circle::circle;
 use crate::reach_rules::check_reached;
 use crate::heights::least_heights;
-use crate::keys::check_keys;
+use crate::keys::{Looked, check_keys};
 use crate::object_nos::ObjectNos;
 use crate::object_graph::Objects;
 use crate::places::check_places;
@@ -36,7 +36,7 @@ use crate::references::WalkFault;
 use crate::refusal::LintRefusal;
 use crate::walk::{Reached, walk};
 use bplist_cert::Certificate;
-use bplist_keys::places_of;
+use bplist_keys::{NamedKeys, places_of};
 use bplist_objects::{Fault, Frame, Kind, ObjectFault, ObjectNo, Rule, shape_at, trailer_of};
 use bplist_octets::Source;
 use std::alloc::Global;
@@ -98,21 +98,23 @@ fn find_circle<S: Source>(
 }
 
 /// What is known of the reached objects, by passes over them in the order of their numbers: they keep rules 14 to 20 and
-/// 31, or this is the first fault.
+/// 31, or this is the first fault. As keys it names all objects: over an honest source it comes to a fault.
 fn find_reached_in_order<S: Source>(
     alloc: Global,
     src: &mut S,
     frame: &Frame,
     places: &[u32],
-) -> Result<Reached, LintRefusal>
+) -> Result<(Reached, NamedKeys), LintRefusal>
     requires frame { IsSafeFrame (length (S.means src.old).octets) frame.now }
     requires places { length places.now ≡ frame.now.objects }
     requires framed { IsTrue (S.means src.old).honest → IsFrame (S.means src.old).octets frame.now }
     requires placed { IsTrue (S.means src.old).honest → AreOffsets (S.means src.old).octets frame.now places.now }
     ensures reads { OnlyReads (lint_failed result) (S.means src.old) (S.means src.new) }
-    ensures fits { IfOk result (Fits frame.now) }
+    ensures fits { IfOk result (λ known. Fits frame.now known.0) }
+    ensures all_named { IfOk result (λ known. length known.1.table.items ≡ frame.now.objects) }
     ensures exact { IsTrue (S.means src.old).honest
-        → Lints (IsWalked (S.means src.old).octets frame.now) (IsReachFault (S.means src.old).octets frame.now)
+        → Lints (λ known. IsWalked (S.means src.old).octets frame.now known.0
+        × AreNamed (S.means src.old).octets frame.now known.1.table.items) (IsReachFault (S.means src.old).octets frame.now)
         no_circle result }
 {
     let len = src.len();
@@ -123,9 +125,9 @@ fn find_reached_in_order<S: Source>(
             place: len,
         }));
     }
-    let Marked { marks, bare } = mark_reached(alloc, src, frame, places)?;
+    let Marked { marks, bare, named } = mark_reached(alloc, src, frame, places)?;
     let tally = check_reached(src, frame, places, &marks)?;
-    Ok(Reached { marks, bare, tally })
+    Ok((Reached { marks, bare, tally }, named))
 }
 
 /// What is known of the reached objects, which keep rules 14 to 20 and 31, or their first fault.
@@ -134,19 +136,21 @@ fn find_reached<S: Source>(
     src: &mut S,
     frame: &Frame,
     places: &[u32],
-) -> Result<Reached, LintRefusal>
+) -> Result<(Reached, NamedKeys), LintRefusal>
     requires frame { IsSafeFrame (length (S.means src.old).octets) frame.now }
     requires places { length places.now ≡ frame.now.objects }
     requires framed { IsTrue (S.means src.old).honest → IsFrame (S.means src.old).octets frame.now }
     requires placed { IsTrue (S.means src.old).honest → AreOffsets (S.means src.old).octets frame.now places.now }
     ensures reads { OnlyReads (lint_failed result) (S.means src.old) (S.means src.new) }
-    ensures fits { IfOk result (Fits frame.now) }
+    ensures fits { IfOk result (λ known. Fits frame.now known.0) }
+    ensures all_named { IfOk result (λ known. length known.1.table.items ≡ frame.now.objects) }
     ensures exact { IsTrue (S.means src.old).honest
-        → Lints (IsWalked (S.means src.old).octets frame.now) (IsReachFault (S.means src.old).octets frame.now)
+        → Lints (λ known. IsWalked (S.means src.old).octets frame.now known.0
+        × AreNamed (S.means src.old).octets frame.now known.1.table.items) (IsReachFault (S.means src.old).octets frame.now)
         no_circle result }
 {
     match walk(alloc, src, frame, places)? {
-        Some(reached) => Ok(reached),
+        Some(known) => Ok(known),
         None => find_reached_in_order(alloc, src, frame, places),
     }
 }
@@ -168,8 +172,13 @@ fn sift<S: Source>(
         → Lints (IsSifted (S.means src.old).octets frame.now) (IsObjectsFault (S.means src.old).octets frame.now)
         no_circle result }
 {
-    let reached = find_reached(alloc, src, frame, places)?;
-    check_keys(alloc, src, frame, places, &reached.marks, &reached.bare)?;
+    let (reached, named) = find_reached(alloc, src, frame, places)?;
+    let looked = Looked {
+        places,
+        marks: &reached.marks,
+        bare: &reached.bare,
+    };
+    check_keys(alloc, src, frame, &looked, named)?;
     Ok(reached)
 }
 

@@ -1,7 +1,7 @@
 //! Which objects the top reaches, in a file whose arrays may lie in one another: each place of a reference is followed
 //! once, however many arrays it lies in.
 
-ghost use Rattle.std.specs.Prelude.{◌≡◌, ◌↔◌, ℕ, Bool, All, Contains, List, ◌+◌, ◌^◌, ◌≤◌, ◌<◌, [], ◌∷◌, ◌++◌, not, IsTrue, IfOk, OnOk, is_err, count_by, length, vec_len};
+ghost use Rattle.std.specs.Prelude.{◌≡◌, ◌↔◌, ℕ, Bool, All, Contains, List, ◌+◌, ◌^◌, ◌≤◌, ◌<◌, [], ◌∷◌, ◌++◌, not, IsTrue, IfOk, OnOk, is_err, replicate, count_by, length, vec_len};
 ghost use Rattle.bplist_octets.specs.Meaning.{OnlyReads};
 ghost use Rattle.bplist_objects.specs.Frame.{off, IsFrame};
 ghost use Rattle.bplist_objects.specs.Heads.{content_at, refs};
@@ -15,6 +15,7 @@ ghost use Rattle.bplist_lint.specs.Reaching.{IsMarked, HasMarks, number_at, set_
 use crate::object_graph::{object_in, shape_there};
 use crate::place_set::PlaceSet;
 use crate::references::WalkFault;
+use bplist_keys::NamedKeys;
 use bplist_objects::{Frame, Head, ref_at, refs_of};
 use bplist_octets::{ReadFault, Source};
 use std::alloc::{AllocError, Global};
@@ -26,6 +27,8 @@ pub struct Marked {
     pub marks: Vec<bool>,
     /// Those of them that are known to have no references: none.
     pub bare: Vec<bool>,
+    /// All objects: any of them may be named as a key.
+    pub named: NamedKeys,
 }
 
 /// The objects that are known to be reached, and what was looked at to find them.
@@ -237,8 +240,10 @@ pub fn mark_reached<S: Source>(
     ensures exact { IsTrue (S.means src.old).honest → IfOk result (λ marked.
         (n : ℕ) → IsMarked marked.marks.items n ↔ Reach (S.means src.old).octets frame.now n) }
     ensures bare { IfOk result (λ marked. (n : ℕ) → IsMarked marked.bare.items n → ⊥) }
+    ensures named { IfOk result (λ marked. marked.named.table.items ≡ replicate frame.now.objects 1) }
 {
     let bare = vec![in alloc; false; frame.objects as usize]?;
+    let table = vec![in alloc; 1; frame.objects as usize]?;
     let mut search = begin(alloc, frame)?;
     while let Some(n) = search.stack.pop() {
         look_at(src, frame, n, places[n as usize] as u64, &mut search)?;
@@ -246,5 +251,6 @@ pub fn mark_reached<S: Source>(
     Ok(Marked {
         marks: search.marks,
         bare,
+        named: NamedKeys { table },
     })
 }

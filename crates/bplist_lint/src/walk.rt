@@ -1,23 +1,26 @@
 //! One walk over the reached objects, for files in which none of them breaks a rule and all have room.
 
-ghost use Rattle.std.specs.Prelude.{◌≡◌, ℕ, List, ◌+◌, ◌≤◌, ◌<◌, [], ◌∷◌, ◌++◌, not, IsTrue, false, IfOk, IfSome, OnOk, count_by, length, slice_index, vec_len};
+ghost use Rattle.std.specs.Prelude.{◌≡◌, ◌≢◌, ◌↔◌, ℕ, List, ◌+◌, ◌≤◌, ◌<◌, [], ◌∷◌, ◌++◌, not, IsTrue, false, IfOk, IfSome, OnOk, count_by, length, slice_index, vec_len};
 ghost use Rattle.bplist_octets.specs.Meaning.{OnlyReads};
 ghost use Rattle.bplist_objects.specs.declared.fault.ObjectFault.{ObjectFault as object_fault};
 ghost use Rattle.bplist_objects.specs.Frame.{off, IsFrame};
 ghost use Rattle.bplist_objects.specs.Heads.{content_at, refs};
 ghost use Rattle.bplist_objects.specs.Safe.{IsSafe, IsSafeFrame, IsSafeHead, ref_count};
 ghost use Rattle.bplist_objects.specs.Scan.{AreBelow};
+ghost use Rattle.bplist_objects.specs.declared.kind.Kind.TheVariants.{Dict};
+ghost use Rattle.bplist_keys.specs.Classes.{key_ref};
 ghost use Rattle.bplist_keys.specs.Texts.{AreOffsets};
 ghost use Rattle.bplist_lint.specs.Answers.{walk_failed};
 ghost use Rattle.bplist_lint.specs.Reaching.{IsMarked};
 ghost use Rattle.bplist_lint.specs.Tallies.{IsRoomy};
-ghost use Rattle.bplist_lint.specs.Walks.{IsSteady, IsSteadyWalk, Noted, Walking, Fits, IsWalked, of_object, stop_failed};
-ghost use Rattle.bplist_lint.specs.declared.walk.Stop.TheVariants.{Read as is_read, Memory as is_memory};
+ghost use Rattle.bplist_lint.specs.Walks.{IsSteady, IsSteadyWalk, Noted, Walking, Fits, IsWalked, AreNamed, of_object, stop_failed};
+ghost use Rattle.bplist_lint.specs.declared.walking.Stop.TheVariants.{Read as is_read, Memory as is_memory};
 
 use crate::references::WalkFault;
 use crate::tally::Tally;
+use bplist_keys::NamedKeys;
 use bplist_objects::{
-    Frame, Head, ObjectFault, ObjectNo, check_body, read_refs, refs_of, shape_at,
+    Frame, Head, Kind, ObjectFault, ObjectNo, check_body, read_refs, refs_of, shape_at,
 };
 use bplist_octets::{ReadFault, Source};
 use std::alloc::{AllocError, AllocFailed, Global};
@@ -85,6 +88,8 @@ struct Progress {
     worklist: Worklist,
     /// Visited objects that have no references.
     bare: Vec<bool>,
+    /// What visited dictionaries name as keys.
+    named: NamedKeys,
     /// What the visited objects come to.
     tally: Tally,
 }
@@ -131,16 +136,30 @@ fn mark_block(frame: &Frame, numbers: &[u64], worklist: &mut Worklist) -> Result
     Ok(())
 }
 
-/// Marks the references of an object with this head, block by block.
+/// How many of so many references from number `done` on of an object with this head are to keys.
+fn keys_among(head: &Head, done: u64, references: usize) -> usize
+    ensures few { result ≤ references }
+    ensures keys { head.now.kind ≡ Dict → (k : ℕ) → k < references → (k < result) ↔ (done + k < head.now.count) }
+    ensures none { head.now.kind ≢ Dict → result ≡ 0 }
+{
+    match head.kind {
+        Kind::Dict => head.count.saturating_sub(done).min(references as u64) as usize,
+        _ => 0,
+    }
+}
+
+/// Marks the references of an object with this head, block by block, and names those to keys.
 fn mark_body<S: Source>(
     src: &mut S,
     frame: &Frame,
     head: &Head,
     worklist: &mut Worklist,
+    named: &mut NamedKeys,
 ) -> Result<(), Stop>
     requires safe { IsSafe (length (S.means src.old).octets) frame.now }
     requires head { IsSafeHead frame.now head.now }
     requires steady { IsSteady frame.now.objects worklist.old }
+    requires all_named { length named.old.table.items ≡ frame.now.objects }
     ensures reads { OnlyReads (stop_failed result) (S.means src.old) (S.means src.new) }
     ensures steady { OnOk result (IsSteady frame.now.objects worklist.new) }
     ensures current { worklist.new.current ≡ worklist.old.current }
@@ -153,8 +172,13 @@ fn mark_body<S: Source>(
         → Noted (refs (content_at (S.means src.old).octets frame.now head.now)) (worklist.old.current + 1)
         (ref_count head.now.kind head.now.count)
         worklist.old.marks.items worklist.old.stack.items worklist.new.marks.items worklist.new.stack.items) }
+    ensures all_named { length named.new.table.items ≡ frame.now.objects }
+    ensures keeps_named { (m : ℕ) → 0 < slice_index named.old.table.items m → 0 < slice_index named.new.table.items m }
+    ensures named { OnOk result (IsTrue (S.means src.old).honest → head.now.kind ≡ Dict → (k : ℕ) → k < head.now.count
+        → 0 < slice_index named.new.table.items (key_ref (S.means src.old).octets frame.now head.now k)) }
 {
     let count = refs_of(head);
+    let _objects = frame.objects;
     let mut numbers = [0; BLOCK];
     let mut done = 0;
     while done < count {
@@ -162,12 +186,13 @@ fn mark_body<S: Source>(
         let block = &mut numbers[..now as usize];
         read_refs(src, frame, head, done, block)?;
         mark_block(frame, block, worklist)?;
+        named.insert_all(&block[..keys_among(head, done, block.len())]);
         done += now;
     }
     Ok(())
 }
 
-/// Looks at reached object `n`, which stands at `place`, and marks its references.
+/// Looks at reached object `n`, which stands at `place`, marks its references and names its keys.
 fn visit<S: Source>(
     src: &mut S,
     frame: &Frame,
@@ -198,7 +223,13 @@ fn visit<S: Source>(
         check_body(src, frame, ObjectNo(n), place, &head)?;
         Ok(())
     } else {
-        mark_body(src, frame, &head, &mut progress.worklist)
+        mark_body(
+            src,
+            frame,
+            &head,
+            &mut progress.worklist,
+            &mut progress.named,
+        )
     }
 }
 
@@ -276,37 +307,41 @@ fn begin(alloc: Global, frame: &Frame) -> Result<Progress, AllocError>
             current: 0,
         },
         bare,
+        named: NamedKeys::new(alloc, frame.objects)?,
         tally: Tally::new(),
     })
 }
 
-/// Visits each reached object once, and says what is known of them: all keep rules 14 to 20 and 31. Where one of them
-/// breaks a rule there is no answer, and nothing is said of the others.
+/// Visits each reached object once, and says what is known of them: all keep rules 14 to 20 and 31. Beside that the objects
+/// that they name as keys. Where one of them breaks a rule there is no answer, and nothing is said of the others.
 pub fn walk<S: Source>(
     alloc: Global,
     src: &mut S,
     frame: &Frame,
     places: &[u32],
-) -> Result<Option<Reached>, WalkFault>
+) -> Result<Option<(Reached, NamedKeys)>, WalkFault>
     requires frame { IsSafeFrame (length (S.means src.old).octets) frame.now }
     requires places { length places.now ≡ frame.now.objects }
     requires framed { IsTrue (S.means src.old).honest → IsFrame (S.means src.old).octets frame.now }
     requires placed { IsTrue (S.means src.old).honest → AreOffsets (S.means src.old).octets frame.now places.now }
     ensures reads { OnlyReads (walk_failed result) (S.means src.old) (S.means src.new) }
-    ensures fits { IfOk result (λ found. IfSome found (Fits frame.now)) }
+    ensures fits { IfOk result (λ found. IfSome found (λ known. Fits frame.now known.0)) }
+    ensures all_named { IfOk result (λ found. IfSome found (λ known. length known.1.table.items ≡ frame.now.objects)) }
     ensures exact { IsTrue (S.means src.old).honest → IfOk result (λ found. IfSome found
-        (IsWalked (S.means src.old).octets frame.now)) }
+        (λ known. IsWalked (S.means src.old).octets frame.now known.0
+        × AreNamed (S.means src.old).octets frame.now known.1.table.items)) }
 {
     let mut progress = begin(alloc, frame)?;
     let visited = visit_all(src, frame, places, &mut progress);
     let Progress {
         worklist,
         bare,
+        named,
         tally,
     } = progress;
     let marks = worklist.marks;
     match visited {
-        Ok(()) => Ok(Some(Reached { marks, bare, tally })),
+        Ok(()) => Ok(Some((Reached { marks, bare, tally }, named))),
         Err(Stop::Trouble) => Ok(None),
         Err(Stop::Read(error)) => Err(WalkFault::Read(error)),
         Err(Stop::Memory) => Err(WalkFault::Memory),

@@ -2,6 +2,7 @@ use Rattle.std.proofs.Common.{◌≡◌, ◌<◌, slice_index, sym, subst, ◌�
 use Rattle.std.proofs.lemmas.Bool.{cases_eq}
 use Rattle.std.proofs.lemmas.List.{get_or_read}
 use Rattle.bplist_keys.proofs.PlaceSteps.{framed_offsets}
+use Rattle.bplist_keys.proofs.Seeing.{new_low, stamped_low}
 use Rattle.bplist_cert.specs.Valid.{IsVouchedBy}
 use Rattle.bplist_cert.specs.KeyClasses.{HasGoodKeys}
 use Rattle.bplist_cert.proofs.KeyClasses.{keys_classed, sound_keys, good_low}
@@ -22,7 +23,7 @@ loop-n-preserved g c =
           record {
             reads = rw w.src-is (w.in_ok-has_good_keys.ensures.reads ∙ v.reads);
             same = rw w.table-is (w.in_ok-has_good_keys.ensures.same ∙ v.same);
-            low = λ honest. rw w.table-is ((rw v.reads at w.in_ok-has_good_keys.ensures.low) honest (v.low honest) w.if-not-branch.false);
+            low = λ honest. rw w.table-is (stamped_low n _ _ w.has_good_keys.ensures.stamped (v.low honest));
             exact = λ honest framed seen m low vouched. elim (cases_eq m n) [
               | inl e ↦
                   let within : n < F.objects = c.loop-n-test.true in
@@ -33,7 +34,7 @@ loop-n-preserved g c =
                   let read : w.index.result.now ≡ slice_index c.in_ok-places.places.items n = get_or_read c.in_ok-places.places.items n w.index.result.now (subst (λ k. n < k) (sym c.in_ok-places.ensures.all ∙ c.in_ok-places.places.ok.0) within) w.index.ensures 0 in
                   let good = (rw (v.reads, table_is) at w.in_ok-has_good_keys.ensures.exact) honest framed (read ∙ placed n within) (seen n within here).own
                   (λ head has dict. (keys_classed f F _ c.in_ok-classes.classes.table.items n classes named head has dict, sound_keys f F heights seen n within here head has dict))
-                  (v.low honest) w.if-not-branch.false in
+                  (new_low n _ (v.low honest)) w.if-not-branch.false in
                   subst (HasGoodKeys f F) (sym e) good
               | inr d ↦ v.exact honest framed seen m (omega (arith, low, d)) vouched
             ];

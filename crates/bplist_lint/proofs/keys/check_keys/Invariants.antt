@@ -5,6 +5,7 @@ use Rattle.bplist_lint.specs.Reaching.{IsMarked}
 use Rattle.bplist_keys.specs.Texts.{AreOffsets}
 use Rattle.bplist_lint.specs.Referring.{AreBare}
 use Rattle.bplist_lint.specs.ReachRules.{KeepReachBelow}
+use Rattle.bplist_lint.specs.Walks.{AreNamed}
 use Rattle.bplist_lint.specs.KeyRules.{KeepKeysBelow}
 use Rattle.bplist_lint.proofs.keys.check_keys.Given as goal
 
@@ -15,5 +16,5 @@ invariant-loop-n g l =
       reads : g.S.Source.means l.src ≡ m;
       same : l.table.classes.table.items ≡ l.initial.table.classes.table.items;
       low : IsTrue m.honest → (x : ℕ) → slice_index l.table.seen.items x ≤ l.n;
-      exact : IsTrue m.honest → IsFrame m.octets l.frame → AreOffsets m.octets l.frame l.places → ((n : ℕ) → IsMarked l.marks n ↔ Reach m.octets l.frame n) → KeepReachBelow m.octets l.frame l.frame.objects → AreBare m.octets l.frame l.bare → KeepKeysBelow m.octets l.frame l.n;
+      exact : IsTrue m.honest → IsFrame m.octets l.frame → AreOffsets m.octets l.frame l.places → ((n : ℕ) → IsMarked l.marks n ↔ Reach m.octets l.frame n) → KeepReachBelow m.octets l.frame l.frame.objects → AreBare m.octets l.frame l.bare → AreNamed m.octets l.frame l.fn.named.table.items → KeepKeysBelow m.octets l.frame l.n;
     }

@@ -4,8 +4,9 @@ use Rattle.std.proofs.lemmas.Grind.{common_steps}
 use Rattle.bplist_objects.specs.Heads.{content_at, refs}
 use Rattle.bplist_objects.proofs.BodyLaws.{refs_fit}
 use Rattle.bplist_objects.proofs.References.{length-refs, nth-refs}
-use Rattle.bplist_lint.proofs.MarkSteps.{noted_more}
-use Rattle.bplist_lint.proofs.walk.mark_body.Goals as goal
+use Rattle.bplist_keys.specs.Classes.{key_ref}
+use Rattle.bplist_lint.proofs.Noting.{noted_more, named_front}
+use Rattle.bplist_lint.proofs.walking.mark_body.Goals as goal
 
 pub refs_of-count-requires : goal.refs_of-count-requires
 refs_of-count-requires g c =
@@ -32,6 +33,17 @@ loop-done-preserved g c =
       steady = marked.steady;
       current = marked.current ∙ i.current;
       work = omega (arith, marked.work, i.work);
+      all_named = c.insert_all.ensures.all ∙ i.all_named;
+      keeps_named = λ m h. c.insert_all.ensures.keeps m (i.keeps_named m h);
+      named = λ honest dict k low key. elim (cases_lt k done) [
+        | inl first ↦ c.insert_all.ensures.keeps _ (i.named honest dict k first key)
+        | inr later ↦
+            let same : done + (k - done) ≡ k = omega (arith, later) in
+            let part : k - done < length block = omega (arith, low, later, long) in
+            let is = (rw i.reads at c.in_ok-read_refs.ensures.numbers) honest (k - done) part in
+            let key_there : k - done < c.keys_among.result = (c.keys_among.ensures.keys dict (k - done) part).1 (omega (arith, same, key)) in
+            named_front c.keys_among.result block c.insert_all.new.self.table.items (k - done) (key_ref f F h k) key_there c.keys_among.ensures.few (rw same at is) (omega (arith, rw (is, same) at (marked.below (k - done) part), c.insert_all.ensures.all, i.all_named)) c.insert_all.ensures.named
+      ];
       below = λ honest k low. elim (cases_lt k done) [
         | inl first ↦ i.below honest k first
         | inr later ↦

@@ -1,6 +1,8 @@
-use Rattle.std.proofs.Common.{◌≡◌, ◌+◌, ◌≤◌, ◌-◌, not, IsTrue, count_by, length, vec_len}
+use Rattle.std.proofs.Common.{◌≡◌, ℕ, ◌+◌, ◌≤◌, ◌<◌, ◌-◌, not, IsTrue, count_by, length, slice_index, vec_len}
 use Rattle.bplist_objects.specs.Heads.{content_at, refs}
 use Rattle.bplist_objects.specs.Scan.{AreBelow}
+use Rattle.bplist_objects.specs.declared.kind.Kind.TheVariants.{Dict}
+use Rattle.bplist_keys.specs.Classes.{key_ref}
 use Rattle.bplist_lint.specs.Walks.{IsSteady, Noted}
 use Rattle.bplist_lint.proofs.walk.mark_body.Given as goal
 
@@ -12,6 +14,9 @@ invariant-loop-done g l = record {
   steady : IsSteady l.frame.objects l.worklist;
   current : l.worklist.current ≡ l.fn.worklist.current;
   work : count_by not l.worklist.marks.items + vec_len l.worklist.stack ≤ count_by not l.fn.worklist.marks.items + vec_len l.fn.worklist.stack;
+  all_named : length l.named.table.items ≡ l.frame.objects;
+  keeps_named : (m : ℕ) → 0 < slice_index l.fn.named.table.items m → 0 < slice_index l.named.table.items m;
+  named : IsTrue (g.S.Source.means l.fn.src).honest → l.head.kind ≡ Dict → (k : ℕ) → k < l.done → k < l.head.count → 0 < slice_index l.named.table.items (key_ref (g.S.Source.means l.fn.src).octets l.frame l.head k);
   below : IsTrue (g.S.Source.means l.fn.src).honest → AreBelow (g.S.Source.means l.fn.src).octets l.head.body l.frame.ref_size l.done l.frame.objects;
   noted : IsTrue (g.S.Source.means l.fn.src).honest → Noted (refs (content_at (g.S.Source.means l.fn.src).octets l.frame l.head)) (l.fn.worklist.current + 1) l.done l.fn.worklist.marks.items l.fn.worklist.stack.items l.worklist.marks.items l.worklist.stack.items;
 }

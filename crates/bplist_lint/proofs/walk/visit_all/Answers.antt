@@ -24,6 +24,6 @@ loop-n-preserved g c =
         reads = i.reads;
         steady = i.steady;
         empty = i.empty;
-        walking = λ honest framed placed start. walking_over _ _ _ _ _ _ (i.walking honest framed placed start) (sym read ∙ w.if-index.false);
+        walking = λ honest framed placed start. walking_over _ _ _ _ _ _ _ (i.walking honest framed placed start) (sym read ∙ w.if-index.false);
       })
     ]

@@ -10,7 +10,7 @@ loop-m-init g c =
       reads = c.in_ok-visit.ensures.reads;
       steady = c.in_ok-visit.ensures.steady;
       current = c.visit.ensures.current;
-      walking = λ honest framed placed marked w. c.in_ok-visit.ensures.walking honest framed (placed c.args.n c.requires.within) (rw none (walking_on _ _ _ _ _ _ w marked));
+      walking = λ honest framed placed marked w. c.in_ok-visit.ensures.walking honest framed (placed c.args.n c.requires.within) (rw none (walking_on _ _ _ _ _ _ _ w marked));
     }
 
 pub bounds-places-m : goal.bounds-places-m
@@ -31,6 +31,7 @@ visit-requires-in-Some-clause-steady g c =
     record {
       worklist = record { all_marks = s.worklist.all_marks; stack_in = grind (arith, elements) };
       all_bare = s.all_bare;
+      all_named = s.all_named;
       roomy = s.roomy;
     }
 

@@ -10,4 +10,4 @@ returns-in-Ok-clause-exact g c = λ honest.
     let all = steady.worklist.all_marks in
     let long : length c.visit_all-visited.new.progress.worklist.marks.items ≡ c.args.frame.now.objects = grind (arith, common_steps) in
     let framed = c.requires.framed honest in
-    walking_end f c.args.frame.now framed _ long (c.in-Ok.ensures.walking honest framed (c.requires.placed honest) (c.in_ok-progress.ensures.walking f)) steady.roomy.room
+    walking_end f c.args.frame.now framed _ long _ (c.in-Ok.ensures.walking honest framed (c.requires.placed honest) (c.in_ok-progress.ensures.walking f)) steady.roomy.room

@@ -1,6 +1,6 @@
-use Rattle.std.proofs.Common.{◌≡◌, ℕ, ◌<◌, ◌≤◌, ◌-◌, slice_index, IfSome, IsTrue}
+use Rattle.std.proofs.Common.{◌≡◌, ◌<◌, ◌≤◌, ◌-◌, IfSome, IsTrue}
 use Rattle.bplist_keys.specs.Classes.{key_ref}
-use Rattle.bplist_keys.specs.Classes.{AreSeen}
+use Rattle.bplist_keys.specs.Classes.{IsStamped, IsNew, AreSeen}
 use Rattle.bplist_keys.proofs.class_table.ClassTable.first_wrong.Given as goal
 
 abbrev pub invariant-loop-done : goal.invariant-loop-done
@@ -11,9 +11,10 @@ invariant-loop-done g l =
     record {
       reads : means l.src ≡ means l.fn.src;
       same : l.self.classes.table.items ≡ classes;
+      stamped : IsStamped l.n l.fn.self.seen.items l.self.seen.items;
       reached : l.done ≤ l.count;
       again : IfSome l.again (λ j. j < l.done);
-      seen : IsTrue (means l.fn.src).honest → ((x : ℕ) → slice_index l.fn.self.seen.items x ≤ l.n)
+      seen : IsTrue (means l.fn.src).honest → IsNew l.fn.self.seen.items l.n
           → AreSeen (key_ref f l.frame l.head) classes l.n l.self.seen.items l.done l.again;
     }
 
