@@ -14,16 +14,16 @@ use Rattle.bplist_objects.specs.Safe.{ref_count}
 use Rattle.bplist_objects.specs.Scan.{AreBelow}
 use Rattle.bplist_objects.specs.Spelled.{refs_at}
 use Rattle.bplist_objects.proofs.BodyLaws.{HasHead-unique}
-use Rattle.bplist_objects.proofs.Reaching.{refs_spelled}
+use Rattle.bplist_objects.proofs.ReachedObjects.{refs_spelled}
 use Rattle.bplist_objects.proofs.References.{length-refs}
 use Rattle.bplist_objects.proofs.RuleLaws.{kept_all_after}
-use Rattle.bplist_objects.proofs.Ties.{head_tie, shape_tie}
+use Rattle.bplist_objects.proofs.HeadTies.{head_tie, shape_tie}
 use Rattle.bplist_keys.specs.Classes.{key_ref}
 use Rattle.bplist_lint.specs.declared.tally.Tally.{Tally}
 use Rattle.bplist_lint.specs.Tallies.{IsTalliedWith}
 use Rattle.bplist_lint.specs.Walks.{Noted, IsWalkState}
-use Rattle.bplist_lint.proofs.Noting.{noted_none, fresh-set}
-use Rattle.bplist_lint.proofs.Referring.{no_refs_leaf}
+use Rattle.bplist_lint.proofs.MarkSteps.{noted_none, fresh-set}
+use Rattle.bplist_lint.proofs.ObjectReferences.{no_refs_leaf}
 use Rattle.bplist_lint.proofs.Walks.{walking_visit}
 
 -- what holds where the answer is Ok, and what follows from it

@@ -14,21 +14,21 @@ use Rattle.bplist_objects.specs.Safe.{ref_count}
 use Rattle.bplist_objects.specs.Spelled.{refs_at}
 use Rattle.bplist_objects.specs.Heads.{content_at}
 use Rattle.bplist_objects.proofs.Lists.{none_in}
-use Rattle.bplist_objects.proofs.Reaching.{refs_iff, refs_spelled}
+use Rattle.bplist_objects.proofs.ReachedObjects.{refs_iff, refs_spelled}
 use Rattle.bplist_objects.proofs.References.{length-refs}
-use Rattle.bplist_objects.proofs.Spelling.{head_is_found}
-use Rattle.bplist_objects.proofs.Ties.{head_tie}
+use Rattle.bplist_objects.proofs.SpelledContents.{head_is_found}
+use Rattle.bplist_objects.proofs.HeadTies.{head_tie}
 use Rattle.bplist_keys.specs.Classes.{HasNamedKeys}
 use Rattle.bplist_lint.specs.declared.tally.Tally.{Tally}
-use Rattle.bplist_lint.specs.declared.walking.Reached.{Reached}
+use Rattle.bplist_lint.specs.declared.walk.Reached.{Reached}
 use Rattle.bplist_lint.specs.Reaching.{IsMarked}
 use Rattle.bplist_lint.specs.Referring.{AreBare}
 use Rattle.bplist_lint.specs.ReachRules.{sum_below, number_below, references_below, is_marked, Sums, Tallied}
 use Rattle.bplist_lint.specs.Tallies.{IsTalliedWith}
 use Rattle.bplist_lint.specs.Walks.{Noted, extent_by, extent, extents_below, IsVisited, IsWalkState, IsWalked, AreNamed}
-use Rattle.bplist_lint.proofs.Noting.{apart_none, apart_push, apart_front, apart_last, fresh-set}
+use Rattle.bplist_lint.proofs.MarkSteps.{apart_none, apart_push, apart_front, apart_last, fresh-set}
 use Rattle.bplist_lint.proofs.ReachSteps.{marked_within}
-use Rattle.bplist_lint.proofs.Tallying.{tallied_none, tallied_over, tallied_more, next_is}
+use Rattle.bplist_lint.proofs.TallySteps.{tallied_none, tallied_over, tallied_more, next_is}
 use Rattle.bplist_lint.proofs.VisitSteps.{seen-set, unwritten}
 
 -- ---- sums below a number

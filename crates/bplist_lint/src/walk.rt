@@ -14,7 +14,7 @@ ghost use Rattle.bplist_lint.specs.Answers.{walk_failed};
 ghost use Rattle.bplist_lint.specs.Reaching.{IsMarked};
 ghost use Rattle.bplist_lint.specs.Tallies.{IsRoomy};
 ghost use Rattle.bplist_lint.specs.Walks.{IsSteady, IsSteadyWalk, Noted, Walking, Fits, IsWalked, AreNamed, of_object, stop_failed};
-ghost use Rattle.bplist_lint.specs.declared.walking.Stop.TheVariants.{Read as is_read, Memory as is_memory};
+ghost use Rattle.bplist_lint.specs.declared.walk.Stop.TheVariants.{Read as is_read, Memory as is_memory};
 
 use crate::references::WalkFault;
 use crate::tally::Tally;

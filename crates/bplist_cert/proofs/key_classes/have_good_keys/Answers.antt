@@ -2,7 +2,7 @@ use Rattle.std.proofs.Common.{◌≡◌, ◌<◌, slice_index, sym, subst, ◌�
 use Rattle.std.proofs.lemmas.Bool.{cases_eq}
 use Rattle.std.proofs.lemmas.List.{get_or_read}
 use Rattle.bplist_keys.proofs.PlaceSteps.{framed_offsets}
-use Rattle.bplist_keys.proofs.Seeing.{new_low, stamped_low}
+use Rattle.bplist_keys.proofs.LookUps.{new_low, stamped_low}
 use Rattle.bplist_cert.specs.Valid.{IsVouchedBy}
 use Rattle.bplist_cert.specs.KeyClasses.{HasGoodKeys}
 use Rattle.bplist_cert.proofs.KeyClasses.{keys_classed, sound_keys, good_low}

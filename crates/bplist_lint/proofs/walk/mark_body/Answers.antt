@@ -5,8 +5,8 @@ use Rattle.bplist_objects.specs.Heads.{content_at, refs}
 use Rattle.bplist_objects.proofs.BodyLaws.{refs_fit}
 use Rattle.bplist_objects.proofs.References.{length-refs, nth-refs}
 use Rattle.bplist_keys.specs.Classes.{key_ref}
-use Rattle.bplist_lint.proofs.Noting.{noted_more, named_front}
-use Rattle.bplist_lint.proofs.walking.mark_body.Goals as goal
+use Rattle.bplist_lint.proofs.MarkSteps.{noted_more, named_front}
+use Rattle.bplist_lint.proofs.walk.mark_body.Goals as goal
 
 pub refs_of-count-requires : goal.refs_of-count-requires
 refs_of-count-requires g c =

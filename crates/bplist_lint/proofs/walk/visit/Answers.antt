@@ -1,6 +1,6 @@
 use Rattle.std.proofs.Common.{arith, sym, ◌∙◌}
-use Rattle.bplist_lint.proofs.Visiting.{both_ok, both_with, walking_leaf, walking_container}
-use Rattle.bplist_lint.proofs.walking.visit.Goals as goal
+use Rattle.bplist_lint.proofs.ReachedObjects.{both_ok, both_with, walking_leaf, walking_container}
+use Rattle.bplist_lint.proofs.walk.visit.Goals as goal
 
 pub returns-in_ok-check_body-clause-walking : goal.returns-in_ok-check_body-clause-walking
 returns-in_ok-check_body-clause-walking g c = λ honest framed is w.

@@ -1,7 +1,7 @@
 use Rattle.std.proofs.Common.{◌≡◌, ◌+◌, Some, slice_index, subst, ◌∙◌, arith}
 use Rattle.bplist_keys.specs.Classes.{AreSeen}
 use Rattle.bplist_keys.specs.declared.class_table.Found.TheVariants.{First, Again}
-use Rattle.bplist_keys.proofs.Seeing.{seen_first, seen_again, stamped_more, some_later, earlier_low}
+use Rattle.bplist_keys.proofs.LookUps.{seen_first, seen_again, stamped_more, some_later, earlier_low}
 use Rattle.bplist_keys.proofs.class_table.ClassTable.look_up_block.Goals as goal
 use Rattle.bplist_keys.proofs.class_table.ClassTable.look_up_block.Goals.{in-First, in-Again}
 

@@ -1,5 +1,5 @@
 use Rattle.std.proofs.Common.{◌≡◌, ◌⊎◌, ℕ, ◌<◌, length, slice_index, Contains}
-use Rattle.bplist_keys.proofs.named.NamedKeys.insert_all.Given as goal
+use Rattle.bplist_keys.proofs.named_keys.NamedKeys.insert_all.Given as goal
 
 abbrev pub invariant-loop-m : goal.invariant-loop-m
 invariant-loop-m l = record {
