@@ -10,3 +10,4 @@ pub mod Ranking
 pub mod RankLaws
 pub mod Seeing
 pub mod PlaceSteps
+pub mod RunSteps
