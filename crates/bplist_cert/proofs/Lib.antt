@@ -6,11 +6,6 @@ pub mod Placing
 pub mod Ordered
 pub mod Walking
 pub mod Seeing
-pub mod SortedKeys
-pub mod Leasts
-pub mod Scanning
-pub mod Marks
-pub mod Bounding
 pub mod Onto
 pub mod Vouching
 pub mod TextKeys
@@ -23,3 +18,4 @@ pub mod KeyPairing
 pub mod Repeating
 pub mod DecidedKeys
 pub mod Decided
+pub mod LowSteps

@@ -73,10 +73,10 @@ module _ (f : List ℕ) (a b : Head) (a_kind : IsTextKind a.kind) (b_kind : IsTe
       → Agree n (units_of f a) (units_of f b)
   run_agrees run is passed n a_size b_size begins apart left few low = agree_by n few low (λ k l.
       let here : nth_number f run.from run.size (passed + k) ≡ nth_number f a.body (unit 1 a.kind) k =
-          sym (nth_number-behind f run.from run.size passed k) ∙ ap (λ p. nth_number f p run.size k) begins ∙ ap (λ s. nth_number f a.body s k) a_size in
+      sym (nth_number-behind f run.from run.size passed k) ∙ ap (λ p. nth_number f p run.size k) begins ∙ ap (λ s. nth_number f a.body s k) a_size in
       let begins_there : run.from + run.apart + passed * run.size ≡ b.body = omega (arith, begins, apart) in
       let there : nth_number f (run.from + run.apart) run.size (passed + k) ≡ nth_number f b.body (unit 1 b.kind) k =
-          sym (nth_number-behind f (run.from + run.apart) run.size passed k) ∙ ap (λ p. nth_number f p run.size k) begins_there ∙ ap (λ s. nth_number f b.body s k) b_size in
+      sym (nth_number-behind f (run.from + run.apart) run.size passed k) ∙ ap (λ p. nth_number f p run.size k) begins_there ∙ ap (λ s. nth_number f b.body s k) b_size in
       sym here ∙ is (passed + k) (omega (arith, l, left)) ∙ there)
 
 -- texts that agree have a run

@@ -10,7 +10,7 @@ ghost use Rattle.bplist_objects.specs.Units.{IsTextKind};
 use bplist_objects::{Head, Kind};
 
 /// How many runs are kept: a prime, so that near distances have rows of their own.
-const ROWS: usize = 251;
+const ROWS: usize = 127;
 
 /// That so many units from one place on are the same as those so many bytes further on.
 #[derive(Clone, Copy, Debug)]
@@ -42,7 +42,7 @@ fn size_of(kind: Kind) -> u64
 
 /// The row of a distance.
 fn row_of(apart: u64) -> usize
-    ensures { result < 251 }
+    ensures { result < 127 }
 {
     (apart % ROWS as u64) as usize
 }
