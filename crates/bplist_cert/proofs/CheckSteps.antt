@@ -34,10 +34,9 @@ use Rattle.bplist_cert.specs.Keys.{HaveTexts, KeysDiffer}
 use Rattle.bplist_cert.specs.CheckRules.{KeepsByCheck, BreaksAtCheck, IsCheckFault, check_rules, vouched_rules, last_rule, HasOrder, KeepsLast, IsLastFault, IsKeysFault}
 use Rattle.bplist_cert.specs.declared.checker.Look.{Look}
 use Rattle.bplist_cert.specs.declared.checker.Look.TheVariants.{Quick, Exact}
-use Rattle.bplist_cert.specs.Looks.{IsShown, IsShownFault}
-use Rattle.bplist_cert.specs.KeyClasses.{HasGoodKeys}
-use Rattle.bplist_cert.specs.KeyPairs.{HasGoodList}
-use Rattle.bplist_cert.specs.PairFault.{Sums, IsHeld, Running, IsWalkFault, IsPairFault}
+use Rattle.bplist_cert.specs.Looks.{IsSeen, AreSeen, IsShown, IsShownFault}
+use Rattle.bplist_cert.specs.KeyClasses.{HasGoodKeys, BreaksKeys, IsFirstKeysFault}
+use Rattle.bplist_cert.specs.PairFault.{KeepBelow, Sums, IsHeld, Running, IsWalkFault, IsSeenFault, IsVouchedFault, IsPairFault}
 use Rattle.bplist_cert.specs.Refusals.{GivesRefusal, Judges, refusal_of}
 
 -- the rule of keys beside rule 21, by the head
@@ -50,15 +49,6 @@ last_broken : (f : List ℕ) (F : Frame) (heights : List ℕ) (keys : Option Key
     → IsLastFault f F (length heights) keys n head fault → (fault.rule ≡ last_rule keys) × BreaksAtCheck f F (lists heights keys) n (last_rule keys) fault.object fault.place
 last_broken f F heights None n head has kind fault (rule, object, (i, first, place)) = (rule, (object, (head, i, has, kind, first, place)))
 last_broken f F heights (Some keyed) n head has kind fault (rule, object, broken) = (rule, (object, (head, has, kind, broken)))
-
--- the keys of a dictionary, whose keys are texts
-pub keys_judged : (f : List ℕ) (F : Frame) (count : ℕ) (keys : Option Keyed) (n : ℕ) (head : Head) → head.kind ≡ kinds.Dict → HaveTexts f F head head.count → (result : Result (Unit {0}) Refusal)
-    → Judges (λ _. KeepsLast f F keys n head) (IsLastFault f F count keys n head) result
-    → Judges (λ _. head.kind ≡ kinds.Dict → HaveTexts f F head head.count × KeepsLast f F keys n head) (IsKeysFault f F count keys n head) result
-keys_judged f F count keys n head kind texts (Ok x) h = λ _. (texts, h)
-keys_judged f F count keys n head kind texts (Err (refusals.Fault fault)) h = (kind, inr (texts, h))
-keys_judged f F count keys n head kind texts (Err (refusals.Read r)) h = tt
-keys_judged f F count keys n head kind texts (Err refusals.Memory) h = tt
 
 -- there are as many starts as objects
 pub starts_counted : (heights : List ℕ) (keys : Option Keyed) (count : ℕ) → length heights ≡ count → HasStarts heights keys → HasCount keys count
@@ -131,17 +121,6 @@ module _ (f : List ℕ) (F : Frame) (heights : List ℕ) (keys : Option Keyed) (
       heights_fault (errors.Read r) h = tt
 
       module _ (met : AreMet f F heights head Vouched (ref_count head.kind head.count)) (low : AreMet f F heights head (Below (slice_index heights n)) (ref_count head.kind head.count)) where
-        -- a fault of the keys
-        pub keys_fault : (e : Refusal) → GivesRefusal (IsKeysFault f F (length heights) keys n head) e → GivesRefusal Broken e
-        keys_fault (refusals.Fault fault) (kind, inl (rule, object, (i, first, place))) =
-            first_fault_after Keeps Breaks object_rules (vouched_rules keys) fault kept
-            (inr (not_overfull, inr (vouched_any met, inr (lower_any low, inl (rule, (object, (head, i, has, kind, first, place)))))))
-        keys_fault (refusals.Fault fault) (kind, inr (texts, last)) =
-            first_fault_after Keeps Breaks object_rules (vouched_rules keys) fault kept
-            (inr (not_overfull, inr (vouched_any met, inr (lower_any low, inr (texts_any (λ _. texts), inl (last_broken f F heights keys n head has kind fault last))))))
-        keys_fault (refusals.Read r) h = tt
-        keys_fault refusals.Memory h = tt
-
         -- the object keeps the rules before those of keys
         pub seen : IsHeld f F (lists heights keys) Quick n now
         seen = record {
@@ -184,16 +163,20 @@ module _ (f : List ℕ) (F : Frame) (heights : List ℕ) (keys : Option Keyed) (
         let never : IsVouchedBy heights n → ⊥ = λ v. omega (arith, v, none) in
         record { sums = none_more never t run.sums; room = run.room; kept = below_by run.kept (λ v. absurd (never v)) }
 
+    -- one vouched object more
+    pub held_more : (t : ℕ) → Running f F (lists heights keys) look n t → (u : ℕ) → IsHeld f F (lists heights keys) look n u → Running f F (lists heights keys) look (suc n) u
+    held_more t run u h = record { sums = h.sums; room = h.room; kept = below_by run.kept (λ _. h.kept) }
+
   -- the fault of a vouched object is that of the walk
-  fault_met : IsVouchedBy heights n → (look : Look) (t : ℕ) → Running f F (lists heights keys) look n t → (fault : Fault)
+  fault_met : IsVouchedBy heights n → (look : Look) (t : ℕ) → Running f F (lists heights keys) Quick n t → (fault : Fault)
       → IsShownFault f F (lists heights keys) look n fault → IsWalkFault f F (lists heights keys) look fault
   fault_met v Quick t run fault h = tt
-  fault_met v Exact t run fault h = record { object = n; vouched = v; first = h; least = run.kept }
+  fault_met v Exact t run fault h = record { object = n; vouched = v; first = h; seen = run.kept }
 
   -- the answer for a vouched object is that of the walk
-  pub stepped : (look : Look) → IsVouchedBy heights n → (t : ℕ) → Running f F (lists heights keys) look n t → (result : Result ℕ Refusal)
-      → Judges (IsHeld f F (lists heights keys) look n) (IsShownFault f F (lists heights keys) look n) result → Judges (Running f F (lists heights keys) look (suc n)) (IsWalkFault f F (lists heights keys) look) result
-  stepped look v t run (Ok t') h = record { sums = h.sums; room = h.room; kept = below_by look run.kept (λ _. h.kept) }
+  pub stepped : (look : Look) → IsVouchedBy heights n → (t : ℕ) → Running f F (lists heights keys) Quick n t → (result : Result ℕ Refusal)
+      → Judges (IsHeld f F (lists heights keys) Quick n) (IsShownFault f F (lists heights keys) look n) result → Judges (Running f F (lists heights keys) Quick (suc n)) (IsWalkFault f F (lists heights keys) look) result
+  stepped look v t run (Ok t') h = held_more Quick t run t' h
   stepped look v t run (Err (refusals.Fault fault)) h = fault_met v look t run fault h
   stepped look v t run (Err (refusals.Read r)) h = tt
   stepped look v t run (Err refusals.Memory) h = tt
@@ -213,27 +196,67 @@ start f F certificate look frame = record {
   kept = λ m lt v. absurd (omega arith);
 }
 
--- the keys of vouched object n are as this version wants them
-abbrev pub HasGood : List ℕ → Frame → Option Keyed → ℕ → Type 0
-HasGood f F None n = HasGoodKeys f F n
-HasGood f F (Some keyed) n = HasGoodList f F keyed n
-
-good_kept : (f : List ℕ) (F : Frame) (heights : List ℕ) (keys : Option Keyed) (n : ℕ) → HasGood f F keys n
+good_kept : (f : List ℕ) (F : Frame) (heights : List ℕ) (keys : Option Keyed) (n : ℕ) → HasGoodKeys f F keys n
     → KeepsByCheck f F (lists heights keys) n rules.KeyKind × KeepsByCheck f F (lists heights keys) n (last_rule keys)
 good_kept f F heights None n good = (λ head has dict. (good head has dict).0, λ head has dict. (good head has dict).1)
 good_kept f F heights (Some keyed) n good = (λ head has dict. (good head has dict).0, λ head has dict. (good head has dict).1)
 
--- where quick looks show all vouched objects as they should be, and their keys are good, they keep all rules
-pub all_good : (f : List ℕ) (F : Frame) (heights : List ℕ) (keys : Option Keyed) (t : ℕ) → Running f F (lists heights keys) Quick F.objects t → ((n : ℕ) → IsVouchedBy heights n → HasGood f F keys n)
-    → Running f F (lists heights keys) Exact F.objects t
-all_good f F heights keys t run good = record {
-  sums = run.sums;
-  room = run.room;
-  kept = λ m lt v.
-      let s = run.kept m lt v in
-      let k = good_kept f F heights keys m (good m v) in
-      kept_all_after (KeepsByCheck f F (lists heights keys) m) object_rules (vouched_rules keys) s.own (s.room, (s.vouched, (s.lower, (k.0, (k.1, tt)))));
-}
+-- the fault of an object names it
+fault_object : (f : List ℕ) (F : Frame) (certificate : Lists) (n : ℕ) (rules : List Rule) (fault : Fault) → IsCheckFault f F certificate n rules fault → fault.object ≡ Some (record { 0 = n })
+fault_object f F certificate n [] fault h = absurd h
+fault_object f F certificate n (rule ∷ rules) fault (inl h) = h.1.0
+fault_object f F certificate n (rule ∷ rules) fault (inr h) = fault_object f F certificate n rules fault h.1
+
+module _ (f : List ℕ) (F : Frame) (heights : List ℕ) (keys : Option Keyed) where
+  module _ (n : ℕ) (s : IsSeen f F heights n) where
+    -- a seen object with good keys keeps all rules
+    pub good_keeps : HasGoodKeys f F keys n → KeepsAll (KeepsByCheck f F (lists heights keys) n) (check_rules keys)
+    good_keeps good =
+        let k = good_kept f F heights keys n good in
+        kept_all_after (KeepsByCheck f F (lists heights keys) n) object_rules (vouched_rules keys) s.own (s.room, (s.vouched, (s.lower, (k.0, (k.1, tt)))))
+
+    -- the first fault of its keys is its first
+    pub keys_break : (fault : Fault) → BreaksKeys f F (length heights) keys n fault → IsCheckFault f F (lists heights keys) n (check_rules keys) fault
+    keys_break fault (head, has, (kind, inl (rule, object, (i, first, place)))) =
+        first_fault_after (KeepsByCheck f F (lists heights keys) n) (BreaksAtCheck f F (lists heights keys) n) object_rules (vouched_rules keys) fault s.own
+        (inr (s.room, inr (s.vouched, inr (s.lower, inl (rule, (object, (head, i, has, kind, first, place)))))))
+    keys_break fault (head, has, (kind, inr (texts, last))) =
+        first_fault_after (KeepsByCheck f F (lists heights keys) n) (BreaksAtCheck f F (lists heights keys) n) object_rules (vouched_rules keys) fault s.own
+        (inr (
+          s.room,
+          inr (
+            s.vouched,
+            inr (
+              s.lower,
+              inr (
+                λ other h. subst (λ (x : Head). x.kind ≡ kinds.Dict → HaveTexts f F x x.count) (HasHead-unique f F n head other has h) (λ _. texts),
+                inl (last_broken f F heights keys n head has kind fault last),
+              ),
+            ),
+          ),
+        ))
+
+  -- where all vouched objects are seen, and their keys are good, they keep all rules
+  pub all_good : (t : ℕ) → Running f F (lists heights keys) Quick F.objects t → ((n : ℕ) → n < F.objects → IsVouchedBy heights n → HasGoodKeys f F keys n) → Running f F (lists heights keys) Exact F.objects t
+  all_good t run good = record { sums = run.sums; room = run.room; kept = λ m lt v. good_keeps m (run.kept m lt v) (good m lt v) }
+
+  module _ (fault : Fault) where
+    -- the first fault of keys is the first of all, where all vouched objects up to it are seen
+    pub keys_first : (bound : ℕ) → AreSeen f F heights bound → IsFirstKeysFault f F (lists heights keys) bound fault → IsVouchedFault f F (lists heights keys) fault
+    keys_first bound seen k = record {
+      object = k.object;
+      vouched = k.vouched;
+      first = keys_break k.object (seen k.object k.within k.vouched) fault k.breaks;
+      least = λ m lt v. good_keeps m (seen m (omega (arith, lt, k.within)) v) (k.before m lt v);
+    }
+
+    -- the first fault of seen objects is the first of all, where the keys before it are good
+    pub seen_first : (s : IsSeenFault f F (lists heights keys) fault) → ((n : ℕ) → n < s.object → IsVouchedBy heights n → HasGoodKeys f F keys n) → IsVouchedFault f F (lists heights keys) fault
+    seen_first s good = record { object = s.object; vouched = s.vouched; first = s.first; least = λ m lt v. good_keeps m (s.seen m lt v) (good m lt v) }
+
+    -- it names its object, which is one
+    pub seen_object : (s : IsSeenFault f F (lists heights keys) fault) → fault.object ≡ Some (record { 0 = s.object })
+    seen_object s = fault_object f F (lists heights keys) s.object (check_rules keys) fault s.first
 
 -- a fault of the file as a whole
 pub frame_fault : (f : List ℕ) (certificate : Lists) (e : ObjectFault) → GivesFault (IsFrameFault f) e → GivesRefusal (IsPairFault f certificate) (refusal_of e)
@@ -248,3 +271,14 @@ object_refused P Q (errors.Read r) same h = tt
 -- a call that answers no fault is refused for a failed read or a growth alone
 pub never_refused : (Q : Fault → Type 0) (e : ObjectFault) → GivesFault Never e → GivesRefusal Q (refusal_of e)
 never_refused Q e h = object_refused Never Q e (λ x never. absurd never) h
+
+-- what is said of a fault that is refused
+pub refused_weaker : (P Q : Fault → Type 0) (e : Refusal) → ((x : Fault) → P x → Q x) → GivesRefusal P e → GivesRefusal Q e
+refused_weaker P Q (refusals.Fault fault) same h = same fault h
+refused_weaker P Q (refusals.Read r) same h = tt
+refused_weaker P Q refusals.Memory same h = tt
+
+-- or that is answered
+pub given_weaker : (P Q : Fault → Type 0) (e : ObjectFault) → ((x : Fault) → P x → Q x) → GivesFault P e → GivesFault Q e
+given_weaker P Q (errors.Fault fault) same h = same fault h
+given_weaker P Q (errors.Read r) same h = tt

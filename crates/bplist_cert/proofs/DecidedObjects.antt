@@ -29,7 +29,7 @@ use Rattle.bplist_cert.specs.Keys.{HaveTexts}
 use Rattle.bplist_cert.specs.CheckRules.{KeepsLast, IsLastFault, IsKeysFault, IsCheckFault, check_rules, list_of}
 use Rattle.bplist_cert.specs.PairFault.{Sums, IsHeld, Running, IsVouchedFault, IsCertFault, IsPairFault}
 use Rattle.bplist_cert.specs.Sorted.{IsAccepted}
-use Rattle.bplist_cert.proofs.CheckSteps.{object_fault, overfull_fault, heights_fault, keys_fault, held, stepped, passed, start}
+use Rattle.bplist_cert.proofs.CheckSteps.{object_fault, overfull_fault, heights_fault, keys_break, seen, held, held_more, passed, start}
 use Rattle.bplist_cert.proofs.AcceptedCertificates.{accepted}
 use Rattle.bplist_cert.proofs.DecidedKeys.{dict_decided, texts_or_first, differ_or_first, order_or_first}
 
@@ -139,7 +139,7 @@ module _ (f : List ℕ) (F : Frame) where
                 inr (fault, heights_fault f F heights keys n frame lt head has kept vouched t sums room (errors.Fault fault) h)
             | inl (met, low) ↦ elim (keys_or_fault (length heights) keys n head) [
               | inr (fault, h) ↦
-                  inr (fault, keys_fault f F heights keys n frame lt head has kept vouched t sums room met low (refusals.Fault fault) h)
+                  inr (fault, keys_break f F heights keys n (seen f F heights keys n frame lt head has kept vouched t sums room met low).kept fault (head, has, h))
               | inl last ↦ inl (now, held f F heights keys n frame lt head has kept vouched t sums room met low last)
             ]
           ]
@@ -169,8 +169,8 @@ module _ (f : List ℕ) (F : Frame) where
         | inl (t, run) ↦ elim (cases_lt (slice_index heights n) 1) [
           | inl low ↦ inl (t, passed f F heights keys n Exact (omega (arith, low)) t run)
           | inr vouched ↦ elim (held_or_fault n (omega (arith, l)) vouched t run.sums) [
-            | inl (u, h) ↦ inl (u, stepped f F heights keys n Exact vouched t run (Ok u) h)
-            | inr (fault, h) ↦ inr (fault, stepped f F heights keys n Exact vouched t run (Err (refusals.Fault fault)) h)
+            | inl (u, h) ↦ inl (u, held_more f F heights keys n Exact t run u h)
+            | inr (fault, h) ↦ inr (fault, record { object = n; vouched = vouched; first = h; least = run.kept })
           ]
         ]
       ]

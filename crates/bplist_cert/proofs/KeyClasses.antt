@@ -1,5 +1,5 @@
 -- What the classes of the keys of a vouched dictionary say of them.
-use Rattle.std.proofs.Common.{Bool, not, IsTrue, Option, Some, None, MatchOption, is_some, ◌≡◌, ℕ, ◌*◌, ◌<◌, ◌≤◌, List, slice_index, sym, ap, ◌∙◌, subst, arith}
+use Rattle.std.proofs.Common.{Bool, not, IsTrue, Option, Some, None, MatchOption, is_some, Result, Ok, Err, OnOk, ◌≡◌, ℕ, ◌*◌, ◌<◌, ◌≤◌, List, slice_index, sym, ap, ◌∙◌, subst, inr, arith}
 use Rattle.std.proofs.lemmas.Bool.{false≢true}
 use Rattle.bplist_objects.specs.declared.frame.Frame.{Frame}
 use Rattle.bplist_objects.specs.declared.head.Head.{Head}
@@ -14,14 +14,27 @@ use Rattle.bplist_objects.proofs.BodyLaws.{HasHead-unique}
 use Rattle.bplist_objects.proofs.HeadTies.{shape_announced}
 use Rattle.bplist_keys.specs.Texts.{text_units}
 use Rattle.bplist_keys.specs.Ranks.{AreClasses}
-use Rattle.bplist_keys.specs.Classes.{HasNamedKeys, AreClassed, HaveClasses, AreApart}
+use Rattle.bplist_keys.specs.Classes.{HasNamedKeys, AreClassed, HaveClasses, AreApart, IsFirstAgain}
 use Rattle.bplist_keys.proofs.WeightSteps.{text_units-head}
 use Rattle.bplist_cert.specs.Heights.{ref}
-use Rattle.bplist_cert.specs.Keys.{IsKey, HaveTexts, KeysDiffer}
+use Rattle.bplist_cert.specs.Keys.{IsKey, HaveTexts, KeysDiffer, IsFirstTwice}
+use Rattle.bplist_cert.specs.Lists.{Keyed}
+use Rattle.bplist_cert.specs.CheckRules.{HasOrder, KeepsLast, IsKeysFault, IsOrderFault}
+use Rattle.bplist_objects.specs.declared.fault.ObjectFault.{ObjectFault}
+use Rattle.bplist_objects.specs.declared.fault.ObjectFault.TheVariants as errors
+use Rattle.bplist_objects.specs.Answers.{Gives}
+use Rattle.bplist_cert.specs.declared.refusal.Refusal.{Refusal}
+use Rattle.bplist_cert.specs.declared.refusal.Refusal.TheVariants as refusals
+use Rattle.bplist_cert.specs.Refusals.{Judges}
 use Rattle.bplist_cert.specs.Valid.{IsVouchedBy}
 use Rattle.bplist_cert.specs.Looks.{IsSeen, AreSeen}
-use Rattle.bplist_cert.specs.KeyClasses.{KeysAreSound, HasGoodKeys}
+use Rattle.bplist_cert.specs.KeyClasses.{KeysAreSound, HasGoodKeys, BreaksKeys}
 use Rattle.bplist_cert.proofs.Texts.{text_there}
+
+-- what holds anyway holds after a yes
+pub on_ok_always : {X E : Type 0} (P : Type 0) (r : Result X E) → P → OnOk r P
+on_ok_always P (Ok x) p = p
+on_ok_always P (Err e) p = tt
 
 -- none is found
 pub none_there : {X : Type 0} (A : Type 0) (B : X → Type 0) (found : Option X) (none : Bool) → is_some found ≡ not none → IsTrue none → MatchOption found A B → A
@@ -44,8 +57,29 @@ module _ (f : List ℕ) (F : Frame) where
   }
 
   -- keys are good by one head
-  pub good_at : (n : ℕ) (head : Head) → HasHead f F n head → HaveTexts f F head head.count → KeysDiffer f F head head.count → HasGoodKeys f F n
-  good_at n head has texts differ other h dict = subst (λ (x : Head). HaveTexts f F x x.count × KeysDiffer f F x x.count) (HasHead-unique f F n head other has h) (texts, differ)
+  pub good_at : (keys : Option Keyed) (n : ℕ) (head : Head) → HasHead f F n head → (head.kind ≡ Dict → HaveTexts f F head head.count × KeepsLast f F keys n head) → HasGoodKeys f F keys n
+  good_at keys n head has good other h = subst (λ (x : Head). x.kind ≡ Dict → HaveTexts f F x x.count × KeepsLast f F keys n x) (HasHead-unique f F n head other has h) good
+
+  -- what is said of the keys by one head is said of the object
+  pub keys_judged : (count : ℕ) (keys : Option Keyed) (n : ℕ) (head : Head) → HasHead f F n head → (r : Result (Unit {0}) Refusal)
+      → Judges (λ _. HaveTexts f F head head.count × KeepsLast f F keys n head) (IsKeysFault f F count keys n head) r → Judges (λ _. HasGoodKeys f F keys n) (BreaksKeys f F count keys n) r
+  keys_judged count keys n head has (Ok x) h = good_at keys n head has (λ _. h)
+  keys_judged count keys n head has (Err (refusals.Fault fault)) h = (head, has, h)
+  keys_judged count keys n head has (Err (refusals.Read r)) h = tt
+  keys_judged count keys n head has (Err refusals.Memory) h = tt
+
+  pub keys_given : (count : ℕ) (keys : Option Keyed) (n : ℕ) (head : Head) → HasHead f F n head → (r : Result (Unit {0}) ObjectFault)
+      → Gives (λ _. HaveTexts f F head head.count × KeepsLast f F keys n head) (IsKeysFault f F count keys n head) r → Gives (λ _. HasGoodKeys f F keys n) (BreaksKeys f F count keys n) r
+  keys_given count keys n head has (Ok x) h = good_at keys n head has (λ _. h)
+  keys_given count keys n head has (Err (errors.Fault fault)) h = (head, has, h)
+  keys_given count keys n head has (Err (errors.Read r)) h = tt
+
+  -- keys that are texts, and a key list
+  pub order_given : (count : ℕ) (keyed : Keyed) (n : ℕ) (head : Head) → head.kind ≡ Dict → HaveTexts f F head head.count → (r : Result (Unit {0}) ObjectFault)
+      → Gives (λ _. HasOrder f F (Some keyed) n head) (IsOrderFault f F count (Some keyed) n head) r → Gives (λ _. HaveTexts f F head head.count × HasOrder f F (Some keyed) n head) (IsKeysFault f F count (Some keyed) n head) r
+  order_given count keyed n head dict texts (Ok x) h = (texts, h)
+  order_given count keyed n head dict texts (Err (errors.Fault fault)) h = (dict, inr (texts, h))
+  order_given count keyed n head dict texts (Err (errors.Read r)) h = tt
 
   -- the keys of a vouched dictionary are vouched for, and lower
   module _ (heights : List ℕ) (n : ℕ) (seen : IsSeen f F heights n) (head : Head) (has : HasHead f F n head) (dict : head.kind ≡ Dict) where
@@ -65,7 +99,7 @@ module _ (f : List ℕ) (F : Frame) where
   pub named_low : (heights named : List ℕ) (n : ℕ) → IsSeen f F heights n → slice_index heights n ≤ 1 → HasNamedKeys f F named n
   named_low heights named n seen least head has dict k low = absurd (no_keys heights n seen head has dict least k low)
 
-  pub good_low : (heights : List ℕ) (n : ℕ) → IsSeen f F heights n → slice_index heights n ≤ 1 → HasGoodKeys f F n
+  pub good_low : (heights : List ℕ) (n : ℕ) → IsSeen f F heights n → slice_index heights n ≤ 1 → HasGoodKeys f F None n
   good_low heights n seen least head has dict =
       (λ k low. absurd (no_keys heights n seen head has dict least k low), λ i j before low. absurd (no_keys heights n seen head has dict least j low))
 
@@ -74,26 +108,41 @@ module _ (f : List ℕ) (F : Frame) where
   sound_keys heights seen n within vouched head has dict k low inside =
       (seen (ref f F head k) inside (key_vouched heights n (seen n within vouched) head has dict k low)).own
 
-  module _ (framed : IsFrame f F) (head : Head) (classes : List ℕ) (classed : AreClassed f F classes head) (sound : KeysAreSound f F head)
-      (inside : (k : ℕ) → k < head.count → ref f F head k < F.objects) where
-    -- a key with a class is a text
-    pub text_at : (k : ℕ) → k < head.count → 0 < slice_index classes (ref f F head k) → (key : Head) × IsKey f F head k key
-    text_at k low some =
-        let m = ref f F head k in
-        let t = classed.only k low some in
-        (t.0, text_there f F m framed (inside k low) t.0 (shape_announced f F m t.0 t.1.0) (sound k low (inside k low)) t.1.1)
-
+  module _ (head : Head) (classes : List ℕ) (classed : AreClassed f F classes head) where
     pub class_at : (k : ℕ) → k < head.count → (key : Head) → IsKey f F head k key → 0 < slice_index classes (ref f F head k)
     class_at k low key is = classed.all k low (key, (is.is.0, is.kind))
 
-    pub units_at : (k : ℕ) (key : Head) → IsKey f F head k key → text_units f F (ref f F head k) ≡ units_of f key
+    units_at : (k : ℕ) (key : Head) → IsKey f F head k key → text_units f F (ref f F head k) ≡ units_of f key
     units_at k key is = text_units-head f F (ref f F head k) key (is.is.0, is.kind)
-
-    pub classed_texts : (count : ℕ) → count ≤ head.count → HaveClasses (ref f F head) classes count → HaveTexts f F head count
-    classed_texts count few some k low = text_at k (omega (arith, few, low)) (some k low)
 
     pub apart_differ : (count : ℕ) → count ≤ head.count → AreApart (ref f F head) classes count → KeysDiffer f F head count
     apart_differ count few apart i j low high a b is_a is_b same =
         let i_low : i < head.count = omega (arith, few, low, high) in
         let j_low : j < head.count = omega (arith, few, high) in
         apart i j low high ((classed.same i j i_low j_low (class_at i i_low a is_a) (class_at j j_low b is_b)).1 (units_at i a is_a ∙ same ∙ sym (units_at j b is_b)))
+
+    -- the first class that comes again is that of the first key that comes twice
+    pub again_twice : HaveTexts f F head head.count → (j : ℕ) → j < head.count → IsFirstAgain (ref f F head) classes j → IsFirstTwice f F head j
+    again_twice texts j low again =
+        let i_low : again.earlier < head.count = omega (arith, low, again.order) in
+        let a = texts again.earlier i_low in
+        let b = texts j low in
+        record {
+          within = low;
+          earlier = again.earlier;
+          order = again.order;
+          first = a.0;
+          second = b.0;
+          is_first = a.1;
+          is_second = b.1;
+          same = sym (units_at again.earlier a.0 a.1) ∙ (classed.same again.earlier j i_low low (class_at again.earlier i_low a.0 a.1) (class_at j low b.0 b.1)).0 again.same ∙ units_at j b.0 b.1;
+          before = apart_differ j (omega (arith, low)) again.before;
+        }
+
+    module _ (framed : IsFrame f F) (sound : KeysAreSound f F head) (inside : (k : ℕ) → k < head.count → ref f F head k < F.objects) where
+      -- keys with a class are texts
+      pub classed_texts : HaveClasses (ref f F head) classes head.count → HaveTexts f F head head.count
+      classed_texts some k low =
+          let m = ref f F head k in
+          let t = classed.only k low (some k low) in
+          (t.0, text_there f F m framed (inside k low) t.0 (shape_announced f F m t.0 t.1.0) (sound k low (inside k low)) t.1.1)

@@ -17,12 +17,12 @@ use Rattle.bplist_keys.proofs.WeightSteps.{text_units-head}
 use Rattle.bplist_cert.specs.Heights.{ref}
 use Rattle.bplist_cert.specs.Lists.{Keyed}
 use Rattle.bplist_cert.specs.Valid.{IsVouchedBy}
-use Rattle.bplist_cert.specs.Looks.{AreSeen}
+use Rattle.bplist_cert.specs.Looks.{IsSeen}
 use Rattle.bplist_cert.specs.CheckRules.{IsWhole, list_of, HasOrder}
 use Rattle.bplist_cert.specs.Keys.{HaveTexts, AreInOrder}
-use Rattle.bplist_cert.specs.KeyClasses.{KeysAreSound}
-use Rattle.bplist_cert.specs.KeyPairs.{Ascends, ArePairs, Follows, HaveTextShapes, HasGoodList}
-use Rattle.bplist_cert.proofs.KeyClasses.{keys_inside, sound_keys, good_low, no_keys}
+use Rattle.bplist_cert.specs.KeyClasses.{KeysAreSound, HasGoodKeys}
+use Rattle.bplist_cert.specs.KeyPairs.{Ascends, ArePairs, Follows, HaveTextShapes}
+use Rattle.bplist_cert.proofs.KeyClasses.{good_low, no_keys}
 use Rattle.bplist_cert.proofs.AllNumbers.{onto}
 use Rattle.bplist_cert.proofs.Texts.{text_there}
 
@@ -126,34 +126,26 @@ module _ (f : List ℕ) (F : Frame) where
 
 module _ (f : List ℕ) (F : Frame) where
   -- keys that are texts by marker and count, and keep rules 14 to 20, are texts
-  shapes_texts : IsFrame f F → (head : Head) → ((k : ℕ) → k < head.count → ref f F head k < F.objects) → KeysAreSound f F head → HaveTextShapes f F head → HaveTexts f F head head.count
+  pub shapes_texts : IsFrame f F → (head : Head) → ((k : ℕ) → k < head.count → ref f F head k < F.objects) → KeysAreSound f F head → HaveTextShapes f F head → HaveTexts f F head head.count
   shapes_texts framed head inside sound shapes k low =
       let t = shapes k low in
       (t.0, text_there f F (ref f F head k) framed (inside k low) t.0 (shape_announced f F (ref f F head k) t.0 t.1.0) (sound k low (inside k low)) t.1.1)
 
-  module _ (framed : IsFrame f F) (heights : List ℕ) (seen : AreSeen f F heights F.objects) (n : ℕ) (within : n < F.objects) (vouched : IsVouchedBy heights n) (keyed : Keyed) where
-    -- a list with the keys in order is good
-    pub good_list : (head : Head) → HasHead f F n head → head.kind ≡ Dict → IsWhole keyed n head.count → HaveTextShapes f F head → AreInOrder f F head (list_of keyed n head.count) head.count → HasGoodList f F keyed n
-    good_list head has dict whole shapes order other h _ =
-        let inside = keys_inside f F n (seen n within vouched).own head has dict in
-        let texts = shapes_texts framed head inside (sound_keys f F heights seen n within vouched head has dict) shapes in
-        subst (λ (x : Head). HaveTexts f F x x.count × HasOrder f F (Some keyed) n x) (HasHead-unique f F n head other has h) (texts, (whole, order))
+  -- a list of an object without references that starts among the positions is good
+  pub low_list : (heights : List ℕ) (n : ℕ) → IsSeen f F heights n → (keyed : Keyed) → slice_index heights n ≤ 1 → IsWhole keyed n 0 → HasGoodKeys f F (Some keyed) n
+  low_list heights n seen keyed least start head has dict =
+      let good = good_low f F heights n seen least head has dict in
+      (good.0, (omega (arith, start, none_at), λ j l. absurd (none_there j l)))
+    where
+      none_there : (k : ℕ) → k < head.count → ⊥
+      none_there = no_keys f F heights n seen head has dict least
 
-    -- so is one of an object without references that starts among the positions
-    pub low_list : slice_index heights n ≤ 1 → IsWhole keyed n 0 → HasGoodList f F keyed n
-    low_list least start head has dict =
-        let good = good_low f F heights n (seen n within vouched) least head has dict in
-        (good.0, (omega (arith, start, none_at head has dict), λ j l. absurd (none_there_at head has dict j l)))
-      where
-        none_there_at : (head : Head) → HasHead f F n head → head.kind ≡ Dict → (k : ℕ) → k < head.count → ⊥
-        none_there_at head has dict = no_keys f F heights n (seen n within vouched) head has dict least
-
-        none_at : (head : Head) → HasHead f F n head → head.kind ≡ Dict → head.count ≡ 0
-        none_at head has dict = elim (cases_lt 0 head.count) [ inl some ↦ absurd (none_there_at head has dict 0 some) | inr none ↦ omega (arith, none) ]
+      none_at : head.count ≡ 0
+      none_at = elim (cases_lt 0 head.count) [ inl some ↦ absurd (none_there 0 some) | inr none ↦ omega (arith, none) ]
 
 -- no pair is kept yet
-pub pairs_none : (f : List ℕ) (F : Frame) (rows : List ℕ) → rows ≡ replicate 2039 0 → ArePairs f F rows
-pairs_none f F rows none i a b low some is = elim (cases_lt i 2039) [
-  | inl within ↦ absurd (let z = ap (λ xs. slice_index xs i) none ∙ get_or-replicate 2039 i 0 0 within in omega (arith, z, some))
-  | inr past ↦ absurd (let z = get_or_past rows i 0 (omega (arith, past, ap length none ∙ length-replicate {A = ℕ} 2039 0)) in omega (arith, z, some))
+pub pairs_none : (f : List ℕ) (F : Frame) (rows : List ℕ) → rows ≡ replicate 4093 0 → ArePairs f F rows
+pairs_none f F rows none i a b low some is = elim (cases_lt i 4093) [
+  | inl within ↦ absurd (let z = ap (λ xs. slice_index xs i) none ∙ get_or-replicate 4093 i 0 0 within in omega (arith, z, some))
+  | inr past ↦ absurd (let z = get_or_past rows i 0 (omega (arith, past, ap length none ∙ length-replicate {A = ℕ} 4093 0)) in omega (arith, z, some))
 ]

@@ -6,11 +6,6 @@ pub mod PlacedKeys
 pub mod OrderedLists
 pub mod CheckSteps
 pub mod QuickLooks
-pub mod SortedKeys
-pub mod LeastNumbers
-pub mod ScanSteps
-pub mod SortedRepeats
-pub mod KeyBounds
 pub mod AllNumbers
 pub mod VouchedObjects
 pub mod TextKeys
@@ -23,3 +18,4 @@ pub mod KeyPairs
 pub mod RepeatedKeys
 pub mod DecidedKeys
 pub mod DecidedObjects
+pub mod LowSteps

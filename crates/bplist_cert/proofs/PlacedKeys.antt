@@ -6,9 +6,6 @@ use Rattle.bplist_objects.specs.declared.frame.Frame.{Frame}
 use Rattle.bplist_objects.specs.declared.head.Head.{Head}
 use Rattle.bplist_cert.specs.Heights.{ref}
 use Rattle.bplist_cert.specs.Keys.{IsText, IsKey, HaveTexts, IsFirstKeyless}
-use Rattle.bplist_cert.specs.declared.places.Places.{Places}
-use Rattle.bplist_cert.specs.declared.places.Places.TheVariants.{Table, Kept}
-use Rattle.bplist_cert.specs.Places.{TellPlaces, TellSound, TellAllSound, TellKeys}
 use Rattle.bplist_cert.specs.KeyPlaces.{AreRefs, IsPlaced, ArePlaced, AreTexts, IsFirstOther}
 
 -- one more place is that of its object
@@ -30,21 +27,6 @@ others_more f F refs i texts key is k l = go (cases_lt k i)
     go : (k < i) ⊎ (i ≤ k) → (x : Head) × IsText f F (slice_index refs k) x
     go (inl a) = texts k a
     go (inr b) = let e : i ≡ k = omega (arith, b, l) in (key, subst (λ j. IsText f F (slice_index refs j) key) e is)
-
--- what is known of a dictionary's keys says where the objects stand
-pub places_told : (f : List ℕ) (F : Frame) (head : Head) (places : Places) → TellKeys f F head places → TellPlaces f F places
-places_told f F head Table told = tt
-places_told f F head (Kept kept) told = told.0
-
--- and that each key keeps rules 14 to 20, where places are kept
-pub sound_told : (f : List ℕ) (F : Frame) (head : Head) (places : Places) → TellKeys f F head places → (k : ℕ) → k < head.count → TellSound f F places (ref f F head k)
-sound_told f F head Table told k low = tt
-sound_told f F head (Kept kept) told k low = told.1 k low
-
--- so it is known of the keys of a block
-pub sound_there : (f : List ℕ) (F : Frame) (head : Head) (places : Places) (done : ℕ) (refs : List ℕ) → AreRefs f F head done refs → TellKeys f F head places
-    → done + length refs ≤ head.count → TellAllSound f F places refs
-sound_there f F head places done refs are told few k lt = subst (TellSound f F places) (sym (are k lt)) (sound_told f F head places told (done + k) (omega (arith, few, lt)))
 
 -- what was found, where something is there
 pub found_some : {X : Type 0} (A : Type 0) (P : X → Type 0) (found : Option X) (none : Bool) → is_some found ≡ not none → none ≡ false → MatchOption found A P → (x : X) × P x

@@ -36,11 +36,3 @@ module _ (f : List ℕ) (F : Frame) (m : ℕ) where
   -- an object that keeps rules 14 to 20 has no fault by rules 14 to 17
   pub shape_kept : (fault : Fault) → KeepsAll (KeepsByObject f F m) object_rules → IsObjectFault f F m shape_rules fault → ⊥
   shape_kept fault kept h = no_object_fault f F m shape_rules fault (kept.0, (kept.1.0, (kept.1.1.0, (kept.1.1.1.0, tt)))) h
-
-  -- what marker and count say of such an object is all
-  pub known_shape : (r : Result Head ObjectFault) → KeepsAll (KeepsByObject f F m) object_rules
-      → Gives (λ head. HasHead f F m head × KeepsAll (KeepsByObject f F m) shape_rules) (IsObjectFault f F m shape_rules) r
-      → Gives (λ head. HasHead f F m head × KeepsAll (KeepsByObject f F m) object_rules) (IsObjectFault f F m object_rules) r
-  known_shape (Ok head) kept h = (h.0, kept)
-  known_shape (Err (object_faults.Fault fault)) kept h = absurd (shape_kept fault kept h)
-  known_shape (Err (object_faults.Read _)) kept h = tt

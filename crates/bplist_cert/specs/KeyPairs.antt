@@ -3,14 +3,11 @@ use Rattle.std.specs.Prelude.{◌≡◌, ℕ, ◌+◌, ◌*◌, ◌<◌, List, s
 use Rattle.std.specs.declared.cmp.Ordering.TheVariants.{Less}
 use Rattle.bplist_objects.specs.declared.frame.Frame.{Frame}
 use Rattle.bplist_objects.specs.declared.head.Head.{Head}
-use Rattle.bplist_objects.specs.declared.kind.Kind.TheVariants.{Dict}
-use Rattle.bplist_objects.specs.Announced.{HasHead}
 use Rattle.bplist_objects.specs.Units.{compare_units}
+use Rattle.bplist_keys.specs.Runs.{AreRuns}
+use Rattle.bplist_cert.specs.declared.key_pairs.OrderedPairs.{OrderedPairs}
 use Rattle.bplist_keys.specs.Texts.{HasTextShape, text_units}
-use Rattle.bplist_cert.specs.Lists.{Keyed}
 use Rattle.bplist_cert.specs.Heights.{ref}
-use Rattle.bplist_cert.specs.Keys.{HaveTexts}
-use Rattle.bplist_cert.specs.CheckRules.{HasOrder}
 
 module _ (f : List ℕ) (F : Frame) where
   -- objects a and b are texts by marker and count, and the units of the first come before those of the second
@@ -21,6 +18,10 @@ module _ (f : List ℕ) (F : Frame) where
   abbrev pub ArePairs : List ℕ → Type 0
   ArePairs rows = (i a b : ℕ) → b < 4294967296 → 0 < slice_index rows i → slice_index rows i ≡ a * 4294967296 + b → Ascends a b
 
+  -- the pairs are such, and the runs those of the file
+  abbrev pub AreKnown : OrderedPairs → Type 0
+  AreKnown pairs = ArePairs pairs.rows × AreRuns f pairs.runs.rows
+
   -- key m is a text by marker and count, and comes after the one before, if there is one
   abbrev pub Follows : Option ℕ → ℕ → Type 0
   Follows None m = HasTextShape f F m
@@ -29,7 +30,3 @@ module _ (f : List ℕ) (F : Frame) where
   -- the keys of a dictionary with this head are texts by marker and count
   abbrev pub HaveTextShapes : Head → Type 0
   HaveTextShapes head = (k : ℕ) → k < head.count → HasTextShape f F (ref f F head k)
-
-  -- the keys of object n, if it is a dictionary, are texts, and its key list has them in order
-  abbrev pub HasGoodList : Keyed → ℕ → Type 0
-  HasGoodList keyed n = (head : Head) → HasHead f F n head → head.kind ≡ Dict → HaveTexts f F head head.count × HasOrder f F (Some keyed) n head

@@ -10,9 +10,7 @@ pub mod Looks
 pub mod PairFault
 pub mod Refusals
 pub mod CheckedFile
-pub mod Repeats
-pub mod KeyUnits
-pub mod Places
 pub mod KeyPlaces
 pub mod KeyClasses
 pub mod KeyPairs
+pub mod LowBytes

@@ -14,7 +14,7 @@ use Rattle.bplist_cert.specs.Valid.{IsVouchedBy}
 use Rattle.bplist_cert.specs.CheckRules.{KeepsByCheck, IsCheckFault, check_rules}
 use Rattle.bplist_cert.specs.declared.checker.Look.{Look}
 use Rattle.bplist_cert.specs.declared.checker.Look.TheVariants.{Quick, Exact}
-use Rattle.bplist_cert.specs.Looks.{IsShown}
+use Rattle.bplist_cert.specs.Looks.{IsShown, AreSeen}
 
 -- the vouched objects below n keep all rules
 abbrev pub KeepBelow : List ℕ → Frame → Lists → ℕ → Type 0
@@ -49,10 +49,17 @@ pub record Running (f : List ℕ) (F : Frame) (certificate : Lists) (look : Look
   pub room : t + 8 ≤ F.table
   pub kept : (m : ℕ) → m < n → IsVouchedBy certificate.heights m → IsShown f F certificate look m
 
--- the fault that a walk over the vouched objects ends in: by exact looks the first, by quick ones any
+-- the first fault of a vouched object, where those before it keep the rules before those of keys
+pub record IsSeenFault (f : List ℕ) (F : Frame) (certificate : Lists) (fault : Fault) : Type 0 where
+  pub object : ℕ
+  pub vouched : IsVouchedBy certificate.heights object
+  pub first : IsCheckFault f F certificate object (check_rules certificate.keys) fault
+  pub seen : AreSeen f F certificate.heights object
+
+-- the fault that a walk over the vouched objects ends in, in which keys are not looked at: by exact looks the first, by quick ones any
 abbrev pub IsWalkFault : List ℕ → Frame → Lists → Look → Fault → Type 0
 IsWalkFault f F certificate Quick fault = Unit {0}
-IsWalkFault f F certificate Exact fault = IsVouchedFault f F certificate fault
+IsWalkFault f F certificate Exact fault = IsSeenFault f F certificate fault
 
 -- the heights are as many as the objects, the top has one, and all vouched objects keep the rules
 pub record IsKept (f : List ℕ) (F : Frame) (certificate : Lists) : Type 0 where

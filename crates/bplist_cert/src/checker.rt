@@ -8,15 +8,14 @@ ghost use Rattle.bplist_objects.specs.Safe.{IsSafe, IsSafeHead, IsSafeFrame};
 ghost use Rattle.bplist_objects.specs.Rules.{KeepsAll};
 ghost use Rattle.bplist_objects.specs.Announced.{HasHead};
 ghost use Rattle.bplist_objects.specs.ObjectRules.{KeepsByObject, body_rules};
-ghost use Rattle.bplist_objects.specs.declared.kind.Kind.TheVariants.{Dict};
+ghost use Rattle.bplist_objects.specs.declared.frame.ObjectNo.{ObjectNo as object_no};
 ghost use Rattle.bplist_cert.specs.Lists.{Keyed, lists, HasStarts};
 ghost use Rattle.bplist_cert.specs.Valid.{IsVouchedBy, HoldsOneValue};
 ghost use Rattle.bplist_cert.specs.Heights.{AreLower};
-ghost use Rattle.bplist_cert.specs.Keys.{HaveTexts};
-ghost use Rattle.bplist_cert.specs.CheckRules.{KeepsLast, IsLastFault, IsKeysFault};
-ghost use Rattle.bplist_cert.specs.Looks.{IsShownFault};
+ghost use Rattle.bplist_cert.specs.Looks.{IsShownFault, AreSeen};
+ghost use Rattle.bplist_cert.specs.KeyClasses.{HasGoodKeys, IsFirstKeysFault};
 ghost use Rattle.bplist_cert.specs.declared.checker.Look.TheVariants.{Quick as quick, Exact as exact};
-ghost use Rattle.bplist_cert.specs.PairFault.{Sums, IsHeld, Running, IsWalkFault, IsVouchedFault, IsCountFault, IsTopFault, IsKept, IsPairFault};
+ghost use Rattle.bplist_cert.specs.PairFault.{Sums, IsHeld, Running, IsWalkFault, IsSeenFault, IsVouchedFault, IsCountFault, IsTopFault, IsKept, IsPairFault};
 ghost use Rattle.bplist_cert.specs.Refusals.{Judges, GivesRefusal, is_read, refused_read, MayRefuse};
 ghost use Rattle.bplist_cert.specs.Sorted.{IsAccepted};
 ghost use Rattle.bplist_objects.specs.Answers.{Never, read_failed};
@@ -29,16 +28,12 @@ use crate::certificate::{Certificate, KeyLists};
 use crate::checked::Checked;
 use crate::extents::check_extent;
 use crate::heights::{Wanted, check_heights, check_refs, height_at};
-use crate::key_classes::have_good_keys;
-use crate::key_equality::check_twice;
-use crate::key_lists::have_good_lists;
-use crate::key_order::check_order;
-use crate::keys::check_texts;
-use crate::places::Places;
 use crate::refusal::Refusal;
+use crate::seen::Seen;
+use crate::{key_classes, key_lists};
 use bplist_objects::{
-    Fault, Frame, Head, Kind, ObjectFault, ObjectNo, Rule, check_body, frame_of, head_at,
-    read_offsets, refs_of, shape_at,
+    Fault, Frame, Head, ObjectFault, ObjectNo, Rule, check_body, frame_of, head_at, read_offsets,
+    refs_of, shape_at,
 };
 use bplist_octets::Source;
 use std::alloc::Global;
@@ -49,60 +44,20 @@ const BLOCK: usize = 512;
 /// How each vouched object is looked at.
 #[derive(Clone, Copy, Debug)]
 enum Look {
-    /// By the rules before those of keys.
+    /// By the rules before those of keys. A fault is any.
     Quick,
-    /// By all rules, in the order of the check.
+    /// By the same rules in the order of the check. A fault is the first.
     Exact,
 }
 
 /// What a walk over the vouched objects goes by, beside the source.
 #[derive(Drop)]
 struct Walk<'a> {
-    alloc: Global,
     frame: Frame,
     heights: &'a [u32],
     keys: &'a Option<KeyLists>,
     look: Look,
     pub ghost all: { length heights.now ≡ frame.objects },
-    pub ghost starts: { (keyed : Keyed) → keys.now ≡ Some keyed → length keyed.starts ≡ frame.objects },
-}
-
-/// Looks for equal keys of dictionary `n`, whose keys are texts, or in version 2 at its key list.
-fn check_last<S: Source>(src: &mut S, walk: &Walk, n: ObjectNo, head: &Head) -> Result<(), Refusal>
-    requires safe { IsSafe (length (S.means src.old).octets) walk.now.frame }
-    requires head { IsSafeHead walk.now.frame head.now }
-    requires dict { head.now.kind ≡ Dict }
-    requires within { n.0 < walk.now.frame.objects }
-    ensures reads { OnlyReads (refused_read result) (S.means src.old) (S.means src.new) }
-    ensures memory { IfErr result (MayRefuse walk.now.keys.now) }
-    ensures exact { HonestlyBy (S.means src.old) walk.now.frame (λ f F. HaveTexts f F head.now head.now.count
-        → Judges (λ _. KeepsLast f F walk.now.keys.now n.0 head.now)
-        (IsLastFault f F F.objects walk.now.keys.now n.0 head.now) result) }
-{
-    match walk.keys {
-        None => check_twice(walk.alloc, src, &walk.frame, Places::Table, n, head),
-        Some(keys) => Ok(check_order(src, &walk.frame, keys, walk.frame.objects, n, head)?),
-    }
-}
-
-/// Looks at the keys of object `n`, which is vouched for, where it is a dictionary.
-fn check_keys<S: Source>(src: &mut S, walk: &Walk, n: ObjectNo, head: &Head) -> Result<(), Refusal>
-    requires safe { IsSafe (length (S.means src.old).octets) walk.now.frame }
-    requires head { IsSafeHead walk.now.frame head.now }
-    requires within { n.0 < walk.now.frame.objects }
-    ensures reads { OnlyReads (refused_read result) (S.means src.old) (S.means src.new) }
-    ensures memory { IfErr result (MayRefuse walk.now.keys.now) }
-    ensures exact { HonestlyBy (S.means src.old) walk.now.frame (λ f F. Judges (λ _. head.now.kind ≡ Dict
-        → HaveTexts f F head.now head.now.count
-        × KeepsLast f F walk.now.keys.now n.0 head.now) (IsKeysFault f F F.objects walk.now.keys.now n.0 head.now) result) }
-{
-    match head.kind {
-        Kind::Dict => {
-            check_texts(src, &walk.frame, Places::Table, n, head)?;
-            check_last(src, walk, n, head)
-        }
-        _ => Ok(()),
-    }
 }
 
 /// Looks at the body of object `n`, which stands at `place` and has this head: at a leaf's by rules 18 and 19, and at references
@@ -134,7 +89,7 @@ fn check_contents<S: Source>(
     )
 }
 
-/// Looks at object `n` as `check_object` does, by the rules before those of keys, and reads no byte twice.
+/// Looks at object `n` as `check_object` does, and reads no byte twice.
 fn look_quickly<S: Source>(
     src: &mut S,
     walk: &Walk,
@@ -157,7 +112,7 @@ fn look_quickly<S: Source>(
     Ok(now)
 }
 
-/// Looks at object `n` as `check_object` does, by all rules in their order.
+/// Looks at object `n` as `check_object` does, by the rules in their order.
 fn look_exactly<S: Source>(
     src: &mut S,
     walk: &Walk,
@@ -171,18 +126,17 @@ fn look_exactly<S: Source>(
     ensures memory { IfErr result (MayRefuse walk.now.keys.now) }
     ensures exact { HonestlyBy (S.means src.old) walk.now.frame (λ f F. place ≡ off f F n.0
         → IsVouchedBy walk.now.heights.now n.0 → Sums f F walk.now.heights.now n.0 used
-        → Judges (IsHeld f F (lists walk.now.heights.now walk.now.keys.now) exact n.0)
+        → Judges (IsHeld f F (lists walk.now.heights.now walk.now.keys.now) quick n.0)
         (IsShownFault f F (lists walk.now.heights.now walk.now.keys.now) exact n.0) result) }
 {
     let head = head_at(src, &walk.frame, n, place)?;
     let now = check_extent(&walk.frame, n, &head, place, used)?;
     check_heights(src, &walk.frame, walk.heights, n, &head)?;
-    check_keys(src, walk, n, &head)?;
     Ok(now)
 }
 
-/// Looks at object `n`, which is vouched for and stands at `place`, where the vouched objects before it take
-/// `used` bytes, and answers how many they take with it.
+/// Looks at object `n`, which is vouched for and stands at `place`, by the rules before those of keys, where the vouched
+/// objects before it take `used` bytes, and answers how many they take with it.
 fn check_object<S: Source>(
     src: &mut S,
     walk: &Walk,
@@ -196,7 +150,7 @@ fn check_object<S: Source>(
     ensures memory { IfErr result (MayRefuse walk.now.keys.now) }
     ensures exact { HonestlyBy (S.means src.old) walk.now.frame (λ f F. place ≡ off f F n.0
         → IsVouchedBy walk.now.heights.now n.0 → Sums f F walk.now.heights.now n.0 used
-        → Judges (IsHeld f F (lists walk.now.heights.now walk.now.keys.now) walk.now.look n.0)
+        → Judges (IsHeld f F (lists walk.now.heights.now walk.now.keys.now) quick n.0)
         (IsShownFault f F (lists walk.now.heights.now walk.now.keys.now) walk.now.look n.0) result) }
 {
     match walk.look {
@@ -218,8 +172,8 @@ fn check_step<S: Source>(
     ensures reads { OnlyReads (refused_read result) (S.means src.old) (S.means src.new) }
     ensures memory { IfErr result (MayRefuse walk.now.keys.now) }
     ensures exact { HonestlyBy (S.means src.old) walk.now.frame (λ f F. place ≡ off f F n.0
-        → Running f F (lists walk.now.heights.now walk.now.keys.now) walk.now.look n.0 used
-        → Judges (Running f F (lists walk.now.heights.now walk.now.keys.now) walk.now.look (suc n.0))
+        → Running f F (lists walk.now.heights.now walk.now.keys.now) quick n.0 used
+        → Judges (Running f F (lists walk.now.heights.now walk.now.keys.now) quick (suc n.0))
         (IsWalkFault f F (lists walk.now.heights.now walk.now.keys.now) walk.now.look) result) }
 {
     if height_at(walk.heights, n.0 as u64) == 0 {
@@ -242,8 +196,8 @@ fn check_block<S: Source>(
     ensures memory { IfErr result (MayRefuse walk.now.keys.now) }
     ensures exact { HonestlyBy (S.means src.old) walk.now.frame (λ f F. ((k : ℕ) → k < length places.now
         → slice_index places.now k ≡ off f F (from + k))
-        → Running f F (lists walk.now.heights.now walk.now.keys.now) walk.now.look from used
-        → Judges (Running f F (lists walk.now.heights.now walk.now.keys.now) walk.now.look (from + length places.now))
+        → Running f F (lists walk.now.heights.now walk.now.keys.now) quick from used
+        → Judges (Running f F (lists walk.now.heights.now walk.now.keys.now) quick (from + length places.now))
         (IsWalkFault f F (lists walk.now.heights.now walk.now.keys.now) walk.now.look) result) }
 {
     let _objects = walk.frame.objects;
@@ -261,7 +215,7 @@ fn check_all<S: Source>(src: &mut S, walk: &Walk) -> Result<u64, Refusal>
     ensures reads { OnlyReads (refused_read result) (S.means src.old) (S.means src.new) }
     ensures memory { IfErr result (MayRefuse walk.now.keys.now) }
     ensures exact { HonestlyBy (S.means src.old) walk.now.frame (λ f F.
-        Judges (Running f F (lists walk.now.heights.now walk.now.keys.now) walk.now.look F.objects)
+        Judges (Running f F (lists walk.now.heights.now walk.now.keys.now) quick F.objects)
         (IsWalkFault f F (lists walk.now.heights.now walk.now.keys.now) walk.now.look) result) }
 {
     let objects = walk.frame.objects;
@@ -278,42 +232,69 @@ fn check_all<S: Source>(src: &mut S, walk: &Walk) -> Result<u64, Refusal>
     Ok(used)
 }
 
-/// How many bytes the vouched objects take, where quick looks show that all of them keep all rules. None does not say that
-/// one is broken, nor does a fault say that it is the first.
-fn check_quickly<S: Source>(
-    alloc: Global,
+/// Looks at all vouched objects by the rules before those of keys: quickly, and where that finds a fault again, by the rules
+/// in their order. How many bytes they take.
+fn see_objects<S: Source>(
     src: &mut S,
     frame: &Frame,
     heights: &[u32],
     keys: &Option<KeyLists>,
-) -> Result<Option<u64>, Refusal>
+) -> Result<u64, Refusal>
     requires safe { IsSafe (length (S.means src.old).octets) frame.now }
     requires all { length heights.now ≡ frame.now.objects }
-    requires starts { HasStarts heights.now keys.now }
     ensures reads { OnlyReads (refused_read result) (S.means src.old) (S.means src.new) }
     ensures memory { IfErr result (MayRefuse keys.now) }
     ensures exact { HonestlyBy (S.means src.old) frame.now (λ f F.
-        IfOk result (λ kept. IfSome kept (Running f F (lists heights.now keys.now) exact F.objects))) }
+        Judges (Running f F (lists heights.now keys.now) quick F.objects)
+        (IsSeenFault f F (lists heights.now keys.now)) result) }
 {
-    let walk = Walk {
-        alloc,
+    let mut walk = Walk {
         frame: *frame,
         heights,
         keys,
         look: Look::Quick,
     };
-    let used = check_all(src, &walk)?;
-    let good = match keys {
-        None => have_good_keys(alloc, src, frame, heights)?,
-        Some(keys) => have_good_lists(src, frame, heights, keys)?,
-    };
-    if good {
-        return Ok(Some(used));
+    match check_all(src, &walk) {
+        Err(Refusal::Fault(_)) => {}
+        answer => return answer,
     }
-    Ok(None)
+    walk.look = Look::Exact;
+    check_all(src, &walk)
 }
 
-/// Looks at all objects, in the order of their numbers.
+/// Looks at the keys of the vouched dictionaries that were seen.
+fn check_keys<S: Source>(
+    alloc: Global,
+    src: &mut S,
+    seen: &Seen,
+    keys: &Option<KeyLists>,
+) -> Result<(), Refusal>
+    requires safe { IsSafe (length (S.means src.old).octets) seen.now.frame }
+    requires starts { HasStarts seen.now.heights.now keys.now }
+    ensures reads { OnlyReads (refused_read result) (S.means src.old) (S.means src.new) }
+    ensures memory { IfErr result (MayRefuse keys.now) }
+    ensures exact { HonestlyBy (S.means src.old) seen.now.frame (λ f F. AreSeen f F seen.now.heights.now seen.now.bound
+        → Judges (λ _. (n : ℕ) → n < seen.now.bound → IsVouchedBy seen.now.heights.now n → HasGoodKeys f F keys.now n)
+        (IsFirstKeysFault f F (lists seen.now.heights.now keys.now) seen.now.bound) result) }
+{
+    match keys {
+        None => key_classes::check_keys(alloc, src, seen),
+        Some(keys) => Ok(key_lists::check_keys(src, seen, keys)?),
+    }
+}
+
+/// The number of the object that a fault is of.
+fn object_of(fault: &Fault) -> u32
+    ensures { (n : object_no) → fault.now.object ≡ Some n → result ≡ n.0 }
+{
+    match fault.object {
+        Some(n) => n.0,
+        None => 0,
+    }
+}
+
+/// Looks at all vouched objects, and then at the keys of the dictionaries among them, up to the first object that breaks a
+/// rule before those of keys. How many bytes they take.
 fn check_objects<S: Source>(
     alloc: Global,
     src: &mut S,
@@ -330,19 +311,27 @@ fn check_objects<S: Source>(
         (λ f F. Judges (Running f F (lists heights.now keys.now) exact F.objects) (IsVouchedFault f F (lists heights.now
         keys.now)) result) }
 {
-    match check_quickly(alloc, src, frame, heights, keys) {
-        Ok(Some(used)) => return Ok(used),
-        Ok(None) | Err(Refusal::Fault(_)) => {}
-        Err(refusal) => return Err(refusal),
+    match see_objects(src, frame, heights, keys) {
+        Ok(used) => {
+            let seen = Seen {
+                frame: *frame,
+                heights,
+                bound: frame.objects,
+            };
+            check_keys(alloc, src, &seen, keys)?;
+            Ok(used)
+        }
+        Err(Refusal::Fault(fault)) => {
+            let seen = Seen {
+                frame: *frame,
+                heights,
+                bound: object_of(&fault).min(frame.objects),
+            };
+            check_keys(alloc, src, &seen, keys)?;
+            Err(Refusal::Fault(fault))
+        }
+        Err(refusal) => Err(refusal),
     }
-    let walk = Walk {
-        alloc,
-        frame: *frame,
-        heights,
-        keys,
-        look: Look::Exact,
-    };
-    check_all(src, &walk)
 }
 
 /// Looks at the number of heights and at the top's.

@@ -1,39 +1,33 @@
-//! Whether the key lists of vouched dictionaries have the keys in order: rules 21 and 32 on the way to a yes.
+//! Whether the key lists of vouched dictionaries have the keys in order, which are texts: rules 21 and 32.
 
-ghost use Rattle.std.specs.Prelude.{◌≡◌, ◌≤◌, ◌<◌, ℕ, List, Some, IsTrue, IfOk, IfSome, OnOk, MatchOption, ⊤, is_err, length, slice_index};
+ghost use Rattle.std.specs.Prelude.{◌≡◌, ◌≤◌, ◌<◌, ℕ, Some, IsTrue, false, IfOk, IfSome, OnOk, MatchOption, ⊤, is_err, length, slice_index};
 ghost use Rattle.bplist_octets.specs.Meaning.{OnlyReads};
-ghost use Rattle.bplist_objects.specs.Answers.{read_failed};
+ghost use Rattle.bplist_objects.specs.Answers.{Gives, read_failed};
+ghost use Rattle.bplist_objects.specs.Announced.{HasHead};
 ghost use Rattle.bplist_objects.specs.Framed.{HonestlyBy};
-ghost use Rattle.bplist_objects.specs.Safe.{IsSafe, IsSafeBody, IsSafeHead};
-ghost use Rattle.bplist_objects.specs.Units.{IsTextKind};
+ghost use Rattle.bplist_objects.specs.Rules.{KeepsAll};
+ghost use Rattle.bplist_objects.specs.ObjectRules.{KeepsByObject, object_rules};
+ghost use Rattle.bplist_objects.specs.Safe.{IsSafe, IsSafeHead};
+ghost use Rattle.bplist_objects.specs.declared.head.Head.{Head as head};
 ghost use Rattle.bplist_objects.specs.declared.kind.Kind.TheVariants.{Dict};
-ghost use Rattle.bplist_keys.specs.Texts.{HasTextShape, IsTextHead};
 ghost use Rattle.bplist_cert.specs.Heights.{ref};
-ghost use Rattle.bplist_cert.specs.CheckRules.{IsWhole, list_of};
-ghost use Rattle.bplist_cert.specs.Keys.{AreInOrder};
-ghost use Rattle.bplist_cert.specs.KeyPairs.{Ascends, ArePairs, HaveTextShapes, Follows, HasGoodList};
+ghost use Rattle.bplist_cert.specs.Lists.{lists};
+ghost use Rattle.bplist_cert.specs.CheckRules.{IsWhole, list_of, HasOrder, IsKeysFault};
+ghost use Rattle.bplist_cert.specs.Keys.{HaveTexts, AreInOrder};
+ghost use Rattle.bplist_cert.specs.KeyClasses.{KeysAreSound, HasGoodKeys, BreaksKeys, IsFirstKeysFault};
+ghost use Rattle.bplist_cert.specs.KeyPairs.{Ascends, AreKnown, HaveTextShapes, Follows};
+ghost use Rattle.bplist_cert.specs.LowBytes.{AreLow};
 ghost use Rattle.bplist_cert.specs.Valid.{IsVouchedBy};
 ghost use Rattle.bplist_cert.specs.Looks.{AreSeen};
 
 use crate::certificate::KeyLists;
-use crate::key_order::{comes_after, part_of};
+use crate::key_order::{check_order, comes_after, part_of, text_of};
 use crate::key_pairs::OrderedPairs;
-use bplist_keys::text_head;
+use crate::keys::check_texts;
+use crate::low_bytes::LowBytes;
+use crate::seen::Seen;
 use bplist_objects::{Frame, Head, Kind, ObjectFault, ObjectNo, offset_of, ref_at, shape_at};
 use bplist_octets::{ReadFault, Source};
-
-/// The head of object `m`, where its marker and count are those of a text.
-fn text_of<S: Source>(src: &mut S, frame: &Frame, m: u32) -> Result<Option<Head>, ReadFault>
-    requires safe { IsSafe (length (S.means src.old).octets) frame.now }
-    requires within { m < frame.now.objects }
-    ensures reads { OnlyReads (is_err result) (S.means src.old) (S.means src.new) }
-    ensures exact { HonestlyBy (S.means src.old) frame.now (λ f F.
-        IfOk result (λ found. IfSome found (IsTextHead f F m))) }
-    ensures safe { IfOk result (λ found. IfSome found (λ key. IsTextKind key.kind × IsSafeBody (length (S.means src.old).octets) key)) }
-{
-    let place = offset_of(src, frame, ObjectNo(m))?;
-    text_head(src, frame, m, place)
-}
 
 /// Whether objects `a` and `b` are texts by marker and count, of which the first comes before the second.
 fn ascend<S: Source>(
@@ -47,8 +41,8 @@ fn ascend<S: Source>(
     requires first { a < frame.now.objects }
     requires second { b < frame.now.objects }
     ensures reads { OnlyReads (is_err result) (S.means src.old) (S.means src.new) }
-    ensures exact { HonestlyBy (S.means src.old) frame.now (λ f F. ArePairs f F pairs.old.rows
-        → IfOk result (λ good. ArePairs f F pairs.new.rows × (IsTrue good → Ascends f F a b))) }
+    ensures exact { HonestlyBy (S.means src.old) frame.now (λ f F. AreKnown f F pairs.old
+        → IfOk result (λ good. AreKnown f F pairs.new × (IsTrue good → Ascends f F a b))) }
 {
     if pairs.has(a, b) {
         return Ok(true);
@@ -59,7 +53,7 @@ fn ascend<S: Source>(
     let Some(second) = text_of(src, frame, b)? else {
         return Ok(false);
     };
-    if !comes_after(src, &Some(first), &second)? {
+    if !comes_after(src, &mut pairs.runs, &Some(first), &second)? {
         return Ok(false);
     }
     pairs.insert(a, b);
@@ -78,8 +72,8 @@ fn follows<S: Source>(
     requires before { IfSome before (λ last. last < frame.now.objects) }
     requires within { m < frame.now.objects }
     ensures reads { OnlyReads (is_err result) (S.means src.old) (S.means src.new) }
-    ensures exact { HonestlyBy (S.means src.old) frame.now (λ f F. ArePairs f F pairs.old.rows
-        → IfOk result (λ good. ArePairs f F pairs.new.rows × (IsTrue good → Follows f F before m))) }
+    ensures exact { HonestlyBy (S.means src.old) frame.now (λ f F. AreKnown f F pairs.old
+        → IfOk result (λ good. AreKnown f F pairs.new × (IsTrue good → Follows f F before m))) }
 {
     match before {
         None => Ok(text_of(src, frame, m)?.is_some()),
@@ -125,8 +119,8 @@ fn is_ascending<S: Source>(
     requires dict { head.now.kind ≡ Dict }
     requires whole { length list.now ≡ head.now.count }
     ensures reads { OnlyReads (is_err result) (S.means src.old) (S.means src.new) }
-    ensures exact { HonestlyBy (S.means src.old) frame.now (λ f F. ArePairs f F pairs.old.rows
-        → IfOk result (λ good. ArePairs f F pairs.new.rows
+    ensures exact { HonestlyBy (S.means src.old) frame.now (λ f F. AreKnown f F pairs.old
+        → IfOk result (λ good. AreKnown f F pairs.new
         × (IsTrue good → HaveTextShapes f F head.now × AreInOrder f F head.now list.now head.now.count))) }
 {
     let mut before: Option<u32> = None;
@@ -154,57 +148,133 @@ fn key_list(keys: &KeyLists, n: u32, count: u64) -> Option<&[u32]>
     Some(part_of(&keys.positions, start as usize, count as usize))
 }
 
-/// Whether the key list of vouched object `n` has its keys in order, where it is a dictionary.
+/// What keys are looked up in.
+#[derive(Drop)]
+struct ListLook {
+    pairs: OrderedPairs,
+    low: LowBytes,
+}
+
+/// Whether the key list of dictionary `n` has its keys in order, which are texts by marker and count then.
 fn has_good_list<S: Source>(
     src: &mut S,
-    frame: &Frame,
+    seen: &Seen,
     keys: &KeyLists,
-    n: u32,
+    n: ObjectNo,
+    head: &Head,
     pairs: &mut OrderedPairs,
-) -> Result<bool, ObjectFault>
-    requires safe { IsSafe (length (S.means src.old).octets) frame.now }
-    requires within { n < frame.now.objects }
-    requires starts { length keys.now.starts ≡ frame.now.objects }
-    ensures reads { OnlyReads (read_failed result) (S.means src.old) (S.means src.new) }
-    ensures exact { HonestlyBy (S.means src.old) frame.now (λ f F. ArePairs f F pairs.old.rows
-        → (heights : List ℕ) → length heights ≡ F.objects → AreSeen f F heights F.objects → IsVouchedBy heights n
-        → IfOk result (λ good. ArePairs f F pairs.new.rows × (IsTrue good → HasGoodList f F keys.now n))) }
+) -> Result<bool, ReadFault>
+    requires safe { IsSafe (length (S.means src.old).octets) seen.now.frame }
+    requires head { IsSafeHead seen.now.frame head.now }
+    requires dict { head.now.kind ≡ Dict }
+    requires within { n.0 < seen.now.frame.objects }
+    requires starts { length keys.now.starts ≡ seen.now.frame.objects }
+    ensures reads { OnlyReads (is_err result) (S.means src.old) (S.means src.new) }
+    ensures exact { HonestlyBy (S.means src.old) seen.now.frame (λ f F. AreKnown f F pairs.old
+        → IfOk result (λ good. AreKnown f F pairs.new
+        × (IsTrue good → HaveTextShapes f F head.now × HasOrder f F (Some keys.now) n.0 head.now))) }
 {
-    let place = offset_of(src, frame, ObjectNo(n))?;
-    let head = shape_at(src, frame, ObjectNo(n), place)?;
-    match head.kind {
-        Kind::Dict => match key_list(keys, n, head.count) {
-            None => Ok(false),
-            Some(list) => Ok(is_ascending(src, frame, &head, list, pairs)?),
-        },
-        _ => Ok(true),
+    match key_list(keys, n.0, head.count) {
+        None => Ok(false),
+        Some(list) => is_ascending(src, &seen.frame, head, list, pairs),
     }
 }
 
-/// Whether the key lists of all vouched dictionaries have their keys in order, where all vouched objects keep the rules
-/// before those of keys. Of an object of height 1, which has no references, the start of a list is looked at, whatever it is.
-pub(crate) fn have_good_lists<S: Source>(
+/// Looks at the keys of dictionary `n` and at its key list. Where all vouched objects were seen, keys that are texts by marker
+/// and count are texts.
+fn check_list<S: Source>(
     src: &mut S,
-    frame: &Frame,
-    heights: &[u32],
+    seen: &Seen,
     keys: &KeyLists,
-) -> Result<bool, ObjectFault>
-    requires safe { IsSafe (length (S.means src.old).octets) frame.now }
-    requires all { length heights.now ≡ frame.now.objects }
-    requires starts { length keys.now.starts ≡ frame.now.objects }
+    n: ObjectNo,
+    head: &Head,
+    look: &mut ListLook,
+) -> Result<(), ObjectFault>
+    requires safe { IsSafe (length (S.means src.old).octets) seen.now.frame }
+    requires head { IsSafeHead seen.now.frame head.now }
+    requires dict { head.now.kind ≡ Dict }
+    requires within { n.0 < seen.now.frame.objects }
+    requires starts { length keys.now.starts ≡ seen.now.frame.objects }
     ensures reads { OnlyReads (read_failed result) (S.means src.old) (S.means src.new) }
-    ensures exact { HonestlyBy (S.means src.old) frame.now (λ f F. AreSeen f F heights.now F.objects
-        → IfOk result (λ good. IsTrue good → (n : ℕ) → IsVouchedBy heights.now n → HasGoodList f F keys.now n)) }
+    ensures known { HonestlyBy (S.means src.old) seen.now.frame (λ f F. AreKnown f F look.old.pairs → AreLow f look.old.low.rows
+        → OnOk result (AreKnown f F look.new.pairs × AreLow f look.new.low.rows)) }
+    ensures exact { HonestlyBy (S.means src.old) seen.now.frame (λ f F. AreKnown f F look.old.pairs → AreLow f look.old.low.rows
+        → (seen.now.bound ≡ F.objects → HaveTextShapes f F head.now → HaveTexts f F head.now head.now.count)
+        → Gives (λ _. HaveTexts f F head.now head.now.count × HasOrder f F (Some keys.now) n.0 head.now)
+        (IsKeysFault f F F.objects (Some keys.now) n.0 head.now) result) }
 {
-    let mut pairs = OrderedPairs::new();
-    for n in 0..frame.objects {
-        if heights[n as usize] > 1 {
-            if !has_good_list(src, frame, keys, n, &mut pairs)? {
-                return Ok(false);
-            }
-        } else if key_list(keys, n, 0).is_none() {
-            return Ok(false);
+    let good = has_good_list(src, seen, keys, n, head, &mut look.pairs)?;
+    if good && seen.is_whole() {
+        return Ok(());
+    }
+    check_texts(src, &seen.frame, &mut look.low, n, head)?;
+    if good {
+        return Ok(());
+    }
+    check_order(src, &seen.frame, keys, n, head, &mut look.pairs.runs)
+}
+
+/// Looks at the keys of vouched object `n`, where it is a dictionary.
+fn check_object<S: Source>(
+    src: &mut S,
+    seen: &Seen,
+    keys: &KeyLists,
+    n: u32,
+    look: &mut ListLook,
+) -> Result<(), ObjectFault>
+    requires safe { IsSafe (length (S.means src.old).octets) seen.now.frame }
+    requires within { n < seen.now.frame.objects }
+    requires starts { length keys.now.starts ≡ seen.now.frame.objects }
+    ensures reads { OnlyReads (read_failed result) (S.means src.old) (S.means src.new) }
+    ensures known { HonestlyBy (S.means src.old) seen.now.frame (λ f F. AreKnown f F look.old.pairs → AreLow f look.old.low.rows
+        → OnOk result (AreKnown f F look.new.pairs × AreLow f look.new.low.rows)) }
+    ensures exact { HonestlyBy (S.means src.old) seen.now.frame (λ f F. AreKnown f F look.old.pairs → AreLow f look.old.low.rows
+        → KeepsAll (KeepsByObject f F n) object_rules
+        → ((head : head) → HasHead f F n head → head.kind ≡ Dict → seen.now.bound ≡ F.objects → KeysAreSound f F head)
+        → Gives (λ _. HasGoodKeys f F (Some keys.now) n) (BreaksKeys f F F.objects (Some keys.now) n) result) }
+{
+    let place = offset_of(src, &seen.frame, ObjectNo(n))?;
+    let head = shape_at(src, &seen.frame, ObjectNo(n), place)?;
+    match head.kind {
+        Kind::Dict => check_list(src, seen, keys, ObjectNo(n), &head, look),
+        _ => Ok(()),
+    }
+}
+
+/// Whether an object of this height may have keys, or a key list without keys that starts behind all positions. An object of
+/// height 1 has no references.
+fn may_be_wrong(keys: &KeyLists, n: u32, height: u32) -> bool
+    requires { n < length keys.now.starts }
+    ensures vouched { IsTrue result → 1 ≤ height }
+    ensures none { result ≡ false → 1 ≤ height → (height ≤ 1) × IsWhole keys.now n 0 }
+{
+    if height != 1 {
+        return height > 1;
+    }
+    key_list(keys, n, 0).is_none()
+}
+
+/// Looks at the keys of the vouched dictionaries that were seen: they are texts, and the key lists have them in order.
+pub(crate) fn check_keys<S: Source>(
+    src: &mut S,
+    seen: &Seen,
+    keys: &KeyLists,
+) -> Result<(), ObjectFault>
+    requires safe { IsSafe (length (S.means src.old).octets) seen.now.frame }
+    requires starts { length keys.now.starts ≡ seen.now.frame.objects }
+    ensures reads { OnlyReads (read_failed result) (S.means src.old) (S.means src.new) }
+    ensures exact { HonestlyBy (S.means src.old) seen.now.frame (λ f F. AreSeen f F seen.now.heights.now seen.now.bound
+        → Gives (λ _. (n : ℕ) → n < seen.now.bound → IsVouchedBy seen.now.heights.now n → HasGoodKeys f F (Some keys.now) n)
+        (IsFirstKeysFault f F (lists seen.now.heights.now (Some keys.now)) seen.now.bound) result) }
+{
+    let mut look = ListLook {
+        pairs: OrderedPairs::new(),
+        low: LowBytes::new(src.len()),
+    };
+    for n in 0..seen.bound {
+        if may_be_wrong(keys, n, seen.heights[n as usize]) {
+            check_object(src, seen, keys, n, &mut look)?;
         }
     }
-    Ok(true)
+    Ok(())
 }

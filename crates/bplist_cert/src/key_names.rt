@@ -15,6 +15,7 @@ ghost use Rattle.bplist_cert.specs.Looks.{AreSeen};
 ghost use Rattle.bplist_cert.specs.Refusals.{Judges, refused_read};
 
 use crate::refusal::Refusal;
+use crate::seen::Seen;
 use bplist_keys::{NamedKeys, name_keys};
 use bplist_objects::{Frame, Kind, ObjectNo, shape_at};
 use bplist_octets::Source;
@@ -45,7 +46,33 @@ pub fn name_object<S: Source>(
     }
 }
 
-/// The objects that the vouched dictionaries name as keys. An object of height 1 has no references.
+/// The objects that the vouched dictionaries which were seen name as keys. An object of height 1 has no references.
+pub(crate) fn seen_keys<S: Source>(
+    alloc: Global,
+    src: &mut S,
+    seen: &Seen,
+    places: &[u32],
+) -> Result<NamedKeys, Refusal>
+    requires safe { IsSafe (length (S.means src.old).octets) seen.now.frame }
+    requires places { length places.now ≡ seen.now.frame.objects }
+    ensures reads { OnlyReads (refused_read result) (S.means src.old) (S.means src.new) }
+    ensures all { IfOk result (λ named. length named.table.items ≡ seen.now.frame.objects) }
+    ensures exact { HonestlyBy (S.means src.old) seen.now.frame (λ f F. AreOffsets f F places.now
+        → AreSeen f F seen.now.heights.now seen.now.bound
+        → Judges (λ named. (n : ℕ) → n < seen.now.bound → IsVouchedBy seen.now.heights.now n
+        → HasNamedKeys f F named.table.items n) Never result) }
+{
+    let frame = &seen.frame;
+    let mut named = NamedKeys::new(alloc, frame.objects)?;
+    for n in 0..seen.bound {
+        if seen.heights[n as usize] > 1 {
+            name_object(src, frame, places[n as usize] as u64, n, &mut named)?;
+        }
+    }
+    Ok(named)
+}
+
+/// The objects that the vouched dictionaries name as keys.
 pub fn vouched_keys<S: Source>(
     alloc: Global,
     src: &mut S,
@@ -62,11 +89,10 @@ pub fn vouched_keys<S: Source>(
         → AreSeen f F heights.now F.objects
         → Judges (λ named. (n : ℕ) → IsVouchedBy heights.now n → HasNamedKeys f F named.table.items n) Never result) }
 {
-    let mut named = NamedKeys::new(alloc, frame.objects)?;
-    for n in 0..frame.objects {
-        if heights[n as usize] > 1 {
-            name_object(src, frame, places[n as usize] as u64, n, &mut named)?;
-        }
-    }
-    Ok(named)
+    let seen = Seen {
+        frame: *frame,
+        heights,
+        bound: frame.objects,
+    };
+    seen_keys(alloc, src, &seen, places)
 }

@@ -1,16 +1,19 @@
 //! Pairs of texts that were found in order, so that dictionaries which share keys do not compare them again.
 
-ghost use Rattle.std.specs.Prelude.{◌≡◌, ◌+◌, ◌*◌, ◌<◌, ℕ, List, IsTrue, replicate};
+ghost use Rattle.std.specs.Prelude.{◌≡◌, ◌+◌, ◌*◌, ◌<◌, ℕ, List, IsTrue};
 ghost use Rattle.bplist_objects.specs.declared.frame.Frame.{Frame as frame};
 
-/// How many pairs are kept: a prime, so that pairs with near numbers have rows of their own.
-const ROWS: usize = 2039;
+use bplist_keys::Runs;
 
-/// Pairs of objects that are texts, of which the first comes before the second: as many as fit a table of 16 KiB, in which a
-/// pair takes the row of another. A pair is kept as one number, and 0 is none.
+/// How many pairs are kept: a prime, so that pairs with near numbers have rows of their own.
+const ROWS: usize = 4093;
+
+/// Pairs of objects that are texts, of which the first comes before the second: as many as fit a table of 32 KiB, in which a
+/// pair takes the row of another. A pair is kept as one number, and 0 is none. Beside them the runs of texts that were compared.
 #[derive(Drop)]
 pub(crate) struct OrderedPairs {
     pub rows: [u64; ROWS],
+    pub runs: Runs,
 }
 
 /// Two numbers as one.
@@ -22,24 +25,27 @@ fn pair_of(a: u32, b: u32) -> u64
 
 /// The row of a pair.
 fn row_of(pair: u64) -> usize
-    ensures { result < 2039 }
+    ensures { result < 4093 }
 {
     (pair % ROWS as u64) as usize
 }
 
 impl OrderedPairs {
-    ghost use Rattle.bplist_cert.specs.KeyPairs.{Ascends, ArePairs};
+    ghost use Rattle.bplist_cert.specs.KeyPairs.{Ascends, AreKnown};
 
     /// No pairs yet.
     pub(crate) fn new() -> OrderedPairs
-        ensures { result.rows ≡ replicate 2039 0 }
+        ensures { (f : List ℕ) (F : frame) → AreKnown f F result }
     {
-        OrderedPairs { rows: [0; ROWS] }
+        OrderedPairs {
+            rows: [0; ROWS],
+            runs: Runs::new(),
+        }
     }
 
     /// Whether objects `a` and `b` were found to be texts in this order.
     pub(crate) fn has(&self, a: u32, b: u32) -> bool
-        ensures { (f : List ℕ) (F : frame) → ArePairs f F self.now.rows → IsTrue result → Ascends f F a b }
+        ensures { (f : List ℕ) (F : frame) → AreKnown f F self.now → IsTrue result → Ascends f F a b }
     {
         let pair = pair_of(a, b);
         if pair == 0 || self.rows[row_of(pair)] != pair {
@@ -50,7 +56,7 @@ impl OrderedPairs {
 
     /// Keeps that objects `a` and `b` are texts in this order.
     pub(crate) fn insert(&mut self, a: u32, b: u32)
-        ensures { (f : List ℕ) (F : frame) → ArePairs f F self.old.rows → Ascends f F a b → ArePairs f F self.new.rows }
+        ensures { (f : List ℕ) (F : frame) → AreKnown f F self.old → Ascends f F a b → AreKnown f F self.new }
     {
         let pair = pair_of(a, b);
         self.rows[row_of(pair)] = pair;

@@ -7,22 +7,31 @@ ghost use Rattle.std.specs.Prelude.{◌≡◌, ◌+◌, ◌≤◌, ◌<◌, ℕ,
 ghost use Rattle.bplist_octets.specs.Meaning.{OnlyReads, Honestly};
 ghost use Rattle.bplist_objects.specs.Safe.{IsSafe, IsSafeHead, ref_count};
 ghost use Rattle.bplist_cert.specs.Heights.{ref};
-ghost use Rattle.bplist_cert.specs.Places.{TellPlaces};
-ghost use Rattle.bplist_cert.specs.KeyPlaces.{ArePlaced, AreRefs};
+ghost use Rattle.bplist_cert.specs.KeyPlaces.{IsPlaced, ArePlaced, AreRefs};
 
-use crate::places::{Places, place_of};
-use bplist_objects::{Frame, Head, read_refs};
+use bplist_objects::{Frame, Head, ObjectNo, offset_of, read_refs};
 use bplist_octets::{ReadFault, Source};
 
 /// How many keys are read ahead at most.
 pub(crate) const BLOCK: usize = 256;
+
+/// The place of object number `m`, and 0 for a number that names no object.
+fn place_of<S: Source>(src: &mut S, frame: &Frame, m: u64) -> Result<u64, ReadFault>
+    requires safe { IsSafe (length (S.means src.old).octets) frame.now }
+    ensures reads { OnlyReads (is_err result) (S.means src.old) (S.means src.new) }
+    ensures value { IfOk result (λ place. Honestly (S.means src.old) (λ f. IsPlaced f frame.now m place)) }
+{
+    if m >= frame.objects as u64 {
+        return Ok(0);
+    }
+    offset_of(src, frame, ObjectNo(m as u32))
+}
 
 /// Fills `refs` with the numbers of references from number `from` on, and `found` with the places of the
 /// objects that they name.
 pub(crate) fn read_places<S: Source>(
     src: &mut S,
     frame: &Frame,
-    places: Places,
     head: &Head,
     from: u64,
     refs: &mut [u64],
@@ -34,12 +43,11 @@ pub(crate) fn read_places<S: Source>(
     requires many { length found.old ≡ length refs.old }
     ensures reads { OnlyReads (is_err result) (S.means src.old) (S.means src.new) }
     ensures refs { OnOk result (Honestly (S.means src.old) (λ f. AreRefs f frame.now head.now from refs.new)) }
-    ensures found { OnOk result (Honestly (S.means src.old) (λ f. TellPlaces f frame.now places.entry
-        → ArePlaced f frame.now refs.new found.new (length refs.new))) }
+    ensures found { OnOk result (Honestly (S.means src.old) (λ f. ArePlaced f frame.now refs.new found.new (length refs.new))) }
 {
     read_refs(src, frame, head, from, refs)?;
     for k in 0..refs.len() {
-        found[k] = place_of(src, frame, places, refs[k])?;
+        found[k] = place_of(src, frame, refs[k])?;
     }
     Ok(())
 }

@@ -31,18 +31,16 @@ mod encoding;
 mod extents;
 mod heights;
 mod key_classes;
-mod key_equality;
 mod key_lists;
 mod key_names;
 mod key_order;
 mod key_pairs;
 mod key_places;
-mod key_sort;
-mod key_units;
 mod keys;
 mod laws;
-mod places;
+mod low_bytes;
 mod refusal;
+mod seen;
 
 pub use certificate::{CertRefusal, Certificate, KeyLists};
 pub use checked::Checked;
@@ -52,5 +50,4 @@ pub use laws::{
     checked_stays, one_certificate, one_pair_fault, ordered_keys_differ, pair_fault_excludes,
     reached_objects, repeated_key_has_no_list, vouched_references, vouched_values, yes_or_fault,
 };
-pub use places::Places;
 pub use refusal::Refusal;

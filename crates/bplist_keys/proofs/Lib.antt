@@ -10,3 +10,4 @@ pub mod SortedRanks
 pub mod RankLaws
 pub mod LookUps
 pub mod PlaceSteps
+pub mod RunSteps

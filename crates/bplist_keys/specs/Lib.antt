@@ -7,3 +7,4 @@ pub mod Faults
 pub mod Classes
 pub mod Places
 pub mod Notes
+pub mod Runs

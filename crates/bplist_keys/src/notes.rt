@@ -5,7 +5,9 @@
 
 ghost use Rattle.std.specs.Prelude.{◌≡◌, ◌≤◌, ℕ, List, IfOk, length, vec_len};
 ghost use Rattle.bplist_keys.specs.Notes.{Agree, AreTrue, note_at};
+ghost use Rattle.bplist_keys.specs.Runs.{AreRuns};
 
+use crate::runs::Runs;
 use std::alloc::{AllocError, Global};
 use std::cmp::Ordering;
 
@@ -16,25 +18,29 @@ pub(crate) struct Note {
     pub units: u32,
 }
 
-/// A note for each object, or none at all.
+/// What is known of texts that were compared: a note for each object, or none at all, and runs that texts have in common.
 #[derive(Drop)]
 pub(crate) struct Notes {
     pub notes: Vec<Note>,
+    pub runs: Runs,
 }
 
 impl Notes {
     /// Nothing will be noted.
     pub fn none(alloc: Global) -> Notes
-        ensures { (text : ℕ → List ℕ) → AreTrue text result.notes.items }
+        ensures notes { (text : ℕ → List ℕ) → AreTrue text result.notes.items }
+        ensures runs { (f : List ℕ) → AreRuns f result.runs.rows }
     {
         Notes {
             notes: Vec::new(alloc),
+            runs: Runs::new(),
         }
     }
 
     /// Of so many objects nothing is noted yet.
     pub fn new(alloc: Global, objects: u32) -> Result<Notes, AllocError>
-        ensures { IfOk result (λ notes. (text : ℕ → List ℕ) → AreTrue text notes.notes.items) }
+        ensures notes { IfOk result (λ notes. (text : ℕ → List ℕ) → AreTrue text notes.notes.items) }
+        ensures runs { IfOk result (λ notes. (f : List ℕ) → AreRuns f notes.runs.rows) }
     {
         let none = Note {
             beside: 0,
@@ -42,6 +48,7 @@ impl Notes {
         };
         Ok(Notes {
             notes: vec![in alloc; none; objects as usize]?,
+            runs: Runs::new(),
         })
     }
 
@@ -77,7 +84,8 @@ impl Notes {
 
     /// Text `m` agrees with the one beside it in so many of its first units.
     fn put(&mut self, m: u32, beside: u32, units: u64)
-        ensures { (text : ℕ → List ℕ) → AreTrue text self.old.notes.items → Agree units (text m) (text beside)
+        ensures runs { self.new.runs.rows ≡ self.old.runs.rows }
+        ensures notes { (text : ℕ → List ℕ) → AreTrue text self.old.notes.items → Agree units (text m) (text beside)
             → AreTrue text self.new.notes.items }
     {
         if (m as usize) < self.notes.len() {
@@ -85,9 +93,11 @@ impl Notes {
             self.notes[m as usize] = Note { beside, units };
         }
     }
+
     /// Texts `a` and `b`, which were compared, agree in so many of their first units: the greater one takes the note.
     pub fn add(&mut self, a: u32, b: u32, found: Ordering, units: u64)
-        ensures { (text : ℕ → List ℕ) → AreTrue text self.old.notes.items → Agree units (text a) (text b)
+        ensures runs { self.new.runs.rows ≡ self.old.runs.rows }
+        ensures notes { (text : ℕ → List ℕ) → AreTrue text self.old.notes.items → Agree units (text a) (text b)
             → AreTrue text self.new.notes.items }
     {
         if found.is_le() {

@@ -63,6 +63,7 @@ pub use plist::{head_in, offset_in, read_offsets_in, read_refs_in, ref_place, sh
 pub use ref_blocks::RefBlocks;
 pub use refs::{read_refs, ref_at, refs_of};
 pub use rule::{Rule, rule_name, rule_number, rule_of_number};
+pub use scan::first_high_in;
 pub use table::{high_entry, offset_of, read_offsets};
 pub use text::{key_cmp, read_units, unit_at};
 pub use visits::{Step, visit};

@@ -151,8 +151,9 @@ fn search_part<S: Source>(
     }
 }
 
-/// The first of `count` bytes from `place` on that is 128 or more.
-pub(crate) fn first_high_in<S: Source>(
+/// The first of `count` bytes from `place` on that is 128 or more: its number among them. The bytes lie in the source. An
+/// error is a failed read.
+pub fn first_high_in<S: Source>(
     src: &mut S,
     place: u64,
     count: u64,

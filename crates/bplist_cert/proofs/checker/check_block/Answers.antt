@@ -1,4 +1,5 @@
 use Rattle.std.proofs.Common.{◌≡◌, ◌+◌, ◌∙◌, suc, length, refl, subst, arith}
+use Rattle.bplist_cert.specs.declared.checker.Look.TheVariants.{Quick}
 use Rattle.bplist_cert.specs.Lists.{lists}
 use Rattle.bplist_cert.specs.PairFault.{Running}
 use Rattle.bplist_cert.proofs.checker.check_block.Goals as goal
@@ -8,7 +9,7 @@ loop-i-init g c = record {
   same = refl;
   running = λ honest framed places run.
       let e : c.args.from ≡ c.args.from + 0 = omega arith in
-      subst (λ k. Running (g.S.Source.means c.args.src.now).octets c.args.walk.now.frame (lists c.args.walk.now.heights.now c.args.walk.now.keys.now) c.args.walk.now.look k c.args.used) e run;
+      subst (λ k. Running (g.S.Source.means c.args.src.now).octets c.args.walk.now.frame (lists c.args.walk.now.heights.now c.args.walk.now.keys.now) Quick k c.args.used) e run;
 }
 
 pub loop-i-preserved : goal.loop-i-preserved
@@ -17,12 +18,12 @@ loop-i-preserved g c = record {
   running = λ honest framed places run.
       let exact = rw c.loop-i.invariant.same at c.in_ok-used.ensures.exact in
       let e : suc (c.args.from + c.loop-i.i) ≡ c.args.from + (c.loop-i.i + 1) = omega arith in
-      subst (λ k. Running (g.S.Source.means c.args.src.now).octets c.args.walk.now.frame (lists c.args.walk.now.heights.now c.args.walk.now.keys.now) c.args.walk.now.look k c.in_ok-used.used) e
+      subst (λ k. Running (g.S.Source.means c.args.src.now).octets c.args.walk.now.frame (lists c.args.walk.now.heights.now c.args.walk.now.keys.now) Quick k c.in_ok-used.used) e
       (exact honest framed (places c.loop-i.i c.loop-i-test.true) (c.loop-i.invariant.running honest framed places run));
 }
 
 pub returns-clause-exact : goal.returns-clause-exact
 returns-clause-exact g c = λ honest framed places run.
     let e : c.args.from + c.loop-i.i ≡ c.args.from + length c.args.places.now = omega (arith, c.loop-i-test.false, c.loop-i.auto.i-end) in
-    subst (λ k. Running (g.S.Source.means c.args.src.now).octets c.args.walk.now.frame (lists c.args.walk.now.heights.now c.args.walk.now.keys.now) c.args.walk.now.look k c.loop-i.used) e
+    subst (λ k. Running (g.S.Source.means c.args.src.now).octets c.args.walk.now.frame (lists c.args.walk.now.heights.now c.args.walk.now.keys.now) Quick k c.loop-i.used) e
     (c.loop-i.invariant.running honest framed places run)

@@ -1,5 +1,6 @@
 use Rattle.std.proofs.Common.{◌≡◌, ◌+◌, ℕ, ◌<◌, length, slice_index, IsTrue}
 use Rattle.bplist_objects.specs.Frame.{off, IsFrame}
+use Rattle.bplist_cert.specs.declared.checker.Look.TheVariants.{Quick}
 use Rattle.bplist_cert.specs.Lists.{lists}
 use Rattle.bplist_cert.specs.PairFault.{Running}
 use Rattle.bplist_cert.proofs.checker.check_block.Given as goal
@@ -12,6 +13,6 @@ invariant-loop-i g l =
       same : means l.src ≡ means l.fn.src;
       running : IsTrue (means l.fn.src).honest → IsFrame (means l.fn.src).octets l.walk.frame
           → ((k : ℕ) → k < length l.places → slice_index l.places k ≡ off (means l.fn.src).octets l.walk.frame (l.from + k))
-          → Running (means l.fn.src).octets l.walk.frame (lists l.walk.heights.now l.walk.keys.now) l.walk.look l.from l.fn.used
-          → Running (means l.fn.src).octets l.walk.frame (lists l.walk.heights.now l.walk.keys.now) l.walk.look (l.from + l.i) l.used;
+          → Running (means l.fn.src).octets l.walk.frame (lists l.walk.heights.now l.walk.keys.now) Quick l.from l.fn.used
+          → Running (means l.fn.src).octets l.walk.frame (lists l.walk.heights.now l.walk.keys.now) Quick (l.from + l.i) l.used;
     }

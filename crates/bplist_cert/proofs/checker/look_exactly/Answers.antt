@@ -1,8 +1,5 @@
-use Rattle.std.proofs.Common.{sym, subst}
 use Rattle.std.proofs.lemmas.Result.{err_from_is_err_and}
-use Rattle.bplist_cert.specs.CheckRules.{IsKeysFault}
-use Rattle.bplist_cert.specs.Refusals.{GivesRefusal}
-use Rattle.bplist_cert.proofs.CheckSteps.{object_fault, overfull_fault, heights_fault, keys_fault, held}
+use Rattle.bplist_cert.proofs.CheckSteps.{object_fault, overfull_fault, heights_fault, seen}
 use Rattle.bplist_cert.proofs.checker.look_exactly.Goals as goal
 
 pub returns-in_err-head-clause-exact : goal.returns-in_err-head-clause-exact
@@ -28,24 +25,11 @@ returns-in_err-check_heights-clause-exact g c = λ honest framed place vouched s
     rw (p.1, p.2) ((heights_fault (g.S.Source.means c.args.src.now).octets c.args.walk.now.frame c.args.walk.now.heights.now c.args.walk.now.keys.now c.args.n.0 framed c.requires.within
     c.in_ok-head.head rules.0 rules.1 vouched c.args.used sums room c.in_err-check_heights.field-0.0 e))
 
-pub returns-in_err-check_keys-clause-exact : goal.returns-in_err-check_keys-clause-exact
-returns-in_err-check_keys-clause-exact g c = λ honest framed place vouched sums.
-    let p = err_from_is_err_and c.from_residual-in_err-check_keys.result c.from_residual-in_err-check_keys.ensures.1 in
-    let rules = c.in_ok-head.ensures.rules honest framed place in
-    let h = rw place at c.in_ok-now.ensures in
-    let room = rw h.0 at h.1 in
-    let e = (rw c.in_ok-head.ensures.reads at c.in_ok-check_heights.ensures.exact) honest in
-    let k = (rw (c.in_ok-check_heights.ensures.reads, c.in_ok-head.ensures.reads) at c.in_err-check_keys.ensures.exact) honest framed in
-    let k' = subst (λ count. GivesRefusal (IsKeysFault (g.S.Source.means c.args.src.now).octets c.args.walk.now.frame count c.args.walk.now.keys.now c.args.n.0 c.in_ok-head.head) c.in_err-check_keys.field-0.0) (sym c.args.walk.now.all) k in
-    rw (p.1, p.2) ((keys_fault (g.S.Source.means c.args.src.now).octets c.args.walk.now.frame c.args.walk.now.heights.now c.args.walk.now.keys.now c.args.n.0 framed c.requires.within
-    c.in_ok-head.head rules.0 rules.1 vouched c.args.used sums room e.0 e.1 c.in_err-check_keys.field-0.0 k'))
-
 pub returns-clause-exact : goal.returns-clause-exact
 returns-clause-exact g c = λ honest framed place vouched sums.
     let rules = c.in_ok-head.ensures.rules honest framed place in
     let h = rw place at c.in_ok-now.ensures in
     let room = rw h.0 at h.1 in
     let e = (rw c.in_ok-head.ensures.reads at c.in_ok-check_heights.ensures.exact) honest in
-    let k = (rw (c.in_ok-check_heights.ensures.reads, c.in_ok-head.ensures.reads) at c.in_ok-check_keys.ensures.exact) honest framed in
-    rw h.0 (held (g.S.Source.means c.args.src.now).octets c.args.walk.now.frame c.args.walk.now.heights.now c.args.walk.now.keys.now c.args.n.0 framed c.requires.within
-    c.in_ok-head.head rules.0 rules.1 vouched c.args.used sums room e.0 e.1 k)
+    rw h.0 (seen (g.S.Source.means c.args.src.now).octets c.args.walk.now.frame c.args.walk.now.heights.now c.args.walk.now.keys.now c.args.n.0 framed c.requires.within
+    c.in_ok-head.head rules.0 rules.1 vouched c.args.used sums room e.0 e.1)

@@ -1,6 +1,6 @@
 use Rattle.std.proofs.Common.{◌≡◌, ◌<◌, IsTrue, IfSome}
 use Rattle.bplist_objects.specs.Frame.{IsFrame}
-use Rattle.bplist_cert.specs.KeyPairs.{ArePairs}
+use Rattle.bplist_cert.specs.KeyPairs.{AreKnown}
 use Rattle.bplist_cert.proofs.KeyPairs.{AscendTo, IsLast}
 use Rattle.bplist_cert.proofs.key_lists.is_ascending.Given as goal
 
@@ -12,7 +12,7 @@ invariant-loop-position g l =
     record {
       same : means l.src ≡ means l.fn.src;
       inside : IfSome l.before (λ last. last < l.frame.objects);
-      pairs : IsTrue (means l.fn.src).honest → IsFrame f l.frame → ArePairs f l.frame l.fn.pairs.rows → ArePairs f l.frame l.pairs.rows;
-      ascend : IsTrue (means l.fn.src).honest → IsFrame f l.frame → ArePairs f l.frame l.fn.pairs.rows → AscendTo f l.frame l.head l.list l.position-index;
+      pairs : IsTrue (means l.fn.src).honest → IsFrame f l.frame → AreKnown f l.frame l.fn.pairs → AreKnown f l.frame l.pairs;
+      ascend : IsTrue (means l.fn.src).honest → IsFrame f l.frame → AreKnown f l.frame l.fn.pairs → AscendTo f l.frame l.head l.list l.position-index;
       last : IsTrue (means l.fn.src).honest → IsFrame f l.frame → IsLast f l.frame l.head l.list l.position-index l.before;
     }

@@ -1,47 +1,22 @@
-use Rattle.std.proofs.Common.{sym, subst, ◌∙◌, inl, inr, arith}
-use Rattle.std.proofs.lemmas.Bool.{cases_eq}
-use Rattle.std.proofs.lemmas.Result.{err_from_is_err_and}
+use Rattle.std.proofs.Common.{ℕ, ◌<◌, List, Result, Ok, Err, length, slice_index}
+use Rattle.bplist_objects.specs.declared.frame.Frame.{Frame}
+use Rattle.bplist_objects.specs.Answers.{Never}
+use Rattle.bplist_keys.specs.declared.named_keys.NamedKeys.{NamedKeys}
 use Rattle.bplist_keys.specs.Classes.{HasNamedKeys}
+use Rattle.bplist_cert.specs.declared.refusal.Refusal.{Refusal}
 use Rattle.bplist_cert.specs.Valid.{IsVouchedBy}
-use Rattle.bplist_cert.proofs.KeyClasses.{named_low}
+use Rattle.bplist_cert.specs.Refusals.{Judges}
 use Rattle.bplist_cert.proofs.CheckSteps.{vouched_inside}
 use Rattle.bplist_cert.proofs.key_names.vouched_keys.Goals as goal
-use Rattle.bplist_cert.proofs.key_names.vouched_keys.Goals.{then-heights-n-gt1+in_ok-name_object, else-heights-n-gt1}
 
-pub returns-in_err-name_object-clause-exact : goal.returns-in_err-name_object-clause-exact
-returns-in_err-name_object-clause-exact g c = λ honest framed placed seen.
-    let n = c.loop-n.n in
-    let p = err_from_is_err_and c.from_residual-in_err-name_object.result c.from_residual-in_err-name_object.ensures.1 in
-    let v : IsVouchedBy c.args.heights.now n = omega (arith, c.if-heights-n-gt1.true) in
-    rw (p.1, p.2) ((rw c.loop-n.invariant.same at c.in_err-name_object.ensures.exact) honest framed (placed n (omega (arith, c.loop-n-test.true))) (seen n (omega (arith, c.loop-n-test.true)) v).own)
-
-pub loop-n-preserved : goal.loop-n-preserved
-loop-n-preserved g c =
-    let v = c.loop-n.invariant in
-    let f = (g.S.Source.means c.args.src.now).octets in
-    let F = c.args.frame.now in
-    let heights = c.args.heights.now in
-    let n = c.loop-n.n in
-    elim c.if-heights-n-gt1.branch [
-      | then-heights-n-gt1+in_ok-name_object w ↦ record {
-        same = rw w.src-is (w.in_ok-name_object.ensures.reads ∙ v.same);
-        all = rw w.named-is w.in_ok-name_object.ensures.all;
-        named = λ honest framed placed seen m low vouched. rw w.named-is (elim (cases_eq m n) [
-          | inl e ↦ subst (HasNamedKeys f F w.name_object.new.named.table.items) (sym e) ((rw v.same at w.in_ok-name_object.ensures.exact) honest framed (placed n (omega (arith, c.loop-n-test.true))) (seen n (omega (arith, c.loop-n-test.true)) (subst (IsVouchedBy heights) e vouched)).own)
-          | inr d ↦ λ head has dict k l. w.in_ok-name_object.ensures.keeps _ (v.named honest framed placed seen m (omega (arith, low, d)) vouched head has dict k l)
-        ]);
-      }
-      | else-heights-n-gt1 w ↦ record {
-        same = rw w.src-is v.same;
-        all = rw w.named-is v.all;
-        named = λ honest framed placed seen m low vouched. rw w.named-is (elim (cases_eq m n) [
-          | inl e ↦ named_low f F heights c.loop-n.named.table.items m (seen m (omega (arith, e, c.loop-n-test.true)) vouched) (rw e (omega (arith, w.if-heights-n-gt1.false)))
-          | inr d ↦ v.named honest framed placed seen m (omega (arith, low, d)) vouched
-        ]);
-      }
-    ]
+-- what is vouched for is an object
+all_named : (f : List ℕ) (F : Frame) (heights : List ℕ) → ((n : ℕ) → IsVouchedBy heights n → n < F.objects) → (r : Result NamedKeys Refusal)
+    → Judges (λ named. (n : ℕ) → n < F.objects → IsVouchedBy heights n → HasNamedKeys f F named.table.items n) Never r
+    → Judges (λ named. (n : ℕ) → IsVouchedBy heights n → HasNamedKeys f F named.table.items n) Never r
+all_named f F heights inside (Ok named) h = λ n vouched. h n (inside n vouched) vouched
+all_named f F heights inside (Err e) h = h
 
 pub returns-clause-exact : goal.returns-clause-exact
-returns-clause-exact g c = λ honest framed placed seen n vouched.
-    let low = vouched_inside c.args.heights.now c.args.frame.now.objects n c.requires.heights vouched in
-    c.loop-n.invariant.named honest framed placed seen n (omega (arith, low, c.loop-n-test.false)) vouched
+returns-clause-exact g c = λ honest framed placed seen.
+    all_named (g.S.Source.means c.args.src.now).octets c.args.frame.now c.args.heights.now (λ n vouched. vouched_inside c.args.heights.now c.args.frame.now.objects n c.requires.heights vouched)
+    c.seen_keys.result (c.seen_keys.ensures.exact honest framed placed seen)

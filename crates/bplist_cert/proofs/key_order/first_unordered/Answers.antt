@@ -1,35 +1,34 @@
 use Rattle.std.proofs.Common.{◌∙◌, arith}
-use Rattle.std.proofs.lemmas.Result.{err_from_is_err_and}
 use Rattle.bplist_cert.proofs.OrderedLists.{in_order, out_of_order, order_more}
 use Rattle.bplist_cert.proofs.key_order.first_unordered.Goals as goal
 
-pub returns-in_err-key-clause-exact : goal.returns-in_err-key-clause-exact
-returns-in_err-key-clause-exact g c = λ honest framed texts.
-    let p = err_from_is_err_and c.from_residual.result c.from_residual.ensures.1 in
-    rw (p.1, p.2) ((rw c.loop-j.invariant.same at c.in_err-key.ensures.exact) honest framed texts)
+pub returns-in_default-clause-exact : goal.returns-in_default-clause-exact
+returns-in_default-clause-exact g c = λ honest framed runs texts.
+    absurd ((rw (c.loop-j.invariant.same, c.in_default.is) at c.in_ok-key.ensures.exact) honest framed texts)
 
 pub returns-then-not-branch-clause-exact : goal.returns-then-not-branch-clause-exact
-returns-then-not-branch-clause-exact g c = λ honest framed texts.
+returns-then-not-branch-clause-exact g c = λ honest framed runs texts.
     let f = (g.S.Source.means c.args.src.now).octets in
-    let key = (rw c.loop-j.invariant.same at c.in_ok-key.ensures.exact) honest framed texts in
-    let after = (rw (c.in_ok-key.ensures.reads, c.loop-j.invariant.same) at c.in_ok-comes_after.ensures.value) honest in
+    let key = (rw (c.loop-j.invariant.same, c.in-Some.is) at c.in_ok-key.ensures.exact) honest framed texts in
+    let after = (rw (c.in_ok-key.ensures.reads, c.loop-j.invariant.same) at c.in_ok-comes_after.ensures.value) honest (c.loop-j.invariant.runs honest runs) in
     record {
       within = omega (arith, c.loop-j-test.true, c.requires.whole);
-      wrong = out_of_order f c.args.frame.now c.args.head.now c.args.list.now c.loop-j.j c.loop-j.before (c.loop-j.invariant.last honest framed texts) c.in_ok-key.key key c.in_ok-comes_after.field-0 after c.if-not-branch.true;
-      before = c.loop-j.invariant.ordered honest framed texts;
+      wrong = out_of_order f c.args.frame.now c.args.head.now c.args.list.now c.loop-j.j c.loop-j.before (c.loop-j.invariant.last honest framed texts) c.in-Some.key key c.in_ok-comes_after.field-0 after c.if-not-branch.true;
+      before = c.loop-j.invariant.ordered honest framed runs texts;
     }
 
 pub loop-j-preserved : goal.loop-j-preserved
 loop-j-preserved g c = record {
   same = c.in_ok-comes_after.ensures.reads ∙ c.in_ok-key.ensures.reads ∙ c.loop-j.invariant.same;
-  ordered = λ honest framed texts.
+  runs = λ honest runs. (rw (c.in_ok-key.ensures.reads, c.loop-j.invariant.same) at c.in_ok-comes_after.ensures.runs) honest (c.loop-j.invariant.runs honest runs);
+  ordered = λ honest framed runs texts.
       let f = (g.S.Source.means c.args.src.now).octets in
-      let key = (rw c.loop-j.invariant.same at c.in_ok-key.ensures.exact) honest framed texts in
-      let after = (rw (c.in_ok-key.ensures.reads, c.loop-j.invariant.same) at c.in_ok-comes_after.ensures.value) honest in
-      order_more f c.args.frame.now c.args.head.now c.args.list.now c.loop-j.j (c.loop-j.invariant.ordered honest framed texts)
-      (in_order f c.args.frame.now c.args.head.now c.args.list.now c.loop-j.j c.loop-j.before (c.loop-j.invariant.last honest framed texts) c.in_ok-key.key key (omega (arith, c.if-position-head.false)) c.in_ok-comes_after.field-0 after c.if-not-branch.false);
+      let key = (rw (c.loop-j.invariant.same, c.in-Some.is) at c.in_ok-key.ensures.exact) honest framed texts in
+      let after = (rw (c.in_ok-key.ensures.reads, c.loop-j.invariant.same) at c.in_ok-comes_after.ensures.value) honest (c.loop-j.invariant.runs honest runs) in
+      order_more f c.args.frame.now c.args.head.now c.args.list.now c.loop-j.j (c.loop-j.invariant.ordered honest framed runs texts)
+      (in_order f c.args.frame.now c.args.head.now c.args.list.now c.loop-j.j c.loop-j.before (c.loop-j.invariant.last honest framed texts) c.in-Some.key key (omega (arith, c.if-position-head.false)) c.in_ok-comes_after.field-0 after c.if-not-branch.false);
   last = λ honest framed texts.
-      let key = (rw c.loop-j.invariant.same at c.in_ok-key.ensures.exact) honest framed texts in
+      let key = (rw (c.loop-j.invariant.same, c.in-Some.is) at c.in_ok-key.ensures.exact) honest framed texts in
       (c.loop-j.j, omega arith, key);
-  safe = rw c.loop-j.invariant.same at c.in_ok-key.ensures.safe;
+  safe = (rw (c.loop-j.invariant.same, c.in-Some.is) at c.in_ok-key.ensures.safe);
 }

@@ -2,6 +2,7 @@ use Rattle.std.proofs.Common.{◌≡◌, IsTrue, length, IfSome}
 use Rattle.bplist_objects.specs.Frame.{IsFrame}
 use Rattle.bplist_objects.specs.Safe.{IsSafeBody}
 use Rattle.bplist_objects.specs.Units.{IsTextKind}
+use Rattle.bplist_keys.specs.Runs.{AreRuns}
 use Rattle.bplist_cert.specs.Keys.{HaveTexts, AreInOrder}
 use Rattle.bplist_cert.proofs.OrderedLists.{IsBefore}
 use Rattle.bplist_cert.proofs.key_order.first_unordered.Given as goal
@@ -12,7 +13,8 @@ invariant-loop-j g l =
     let means = g.S.Source.means in
     record {
       same : means l.src ≡ means l.fn.src;
-      ordered : IsTrue (means l.fn.src).honest → IsFrame (means l.fn.src).octets l.frame → HaveTexts (means l.fn.src).octets l.frame l.head l.head.count
+      runs : IsTrue (means l.fn.src).honest → AreRuns (means l.fn.src).octets l.fn.runs.rows → AreRuns (means l.fn.src).octets l.runs.rows;
+      ordered : IsTrue (means l.fn.src).honest → IsFrame (means l.fn.src).octets l.frame → AreRuns (means l.fn.src).octets l.fn.runs.rows → HaveTexts (means l.fn.src).octets l.frame l.head l.head.count
           → AreInOrder (means l.fn.src).octets l.frame l.head l.list l.j;
       last : IsTrue (means l.fn.src).honest → IsFrame (means l.fn.src).octets l.frame → HaveTexts (means l.fn.src).octets l.frame l.head l.head.count
           → IsBefore (means l.fn.src).octets l.frame l.head l.list l.j l.before;

@@ -1,5 +1,4 @@
 use Rattle.std.proofs.Common.{◌≡◌, IsTrue}
-use Rattle.bplist_cert.specs.Places.{TellPlaces}
 use Rattle.bplist_cert.specs.KeyPlaces.{ArePlaced}
 use Rattle.bplist_cert.proofs.key_places.read_places.Given as goal
 
@@ -9,5 +8,5 @@ invariant-loop-k g l =
     let means = g.S.Source.means in
     record {
       same : means l.src ≡ means l.fn.src;
-      placed : IsTrue (means l.fn.src).honest → TellPlaces (means l.fn.src).octets l.frame l.places → ArePlaced (means l.fn.src).octets l.frame l.refs l.found l.k;
+      placed : IsTrue (means l.fn.src).honest → ArePlaced (means l.fn.src).octets l.frame l.refs l.found l.k;
     }

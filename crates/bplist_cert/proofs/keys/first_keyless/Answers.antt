@@ -2,15 +2,16 @@ use Rattle.std.proofs.Common.{◌∙◌, arith, length-take}
 use Rattle.bplist_cert.proofs.keys.first_keyless.Goals as goal
 
 pub returns-in-Some-clause-found : goal.returns-in-Some-clause-found
-returns-in-Some-clause-found g c = λ honest framed told.
-    (rw (c.loop-done.invariant.same, c.in-Some.is) at c.in_ok-i.ensures.first) honest framed told (c.loop-done.invariant.texts honest framed told)
+returns-in-Some-clause-found g c = λ honest framed low.
+    (rw (c.loop-done.invariant.same, c.in-Some.is) at c.in_ok-i.ensures.first) honest framed (c.loop-done.invariant.low honest low) (c.loop-done.invariant.texts honest framed low)
 
 pub loop-done-preserved : goal.loop-done-preserved
 loop-done-preserved g c =
     let inside = c.min-now.array_long in record {
       same = c.in_ok-i.ensures.reads ∙ c.loop-done.invariant.same;
       reached = omega (arith, c.min-now.ensures, c.loop-done-test.true);
-      texts = λ honest framed told.
-          let all = (rw (c.loop-done.invariant.same, c.in_default.is) at c.in_ok-i.ensures.first) honest framed told (c.loop-done.invariant.texts honest framed told) in
+      low = λ honest low. (rw c.loop-done.invariant.same at c.in_ok-i.ensures.low) honest (c.loop-done.invariant.low honest low);
+      texts = λ honest framed low.
+          let all = (rw (c.loop-done.invariant.same, c.in_default.is) at c.in_ok-i.ensures.first) honest framed (c.loop-done.invariant.low honest low) (c.loop-done.invariant.texts honest framed low) in
           λ k lt. all k (omega (arith, c.min-now.array_long, length-take c.min-now.result c.loop-done.refs));
     }

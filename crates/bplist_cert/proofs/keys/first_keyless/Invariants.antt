@@ -1,6 +1,6 @@
 use Rattle.std.proofs.Common.{◌≡◌, ◌≤◌, ◌-◌, IsTrue}
 use Rattle.bplist_objects.specs.Frame.{IsFrame}
-use Rattle.bplist_cert.specs.Places.{TellKeys}
+use Rattle.bplist_cert.specs.LowBytes.{AreLow}
 use Rattle.bplist_cert.specs.Keys.{HaveTexts}
 use Rattle.bplist_cert.proofs.keys.first_keyless.Given as goal
 
@@ -11,7 +11,8 @@ invariant-loop-done g l =
     record {
       same : means l.src ≡ means l.fn.src;
       reached : l.done ≤ l.count;
-      texts : IsTrue (means l.fn.src).honest → IsFrame (means l.fn.src).octets l.frame → TellKeys (means l.fn.src).octets l.frame l.head l.places
+      low : IsTrue (means l.fn.src).honest → AreLow (means l.fn.src).octets l.fn.low.rows → AreLow (means l.fn.src).octets l.low.rows;
+      texts : IsTrue (means l.fn.src).honest → IsFrame (means l.fn.src).octets l.frame → AreLow (means l.fn.src).octets l.fn.low.rows
           → HaveTexts (means l.fn.src).octets l.frame l.head l.done;
     }
 

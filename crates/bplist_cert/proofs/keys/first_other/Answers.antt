@@ -1,12 +1,23 @@
 use Rattle.std.proofs.Common.{◌∙◌, arith}
-use Rattle.bplist_cert.proofs.PlacedKeys.{others_more, found_some}
+use Rattle.std.proofs.lemmas.Bool.{false≢true}
+use Rattle.bplist_cert.proofs.PlacedKeys.{others_more}
 use Rattle.bplist_cert.proofs.keys.first_other.Goals as goal
+
+pub returns-then-not-branch-clause-found : goal.returns-then-not-branch-clause-found
+returns-then-not-branch-clause-found g c = λ honest framed low placed.
+    let exact = (rw c.loop-i.invariant.same at c.in_ok-is_text.ensures.exact) honest framed (c.loop-i.invariant.low honest low) (placed c.loop-i.i (omega (arith, c.loop-i-test.true))) in
+    record {
+      within = omega (arith, c.loop-i-test.true);
+      none = λ key is. false≢true (rw c.if-not-branch.true at (exact.1 (key, is)));
+      before = c.loop-i.invariant.texts honest framed low placed;
+    }
 
 pub loop-i-preserved : goal.loop-i-preserved
 loop-i-preserved g c = record {
-  same = c.in_ok-text_at.ensures.reads ∙ c.loop-i.invariant.same;
-  texts = λ honest framed placed sound.
-      let found = (rw c.loop-i.invariant.same at c.in_ok-text_at.ensures.found) honest framed (placed c.loop-i.i (omega (arith, c.loop-i-test.true))) (sound c.loop-i.i (omega (arith, c.loop-i-test.true))) in
-      let key = found_some _ _ c.in_ok-text_at.field-0 c.is_none.result c.is_none.ensures c.if-is_none.false found in
-      others_more (g.S.Source.means c.args.src.now).octets c.args.frame.now c.args.refs.now c.loop-i.i (c.loop-i.invariant.texts honest framed placed sound) key.0 key.1;
+  same = c.in_ok-is_text.ensures.reads ∙ c.loop-i.invariant.same;
+  low = λ honest low. (rw c.loop-i.invariant.same at c.in_ok-is_text.ensures.low) honest (c.loop-i.invariant.low honest low);
+  texts = λ honest framed low placed.
+      let exact = (rw c.loop-i.invariant.same at c.in_ok-is_text.ensures.exact) honest framed (c.loop-i.invariant.low honest low) (placed c.loop-i.i (omega (arith, c.loop-i-test.true))) in
+      let key = exact.0 c.if-not-branch.false in
+      others_more (g.S.Source.means c.args.src.now).octets c.args.frame.now c.args.refs.now c.loop-i.i (c.loop-i.invariant.texts honest framed low placed) key.0 key.1;
 }

@@ -1,6 +1,6 @@
 use Rattle.std.proofs.Common.{◌≡◌, length, IsTrue}
 use Rattle.bplist_objects.specs.Frame.{IsFrame}
-use Rattle.bplist_cert.specs.Places.{TellAllSound}
+use Rattle.bplist_cert.specs.LowBytes.{AreLow}
 use Rattle.bplist_cert.specs.KeyPlaces.{ArePlaced, AreTexts}
 use Rattle.bplist_cert.proofs.keys.first_other.Given as goal
 
@@ -10,6 +10,7 @@ invariant-loop-i g l =
     let means = g.S.Source.means in
     record {
       same : means l.src ≡ means l.fn.src;
-      texts : IsTrue (means l.fn.src).honest → IsFrame (means l.fn.src).octets l.frame → ArePlaced (means l.fn.src).octets l.frame l.refs l.offsets (length l.refs)
-          → TellAllSound (means l.fn.src).octets l.frame l.places l.refs → AreTexts (means l.fn.src).octets l.frame l.refs l.i;
+      low : IsTrue (means l.fn.src).honest → AreLow (means l.fn.src).octets l.fn.low.rows → AreLow (means l.fn.src).octets l.low.rows;
+      texts : IsTrue (means l.fn.src).honest → IsFrame (means l.fn.src).octets l.frame → AreLow (means l.fn.src).octets l.fn.low.rows → ArePlaced (means l.fn.src).octets l.frame l.refs l.offsets (length l.refs)
+          → AreTexts (means l.fn.src).octets l.frame l.refs l.i;
     }

@@ -4,6 +4,8 @@ use Rattle.bplist_cert.proofs.KeyPairs.{pairs_more}
 use Rattle.bplist_cert.proofs.key_pairs.OrderedPairs.insert.Goals as goal
 
 pub returns : goal.returns
-returns c = λ f F pairs asc.
-    subst (λ p. ArePairs f F (set c.args.self.now.rows c.row_of.result p)) (sym c.pair_of-pair.ensures)
-    (pairs_more f F c.args.self.now.rows c.row_of.result c.args.a c.args.b (omega (arith, c.row_of.ensures)) c.ranges.b.fits pairs asc)
+returns c = λ f F known asc. (
+  subst (λ p. ArePairs f F (set c.args.self.now.rows c.row_of.result p)) (sym c.pair_of-pair.ensures)
+      (pairs_more f F c.args.self.now.rows c.row_of.result c.args.a c.args.b (omega (arith, c.row_of.ensures)) c.ranges.b.fits known.0 asc),
+  known.1,
+)

@@ -1,0 +1,30 @@
+use Rattle.std.proofs.Common.{ℕ, List, Result, Ok, Err, Option, Some, None, MatchOption, IfOk, arith, subst, ◌∙◌, sym}
+use Rattle.bplist_octets.specs.declared.source.ReadFault.{ReadFault}
+use Rattle.bplist_objects.specs.declared.frame.Frame.{Frame}
+use Rattle.bplist_objects.specs.declared.head.Head.{Head}
+use Rattle.bplist_objects.proofs.Fronts.{one_shape}
+use Rattle.bplist_keys.specs.Texts.{HasTextShape, IsTextHead}
+use Rattle.bplist_cert.specs.Keys.{IsText}
+use Rattle.bplist_cert.proofs.key_order.key_head.Goals as goal
+
+pub returns-then-m-frame-clause-exact : goal.returns-then-m-frame-clause-exact
+returns-then-m-frame-clause-exact g c = λ honest framed texts.
+    let text = texts c.args.i c.requires.within in
+    let value = c.in_ok-m.ensures.value honest in
+    let low = text.1.within in
+    omega (arith, value, c.if-m-frame.true, low)
+
+-- a text's shape is its own
+shape_is : (f : List ℕ) (F : Frame) (m : ℕ) (key : Head) → IsText f F m key → (r : Result (Option Head) ReadFault) → IfOk r (λ found. MatchOption found (HasTextShape f F m → ⊥) (IsTextHead f F m))
+    → IfOk r (λ found. MatchOption found ⊥ (IsText f F m))
+shape_is f F m key is (Ok None) h = h (key, (is.is.0, is.kind))
+shape_is f F m key is (Ok (Some found)) h = subst (λ (x : Head). IsText f F m x) (one_shape f F m key found is.is.0 h.0) is
+shape_is f F m key is (Err e) h = h
+
+pub returns-clause-exact : goal.returns-clause-exact
+returns-clause-exact g c = λ honest framed texts.
+    let f = (g.S.Source.means c.args.src.now).octets in
+    let text = texts c.args.i c.requires.within in
+    let value = c.in_ok-m.ensures.value honest in
+    let found = (rw c.in_ok-m.ensures.reads at c.text_of.ensures.exact) honest framed in
+    shape_is f c.args.frame.now _ text.0 text.1 c.text_of.result (rw value at found)

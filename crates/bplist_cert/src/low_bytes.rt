@@ -1,0 +1,103 @@
+//! Stretches of a file that were found to have only bytes below 128, so that Ascii texts which many dictionaries name, or
+//! which lie in one another, are not read again for rule 18.
+
+ghost use Rattle.std.specs.Prelude.{◌≡◌, ◌↔◌, ◌≤◌, ◌<◌, ℕ, List, length, IsTrue, IfOk, is_err};
+ghost use Rattle.bplist_octets.specs.Meaning.{OnlyReads};
+ghost use Rattle.bplist_cert.specs.LowBytes.{IsLow, AreLow};
+
+use bplist_objects::first_high_in;
+use bplist_octets::{ReadFault, Source};
+
+/// How many stretches are kept.
+const ROWS: usize = 256;
+
+/// The bytes from one place up to before another.
+#[derive(Clone, Copy, Debug)]
+pub(crate) struct Stretch {
+    pub from: u64,
+    pub to: u64,
+}
+
+/// A stretch for each part of the file: of those that begin in the part the longest, together with what it meets.
+#[derive(Drop)]
+pub(crate) struct LowBytes {
+    pub rows: [Stretch; ROWS],
+    /// How many bytes a part of the file has, or 0 for one.
+    part: u64,
+}
+
+/// Whether the bytes from one place up to before another are below 128.
+fn is_low<S: Source>(src: &mut S, from: u64, to: u64) -> Result<bool, ReadFault>
+    requires order { from ≤ to }
+    requires within { to ≤ length (S.means src.old).octets }
+    ensures reads { OnlyReads (is_err result) (S.means src.old) (S.means src.new) }
+    ensures exact { IfOk result (λ low. IsTrue (S.means src.old).honest
+        → IsTrue low ↔ IsLow (S.means src.old).octets from to) }
+{
+    match first_high_in(src, from, to - from)? {
+        Some(_) => Ok(false),
+        None => Ok(true),
+    }
+}
+
+/// One stretch of two: both together where they meet, and else the longer.
+fn joined(known: Stretch, found: Stretch) -> Stretch
+    ensures { (f : List ℕ) → IsLow f known.from known.to → IsLow f found.from found.to → IsLow f result.from result.to }
+{
+    if found.from <= known.to && known.from <= found.to {
+        return Stretch {
+            from: known.from.min(found.from),
+            to: known.to.max(found.to),
+        };
+    }
+    if known.to.saturating_sub(known.from) < found.to.saturating_sub(found.from) {
+        found
+    } else {
+        known
+    }
+}
+
+impl LowBytes {
+    /// No stretches yet, for a file of so many bytes.
+    pub(crate) fn new(len: u64) -> LowBytes
+        ensures { (f : List ℕ) → AreLow f result.rows }
+    {
+        LowBytes {
+            rows: [Stretch { from: 0, to: 0 }; ROWS],
+            part: len / ROWS as u64,
+        }
+    }
+
+    /// The row of the part that this place lies in.
+    fn row_of(&self, place: u64) -> usize
+        ensures { result < 256 }
+    {
+        (place / (self.part.max(1)) % ROWS as u64) as usize
+    }
+
+    /// Whether the bytes from one place up to before another are below 128. Those are read that are not known to be.
+    pub(crate) fn covers<S: Source>(
+        &mut self,
+        src: &mut S,
+        from: u64,
+        to: u64,
+    ) -> Result<bool, ReadFault>
+        requires order { from ≤ to }
+        requires within { to ≤ length (S.means src.old).octets }
+        ensures reads { OnlyReads (is_err result) (S.means src.old) (S.means src.new) }
+        ensures low { IsTrue (S.means src.old).honest → AreLow (S.means src.old).octets self.old.rows
+            → AreLow (S.means src.old).octets self.new.rows }
+        ensures exact { IfOk result (λ low. IsTrue (S.means src.old).honest → AreLow (S.means src.old).octets self.old.rows
+            → IsTrue low ↔ IsLow (S.means src.old).octets from to) }
+    {
+        let row = self.row_of(from);
+        let known = self.rows[row];
+        let begin = known.from.max(from).min(to);
+        let end = known.to.max(begin).min(to);
+        if !is_low(src, from, begin)? || !is_low(src, end, to)? {
+            return Ok(false);
+        }
+        self.rows[row] = joined(known, Stretch { from, to });
+        Ok(true)
+    }
+}

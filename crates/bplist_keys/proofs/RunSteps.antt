@@ -1,0 +1,88 @@
+-- Texts that agree by a run, and runs of texts that agree.
+use Rattle.std.proofs.Common.{◌≡◌, ℕ, ◌+◌, ◌*◌, ◌<◌, ◌≤◌, inl, inr, List, length, set, slice_index, slice_index_or, replicate, take, refl, sym, ap, subst, ◌∙◌, arith}
+use Rattle.std.proofs.lemmas.Bool.{cases_eq, cases_lt}
+use Rattle.std.proofs.lemmas.List.{ext_get_or, get_or-take, length-take-le, get_or-set_same, get_or-set_other, get_or-replicate, get_or_past, length-replicate}
+use Rattle.bplist_objects.specs.declared.head.Head.{Head}
+use Rattle.bplist_objects.specs.Heads.{unit}
+use Rattle.bplist_objects.specs.Scan.{nth_number}
+use Rattle.bplist_objects.specs.Safe.{IsSafeBody}
+use Rattle.bplist_objects.specs.Units.{IsTextKind, units_of}
+use Rattle.bplist_objects.proofs.ScanLaws.{nth_number-behind}
+use Rattle.bplist_objects.proofs.Units.{length-units_at, nth-units_at}
+use Rattle.bplist_keys.specs.declared.runs.Run.{Run}
+use Rattle.bplist_keys.specs.Notes.{Agree}
+use Rattle.bplist_keys.specs.Runs.{IsRun, run_at, AreRuns}
+
+-- no run
+abbrev pub no_run : Run
+no_run = record { size = 0; apart = 0; from = 0; units = 0 }
+
+-- texts agree in no units
+pub agree_none : (us vs : List ℕ) (n : ℕ) → n ≤ 0 → Agree n us vs
+agree_none us vs n none = let e : 0 ≡ n = omega (arith, none) in subst (λ k. Agree k us vs) e refl
+
+-- a run that is put
+pub runs_put : (f : List ℕ) (rows : List Run) (r : ℕ) (run : Run) → r < length rows → AreRuns f rows → IsRun f run → AreRuns f (set rows r run)
+runs_put f rows r run within old new i = elim (cases_eq i r) [
+  | inl e ↦ subst (λ j. IsRun f (run_at (set rows r run) j)) (sym e) (subst (IsRun f) (sym (get_or-set_same rows r run no_run within)) new)
+  | inr d ↦ subst (IsRun f) (sym (get_or-set_other rows r i run no_run d)) (old i)
+]
+
+-- a table without runs
+pub runs_none : (f : List ℕ) (n : ℕ) → AreRuns f (replicate n no_run)
+runs_none f n i = elim (cases_lt i n) [
+  | inl within ↦ subst (IsRun f) (sym (get_or-replicate n i no_run no_run within)) (λ k l. absurd (omega (arith, l)))
+  | inr past ↦ subst (IsRun f) (sym (get_or_past (replicate n no_run) i no_run (omega (arith, past, length-replicate {A = Run} n no_run)))) (λ k l. absurd (omega (arith, l)))
+]
+
+module _ (f : List ℕ) (a b : Head) (a_kind : IsTextKind a.kind) (b_kind : IsTextKind b.kind) (a_safe : IsSafeBody (length f) a) (b_safe : IsSafeBody (length f) b) where
+  a_room : a.body + a.count * unit 1 a.kind ≤ length f
+  a_room = omega (arith, a_safe.body, a_safe.within)
+
+  b_room : b.body + b.count * unit 1 b.kind ≤ length f
+  b_room = omega (arith, b_safe.body, b_safe.within)
+
+  -- texts with the same first units agree in them
+  pub agree_by : (n : ℕ) → n ≤ a.count → n ≤ b.count → ((k : ℕ) → k < n → nth_number f a.body (unit 1 a.kind) k ≡ nth_number f b.body (unit 1 b.kind) k) → Agree n (units_of f a) (units_of f b)
+  agree_by n few low same =
+      let us = units_of f a in
+      let vs = units_of f b in
+      let a_len = length-take-le n us (omega (arith, few, length-units_at f a.kind a.count a.body a_kind a_room)) in
+      let b_len = length-take-le n vs (omega (arith, low, length-units_at f b.kind b.count b.body b_kind b_room)) in
+      ext_get_or 0 (take n us) (take n vs) (a_len ∙ sym b_len) (λ k l.
+      let within : k < n = omega (arith, l, a_len) in
+      get_or-take n us k 0 within
+      ∙ nth-units_at f a.kind a.count a.body k a_kind a_room (omega (arith, within, few))
+      ∙ same k within
+      ∙ sym (nth-units_at f b.kind b.count b.body k b_kind b_room (omega (arith, within, low)))
+      ∙ sym (get_or-take n vs k 0 within))
+
+  -- texts that agree in their first units have the same
+  pub same_by : (n k : ℕ) → k < n → k < a.count → k < b.count → Agree n (units_of f a) (units_of f b) → nth_number f a.body (unit 1 a.kind) k ≡ nth_number f b.body (unit 1 b.kind) k
+  same_by n k within few low agree =
+      let us = units_of f a in
+      let vs = units_of f b in
+      sym (nth-units_at f a.kind a.count a.body k a_kind a_room few)
+      ∙ sym (get_or-take n us k 0 within)
+      ∙ ap (λ xs. slice_index xs k) agree
+      ∙ get_or-take n vs k 0 within
+      ∙ nth-units_at f b.kind b.count b.body k b_kind b_room low
+
+  -- texts that begin inside a run agree in what is left of it
+  pub run_agrees : (run : Run) → IsRun f run → (passed n : ℕ) → run.size ≡ unit 1 a.kind → run.size ≡ unit 1 b.kind → run.from + passed * run.size ≡ a.body → a.body + run.apart ≡ b.body → n + passed ≤ run.units → n ≤ a.count → n ≤ b.count
+      → Agree n (units_of f a) (units_of f b)
+  run_agrees run is passed n a_size b_size begins apart left few low = agree_by n few low (λ k l.
+      let here : nth_number f run.from run.size (passed + k) ≡ nth_number f a.body (unit 1 a.kind) k =
+      sym (nth_number-behind f run.from run.size passed k) ∙ ap (λ p. nth_number f p run.size k) begins ∙ ap (λ s. nth_number f a.body s k) a_size in
+      let begins_there : run.from + run.apart + passed * run.size ≡ b.body = omega (arith, begins, apart) in
+      let there : nth_number f (run.from + run.apart) run.size (passed + k) ≡ nth_number f b.body (unit 1 b.kind) k =
+      sym (nth_number-behind f (run.from + run.apart) run.size passed k) ∙ ap (λ p. nth_number f p run.size k) begins_there ∙ ap (λ s. nth_number f b.body s k) b_size in
+      sym here ∙ is (passed + k) (omega (arith, l, left)) ∙ there)
+
+-- texts that agree have a run
+pub agree_runs : (f : List ℕ) (a b : Head) → IsTextKind a.kind → IsTextKind b.kind → IsSafeBody (length f) a → IsSafeBody (length f) b → (run : Run) → run.size ≡ unit 1 a.kind → run.size ≡ unit 1 b.kind
+    → run.from ≡ a.body → run.from + run.apart ≡ b.body → (n : ℕ) → run.units ≤ n → run.units ≤ a.count → run.units ≤ b.count → Agree n (units_of f a) (units_of f b) → IsRun f run
+agree_runs f a b a_kind b_kind a_safe b_safe run a_size b_size from apart n most few low agree k l =
+    ap (λ p. nth_number f p run.size k) from ∙ ap (λ s. nth_number f a.body s k) a_size
+    ∙ same_by f a b a_kind b_kind a_safe b_safe n k (omega (arith, l, most)) (omega (arith, l, few)) (omega (arith, l, low)) agree
+    ∙ sym (ap (λ p. nth_number f p run.size k) apart ∙ ap (λ s. nth_number f b.body s k) b_size)

@@ -1,0 +1,138 @@
+//! Runs of units that stand in a file a second time, so many bytes further on.
+//!
+//! Texts of a faulty file may lie in one another. Two of them that are compared agree in a run of units, and the next two
+//! that are as far from each other mostly begin inside that run: what is left of it is not read again.
+
+ghost use Rattle.std.specs.Prelude.{◌≡◌, ◌+◌, ◌*◌, ◌≤◌, ◌<◌, ℕ, List, length, IfSome};
+ghost use Rattle.bplist_objects.specs.Heads.{unit};
+ghost use Rattle.bplist_objects.specs.Units.{IsTextKind};
+
+use bplist_objects::{Head, Kind};
+
+/// How many runs are kept: a prime, so that near distances have rows of their own.
+const ROWS: usize = 127;
+
+/// That so many units from one place on are the same as those so many bytes further on.
+#[derive(Clone, Copy, Debug)]
+pub struct Run {
+    /// How many bytes a unit has.
+    pub size: u64,
+    pub apart: u64,
+    pub from: u64,
+    pub units: u64,
+}
+
+/// The last run found at a distance, in a table in which a distance takes the row of another.
+#[derive(Drop)]
+pub struct Runs {
+    pub rows: [Run; ROWS],
+}
+
+/// How many bytes a unit of a text of this kind has.
+fn size_of(kind: Kind) -> u64
+    requires { IsTextKind kind }
+    ensures unit { result ≡ unit 1 kind }
+    ensures some { 1 ≤ result }
+{
+    match kind {
+        Kind::Wide => 2,
+        _ => 1,
+    }
+}
+
+/// The row of a distance.
+fn row_of(apart: u64) -> usize
+    ensures { result < 127 }
+{
+    (apart % ROWS as u64) as usize
+}
+
+/// How many units of `size` bytes lie from `from` to `to`, where it is a whole number of them.
+fn units_between(from: u64, to: u64, size: u64) -> Option<u64>
+    requires { 1 ≤ size }
+    ensures { IfSome result (λ n. from + n * size ≡ to) }
+{
+    if to < from || (to - from) % size != 0 {
+        return None;
+    }
+    Some((to - from) / size)
+}
+
+impl Runs {
+    ghost use Rattle.bplist_objects.specs.Safe.{IsSafeBody};
+    ghost use Rattle.bplist_objects.specs.Units.{units_of};
+    ghost use Rattle.bplist_keys.specs.Notes.{Agree};
+    ghost use Rattle.bplist_keys.specs.Runs.{AreRuns};
+
+    /// No runs yet.
+    pub fn new() -> Runs
+        ensures { (f : List ℕ) → AreRuns f result.rows }
+    {
+        let none = Run {
+            size: 0,
+            apart: 0,
+            from: 0,
+            units: 0,
+        };
+        Runs { rows: [none; ROWS] }
+    }
+
+    /// In how many of their first units two texts are known to agree, where the first does not stand behind the second.
+    fn ahead(&self, low: &Head, high: &Head) -> u64
+        requires low_kind { IsTextKind low.now.kind }
+        requires high_kind { IsTextKind high.now.kind }
+        requires order { low.now.body ≤ high.now.body }
+        ensures { (f : List ℕ) → IsSafeBody (length f) low.now → IsSafeBody (length f) high.now
+            → AreRuns f self.now.rows → Agree result (units_of f low.now) (units_of f high.now) }
+    {
+        let apart = high.body - low.body;
+        let run = self.rows[row_of(apart)];
+        if run.apart != apart || run.size != size_of(low.kind) || run.size != size_of(high.kind) {
+            return 0;
+        }
+        match units_between(run.from, low.body, run.size) {
+            Some(passed) => {
+                let known = run.units.saturating_sub(passed);
+                known.min(low.count).min(high.count)
+            }
+            None => 0,
+        }
+    }
+
+    /// In how many of their first units two texts are known to agree.
+    pub(crate) fn known(&self, first: &Head, second: &Head) -> u64
+        requires first_kind { IsTextKind first.now.kind }
+        requires second_kind { IsTextKind second.now.kind }
+        ensures { (f : List ℕ) → IsSafeBody (length f) first.now → IsSafeBody (length f) second.now
+            → AreRuns f self.now.rows → Agree result (units_of f first.now) (units_of f second.now) }
+    {
+        if first.body <= second.body {
+            self.ahead(first, second)
+        } else {
+            self.ahead(second, first)
+        }
+    }
+
+    /// Two texts that agree in so many of their first units have a run, which takes the row of their distance.
+    pub(crate) fn add(&mut self, first: &Head, second: &Head, units: u64)
+        requires first_kind { IsTextKind first.now.kind }
+        requires second_kind { IsTextKind second.now.kind }
+        ensures { (f : List ℕ) → IsSafeBody (length f) first.now → IsSafeBody (length f) second.now
+            → AreRuns f self.old.rows → Agree units (units_of f first.now) (units_of f second.now)
+            → AreRuns f self.new.rows }
+    {
+        let size = size_of(first.kind);
+        if size != size_of(second.kind) {
+            return;
+        }
+        let from = first.body.min(second.body);
+        let apart = first.body.max(second.body) - from;
+        let units = units.min(first.count).min(second.count);
+        self.rows[row_of(apart)] = Run {
+            size,
+            apart,
+            from,
+            units,
+        };
+    }
+}
