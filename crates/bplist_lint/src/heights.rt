@@ -176,7 +176,11 @@ fn walk_from<R: References>(
 fn first_heights(alloc: Global, bare: &[bool]) -> Result<Vec<u32>, AllocError>
     ensures { IfOk result (λ heights. heights.items ≡ map first_height bare.now) }
 {
-    bare.iter().map(|known| u32::from(*known)).collect(alloc)
+    let mut heights = Vec::with_capacity(alloc, bare.len())?;
+    for known in bare {
+        heights.push(u32::from(*known))?;
+    }
+    Ok(heights)
 }
 
 /// The least height of each founded object among the marked ones, which are those reached from one object, and 0 for
