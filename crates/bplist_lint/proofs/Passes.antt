@@ -66,8 +66,8 @@ pub reached_in_graph : (f : List ℕ) (F : Frame) (marks : List Bool) → ((n : 
 reached_in_graph f F marks h n = ((λ m. (reach_iff f F n).1 ((h n).0 m)), λ r. (h n).1 ((reach_iff f F n).0 r))
 
 -- where the reached objects keep their rules, each has all references that it announces
-pub are_whole : (f : List ℕ) (F : Frame) → IsFrame f F → KeepReachBelow f F F.objects → (through beside : ℕ) → AreWhole (graph_of through beside f F) F.top.0
-are_whole f F frame kept through beside n r = let s = kept_spells f F frame kept n ((reach_iff f F n).0 r) in all_announced f F n s.0 s.1
+pub are_whole : (f : List ℕ) (F : Frame) → IsFrame f F → KeepReachBelow f F F.objects → (through : ℕ) → AreWhole (graph_of through f F) F.top.0
+are_whole f F frame kept through n r = let s = kept_spells f F frame kept n ((reach_iff f F n).0 r) in all_announced f F n s.0 s.1
 
 -- ---- sums over the same objects
 module _ (f : List ℕ) (F : Frame) where

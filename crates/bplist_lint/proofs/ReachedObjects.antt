@@ -1,5 +1,6 @@
 -- One visit of a reached object: the rules that it keeps, and its references.
 use Rattle.std.proofs.Common.{◌≡◌, ℕ, ◌<◌, ◌≤◌, inl, inr, Bool, true, List, [], ◌∷◌, ◌++◌, length, slice_index, set, ap, subst, arith, Result, Ok, Err, OnOk}
+use Rattle.std.proofs.lemmas.List.Elements.{Contains-push}
 use Rattle.bplist_objects.specs.declared.frame.Frame.{Frame}
 use Rattle.bplist_objects.specs.declared.head.Head.{Head}
 use Rattle.bplist_objects.specs.declared.kind.Kind.{Kind}
@@ -76,7 +77,7 @@ module _ (f : List ℕ) (F : Frame) (n : ℕ) (head : Head) (has : HasHead f F n
         let empty : refs_at f F n ≡ [] = no_refs_leaf f F n head ((shape_tie f F n frame within head).0 (has, kept)) none in
         let noted : Noted (refs_at f F n) next (length (refs_at f F n)) marks stack marks stack = rw (ap length empty) (noted_none (refs_at f F n) next marks stack) in
         walking_visit f F frame next n within stack marks bare keys tally w head has all stack marks (set bare n true) keys tally' noted
-        (λ m h. elim (fresh-set bare n m h) [ inl old ↦ w.bare_known m old | inr e ↦ rw e empty ]) (λ m h. h)
+        (λ m h. elim (fresh-set bare n m h) [ inl old ↦ w.bare_known m old | inr e ↦ rw e (w.sound n (w.waiting n (Contains-push stack n)).0, empty) ]) (λ m h. h)
         (λ other h dict k low. let has_none : ref_count other.kind other.count ≡ 0 = subst (λ (x : Head). ref_count x.kind x.count ≡ 0) (HasHead-unique f F n head other has h) none in
         absurd (let zero = rw dict at has_none in omega (arith, zero, low))) t
 

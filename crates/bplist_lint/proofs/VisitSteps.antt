@@ -1,10 +1,10 @@
 -- Steps of the walk that finds the least heights, of its marks, its heights and its stack alone.
-use Rattle.std.proofs.Common.{◌≡◌, ◌≢◌, ℕ, zero, suc, ◌+◌, ◌-◌, ◌^◌, ◌<◌, ◌≤◌, max, ◌⊎◌, inl, inr, Bool, true, false, cond, List, [], ◌∷◌, ◌++◌, length, get_or, set, replicate, count_by, not, refl, sym, ap, ◌∙◌, arith, lt-ltb}
+use Rattle.std.proofs.Common.{◌≡◌, ◌≢◌, ℕ, zero, suc, ◌+◌, ◌-◌, ◌^◌, ◌<◌, ◌≤◌, max, ◌⊎◌, inl, inr, Bool, true, false, cond, List, [], ◌∷◌, ◌++◌, length, get_or, map, set, replicate, count_by, not, refl, sym, ap, ◌∙◌, arith, lt-ltb}
 use Rattle.std.proofs.lemmas.Bool.{cases_eq, cases_lt, false≢true}
-use Rattle.std.proofs.lemmas.List.{get_or-set_same, get_or-set_other, length-set, get_or_append_left, get_or_push, length_push, length-replicate}
+use Rattle.std.proofs.lemmas.List.{get_or-set_same, get_or-set_other, length-set, get_or_append_left, get_or_push, length_push, length-map}
 use Rattle.std.proofs.lemmas.List.Sums.{sum_by-set, sum_by-append, count_by-le-length}
 use Rattle.bplist_lint.specs.Reaching.{IsMarked}
-use Rattle.bplist_lint.specs.Visits.{is_height, no_visit, EachVisit, IsVisit, IsOpen, Standing, work}
+use Rattle.bplist_lint.specs.Visits.{is_height, first_height, no_visit, EachVisit, IsVisit, IsOpen, Standing, work}
 use Rattle.bplist_lint.specs.declared.heights.Visit.{Visit}
 
 -- how a count changes at a write
@@ -169,21 +169,41 @@ standing_finish size seen heights rest v h s high low =
       ];
     }
 
--- an object without references is seen, and has its height at once
-pub standing_bare : (size : ℕ) (seen : List Bool) (heights : List ℕ) (stack : List Visit) (m : ℕ) → Standing size seen heights stack → m < size → get_or seen m false ≡ false → Standing size (set seen m true) (set heights m 1) stack
-standing_bare size seen heights stack m s within new =
-    standing_finish size (set seen m true) heights stack (record { object = m; next = 0; count = 0; best = 0; sound = true }) 1 (standing_open size seen heights stack m 0 s within new) (omega arith) (omega arith)
+-- the heights before the first look are those of the objects that are seen
+counted_more : (x : ℕ) (xs : List ℕ) → count_by is_height (x ∷ xs) ≡ cond (is_height x) 1 0 + count_by is_height xs
+counted_more x xs = let all = sum_by-append (λ y. cond (is_height y) 1 0) (x ∷ []) xs in omega (arith, all)
 
--- nothing is seen
-pub standing_none : (size : ℕ) → Standing size (replicate size false) (replicate size 0) []
-standing_none size = record {
-  all_seen = length-replicate size false;
-  all_heights = length-replicate size 0;
+pub first_low : (bare : List Bool) (n : ℕ) → get_or (map first_height bare) n 0 ≤ count_by is_height (map first_height bare)
+first_low [] n = omega arith
+first_low (true ∷ bs) zero = let more = counted_more 1 (map first_height bs) in omega (arith, more)
+first_low (true ∷ bs) (suc n) = let before = first_low bs n in let more = counted_more 1 (map first_height bs) in omega (arith, before, more)
+first_low (false ∷ bs) zero = omega arith
+first_low (false ∷ bs) (suc n) = let before = first_low bs n in let more = counted_more 0 (map first_height bs) in omega (arith, before, more)
+
+pub first_seen : (bare : List Bool) (n : ℕ) → 0 < get_or (map first_height bare) n 0 → IsMarked bare n × (get_or (map first_height bare) n 0 ≡ 1)
+first_seen [] n h = absurd (omega (arith, h))
+first_seen (true ∷ bs) zero h = (refl, refl)
+first_seen (true ∷ bs) (suc n) h = first_seen bs n h
+first_seen (false ∷ bs) zero h = absurd (omega (arith, h))
+first_seen (false ∷ bs) (suc n) h = first_seen bs n h
+
+pub first_one : (bare : List Bool) (n : ℕ) → IsMarked bare n → get_or (map first_height bare) n 0 ≡ 1
+first_one [] n h = absurd (false≢true h)
+first_one (true ∷ bs) zero h = refl
+first_one (true ∷ bs) (suc n) h = first_one bs n h
+first_one (false ∷ bs) zero h = absurd (false≢true h)
+first_one (false ∷ bs) (suc n) h = first_one bs n h
+
+-- the objects that are known to have no references are seen
+pub standing_start : (size : ℕ) (bare : List Bool) → length bare ≡ size → Standing size bare (map first_height bare) []
+standing_start size bare long = record {
+  all_seen = long;
+  all_heights = length-map bare first_height ∙ long;
   visits = λ k h. absurd (omega arith);
   unfinished = λ k h. absurd (omega arith);
   differ = λ j k less h. absurd (omega arith);
-  low = λ n. rw (unwritten size n nothing) (omega arith);
-  known = λ n h. absurd (let z = unwritten size n nothing in omega arith);
+  low = first_low bare;
+  known = λ n h. (first_seen bare n h).0;
 }
 
 -- one more reference was looked at

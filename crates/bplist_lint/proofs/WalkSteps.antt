@@ -1,5 +1,5 @@
 -- Steps of the walk that finds the least heights, of what it knows of the references.
-use Rattle.std.proofs.Common.{◌≡◌, ℕ, suc, ◌+◌, ◌<◌, ◌≤◌, max, ◌⊎◌, inl, inr, Bool, true, false, List, [], ◌∷◌, ◌++◌, length, get_or, set, replicate, Contains, refl, sym, ◌∙◌, ap, arith, below_more, add-one}
+use Rattle.std.proofs.Common.{◌≡◌, ℕ, suc, ◌+◌, ◌<◌, ◌≤◌, max, ◌⊎◌, inl, inr, Bool, true, false, List, [], ◌∷◌, ◌++◌, length, get_or, map, set, Contains, refl, sym, ◌∙◌, ap, arith, below_more, add-one}
 use Rattle.std.proofs.lemmas.Bool.{cases_eq, cases_lt, false≢true}
 use Rattle.std.proofs.lemmas.List.{get_or-set_same, get_or_append_left, get_or_push, length_push}
 use Rattle.std.proofs.lemmas.List.Elements.{Contains-get_or}
@@ -8,9 +8,9 @@ use Rattle.bplist_lint.specs.Graph.Reaches.{onward}
 use Rattle.bplist_lint.specs.Graph.Ends.{ends}
 use Rattle.bplist_lint.specs.Graph.Least.{above}
 use Rattle.bplist_lint.specs.Reaching.{IsMarked}
-use Rattle.bplist_lint.specs.Visits.{no_visit, visit_at, Measured, IsRead, IsOnStack, Walking}
+use Rattle.bplist_lint.specs.Visits.{first_height, no_visit, visit_at, Measured, IsRead, IsOnStack, Walking}
 use Rattle.bplist_lint.specs.declared.heights.Visit.{Visit}
-use Rattle.bplist_lint.proofs.VisitSteps.{push_cases, each_push, each_front, each_last, at_set, seen-set, unwritten, nothing}
+use Rattle.bplist_lint.proofs.VisitSteps.{push_cases, each_push, each_front, each_last, at_set, seen-set, first_seen, first_one}
 
 -- nothing on a circle is founded: objects j from k to last, each with the next one among its references, and the last with that at k
 pub no_circle : (refs : ℕ → List ℕ) (at : ℕ → ℕ) (k last : ℕ) → ((j : ℕ) → k ≤ j → j < last → Contains (refs (at j)) (at (suc j))) → Contains (refs (at last)) (at k) → (x : ℕ) → Ends refs x → (j : ℕ) → k ≤ j → j ≤ last → x ≡ at j → ⊥
@@ -117,36 +117,6 @@ walking_open refs top seen heights rest v m count w known within among counted =
       ];
     }
 
--- an object without references is seen, and has its height at once
-pub walking_bare : (refs : ℕ → List ℕ) (top : ℕ) (seen : List Bool) (heights : List ℕ) (stack : List Visit) (m : ℕ) → Walking refs top seen heights stack → Reaches refs top m → m < length seen → m < length heights → refs m ≡ [] → Walking refs top (set seen m true) (set heights m 1) stack
-walking_bare refs top seen heights stack m w reached within in_heights none =
-    let empty : length (refs m) ≡ 0 = ap length none in
-    record {
-      reached = λ n h. elim (at_set seen m true false n within) [
-        | inl c ↦ rw c.0 reached
-        | inr c ↦ w.reached n (sym c.1 ∙ h)
-      ];
-      linked = w.linked;
-      visits = λ k h. read-seen refs seen m _ within (w.visits k h);
-      measured = λ n l. elim (at_set heights m 1 0 n in_heights) [
-        | inl c ↦ rw (c.1, c.0) (above m [] (sym empty) (λ i low. absurd (omega arith)))
-        | inr c ↦ rw c.1 (w.measured n (rw c.1 at l))
-      ];
-      settled = λ n h. elim (at_set seen m true false n within) [
-        | inl c ↦ inr (rw c.0 (record { all = λ i low. absurd (omega arith); circular = λ low. absurd (let one = get_or-set_same heights m 1 0 in_heights in omega arith) }))
-        | inr c ↦ elim (w.settled n (sym c.1 ∙ h)) [
-          | inl on ↦ inl on
-          | inr is ↦ inr (record {
-            all = λ i l. seen-set seen m _ within (is.all i l);
-            circular = λ low. elim (at_set heights m 1 0 n in_heights) [
-              | inl d ↦ absurd (c.0 d.0)
-              | inr d ↦ is.circular (sym d.1 ∙ low)
-            ];
-          })
-        ]
-      ];
-    }
-
 -- the visit on top is done, and its object is not founded
 pub walking_leave : (refs : ℕ → List ℕ) (top : ℕ) (seen : List Bool) (heights : List ℕ) (rest : List Visit) (v : Visit) → Walking refs top seen heights (rest ++ v ∷ []) → v.next ≡ v.count → v.sound ≡ false → Walking refs top seen heights rest
 walking_leave refs top seen heights rest v w whole unsound =
@@ -196,14 +166,19 @@ walking_finish refs top seen heights rest v h w within whole high least =
       ];
     }
 
--- nothing is seen
-pub walking_none : (refs : ℕ → List ℕ) (top size : ℕ) → Walking refs top (replicate size false) (replicate size 0) []
-walking_none refs top size = record {
-  reached = λ n h. absurd (false≢true (sym (unwritten size n false) ∙ h));
+-- what is known to have no references is seen
+pub walking_first : (refs : ℕ → List ℕ) (top : ℕ) (bare : List Bool) → ((n : ℕ) → IsMarked bare n → Reaches refs top n × (refs n ≡ [])) → Walking refs top bare (map first_height bare) []
+walking_first refs top bare are = record {
+  reached = λ n h. (are n h).0;
   linked = λ k h. absurd (omega arith);
   visits = λ k h. absurd (omega arith);
-  measured = λ n h. absurd (let z = unwritten size n nothing in omega arith);
-  settled = λ n h. absurd (false≢true (sym (unwritten size n false) ∙ h));
+  measured = λ n h.
+      let one = first_seen bare n h in
+      let empty : length (refs n) ≡ 0 = ap length (are n one.0).1 in
+      rw one.1 (above n [] (sym empty) (λ i low. absurd (omega (arith, low, empty))));
+  settled = λ n h.
+      let empty : length (refs n) ≡ 0 = ap length (are n h).1 in
+      inr (record { all = λ i low. absurd (omega (arith, low, empty)); circular = λ z. absurd (let one = first_one bare n h in omega (arith, one, z)) });
 }
 
 -- a walk begins at an object that is reached

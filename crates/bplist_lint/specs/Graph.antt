@@ -3,10 +3,9 @@
 use Rattle.std.specs.Prelude.{◌≡◌, ℕ, suc, ◌+◌, ◌<◌, max, List, [], ◌∷◌, length, slice_index, Contains}
 
 -- how many objects there are, the references of each in written order, and how many of them it announces. Where they are
--- read through a borrow, and what is known of them is kept in another, through and beside are their ghost names
+-- read through a borrow, through is its ghost name
 pub record Graph : Type 0 where
   pub through : ℕ
-  pub beside : ℕ
   pub size : ℕ
   pub refs : ℕ → List ℕ
   pub announced : ℕ → ℕ

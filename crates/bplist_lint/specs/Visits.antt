@@ -8,6 +8,11 @@ use Rattle.bplist_lint.specs.declared.heights.Visit.{Visit}
 abbrev pub is_height : ℕ → Bool
 is_height h = nat_lt 0 h
 
+-- the height of an object before the first look: 1 where it is known to have no references
+abbrev pub first_height : Bool → ℕ
+first_height true = 1
+first_height false = 0
+
 -- what stands for a visit outside the stack
 abbrev pub no_visit : Visit
 no_visit = record { object = 0; next = 0; count = 0; best = 0; sound = true }

@@ -1,15 +1,15 @@
 //! Which objects are founded, and their least heights.
 
-ghost use Rattle.std.specs.Prelude.{◌≡◌, ◌↔◌, ℕ, ◌+◌, ◌^◌, ◌<◌, ◌≤◌, max, List, [], ◌∷◌, ◌++◌, true, false, not, IsTrue, count_by, length, slice_index, slice_index_or, vec_len, IfOk, IfSome, MatchOption, OnOk};
+ghost use Rattle.std.specs.Prelude.{◌≡◌, ◌↔◌, ℕ, ◌+◌, ◌^◌, ◌<◌, ◌≤◌, max, List, [], ◌∷◌, ◌++◌, true, false, not, IsTrue, length, map, slice_index, slice_index_or, vec_len, IfOk, IfSome, MatchOption, OnOk};
 ghost use Rattle.bplist_octets.specs.Meaning.{OnlyReads};
 ghost use Rattle.bplist_lint.specs.Answers.{walk_failed};
 ghost use Rattle.bplist_lint.specs.Graph.{Reaches, AreWhole, AreLeast};
 ghost use Rattle.bplist_lint.specs.Reaching.{IsMarked};
-ghost use Rattle.bplist_lint.specs.Visits.{Standing, Walking, work};
+ghost use Rattle.bplist_lint.specs.Visits.{Standing, Walking, first_height, work};
 ghost use Rattle.bplist_lint.specs.declared.heights.Visit.{Visit as a_visit};
 
 use crate::references::{References, WalkFault};
-use std::alloc::Global;
+use std::alloc::{AllocError, Global};
 
 /// An object on the stack, whose references are looked at.
 #[derive(Clone, Copy, Debug)]
@@ -49,71 +49,39 @@ impl Visit {
     }
 }
 
-/// Sees object `m` and gives it its height 1, where it is known to have no references. Says whether it is seen now.
-fn see_bare<R: References>(graph: &R, seen: &mut Vec<bool>, heights: &mut Vec<u32>, m: u32) -> bool
-    requires inside { m < (R.graph graph.now).size }
-    requires all_seen { vec_len seen.old ≡ (R.graph graph.now).size }
-    requires all_heights { vec_len heights.old ≡ (R.graph graph.now).size }
-    ensures all_seen { vec_len seen.new ≡ vec_len seen.old }
-    ensures all_heights { vec_len heights.new ≡ vec_len heights.old }
-    ensures sees { result ≡ true → IsMarked seen.new.items m }
-    ensures unseen { result ≡ false → slice_index_or seen.new.items m false ≡ false }
-    ensures keeps { (n : ℕ) → IsMarked seen.old.items n → IsMarked seen.new.items n }
-    ensures fewer { count_by not seen.new.items ≤ count_by not seen.old.items }
-    ensures standing { (stack : List a_visit) → Standing (R.graph graph.now).size seen.old.items heights.old.items stack
-        → Standing (R.graph graph.now).size seen.new.items heights.new.items stack }
-    ensures walking { IsTrue (R.means graph.now).honest → (top : ℕ) (stack : List a_visit)
-        → Reaches (R.graph graph.now).refs top m
-        → Walking (R.graph graph.now).refs top seen.old.items heights.old.items stack
-        → Walking (R.graph graph.now).refs top seen.new.items heights.new.items stack }
-{
-    if seen[m as usize] {
-        return true;
-    }
-    if !graph.is_bare(m) {
-        return false;
-    }
-    seen[m as usize] = true;
-    heights[m as usize] = 1;
-    true
-}
-
 /// Goes on at `visit`, which is on top of the stack: looks at its references up to the first that has to be visited by
 /// itself before, and answers that one.
 #[inline(always)]
 fn advance<R: References>(
     graph: &mut R,
-    seen: &mut Vec<bool>,
-    heights: &mut Vec<u32>,
+    seen: &[bool],
+    heights: &[u32],
     visit: &mut Visit,
 ) -> Result<Option<u32>, WalkFault>
     requires inside { visit.old.object < (R.graph graph.old).size }
     requires within { visit.old.next ≤ visit.old.count }
-    requires all_seen { vec_len seen.old ≡ (R.graph graph.old).size }
-    requires all_heights { vec_len heights.old ≡ (R.graph graph.old).size }
+    requires all_seen { length seen.now ≡ (R.graph graph.old).size }
+    requires all_heights { length heights.now ≡ (R.graph graph.old).size }
     ensures same { R.graph graph.new ≡ R.graph graph.old }
     ensures reads { OnlyReads (walk_failed result) (R.means graph.old) (R.means graph.new) }
     ensures object { visit.new.object ≡ visit.old.object }
     ensures counted { visit.new.count ≡ visit.old.count }
     ensures onward { visit.old.next ≤ visit.new.next }
-    ensures keeps { (n : ℕ) → IsMarked seen.old.items n → IsMarked seen.new.items n }
-    ensures fewer { count_by not seen.new.items ≤ count_by not seen.old.items }
     ensures found { IfOk result (λ found. MatchOption found (visit.new.next ≡ visit.new.count)
         (λ m. (visit.new.next < visit.new.count) × (m < (R.graph graph.old).size)
-        × (slice_index_or seen.new.items m false ≡ false))) }
+        × (slice_index_or seen.now m false ≡ false))) }
     ensures reference { IsTrue (R.means graph.old).honest
         → visit.new.next < length ((R.graph graph.old).refs visit.new.object)
         → IfOk result (λ found. IfSome found (λ m. m ≡ slice_index ((R.graph graph.old).refs visit.new.object) visit.new.next)) }
-    ensures standing { (rest : List a_visit) → Standing (R.graph graph.old).size seen.old.items heights.old.items (rest ++ visit.old ∷ [])
-        → Standing (R.graph graph.old).size seen.new.items heights.new.items (rest ++ visit.new ∷ []) }
+    ensures standing { (rest : List a_visit) → Standing (R.graph graph.old).size seen.now heights.now (rest ++ visit.old ∷ [])
+        → Standing (R.graph graph.old).size seen.now heights.now (rest ++ visit.new ∷ []) }
     ensures walking { IsTrue (R.means graph.old).honest → (top : ℕ) (rest : List a_visit)
-        → Standing (R.graph graph.old).size seen.old.items heights.old.items (rest ++ visit.old ∷ [])
-        → Walking (R.graph graph.old).refs top seen.old.items heights.old.items (rest ++ visit.old ∷ [])
-        → Walking (R.graph graph.old).refs top seen.new.items heights.new.items (rest ++ visit.new ∷ []) }
+        → Walking (R.graph graph.old).refs top seen.now heights.now (rest ++ visit.old ∷ [])
+        → Walking (R.graph graph.old).refs top seen.now heights.now (rest ++ visit.new ∷ []) }
 {
     while visit.next < visit.count {
         let m = graph.reference(visit.object, visit.next)?;
-        if !see_bare(graph, seen, heights, m) {
+        if !seen[m as usize] {
             return Ok(Some(m));
         }
         *visit = visit.after(heights[m as usize]);
@@ -186,7 +154,7 @@ fn walk_from<R: References>(
         → Walking (R.graph graph.old).refs top seen.old.items heights.old.items []
         → Walking (R.graph graph.old).refs top seen.new.items heights.new.items []) }
 {
-    if see_bare(graph, seen, heights, n) {
+    if seen[n as usize] {
         return Ok(());
     }
     let count = graph.count(n)?;
@@ -204,26 +172,41 @@ fn walk_from<R: References>(
     Ok(())
 }
 
+/// The heights that are known before the first look: 1 of each object that is known to have no references, 0 of the others.
+fn first_heights(alloc: Global, bare: &[bool]) -> Result<Vec<u32>, AllocError>
+    ensures { IfOk result (λ heights. heights.items ≡ map first_height bare.now) }
+{
+    let mut heights = Vec::with_capacity(alloc, bare.len())?;
+    for known in bare {
+        heights.push(u32::from(*known))?;
+    }
+    Ok(heights)
+}
+
 /// The least height of each founded object among the marked ones, which are those reached from one object, and 0 for
-/// each other. A walk begins at each of them that is not seen, the last first: where each reference leads to a greater
-/// number, the references of each object are looked at in one go, and the stack takes none but the first.
+/// each other. Objects with a mark in `bare` have no references, and so their height at once. A walk begins at each of the
+/// others that is not seen, the last first: where each reference leads to a greater number, the references of each object are
+/// looked at in one go, and the stack takes none but the first.
 pub fn least_heights<R: References>(
     alloc: Global,
     graph: &mut R,
     size: u32,
     marks: &[bool],
+    bare: Vec<bool>,
 ) -> Result<Vec<u32>, WalkFault>
     requires size { size ≡ (R.graph graph.old).size }
     requires all_marks { length marks.now ≡ size }
+    requires all_bare { vec_len bare ≡ size }
     ensures same { R.graph graph.new ≡ R.graph graph.old }
     ensures reads { OnlyReads (walk_failed result) (R.means graph.old) (R.means graph.new) }
     ensures all_heights { IfOk result (λ heights. vec_len heights ≡ size) }
     ensures exact { IsTrue (R.means graph.old).honest → (top : ℕ) → AreWhole (R.graph graph.old) top
         → ((n : ℕ) → IsMarked marks.now n ↔ Reaches (R.graph graph.old).refs top n)
+        → ((n : ℕ) → IsMarked bare.items n → Reaches (R.graph graph.old).refs top n × ((R.graph graph.old).refs n ≡ []))
         → IfOk result (λ heights. AreLeast (R.graph graph.old).refs top heights.items) }
 {
-    let mut seen = vec![in alloc; false; size as usize]?;
-    let mut heights = vec![in alloc; 0; size as usize]?;
+    let mut heights = first_heights(alloc, &bare)?;
+    let mut seen = bare;
     let mut stack = Vec::new(alloc);
     for n in (0..size).rev() {
         if marks[n as usize] {

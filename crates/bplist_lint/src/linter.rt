@@ -49,7 +49,7 @@ fn find_heights<S: Source>(
     frame: &Frame,
     places: &[u32],
     marks: &[bool],
-    mut bare: Vec<bool>,
+    bare: Vec<bool>,
 ) -> Result<Vec<u32>, WalkFault>
     requires frame { IsSafeFrame (length (S.means src.old).octets) frame.now }
     requires places { length places.now ≡ frame.now.objects }
@@ -66,8 +66,8 @@ fn find_heights<S: Source>(
         → IfOk result (λ heights. AreLeast (refs_at (S.means src.old).octets frame.now) frame.now.top.0 heights.items) }
 {
     let size = frame.objects;
-    let mut objects = Objects::new(src, *frame, places, &mut bare);
-    least_heights(alloc, &mut objects, size, marks)
+    let mut objects = Objects::new(src, *frame, places);
+    least_heights(alloc, &mut objects, size, marks, bare)
 }
 
 /// The circle that first references without a height lead to from the top, where the reached objects keep rules 14 to 20.
@@ -92,8 +92,7 @@ fn find_circle<S: Source>(
         IsCircleOf (refs_at (S.means src.old).octets frame.now) frame.now.top.0 (map number circle.items)) }
 {
     let top = frame.top.0;
-    let mut bare = vec![in alloc; false; frame.objects as usize]?;
-    let mut objects = Objects::new(src, *frame, places, &mut bare);
+    let mut objects = Objects::new(src, *frame, places);
     circle(alloc, &mut objects, heights, top)
 }
 

@@ -1,6 +1,6 @@
 //! References between objects, as the walks read them.
 
-ghost use Rattle.std.specs.Prelude.{◌≡◌, ◌<◌, [], IsTrue, length, slice_index, IfOk, is_err};
+ghost use Rattle.std.specs.Prelude.{◌≡◌, ◌<◌, IsTrue, length, slice_index, IfOk, is_err};
 ghost use Rattle.bplist_octets.specs.Meaning.{Meaning, OnlyReads};
 ghost use Rattle.bplist_lint.specs.Graph.{Graph, IsWhole};
 ghost use Rattle.bplist_lint.specs.declared.references.WalkFault.TheVariants.{Read, Memory};
@@ -48,11 +48,6 @@ pub trait References {
 
     /// What the references are read from.
     ghost means: { Self → Meaning };
-
-    /// Whether object `n` is known to have no references.
-    fn is_bare(&self, n: u32) -> bool
-        requires { n < (graph self.now).size }
-        ensures { IsTrue (means self.now).honest → IsTrue result → (graph self.now).refs n ≡ [] };
 
     /// How many references object `n` has, where all that its head announces are numbers of objects.
     fn count(&mut self, n: u32) -> Result<u64, ReadFault>

@@ -1,5 +1,4 @@
-use Rattle.std.proofs.Common.{◌≡◌, ℕ, ◌-◌, ◌≤◌, List, [], ◌∷◌, ◌++◌, not, IsTrue, count_by, vec_len}
-use Rattle.bplist_lint.specs.Reaching.{IsMarked}
+use Rattle.std.proofs.Common.{◌≡◌, ℕ, ◌-◌, ◌≤◌, List, [], ◌∷◌, ◌++◌, IsTrue}
 use Rattle.bplist_lint.specs.Visits.{Standing, Walking}
 use Rattle.bplist_lint.specs.declared.heights.Visit.{Visit}
 use Rattle.bplist_lint.proofs.heights.advance.Given as goal
@@ -12,12 +11,8 @@ invariant-loop-visit g l = record {
   counted : l.visit.count ≡ l.fn.visit.count;
   onward : l.fn.visit.next ≤ l.visit.next;
   within : l.visit.next ≤ l.visit.count;
-  all_seen : vec_len l.seen ≡ vec_len l.fn.seen;
-  all_heights : vec_len l.heights ≡ vec_len l.fn.heights;
-  keeps : (n : ℕ) → IsMarked l.fn.seen.items n → IsMarked l.seen.items n;
-  fewer : count_by not l.seen.items ≤ count_by not l.fn.seen.items;
-  standing : (rest : List Visit) → Standing (g.R.References.graph l.fn.graph).size l.fn.seen.items l.fn.heights.items (rest ++ l.fn.visit ∷ []) → Standing (g.R.References.graph l.fn.graph).size l.seen.items l.heights.items (rest ++ l.visit ∷ []);
-  walking : IsTrue (g.R.References.means l.fn.graph).honest → (top : ℕ) (rest : List Visit) → Standing (g.R.References.graph l.fn.graph).size l.fn.seen.items l.fn.heights.items (rest ++ l.fn.visit ∷ []) → Walking (g.R.References.graph l.fn.graph).refs top l.fn.seen.items l.fn.heights.items (rest ++ l.fn.visit ∷ []) → Walking (g.R.References.graph l.fn.graph).refs top l.seen.items l.heights.items (rest ++ l.visit ∷ []);
+  standing : (rest : List Visit) → Standing (g.R.References.graph l.fn.graph).size l.seen l.heights (rest ++ l.fn.visit ∷ []) → Standing (g.R.References.graph l.fn.graph).size l.seen l.heights (rest ++ l.visit ∷ []);
+  walking : IsTrue (g.R.References.means l.fn.graph).honest → (top : ℕ) (rest : List Visit) → Walking (g.R.References.graph l.fn.graph).refs top l.seen l.heights (rest ++ l.fn.visit ∷ []) → Walking (g.R.References.graph l.fn.graph).refs top l.seen l.heights (rest ++ l.visit ∷ []);
 }
 
 abbrev pub decreases-loop-visit : goal.decreases-loop-visit

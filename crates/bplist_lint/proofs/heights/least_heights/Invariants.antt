@@ -11,5 +11,5 @@ invariant-loop-n g l = record {
   empty : vec_len l.stack ≡ 0;
   standing : Standing (g.R.References.graph l.fn.graph).size l.seen.items l.heights.items [];
   sees : (m : ℕ) → l.n ≤ m → IsMarked l.marks m → IsMarked l.seen.items m;
-  walking : IsTrue (g.R.References.means l.fn.graph).honest → (top : ℕ) → AreWhole (g.R.References.graph l.fn.graph) top → ((m : ℕ) → IsMarked l.marks m → Reaches (g.R.References.graph l.fn.graph).refs top m) → Walking (g.R.References.graph l.fn.graph).refs top l.seen.items l.heights.items [];
+  walking : IsTrue (g.R.References.means l.fn.graph).honest → (top : ℕ) → AreWhole (g.R.References.graph l.fn.graph) top → ((m : ℕ) → IsMarked l.marks m → Reaches (g.R.References.graph l.fn.graph).refs top m) → ((m : ℕ) → IsMarked l.fn.bare.items m → Reaches (g.R.References.graph l.fn.graph).refs top m × ((g.R.References.graph l.fn.graph).refs m ≡ [])) → Walking (g.R.References.graph l.fn.graph).refs top l.seen.items l.heights.items [];
 }

@@ -6,16 +6,16 @@ use Rattle.bplist_lint.proofs.heights.step.Goals as goal
 
 pub overflow_add-visit : goal.overflow_add-visit
 overflow_add-visit g c =
-    let s = c.advance.ensures.standing _ c.requires.standing in
+    let s = (rw (c.deref.ensures.value, c.deref-2.ensures.value) at c.advance.ensures.standing) _ c.requires.standing in
     let v = top_visit _ _ _ _ _ s in
     let low = v.low in let inside = v.inside in
     let at_top = top_open _ _ _ _ _ s in
-    let room = height_below c.advance.new.heights.items c.advance.new.visit.object (omega (arith, s.all_heights)) at_top.low in
+    let room = height_below c.args.heights.now.items c.advance.new.visit.object (omega (arith, s.all_heights)) at_top.low in
     omega (arith, s.all_heights, room, c.requires.fits, low)
 
 pub index_mut-requires : goal.index_mut-requires
 index_mut-requires g c =
-    let s = c.advance.ensures.standing _ c.requires.standing in
+    let s = (rw (c.deref.ensures.value, c.deref-2.ensures.value) at c.advance.ensures.standing) _ c.requires.standing in
     let long = s.all_heights in
     let v = top_visit _ _ _ _ _ s in
     let inside = v.inside in
@@ -23,56 +23,56 @@ index_mut-requires g c =
 
 pub returns-then-visit-clause-standing : goal.returns-then-visit-clause-standing
 returns-then-visit-clause-standing g c =
-    let s = c.advance.ensures.standing _ c.requires.standing in
+    let s = (rw (c.deref.ensures.value, c.deref-2.ensures.value) at c.advance.ensures.standing) _ c.requires.standing in
     let v = top_visit _ _ _ _ _ s in
     standing_finish _ _ _ _ c.advance.new.visit _ s (omega arith) (omega (arith, v.low))
 
 pub returns-then-visit-clause-walking : goal.returns-then-visit-clause-walking
 returns-then-visit-clause-walking g c = λ honest top whole w0.
-    let s = c.advance.ensures.standing _ c.requires.standing in
-    let w = c.advance.ensures.walking honest top _ c.requires.standing w0 in
+    let s = (rw (c.deref.ensures.value, c.deref-2.ensures.value) at c.advance.ensures.standing) _ c.requires.standing in
+    let w = (rw (c.deref.ensures.value, c.deref-2.ensures.value) at c.advance.ensures.walking) honest top _ w0 in
     let v = top_visit _ _ _ _ _ s in
     let r = top_read _ _ _ _ _ _ w in
     let done = rw c.in_default.is at c.in_ok-m.ensures.found in
     walking_finish _ _ _ _ _ c.advance.new.visit _ w (omega (arith, s.all_heights, v.inside)) done (omega arith) (least_finish _ _ c.advance.new.visit r c.if-visit.true done)
 
 pub returns-else-visit-clause-standing : goal.returns-else-visit-clause-standing
-returns-else-visit-clause-standing g c = standing_leave _ _ _ _ c.advance.new.visit (c.advance.ensures.standing _ c.requires.standing)
+returns-else-visit-clause-standing g c = standing_leave _ _ _ _ c.advance.new.visit ((rw (c.deref.ensures.value, c.deref-2.ensures.value) at c.advance.ensures.standing) _ c.requires.standing)
 
 pub returns-else-visit-clause-walking : goal.returns-else-visit-clause-walking
 returns-else-visit-clause-walking g c = λ honest top whole w0.
-    walking_leave _ _ _ _ _ c.advance.new.visit (c.advance.ensures.walking honest top _ c.requires.standing w0) (rw c.in_default.is at c.in_ok-m.ensures.found) c.if-visit.false
+    walking_leave _ _ _ _ _ c.advance.new.visit ((rw (c.deref.ensures.value, c.deref-2.ensures.value) at c.advance.ensures.walking) honest top _ w0) (rw c.in_default.is at c.in_ok-m.ensures.found) c.if-visit.false
 
 pub index_mut-requires-2 : goal.index_mut-requires-2
 index_mut-requires-2 g c =
-    let s = c.advance.ensures.standing _ c.requires.standing in
+    let s = (rw (c.deref.ensures.value, c.deref-2.ensures.value) at c.advance.ensures.standing) _ c.requires.standing in
     let long = s.all_seen in
-    let found = rw c.in-Some.is at c.in_ok-m.ensures.found in
+    let found = rw (c.in-Some.is, c.deref.ensures.value) at c.in_ok-m.ensures.found in
     let inside = found.1 in
     grind (arith, common_steps)
 
 pub returns-clause-standing : goal.returns-clause-standing
 returns-clause-standing g c =
-    let s = c.advance.ensures.standing _ c.requires.standing in
-    let found = rw c.in-Some.is at c.in_ok-m.ensures.found in
+    let s = (rw (c.deref.ensures.value, c.deref-2.ensures.value) at c.advance.ensures.standing) _ c.requires.standing in
+    let found = rw (c.in-Some.is, c.deref.ensures.value) at c.in_ok-m.ensures.found in
     rw (c.in_ok-push-2.ensures.items, c.in_ok-push.ensures.items) (standing_open _ _ _ _ c.in-Some.m c.in_ok-count.count s found.1 found.2)
 
 pub returns-clause-less : goal.returns-clause-less
 returns-clause-less g c =
-    let s = c.advance.ensures.standing _ c.requires.standing in
-    let found = rw c.in-Some.is at c.in_ok-m.ensures.found in
-    let on = work_onward c.args.seen.now.items c.advance.new.seen.items c.args.stack.now.items c.args.visit c.advance.new.visit c.advance.ensures.fewer c.advance.ensures.onward c.advance.ensures.counted in
-    let more = work_open c.advance.new.seen.items c.args.stack.now.items c.advance.new.visit c.in-Some.m c.in_ok-count.count (omega (arith, s.all_seen, found.1)) found.2 (omega arith) in
+    let s = (rw (c.deref.ensures.value, c.deref-2.ensures.value) at c.advance.ensures.standing) _ c.requires.standing in
+    let found = rw (c.in-Some.is, c.deref.ensures.value) at c.in_ok-m.ensures.found in
+    let on = work_onward c.args.seen.now.items c.args.seen.now.items c.args.stack.now.items c.args.visit c.advance.new.visit (omega arith) c.advance.ensures.onward c.advance.ensures.counted in
+    let more = work_open c.args.seen.now.items c.args.stack.now.items c.advance.new.visit c.in-Some.m c.in_ok-count.count (omega (arith, s.all_seen, found.1)) found.2 (omega arith) in
     rw (c.in_ok-push-2.ensures.items, c.in_ok-push.ensures.items) (omega (arith, on, more))
 
 pub returns-clause-walking : goal.returns-clause-walking
 returns-clause-walking g c = λ honest top whole w0.
-    let s = c.advance.ensures.standing _ c.requires.standing in
-    let w = c.advance.ensures.walking honest top _ c.requires.standing w0 in
+    let s = (rw (c.deref.ensures.value, c.deref-2.ensures.value) at c.advance.ensures.standing) _ c.requires.standing in
+    let w = (rw (c.deref.ensures.value, c.deref-2.ensures.value) at c.advance.ensures.walking) honest top _ w0 in
     let v = c.advance.new.visit in
     let r = top_read _ _ _ _ _ _ w in
     let at_top = top_open _ _ _ _ _ s in
-    let found = rw c.in-Some.is at c.in_ok-m.ensures.found in
+    let found = rw (c.in-Some.is, c.deref.ensures.value) at c.in_ok-m.ensures.found in
     let in_refs : v.next < length ((g.R.References.graph c.args.graph.now).refs v.object) = omega (arith, found.0, r.counted) in
     let is = rw c.in-Some.is at (c.in_ok-m.ensures.reference honest in_refs) in
     let counted = (rw (c.advance.ensures.same, c.in_ok-m.ensures.reads) at c.in_ok-count.ensures.value) honest (whole _ (next_reached _ _ _ _ _ v c.in-Some.m w at_top.seen in_refs is)) in

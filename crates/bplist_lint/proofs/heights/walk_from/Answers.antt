@@ -1,30 +1,23 @@
-use Rattle.std.proofs.Common.{◌≡◌, ◌<◌, [], arith, false, true, length, ◌∙◌}
+use Rattle.std.proofs.Common.{◌≡◌, ◌<◌, [], arith, false, true, length, sym, ◌∙◌}
 use Rattle.std.proofs.lemmas.Grind.{common_steps}
-use Rattle.std.proofs.lemmas.List.{get_or-set_same}
+use Rattle.std.proofs.lemmas.List.{get_or_read, get_or-set_same}
 use Rattle.bplist_lint.proofs.VisitSteps.{seen-set, standing_open}
 use Rattle.bplist_lint.proofs.WalkSteps.{walking_begin}
 use Rattle.bplist_lint.proofs.heights.walk_from.Goals as goal
 
-pub returns-then-see_bare-clause-standing : goal.returns-then-see_bare-clause-standing
-returns-then-see_bare-clause-standing g c = c.see_bare.ensures.standing [] c.requires.standing
-
-pub returns-then-see_bare-clause-walking : goal.returns-then-see_bare-clause-walking
-returns-then-see_bare-clause-walking g c = λ honest top whole reached w. c.see_bare.ensures.walking honest top [] reached w
-
 pub loop-visit-init : goal.loop-visit-init
 loop-visit-init g c =
     let none : c.args.stack.now.items ≡ [] = grind (arith, common_steps) in
-    let b = c.see_bare.ensures in
-    let s = b.standing [] c.requires.standing in
-    let fresh = b.unseen c.if-see_bare.false in
-    let within : c.args.n < length c.see_bare.new.seen.items = omega (arith, s.all_seen, c.requires.n_in) in
+    let s = c.requires.standing in
+    let within : c.args.n < length c.args.seen.now.items = omega (arith, s.all_seen, c.requires.n_in) in
+    let fresh = sym (get_or_read c.args.seen.now.items c.args.n c.index.result.now within c.index.ensures false) ∙ c.if-index.false in
     record {
       same = c.count.ensures.same;
       reads = c.in_ok-count.ensures.reads;
       standing = rw (c.in_ok-push.ensures.items, none) (standing_open _ _ _ [] c.args.n c.in_ok-count.count s c.requires.n_in fresh);
-      sees = get_or-set_same c.see_bare.new.seen.items c.args.n true false within;
-      keeps = λ m h. seen-set _ _ m within (b.keeps m h);
-      walking = λ honest top whole reached w. rw (c.in_ok-push.ensures.items, none) (walking_begin _ _ _ _ c.args.n c.in_ok-count.count (b.walking honest top [] reached w) reached within (c.in_ok-count.ensures.value honest (whole _ reached)));
+      sees = get_or-set_same c.args.seen.now.items c.args.n true false within;
+      keeps = λ m h. seen-set _ _ m within h;
+      walking = λ honest top whole reached w. rw (c.in_ok-push.ensures.items, none) (walking_begin _ _ _ _ c.args.n c.in_ok-count.count w reached within (c.in_ok-count.ensures.value honest (whole _ reached)));
     }
 
 pub loop-visit-preserved : goal.loop-visit-preserved

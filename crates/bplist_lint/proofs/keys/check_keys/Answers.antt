@@ -49,7 +49,7 @@ loop-n-preserved g c =
             let sound = reached_sound f F c.args.looked.now.places.now c.args.looked.now.marks.now c.requires.marks framed placed marks kept in
             let before = v.exact honest framed placed marks kept bare named in
             elim w.else-marks-n.branch [
-              | else-marks-n-via-then-marks-n+else-not-bare-n w' ↦ keys_more f F n (bare_keys f F n framed (omega (arith, c.loop-n-test.true)) (sound.kept _ w'.if-marks-n.true) (bare _ w'.if-not-bare-n.false)) before
+              | else-marks-n-via-then-marks-n+else-not-bare-n w' ↦ keys_more f F n (bare_keys f F n framed (omega (arith, c.loop-n-test.true)) (sound.kept _ w'.if-marks-n.true) (bare _ w'.if-not-bare-n.false).1) before
               | else-marks-n-via-else-marks-n w' ↦ keys_over f F n (λ r. absurd (false≢true (sym w'.if-marks-n.false ∙ (marks _).1 r))) before
             ];
       }

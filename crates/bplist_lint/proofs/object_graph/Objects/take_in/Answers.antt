@@ -11,8 +11,6 @@ invariant_of-self-2 g c =
       places = s.places;
       framed = rw same s.framed;
       placed = rw same s.placed;
-      all_bare = s.all_bare;
-      known = rw same s.known;
       few = c.requires.few;
       inside = c.in_ok-self.ensures.inside;
       held = rw same (λ honest k low within. let framed = s.framed honest in
