@@ -19,3 +19,4 @@ pub mod Repeating
 pub mod DecidedKeys
 pub mod Decided
 pub mod LowSteps
+pub mod Marks
