@@ -74,4 +74,4 @@ module _ (f : List ℕ) (F : Frame) where
     wrong_fault n has dict (wrongs.NoText i) fault is told =
         keyless f F n.0 head has fault dict (told.0, told.1, (i, no_text i is.0 is.1 is.2, told.2))
     wrong_fault n has dict (wrongs.Again j) fault is told =
-        twice f F n.0 head has fault dict (keys.classed_texts f F framed head classes classed sound inside head.count (omega arith) is.1) (told.0, told.1, (j, repeated j is.0 is.1 is.2, told.2))
+        twice f F n.0 head has fault dict (keys.classed_texts f F head classes classed framed sound inside head.count (omega arith) is.1) (told.0, told.1, (j, repeated j is.0 is.1 is.2, told.2))
