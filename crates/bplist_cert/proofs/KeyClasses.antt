@@ -141,8 +141,9 @@ module _ (f : List ℕ) (F : Frame) where
 
     module _ (framed : IsFrame f F) (sound : KeysAreSound f F head) (inside : (k : ℕ) → k < head.count → ref f F head k < F.objects) where
       -- keys with a class are texts
-      pub classed_texts : HaveClasses (ref f F head) classes head.count → HaveTexts f F head head.count
-      classed_texts some k low =
+      pub classed_texts : (count : ℕ) → count ≤ head.count → HaveClasses (ref f F head) classes count → HaveTexts f F head count
+      classed_texts count few some k under =
+          let low : k < head.count = omega (arith, few, under) in
           let m = ref f F head k in
-          let t = classed.only k low (some k low) in
+          let t = classed.only k low (some k under) in
           (t.0, text_there f F m framed (inside k low) t.0 (shape_announced f F m t.0 t.1.0) (sound k low (inside k low)) t.1.1)

@@ -58,32 +58,15 @@ module _ (f : List ℕ) (F : Frame) where
 
   module _ (framed : IsFrame f F) (head : Head) (classes : List ℕ) (classed : AreClassed f F classes head) (sound : KeysAreSound f F head)
       (inside : (k : ℕ) → k < head.count → ref f F head k < F.objects) where
-    text_at : (k : ℕ) → k < head.count → 0 < slice_index classes (ref f F head k) → (key : Head) × IsKey f F head k key
-    text_at = keys.text_at f F framed head classes classed sound inside
-
     pub no_text : (i : ℕ) → i < head.count → slice_index classes (ref f F head i) ≡ 0 → HaveClasses (ref f F head) classes i → IsFirstKeyless f F head i
     no_text i low none before = record {
       within = low;
-      none = λ key is. absurd (let some = keys.class_at f F framed head classes classed sound inside i low key is in omega (arith, some, none));
-      before = keys.classed_texts f F framed head classes classed sound inside i (omega (arith, low)) before;
+      none = λ key is. absurd (let some = keys.class_at f F head classes classed i low key is in omega (arith, some, none));
+      before = keys.classed_texts f F head classes classed framed sound inside i (omega (arith, low)) before;
     }
 
     pub repeated : (j : ℕ) → j < head.count → HaveClasses (ref f F head) classes head.count → IsFirstAgain (ref f F head) classes j → IsFirstTwice f F head j
-    repeated j low all a =
-        let i_low : a.earlier < head.count = omega (arith, low, a.order) in
-        let x = text_at a.earlier i_low (all a.earlier i_low) in
-        let y = text_at j low (all j low) in
-        record {
-          within = low;
-          earlier = a.earlier;
-          order = a.order;
-          first = x.0;
-          second = y.0;
-          is_first = x.1;
-          is_second = y.1;
-          same = sym (keys.units_at f F framed head classes classed sound inside a.earlier x.0 x.1) ∙ (classed.same a.earlier j i_low low (all a.earlier i_low) (all j low)).0 a.same ∙ keys.units_at f F framed head classes classed sound inside j y.0 y.1;
-          before = keys.apart_differ f F framed head classes classed sound inside j (omega (arith, low)) a.before;
-        }
+    repeated j low all a = keys.again_twice f F head classes classed (keys.classed_texts f F head classes classed framed sound inside head.count (omega arith) all) j low a
 
     -- what is wrong with them is the fault
     pub wrong_fault : (n : ObjectNo) → HasHead f F n.0 head → head.kind ≡ Dict → (wrong : Wrong) (fault : Fault) → IsWrong (ref f F head) classes head.count wrong → IsWrongFault F n head wrong fault
@@ -91,4 +74,4 @@ module _ (f : List ℕ) (F : Frame) where
     wrong_fault n has dict (wrongs.NoText i) fault is told =
         keyless f F n.0 head has fault dict (told.0, told.1, (i, no_text i is.0 is.1 is.2, told.2))
     wrong_fault n has dict (wrongs.Again j) fault is told =
-        twice f F n.0 head has fault dict (keys.classed_texts f F framed head classes classed sound inside head.count (omega arith) is.1) (told.0, told.1, (j, repeated j is.0 is.1 is.2, told.2))
+        twice f F n.0 head has fault dict (keys.classed_texts f F head classes classed framed sound inside head.count (omega arith) is.1) (told.0, told.1, (j, repeated j is.0 is.1 is.2, told.2))

@@ -5,7 +5,7 @@ use Rattle.bplist_cert.proofs.key_classes.class_fault.Goals as goal
 pub returns-in-None-clause-texts : goal.returns-in-None-clause-texts
 returns-in-None-clause-texts g c = λ honest framed low classed inside sound.
     let found = (rw c.in-None.is at c.in_ok-first_wrong.ensures.exact) honest low in
-    classed_texts (g.S.Source.means c.args.src.now).octets c.args.frame.now c.args.head.now c.args.table.now.classes.table.items classed framed sound inside found.0
+    classed_texts (g.S.Source.means c.args.src.now).octets c.args.frame.now c.args.head.now c.args.table.now.classes.table.items classed framed sound inside c.args.head.now.count (omega arith) found.0
 
 pub returns-in-None-clause-exact : goal.returns-in-None-clause-exact
 returns-in-None-clause-exact g c = λ honest framed low classed texts.

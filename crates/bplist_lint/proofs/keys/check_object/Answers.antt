@@ -23,7 +23,7 @@ returns-in-None-clause-exact g c = λ honest framed place kept keys low.
     let known = keys head has c.in-Dict.is in
     let inside = keys_inside f F n kept head has c.in-Dict.is in
     let good = (rw (c.in_ok-head.ensures.reads, c.in-None.is) at c.in_ok-first_wrong-in-Dict.ensures.exact) honest low in
-    kept_keys f F n head has (classed_texts f F framed head classes known.0 known.1 inside head.count (omega arith) good.0) (apart_differ f F framed head classes known.0 known.1 inside head.count (omega arith) good.1)
+    kept_keys f F n head has (classed_texts f F head classes known.0 framed known.1 inside head.count (omega arith) good.0) (apart_differ f F head classes known.0 head.count (omega arith) good.1)
 
 pub returns-in-Some-clause-exact : goal.returns-in-Some-clause-exact
 returns-in-Some-clause-exact g c = λ honest framed place kept keys low.
