@@ -16,7 +16,7 @@ use Rattle.bplist_objects.specs.Heads.{content_at}
 use Rattle.bplist_objects.proofs.Lists.{none_in}
 use Rattle.bplist_objects.proofs.ReachedObjects.{refs_iff, refs_spelled}
 use Rattle.bplist_objects.proofs.References.{length-refs}
-use Rattle.bplist_objects.proofs.SpelledContents.{head_is_found}
+use Rattle.bplist_objects.proofs.HeadLaws.{head_is_found}
 use Rattle.bplist_objects.proofs.HeadTies.{head_tie}
 use Rattle.bplist_keys.specs.Classes.{HasNamedKeys}
 use Rattle.bplist_lint.specs.declared.tally.Tally.{Tally}
