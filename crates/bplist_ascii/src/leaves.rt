@@ -11,10 +11,10 @@ ghost use Rattle.bplist_cursor.specs.Texts.{hex_digits, text_of_units, text_of_b
 ghost use Rattle.bplist_ascii.specs.Writing.{print_read, IsReadFault, AddsText, AddFails, StaysWithin, styled, fits, is_bare_text};
 ghost use Rattle.bplist_ascii.specs.declared.style.Style.TheVariants.{Bare};
 
+use crate::output::{write, write_digits, write_units};
 use crate::print_fault::PrintFault;
 use crate::sink::Sink;
 use crate::style::{Style, Styled};
-use crate::output::{write, write_digits, write_units};
 use bplist_cursor::are_plain;
 use bplist_objects::{Head, octets_at, read_units};
 use bplist_octets::Source;

@@ -22,13 +22,13 @@
 
 mod formless;
 mod leaves;
+mod output;
 mod print_fault;
 mod printer;
 mod sink;
 mod style;
 mod texts;
 mod walk;
-mod output;
 
 pub use print_fault::PrintFault;
 pub use printer::{print, print_into};

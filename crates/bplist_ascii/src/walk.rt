@@ -11,9 +11,9 @@ ghost use Rattle.bplist_ascii.specs.Sending.{Takes};
 ghost use Rattle.bplist_ascii.specs.Walks.{opening_of, mark_of, closing_of, AreSafe, StackLeft, GoesOn};
 
 use crate::leaves::{write_data, write_text};
+use crate::output::write;
 use crate::print_fault::PrintFault;
 use crate::sink::Sink;
-use crate::output::write;
 use bplist_cert::Checked;
 use bplist_cursor::{Node, member_by_head, node_head};
 use bplist_objects::{Head, Kind};

@@ -24,11 +24,11 @@
 
 mod found;
 mod handle;
-mod loan;
 mod linter;
+mod loan;
 mod loose;
-mod open;
 mod object;
+mod open;
 mod session;
 mod sizes;
 mod status;

@@ -15,8 +15,8 @@ ghost use Rattle.bplist_cursor.specs.Kept.{Keeps};
 ghost use Rattle.bplist_cursor.specs.Steps.{HaveTexts, IsKeyPlace};
 ghost use Rattle.bplist_cursor.specs.KeySearch.{digits_2, IsCompared, IsKeyList, RisesAtMost, ListStarts, IsUnlisted};
 
-use crate::faults::Unread;
 use crate::checked_objects::{head_in, reference_in};
+use crate::faults::Unread;
 use bplist_cert::Checked;
 use bplist_objects::{Head, Kind, ObjectNo, key_cmp};
 use bplist_octets::Source;

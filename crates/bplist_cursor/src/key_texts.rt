@@ -11,9 +11,9 @@ ghost use Rattle.bplist_cert.specs.Valid.{SpellsText};
 ghost use Rattle.bplist_cursor.specs.Causes.{GivesCursor, cursor_read};
 ghost use Rattle.bplist_cursor.specs.Kept.{Keeps};
 
+use crate::checked_objects::{head_in, reference_in};
 use crate::faults::CursorFault;
 use crate::list::List;
-use crate::checked_objects::{head_in, reference_in};
 use crate::node_face::body_units;
 use bplist_cert::Checked;
 use bplist_objects::{Head, Kind, ObjectNo};

@@ -25,6 +25,7 @@
 
 mod answers;
 mod bytes;
+mod checked_objects;
 mod faces;
 mod faults;
 mod form;
@@ -37,14 +38,13 @@ mod list;
 mod lookup;
 mod measures;
 mod members;
+mod node_face;
 mod node_object;
 mod object_sizes;
 mod one_step;
 mod path;
-mod checked_objects;
-mod reply;
-mod node_face;
 mod path_step;
+mod reply;
 mod text_length;
 
 pub use answers::{answer, answer_all};
@@ -61,10 +61,10 @@ pub use list::List;
 pub use lookup::{locate, locate_counted, locate_in_slice};
 pub use measures::Measures;
 pub use members::{member, member_by_head};
+pub use node_face::face;
 pub use node_object::node_head;
 pub use object_sizes::measure;
 pub use one_step::step_from;
 pub use path::{Path, PathFault};
 pub use reply::{Query, Reply};
-pub use node_face::face;
 pub use text_length::{are_plain, is_plain};

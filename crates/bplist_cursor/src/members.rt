@@ -12,10 +12,10 @@ ghost use Rattle.bplist_cursor.specs.Kept.{Keeps};
 ghost use Rattle.bplist_cursor.specs.Members.{IsNumberOf, HoldsMember, member_of, member_reference, named, node_of};
 ghost use Rattle.bplist_cursor.specs.declared.faults.CursorFault.TheVariants.{Changed};
 
+use crate::checked_objects::reference_in;
 use crate::faults::{CursorFault, Unread};
 use crate::found::Node;
 use crate::node_object::node_head;
-use crate::checked_objects::reference_in;
 use bplist_cert::Checked;
 use bplist_objects::{Head, Kind};
 use bplist_octets::Source;

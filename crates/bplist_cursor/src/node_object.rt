@@ -9,9 +9,9 @@ ghost use Rattle.bplist_cursor.specs.Causes.{GivesRead, read_failed};
 ghost use Rattle.bplist_cursor.specs.Kept.{Keeps};
 ghost use Rattle.bplist_cursor.specs.declared.faults.Unread.TheVariants.{Changed};
 
+use crate::checked_objects::head_in;
 use crate::faults::Unread;
 use crate::found::Node;
-use crate::checked_objects::head_in;
 use bplist_cert::Checked;
 use bplist_objects::Head;
 use bplist_octets::Source;

@@ -13,11 +13,11 @@ ghost use Rattle.bplist_cursor.specs.Steps.{IsStep, IsInside, IsPlace, IsPlaceBe
 ghost use Rattle.bplist_cursor.specs.Leads.{HasTextKeys};
 ghost use Rattle.bplist_cursor.specs.KeySearch.{halvings_of, halvings_at, RisesAtMost};
 
+use crate::checked_objects::{head_in, reference_in};
 use crate::faults::Unread;
 use crate::found::Why;
 use crate::index::index_of;
 use crate::key_search::key_place;
-use crate::checked_objects::{head_in, reference_in};
 use bplist_cert::Checked;
 use bplist_objects::{Head, Kind, ObjectNo};
 use bplist_octets::Source;

@@ -21,6 +21,8 @@
 
 mod class_table;
 mod fault;
+mod key_weights;
+mod merge_sort;
 mod named_keys;
 mod notes;
 mod numbers;
@@ -28,9 +30,7 @@ mod ordered;
 mod places;
 mod ranks;
 mod runs;
-mod merge_sort;
 mod text;
-mod key_weights;
 mod weight;
 mod weighted;
 

@@ -22,17 +22,17 @@
 
 mod answer;
 mod circle;
-mod reach_rules;
 mod heights;
 mod key_lists;
 mod keys;
 mod laws;
 mod linter;
-mod object_nos;
 mod object_graph;
+mod object_nos;
 mod place_set;
 mod places;
 mod reach;
+mod reach_rules;
 mod references;
 mod refusal;
 mod tally;

@@ -25,13 +25,13 @@ ghost use Rattle.bplist_lint.specs.Linted.{IsSifted, IsLintedBy, IsLinted, IsLin
 
 use crate::answer::Lint;
 use crate::circle::circle;
-use crate::reach_rules::check_reached;
 use crate::heights::least_heights;
 use crate::keys::{Looked, check_keys};
-use crate::object_nos::ObjectNos;
 use crate::object_graph::Objects;
+use crate::object_nos::ObjectNos;
 use crate::places::check_places;
 use crate::reach::{Marked, mark_reached};
+use crate::reach_rules::check_reached;
 use crate::references::WalkFault;
 use crate::refusal::LintRefusal;
 use crate::walk::{Reached, walk};
