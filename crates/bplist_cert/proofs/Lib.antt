@@ -19,4 +19,4 @@ pub mod RepeatedKeys
 pub mod DecidedKeys
 pub mod DecidedObjects
 pub mod LowSteps
-pub mod SortedRepeats
+pub mod SortedKeys

@@ -105,13 +105,6 @@ stamped_low n seen seen' stamped low x = elim (stamped x) [
   | inr same ↦ let l = low x in omega (arith, same, l)
 ]
 
--- another dictionary that was not seen is not seen after it
-pub stamped_new : (n m : ℕ) (seen seen' : List ℕ) → IsStamped n seen seen' → m ≢ n → IsNew seen m → IsNew seen' m
-stamped_new n m seen seen' stamped other new x e = elim (stamped x) [
-  | inl is ↦ absurd (other (omega (arith, is, e)))
-  | inr same ↦ new x (sym same ∙ e)
-]
-
 -- a key before some number comes before a later one
 pub some_later : (found : Option ℕ) (a b : ℕ) → a ≤ b → IfSome found (λ j. j < a) → IfSome found (λ j. j < b)
 some_later None a b up low = tt
