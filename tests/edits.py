@@ -1,8 +1,8 @@
 #!/usr/bin/env python3
-"""edits.py [--table] CRATE [EDIT..]
+"""edits.py [--table] [CRATE [EDIT..]]
 
-Tries the must-fail edits of a crate, all or those named, and says what refuses each. One line an edit: the edit, its
-function, the verdict and the goals. The verdicts:
+Tries the must-fail edits of tests/edits, all, or those of a crate, or those named, and says what refuses each. One line an
+edit: the edit, its function, the verdict and the goals. The verdicts:
 
   false    the prover found values at which a goal of the edited function does not hold
   open     a goal that the prover decides by itself stays open
@@ -11,12 +11,13 @@ function, the verdict and the goals. The verdicts:
   unread   the prover could not take the function at all, which says nothing either
   PROVED   nothing refuses it
 
-With --table the rows of these edits in docs/EDITS.md are written anew: the edit, what it turns, what refuses it. The status
-is 1 where an edit is unread, stale or proved.
+An edit passes where it is refused by one of the first three. The last line is `N passed, M failed`, and the status is 1 where
+one failed. With --table the rows of these edits in docs/EDITS.md are written anew: the edit, what it turns, what refuses it.
 
 Edits of different functions are tried together, in a copy of the crate over what its last check kept, so a crate takes a
-few checks. `rt must-fail` tries each alone. The crate must be checked (`rt check`) and the crates below it built.
+few checks; crates are tried side by side. The crates that the edits are of must be built, and those below them.
 """
+import concurrent.futures
 import dataclasses
 import importlib.machinery
 import importlib.util
@@ -28,6 +29,8 @@ import sys
 import tempfile
 
 ROOT = pathlib.Path(__file__).resolve().parent.parent
+EDITS = ROOT / "tests/edits"
+ROOM = 5 << 30  # the memory that a check may take
 FUNCTION = re.compile(r"(?: {4})?(?:pub(?:\(crate\))? )?(?:const )?(?:extern \"C\" )?fn (\w+)")
 IMPL = re.compile(r"impl(?:<[^>]*>)? (?:(\w+)(?:<(\w+).*>)? for )?(\w+)(?:<(\w+))?")
 OPEN = re.compile(r"note: (?:\./)?(\S+?):(\d+):\d+: (?:it is not proved that .*?|`search` found no proof )\(`([^`]+)`\)(.*)")
@@ -59,7 +62,9 @@ class Edit:
         """Finds the function in which the first change of a body stands, else the file."""
         for file, old, _ in self.pairs:
             lines = (folder / file).read_text().split("\n")
-            at = next(i for i, line in enumerate(lines) if old in line)
+            at = next((i for i, line in enumerate(lines) if old in line), None)
+            if at is None:
+                raise ValueError(f"{self.name}: its old text is not in {file}")
             starts = [i for i, line in enumerate(lines) if FUNCTION.match(line)]
             first = max((i for i in starts if i <= at), default=None)
             if file.startswith("src/") and first is not None:
@@ -112,7 +117,7 @@ def read_edit(path):
             old = text
         elif word.rstrip(":") == "new":
             pairs.append((file, old, text))
-    return Edit(path.parent.parent.name, path.stem, pairs)
+    return Edit(path.parent.name, path.stem, pairs)
 
 
 def rounds(edits):
@@ -134,7 +139,7 @@ def turned(edits, folder):
         for file, old, new in edit.pairs:
             text = texts.get(file) or (folder / file).read_text()
             if text.count(old) != 1:
-                sys.exit(f"{edit.name}: its old text is in {file} {text.count(old)} times")
+                raise ValueError(f"{edit.name}: its old text is in {file} {text.count(old)} times")
             texts[file] = text.replace(old, new)
     return texts
 
@@ -178,24 +183,26 @@ def write_table(crate, rows):
     before, heading, rest = path.read_text().partition(f"\n## {crate.name}\n")
     body, further, after = rest.partition("\n## ")
     kept = {it.split(" | ")[0].lstrip("| "): it for it in body.split("\n") if it.startswith("| ")}
-    names = sorted(it.stem for it in pathlib.Path(crate.folder, "must-fail").glob("*.edit"))
+    names = sorted(it.stem for it in (EDITS / crate.name).glob("*.edit"))
     table = [it for name in names if (it := {**kept, **rows}.get(name))]
     text = "\n".join(["", "| edit | what it turns | what refuses it |", "|---|---|---|", *table, ""])
     path.write_text(before + heading + text + further + after)
 
 
 def tried(rt, crate, edits):
-    """Each edit with its goals. One that has none among others, or was not read, is tried again alone: a check leaves goals out,
-    and does not try a function that calls one which another edit spoils."""
+    """Each edit with its goals. A check leaves goals out, and does not try a function that calls one which another edit spoils:
+    those edits are tried again, together as long as that decides some of them, and then each alone."""
     with tempfile.TemporaryDirectory(prefix="edits-") as kept:
-        shutil.copytree(pathlib.Path(crate.folder, "out/incremental"), kept, dirs_exist_ok=True)
-        for group in rounds(edits):
+        if (work := pathlib.Path(crate.folder, "out/incremental")).is_dir():
+            shutil.copytree(work, kept, dirs_exist_ok=True)
+        groups = rounds(edits)
+        while groups:
+            group = groups.pop(0)
             lines = check(rt, crate, group, kept)
-            for edit in group:
-                goals = list(edit.goals(lines))
-                if verdict(goals) in ("PROVED", "unread") and len(group) > 1:
-                    goals = list(edit.goals(check(rt, crate, [edit], kept)))
-                yield edit, goals
+            goals = {edit.name: list(edit.goals(lines)) for edit in group}
+            left = [it for it in group if len(group) > 1 and verdict(goals[it.name]) in ("PROVED", "unread")]
+            groups += [left] if len(left) < len(group) and left else [[it] for it in left]
+            yield from ((it, goals[it.name]) for it in group if it not in left)
 
 
 def check(rt, crate, edits, kept):
@@ -205,33 +212,52 @@ def check(rt, crate, edits, kept):
         flags += ["--only", edit.path] if edit.path else []
     lines = rt.checked(crate, turned(edits, pathlib.Path(crate.folder)), flags, kept).stdout.split("\n")
     if not any(line.startswith("only=") for line in lines):
-        sys.exit("\n".join(["the prover did not read these edits:", *[it for it in lines if "error" in it][:5]]))
+        raise ValueError("\n".join([f"{crate.name}: these edits were not read:", *[it for it in lines if "error" in it][:5]]))
     return lines
 
 
+def try_crate(rt, crate, names, is_table):
+    """Tries a crate's edits, all or those named, prints a line for each, and says how many there are and how many failed."""
+    paths = sorted((EDITS / crate.name).glob("*.edit"))
+    edits = [read_edit(it) for it in paths if not names or it.stem in names]
+    for edit in edits:
+        edit.place(pathlib.Path(crate.folder))
+    rows, failed = {}, 0
+    for edit, goals in tried(rt, crate, edits):
+        failed += verdict(goals) not in ("false", "open", "answer")
+        print(line(edit, goals), flush=True)
+        rows[edit.name] = row(edit, goals)
+    if is_table:
+        write_table(crate, rows)
+    return len(edits), failed
+
+
+def at_once():
+    """How many crates are tried side by side: one for each processor, with room in memory."""
+    memory = os.sysconf("SC_PAGE_SIZE") * os.sysconf("SC_PHYS_PAGES")
+    return max(1, min(len(os.sched_getaffinity(0)), memory // ROOM))
+
+
 def main(words):
-    table = "--table" in words
+    is_table = "--table" in words
     words = [it for it in words if it != "--table"]
-    if not words:
-        sys.exit(__doc__)
-    rows = {}
     os.chdir(ROOT)
     rt = kit()
     rt.rtlib.guarded()
-    crate = next(it for it in rt.rtlib.crates_below(str(ROOT)) if it.name == words[0])
-    folder = pathlib.Path(crate.folder)
-    paths = sorted((folder / "must-fail").glob("*.edit"))
-    edits = [read_edit(it) for it in paths if not words[1:] or it.stem in words[1:]]
-    for edit in edits:
-        edit.place(folder)
-    bad = 0
-    for edit, goals in tried(rt, crate, edits):
-        bad += verdict(goals) in ("unread", "stale", "PROVED")
-        print(line(edit, goals), flush=True)
-        rows[edit.name] = row(edit, goals)
-    if table:
-        write_table(crate, rows)
-    return 1 if bad else 0
+    crates = [it for it in rt.rtlib.crates_below(str(ROOT)) if (EDITS / it.name).is_dir() and words[:1] in ([], [it.name])]
+    if not crates:
+        sys.exit(__doc__)
+    # The largest first, so that none of them is left for the end.
+    crates.sort(key=lambda it: -rt.need(it))
+    jobs = 1 if is_table else at_once()
+    with concurrent.futures.ThreadPoolExecutor(jobs) as pool:
+        try:
+            counts = list(pool.map(lambda it: try_crate(rt, it, words[1:], is_table), crates))
+        except ValueError as error:
+            sys.exit(str(error))
+    total, failed = (sum(it) for it in zip(*counts))
+    print(f"{total - failed} passed, {failed} failed")
+    return 1 if failed else 0
 
 
 if __name__ == "__main__":
