@@ -21,6 +21,7 @@ use Rattle.bplist_cert.specs.Looks.{IsSeen}
 use Rattle.bplist_cert.specs.CheckRules.{IsWhole, list_of, HasOrder}
 use Rattle.bplist_cert.specs.Keys.{HaveTexts, AreInOrder}
 use Rattle.bplist_cert.specs.KeyClasses.{KeysAreSound, HasGoodKeys}
+use Rattle.bplist_cert.specs.declared.key_lists.ReadKey.{ReadKey}
 use Rattle.bplist_cert.specs.KeyPairs.{Ascends, ArePairs, Follows, HaveTextShapes}
 use Rattle.bplist_cert.proofs.KeyClasses.{good_low, no_keys}
 use Rattle.bplist_cert.proofs.AllNumbers.{onto}
@@ -62,9 +63,9 @@ module _ (f : List ℕ) (F : Frame) where
       pub up : (k : ℕ) → suc k < j → compare_units (units_at k) (units_at (suc k)) ≡ Less
 
     -- the object of the key before number j, if there is one
-    abbrev pub IsLast : ℕ → Option ℕ → Type 0
+    abbrev pub IsLast : ℕ → Option ReadKey → Type 0
     IsLast j None = j ≡ 0
-    IsLast j (Some last) = (i : ℕ) × (suc i ≡ j) × (last ≡ ref f F head (slice_index list i))
+    IsLast j (Some last) = (i : ℕ) × (suc i ≡ j) × (last.object ≡ ref f F head (slice_index list i))
 
     pub ascend_none : AscendTo 0
     ascend_none = record {
@@ -73,20 +74,20 @@ module _ (f : List ℕ) (F : Frame) where
       up = λ k l. absurd (omega (arith, l));
     }
 
-    text_shape : (before : Option ℕ) (m : ℕ) → Follows f F before m → HasTextShape f F m
+    text_shape : (before : Option ReadKey) (m : ℕ) → Follows f F before m → HasTextShape f F m
     text_shape None m h = h
     text_shape (Some last) m h = h.1
 
-    step_up : (j : ℕ) (before : Option ℕ) (m : ℕ) → m ≡ ref f F head (slice_index list j) → IsLast j before → Follows f F before m → (k : ℕ) → suc k ≡ j
+    step_up : (j : ℕ) (before : Option ReadKey) (m : ℕ) → m ≡ ref f F head (slice_index list j) → IsLast j before → Follows f F before m → (k : ℕ) → suc k ≡ j
         → compare_units (units_at k) (units_at j) ≡ Less
     step_up j None m is last h k e = absurd (omega (arith, last, e))
     step_up j (Some x) m is (i, next, at) h k e =
         let same : i ≡ k = omega (arith, next, e) in
-        let left : text_units f F x ≡ units_at k = ap (text_units f F) (at ∙ ap (λ n. ref f F head (slice_index list n)) same) in
+        let left : text_units f F x.object ≡ units_at k = ap (text_units f F) (at ∙ ap (λ n. ref f F head (slice_index list n)) same) in
         ap₂ compare_units (sym left) (sym (ap (text_units f F) is)) ∙ h.2
 
     -- one key more
-    pub ascend_more : (j : ℕ) (before : Option ℕ) (m : ℕ) → AscendTo j → slice_index list j < head.count → m ≡ ref f F head (slice_index list j) → IsLast j before → Follows f F before m → AscendTo (j + 1)
+    pub ascend_more : (j : ℕ) (before : Option ReadKey) (m : ℕ) → AscendTo j → slice_index list j < head.count → m ≡ ref f F head (slice_index list j) → IsLast j before → Follows f F before m → AscendTo (j + 1)
     ascend_more j before m so low is last h = record {
       low = λ k l. elim (cases_eq k j) [ inl e ↦ subst (λ n. slice_index list n < head.count) (sym e) low | inr d ↦ so.low k (omega (arith, l, d)) ];
       shapes = λ k l. elim (cases_eq k j) [

@@ -1,15 +1,25 @@
 -- Key lists by the markers and counts of the keys: pairs of texts in order. Source: profile.
-use Rattle.std.specs.Prelude.{◌≡◌, ℕ, ◌+◌, ◌*◌, ◌<◌, List, slice_index, Option, Some, None}
+use Rattle.std.specs.Prelude.{◌≡◌, ℕ, ◌+◌, ◌*◌, ◌<◌, List, slice_index, Option, Some, None, IfSome}
 use Rattle.std.specs.declared.cmp.Ordering.TheVariants.{Less}
 use Rattle.bplist_objects.specs.declared.frame.Frame.{Frame}
 use Rattle.bplist_objects.specs.declared.head.Head.{Head}
-use Rattle.bplist_objects.specs.Units.{compare_units}
+use Rattle.bplist_objects.specs.Units.{IsTextKind, compare_units}
 use Rattle.bplist_keys.specs.Runs.{AreRuns}
+use Rattle.bplist_cert.specs.declared.key_lists.ReadKey.{ReadKey}
 use Rattle.bplist_cert.specs.declared.key_pairs.OrderedPairs.{OrderedPairs}
-use Rattle.bplist_keys.specs.Texts.{HasTextShape, text_units}
+use Rattle.bplist_keys.specs.Texts.{HasTextShape, IsTextHead, text_units}
+use Rattle.bplist_objects.specs.Safe.{IsSafeBody}
 use Rattle.bplist_cert.specs.Heights.{ref}
 
+-- the head of a key, where it was read, is that of a text with its body inside a file of so many bytes
+abbrev pub IsSafeKey : ℕ → ReadKey → Type 0
+IsSafeKey len key = IfSome key.head (λ head. IsTextKind head.kind × IsSafeBody len head)
+
 module _ (f : List ℕ) (F : Frame) where
+  -- the head of a key, where it was read, is that of its text
+  abbrev pub IsReadKey : ReadKey → Type 0
+  IsReadKey key = IfSome key.head (IsTextHead f F key.object)
+
   -- objects a and b are texts by marker and count, and the units of the first come before those of the second
   abbrev pub Ascends : ℕ → ℕ → Type 0
   Ascends a b = HasTextShape f F a × HasTextShape f F b × (compare_units (text_units f F a) (text_units f F b) ≡ Less)
@@ -23,9 +33,9 @@ module _ (f : List ℕ) (F : Frame) where
   AreKnown pairs = ArePairs pairs.rows × AreRuns f pairs.runs.rows
 
   -- key m is a text by marker and count, and comes after the one before, if there is one
-  abbrev pub Follows : Option ℕ → ℕ → Type 0
+  abbrev pub Follows : Option ReadKey → ℕ → Type 0
   Follows None m = HasTextShape f F m
-  Follows (Some last) m = Ascends last m
+  Follows (Some last) m = Ascends last.object m
 
   -- the keys of a dictionary with this head are texts by marker and count
   abbrev pub HaveTextShapes : Head → Type 0

@@ -7,15 +7,17 @@ ghost use Rattle.bplist_objects.specs.Announced.{HasHead};
 ghost use Rattle.bplist_objects.specs.Framed.{HonestlyBy};
 ghost use Rattle.bplist_objects.specs.Rules.{KeepsAll};
 ghost use Rattle.bplist_objects.specs.ObjectRules.{KeepsByObject, object_rules};
-ghost use Rattle.bplist_objects.specs.Safe.{IsSafe, IsSafeHead};
+ghost use Rattle.bplist_objects.specs.Safe.{IsSafe, IsSafeBody, IsSafeHead};
+ghost use Rattle.bplist_objects.specs.Units.{IsTextKind};
 ghost use Rattle.bplist_objects.specs.declared.head.Head.{Head as head};
 ghost use Rattle.bplist_objects.specs.declared.kind.Kind.TheVariants.{Dict};
+ghost use Rattle.bplist_keys.specs.Texts.{HasTextShape, IsTextHead};
 ghost use Rattle.bplist_cert.specs.Heights.{ref};
 ghost use Rattle.bplist_cert.specs.Lists.{lists};
 ghost use Rattle.bplist_cert.specs.CheckRules.{IsWhole, list_of, HasOrder, IsKeysFault};
 ghost use Rattle.bplist_cert.specs.Keys.{HaveTexts, AreInOrder};
 ghost use Rattle.bplist_cert.specs.KeyClasses.{KeysAreSound, HasGoodKeys, BreaksKeys, IsFirstKeysFault};
-ghost use Rattle.bplist_cert.specs.KeyPairs.{Ascends, AreKnown, HaveTextShapes, Follows};
+ghost use Rattle.bplist_cert.specs.KeyPairs.{Ascends, AreKnown, HaveTextShapes, Follows, IsReadKey, IsSafeKey};
 ghost use Rattle.bplist_cert.specs.LowBytes.{AreLow};
 ghost use Rattle.bplist_cert.specs.Valid.{IsVouchedBy};
 ghost use Rattle.bplist_cert.specs.Looks.{AreSeen};
@@ -29,54 +31,96 @@ use crate::seen::Seen;
 use bplist_objects::{Frame, Head, Kind, ObjectFault, ObjectNo, offset_of, ref_at, shape_at};
 use bplist_octets::{ReadFault, Source};
 
-/// Whether objects `a` and `b` are texts by marker and count, of which the first comes before the second.
+/// A key that was looked at: its object, and its head where that was read.
+#[derive(Clone, Copy, Debug)]
+struct ReadKey {
+    object: u32,
+    head: Option<Head>,
+}
+
+/// The head of a key, where its marker and count are those of a text. It is not read a second time.
+fn head_of<S: Source>(src: &mut S, frame: &Frame, key: &ReadKey) -> Result<Option<Head>, ReadFault>
+    requires safe { IsSafe (length (S.means src.old).octets) frame.now }
+    requires within { key.now.object < frame.now.objects }
+    requires head { IsSafeKey (length (S.means src.old).octets) key.now }
+    ensures reads { OnlyReads (is_err result) (S.means src.old) (S.means src.new) }
+    ensures exact { HonestlyBy (S.means src.old) frame.now (λ f F. IsReadKey f F key.now
+        → IfOk result (λ found. MatchOption found (HasTextShape f F key.now.object → ⊥) (IsTextHead f F key.now.object))) }
+    ensures safe { IfOk result (λ found. IfSome found (λ head. IsTextKind head.kind × IsSafeBody (length (S.means src.old).octets) head)) }
+{
+    match key.head {
+        Some(head) => Ok(Some(head)),
+        None => text_of(src, frame, key.object),
+    }
+}
+
+/// Object `m` as a key, where it and the key before are texts by marker and count, of which that one comes before it.
 fn ascend<S: Source>(
     src: &mut S,
     frame: &Frame,
-    a: u32,
-    b: u32,
+    last: &ReadKey,
+    m: u32,
     pairs: &mut OrderedPairs,
-) -> Result<bool, ReadFault>
+) -> Result<Option<ReadKey>, ReadFault>
     requires safe { IsSafe (length (S.means src.old).octets) frame.now }
-    requires first { a < frame.now.objects }
-    requires second { b < frame.now.objects }
+    requires last { last.now.object < frame.now.objects }
+    requires head { IsSafeKey (length (S.means src.old).octets) last.now }
+    requires within { m < frame.now.objects }
     ensures reads { OnlyReads (is_err result) (S.means src.old) (S.means src.new) }
-    ensures exact { HonestlyBy (S.means src.old) frame.now (λ f F. AreKnown f F pairs.old
-        → IfOk result (λ good. AreKnown f F pairs.new × (IsTrue good → Ascends f F a b))) }
+    ensures key { IfOk result (λ found. IfSome found (λ key. (key.object ≡ m) × IsSafeKey (length (S.means src.old).octets) key)) }
+    ensures exact { HonestlyBy (S.means src.old) frame.now (λ f F. AreKnown f F pairs.old → IsReadKey f F last.now
+        → IfOk result (λ found. AreKnown f F pairs.new
+        × IfSome found (λ key. IsReadKey f F key × Ascends f F last.now.object m))) }
 {
-    if pairs.has(a, b) {
-        return Ok(true);
+    if pairs.has(last.object, m) {
+        return Ok(Some(ReadKey {
+            object: m,
+            head: None,
+        }));
     }
-    let Some(first) = text_of(src, frame, a)? else {
-        return Ok(false);
+    let Some(first) = head_of(src, frame, last)? else {
+        return Ok(None);
     };
-    let Some(second) = text_of(src, frame, b)? else {
-        return Ok(false);
+    let Some(second) = text_of(src, frame, m)? else {
+        return Ok(None);
     };
     if !comes_after(src, &mut pairs.runs, &Some(first), &second)? {
-        return Ok(false);
+        return Ok(None);
     }
-    pairs.insert(a, b);
-    Ok(true)
+    pairs.insert(last.object, m);
+    Ok(Some(ReadKey {
+        object: m,
+        head: Some(second),
+    }))
 }
 
-/// Whether key `m` is a text by marker and count, and comes after the key before it, if there is one.
+/// Object `m` as a key, where it is a text by marker and count, and comes after the key before it, if there is one.
 fn follows<S: Source>(
     src: &mut S,
     frame: &Frame,
-    before: Option<u32>,
+    before: &Option<ReadKey>,
     m: u32,
     pairs: &mut OrderedPairs,
-) -> Result<bool, ReadFault>
+) -> Result<Option<ReadKey>, ReadFault>
     requires safe { IsSafe (length (S.means src.old).octets) frame.now }
-    requires before { IfSome before (λ last. last < frame.now.objects) }
+    requires before { IfSome before.now (λ last. (last.object < frame.now.objects) × IsSafeKey (length (S.means src.old).octets) last) }
     requires within { m < frame.now.objects }
     ensures reads { OnlyReads (is_err result) (S.means src.old) (S.means src.new) }
-    ensures exact { HonestlyBy (S.means src.old) frame.now (λ f F. AreKnown f F pairs.old
-        → IfOk result (λ good. AreKnown f F pairs.new × (IsTrue good → Follows f F before m))) }
+    ensures key { IfOk result (λ found. IfSome found (λ key. (key.object ≡ m) × IsSafeKey (length (S.means src.old).octets) key)) }
+    ensures exact { HonestlyBy (S.means src.old) frame.now (λ f F. AreKnown f F pairs.old → IfSome before.now (IsReadKey f F)
+        → IfOk result (λ found. AreKnown f F pairs.new
+        × IfSome found (λ key. IsReadKey f F key × Follows f F before.now m))) }
 {
     match before {
-        None => Ok(text_of(src, frame, m)?.is_some()),
+        None => {
+            let Some(head) = text_of(src, frame, m)? else {
+                return Ok(None);
+            };
+            Ok(Some(ReadKey {
+                object: m,
+                head: Some(head),
+            }))
+        }
         Some(last) => ascend(src, frame, last, m, pairs),
     }
 }
@@ -123,15 +167,15 @@ fn is_ascending<S: Source>(
         → IfOk result (λ good. AreKnown f F pairs.new
         × (IsTrue good → HaveTextShapes f F head.now × AreInOrder f F head.now list.now head.now.count))) }
 {
-    let mut before: Option<u32> = None;
+    let mut before: Option<ReadKey> = None;
     for position in list {
         let Some(m) = key_at(src, frame, head, *position)? else {
             return Ok(false);
         };
-        if !follows(src, frame, before, m, pairs)? {
+        let Some(key) = follows(src, frame, &before, m, pairs)? else {
             return Ok(false);
-        }
-        before = Some(m);
+        };
+        before = Some(key);
     }
     Ok(true)
 }

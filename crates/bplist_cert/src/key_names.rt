@@ -22,7 +22,7 @@ use bplist_octets::Source;
 use std::alloc::Global;
 
 /// Names the keys of object `n`, which stands at `place`, where it is a dictionary.
-pub fn name_object<S: Source>(
+fn name_object<S: Source>(
     src: &mut S,
     frame: &Frame,
     place: u64,

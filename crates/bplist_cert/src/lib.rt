@@ -16,7 +16,7 @@
 //! | a certificate, and its bytes | [`Certificate`], [`KeyLists`], `to_octets`, `from_octets`, [`CertRefusal`] |
 //! | the check of a file and a certificate | [`check`], [`Refusal`] |
 //! | a source with the frame and the certificate that fit it | [`Checked`]: `frame`, `height`, `certificate`, `into_parts`, `octets` |
-//! | the objects that dictionaries name as keys, for the linter | [`name_object`], [`vouched_keys`] |
+//! | the objects that dictionaries name as keys, for the linter | [`vouched_keys`] |
 //!
 //! The invariant of a `Checked` is what the check found: over an honest source its heights are valid, wherever it is. The laws
 //! say what follows: each vouched object holds one value, and its references are lower (`vouched_values`,
@@ -45,7 +45,7 @@ mod seen;
 pub use certificate::{CertRefusal, Certificate, KeyLists};
 pub use checked::Checked;
 pub use checker::check;
-pub use key_names::{name_object, vouched_keys};
+pub use key_names::vouched_keys;
 pub use laws::{
     checked_stays, one_certificate, one_pair_fault, ordered_keys_differ, pair_fault_excludes,
     reached_objects, repeated_key_has_no_list, vouched_references, vouched_values, yes_or_fault,

@@ -128,6 +128,10 @@ pub(crate) fn first_not_below<S: Source>(
 /// How many bytes of a text are read at once at most.
 const TEXT_PART: usize = 256;
 
+/// A text of up to so many bytes is read by way of a small buffer, since most have no more and a buffer is cleared before it
+/// is used.
+const SHORT_TEXT: usize = 64;
+
 /// The first byte of a part of a text that is 128 or more, where the bytes before the part are below.
 fn search_part<S: Source>(
     src: &mut S,
@@ -164,6 +168,10 @@ pub fn first_high_in<S: Source>(
         (λ f. MatchOption found (AreBelow f place 1 count 128) (IsFirstNotBelow f place 1 count 128))) }
     ensures inside { IfOk result (λ found. IfSome found (λ i. i < count)) }
 {
+    if count <= SHORT_TEXT as u64 {
+        let mut buffer = [0u8; SHORT_TEXT];
+        return search_part(src, place, count, 0, &mut buffer[..count as usize]);
+    }
     let mut buffer = [0u8; TEXT_PART];
     let mut done = 0u64;
     while done < count {

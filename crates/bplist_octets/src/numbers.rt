@@ -11,8 +11,11 @@ pub fn sized(l: &[u8]) -> u64
     requires high { length l.now ≤ 8 }
     ensures { result ≡ num l.now }
 {
+    // Each usual width by itself, as a copy of a length that is known is no call.
     match l.len() {
+        1 => BigEndian::read_uint(l, 1),
         2 => u64::from(BigEndian::read_u16(l)),
+        3 => BigEndian::read_uint(l, 3),
         4 => u64::from(BigEndian::read_u32(l)),
         8 => BigEndian::read_u64(l),
         n => BigEndian::read_uint(l, n),

@@ -1,27 +1,26 @@
 use Rattle.std.proofs.Common.{ap₂, ◌∙◌}
-use Rattle.std.proofs.lemmas.Bool.{false≢true}
 use Rattle.bplist_objects.specs.Units.{compare_units}
 use Rattle.bplist_keys.proofs.WeightSteps.{text_units-head}
 use Rattle.bplist_cert.specs.KeyPairs.{Ascends}
 use Rattle.bplist_cert.proofs.key_lists.ascend.Goals as goal
 
 pub returns-then-not-branch-clause-exact : goal.returns-then-not-branch-clause-exact
-returns-then-not-branch-clause-exact g c = λ honest framed known.
+returns-then-not-branch-clause-exact g c = λ honest framed known read.
     let runs = (rw (c.in_ok-second.ensures.reads, c.in_ok-first.ensures.reads) at c.in_ok-comes_after.ensures.runs) honest known.1 in
-    ((known.0, runs), λ never. absurd (false≢true never))
+    ((known.0, runs), tt)
 
 pub returns-clause-exact : goal.returns-clause-exact
-returns-clause-exact g c = λ honest framed known.
+returns-clause-exact g c = λ honest framed known read.
     let f = (g.S.Source.means c.args.src.now).octets in
     let F = c.args.frame.now in
-    let first = (rw c.in-Some.is at c.in_ok-first.ensures.exact) honest framed in
+    let first = (rw c.in-Some.is at c.in_ok-first.ensures.exact) honest framed read in
     let second = (rw (c.in-Some-2.is, c.in_ok-first.ensures.reads) at c.in_ok-second.ensures.exact) honest framed in
     let after = (rw (c.in_ok-second.ensures.reads, c.in_ok-first.ensures.reads) at c.in_ok-comes_after.ensures.value) honest known.1 in
     let runs = (rw (c.in_ok-second.ensures.reads, c.in_ok-first.ensures.reads) at c.in_ok-comes_after.ensures.runs) honest known.1 in
     let less = after.0 c.if-not-branch.false in
-    let asc : Ascends f F c.args.a c.args.b = (
+    let asc : Ascends f F c.args.last.now.object c.args.m = (
       (c.in-Some.first, first),
       (c.in-Some-2.second, second),
-      ap₂ compare_units (text_units-head f F c.args.a c.in-Some.first first) (text_units-head f F c.args.b c.in-Some-2.second second) ∙ less,
+      ap₂ compare_units (text_units-head f F c.args.last.now.object c.in-Some.first first) (text_units-head f F c.args.m c.in-Some-2.second second) ∙ less,
     ) in
-    (c.insert.ensures f F (known.0, runs) asc, λ _. asc)
+    (c.insert.ensures f F (known.0, runs) asc, (second, asc))

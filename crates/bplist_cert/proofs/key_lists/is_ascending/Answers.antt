@@ -1,4 +1,4 @@
-use Rattle.std.proofs.Common.{◌≡◌, ◌∙◌, subst, arith}
+use Rattle.std.proofs.Common.{◌≡◌, ◌<◌, ◌∙◌, sym, subst, arith}
 use Rattle.std.proofs.lemmas.Bool.{false≢true}
 use Rattle.bplist_cert.proofs.KeyPairs.{AscendTo, ascend_more, shapes_all, in_order_all}
 use Rattle.bplist_cert.proofs.key_lists.is_ascending.Goals as goal
@@ -6,10 +6,10 @@ use Rattle.bplist_cert.proofs.key_lists.is_ascending.Goals as goal
 pub returns-in_default-clause-exact : goal.returns-in_default-clause-exact
 returns-in_default-clause-exact g c = λ honest framed pairs. (c.loop-position.invariant.pairs honest framed pairs, λ never. absurd (false≢true never))
 
-pub returns-then-not-branch-clause-exact : goal.returns-then-not-branch-clause-exact
-returns-then-not-branch-clause-exact g c = λ honest framed pairs.
+pub returns-in_default-2-clause-exact : goal.returns-in_default-2-clause-exact
+returns-in_default-2-clause-exact g c = λ honest framed pairs.
     let v = c.loop-position.invariant in
-    let here = (rw (c.in_ok-m.ensures.reads, v.same) at c.in_ok-follows.ensures.exact) honest framed (v.pairs honest framed pairs) in
+    let here = (rw (c.in_ok-m.ensures.reads, v.same) at c.in_ok-key.ensures.exact) honest framed (v.pairs honest framed pairs) (v.read honest framed pairs) in
     (here.0, λ never. absurd (false≢true never))
 
 pub loop-position-preserved : goal.loop-position-preserved
@@ -18,15 +18,18 @@ loop-position-preserved g c =
     let F = c.args.frame.now in
     let v = c.loop-position.invariant in
     let inside = rw c.in-Some.is at c.in_ok-m.ensures.inside in
+    let key = rw c.in-Some-2.is at c.in_ok-key.ensures.key in
+    let is = rw (c.in-Some.is, v.same) at c.in_ok-m.ensures.exact in
+    let exact = rw (c.in-Some-2.is, c.in_ok-m.ensures.reads, v.same) at c.in_ok-key.ensures.exact in
     record {
-      same = c.in_ok-follows.ensures.reads ∙ c.in_ok-m.ensures.reads ∙ v.same;
-      inside = inside.1;
-      pairs = λ honest framed pairs. ((rw (c.in_ok-m.ensures.reads, v.same) at c.in_ok-follows.ensures.exact) honest framed (v.pairs honest framed pairs)).0;
+      same = c.in_ok-key.ensures.reads ∙ c.in_ok-m.ensures.reads ∙ v.same;
+      inside = (subst (λ m. m < F.objects) (sym key.0) inside.1, rw (c.in_ok-m.ensures.reads, v.same) at key.1);
+      pairs = λ honest framed pairs. (exact honest framed (v.pairs honest framed pairs) (v.read honest framed pairs)).0;
       ascend = λ honest framed pairs.
-          let here = (rw (c.in_ok-m.ensures.reads, v.same) at c.in_ok-follows.ensures.exact) honest framed (v.pairs honest framed pairs) in
-          let is = (rw (c.in-Some.is, v.same) at c.in_ok-m.ensures.exact) honest framed in
-          ascend_more f F c.args.head.now c.args.list.now c.loop-position.position-index c.loop-position.before c.in-Some.m (v.ascend honest framed pairs) inside.0 is (v.last honest framed) (here.1 c.if-not-branch.false);
-      last = λ honest framed. (c.loop-position.position-index, omega arith, (rw (c.in-Some.is, v.same) at c.in_ok-m.ensures.exact) honest framed);
+          ascend_more f F c.args.head.now c.args.list.now c.loop-position.position-index c.loop-position.before c.in-Some.m (v.ascend honest framed pairs) inside.0 (is honest framed) (v.last honest framed)
+          (exact honest framed (v.pairs honest framed pairs) (v.read honest framed pairs)).1.1;
+      read = λ honest framed pairs. (exact honest framed (v.pairs honest framed pairs) (v.read honest framed pairs)).1.0;
+      last = λ honest framed. (c.loop-position.position-index, omega arith, key.0 ∙ is honest framed);
     }
 
 pub returns-clause-exact : goal.returns-clause-exact
