@@ -1,6 +1,6 @@
 -- The marks, the heights and the stack of the walk that finds the least heights, and what it keeps true of them. Source: profile.
 use Rattle.std.specs.Prelude.{◌≡◌, ◌≢◌, ◌⊎◌, ℕ, suc, ◌+◌, ◌*◌, ◌-◌, ◌^◌, ◌<◌, ◌≤◌, Bool, true, false, not, nat_lt, List, length, slice_index_or, slice_index, count_by, sum_by, Contains}
-use Rattle.bplist_lint.specs.Graph.{Reaches, Ends, Least, greatest}
+use Rattle.bplist_lint.specs.Graph.{Graph, IsWhole, Ends, Least, greatest}
 use Rattle.bplist_lint.specs.Reaching.{IsMarked, HasMarks}
 use Rattle.bplist_lint.specs.declared.heights.Visit.{Visit}
 
@@ -74,9 +74,18 @@ pub record IsSettled (refs : ℕ → List ℕ) (seen : List Bool) (heights : Lis
   pub circular : slice_index heights n ≡ 0 → Ends refs n → ⊥
 
 -- what the marks, the heights and the stack say of the references
-pub record Walking (refs : ℕ → List ℕ) (top : ℕ) (seen : List Bool) (heights : List ℕ) (stack : List Visit) : Type 0 where
-  pub reached : (n : ℕ) → IsMarked seen n → Reaches refs top n
+pub record Walking (refs : ℕ → List ℕ) (marks seen : List Bool) (heights : List ℕ) (stack : List Visit) : Type 0 where
+  pub marked : (n : ℕ) → IsMarked seen n → IsMarked marks n
   pub linked : (k : ℕ) → suc k < length stack → Contains (refs (visit_at stack k).object) (visit_at stack (suc k)).object
   pub visits : EachVisit (λ _ v. IsRead refs seen v) stack
   pub measured : (n : ℕ) → 0 < slice_index heights n → Least refs n (slice_index heights n)
   pub settled : (n : ℕ) → IsMarked seen n → IsOnStack stack n ⊎ IsSettled refs seen heights n
+
+-- each marked object has all references that it announces, and these are marked
+abbrev pub AreClosed : Graph → List Bool → Type 0
+AreClosed graph marks = (n : ℕ) → IsMarked marks n → IsWhole graph n × HasMarks marks (graph.refs n)
+
+-- the least heights of the objects that are marked and founded, 0 of the others
+pub record AreLeastOf (refs : ℕ → List ℕ) (marks : List Bool) (heights : List ℕ) : Type 0 where
+  pub vouched : (n : ℕ) → 0 < slice_index heights n → IsMarked marks n × Least refs n (slice_index heights n)
+  pub all : (n : ℕ) → IsMarked marks n → Ends refs n → 0 < slice_index heights n
