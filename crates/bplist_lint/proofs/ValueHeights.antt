@@ -55,19 +55,20 @@ module _ (refs : ℕ → List ℕ) (out : ℕ → ℕ) where
   least_some _ _ (above n hs long each) = omega arith
 
   -- where the first ones have no references, and others follow them, the others have the greatest height
-  module _ (top : ℕ) (bare : (n i : ℕ) → Reaches refs top n → i < out n → refs (slice_index (refs n) i) ≡ []) (more : (n : ℕ) → Reaches refs top n → 0 < out n → out n < length (refs n)) where
+  module _ (top : ℕ) (bare : (n i : ℕ) → Reaches refs top n → i < out n → (refs (slice_index (refs n) i) ≡ []) × (out n < length (refs n))) where
     pub least_all : (n h : ℕ) → Reaches refs top n → Least others n h → Least refs n h
     least_all _ _ r (above n hs long each) =
         let k = out n in
         let rest = length-drop k (refs n) in
         let ones : List ℕ = replicate k 1 in
         let many : length ones ≡ k = length-replicate k 1 in
+        let more : 0 < k → k < length (refs n) = λ some. (bare n 0 r some).1 in
         let high : 0 < k → 0 < greatest hs = λ some.
-        let l : 0 < length (others n) = omega (arith, rest, more n r some) in
+        let l : 0 < length (others n) = omega (arith, rest, more some) in
         omega (arith, least_some _ _ (each 0 l), greatest_first hs) in
         let all_each : (i : ℕ) → i < length (refs n) → Least refs (slice_index (refs n) i) (slice_index (ones ++ hs) i) = λ i l. elim (cases_lt i k) [
           | inl first ↦
-              let none = ap length (bare n i r first) in
+              let none = ap length (bare n i r first).0 in
               rw (get_or_append_left ones hs 0 i (omega (arith, many, first)), get_or-replicate {A = ℕ} k i 1 0 first) (above _ [] (sym none) (λ j low. absurd (omega (arith, low, none))))
           | inr later ↦
               let j = i - k in
@@ -77,7 +78,7 @@ module _ (refs : ℕ → List ℕ) (out : ℕ → ℕ) where
               let among = other_among n _ (Contains-get_or (others n) j 0 l1) in
               rw (get_or-append_right ones hs k i 0 many later, same) (least_all _ _ (onward n _ r among) (each j l1))
         ] in
-        rw (← greatest-ones k hs high) (above n (ones ++ hs) (length-append ones hs ∙ grind (arith, rest, many, long, more n r)) all_each)
+        rw (← greatest-ones k hs high) (above n (ones ++ hs) (length-append ones hs ∙ grind (arith, rest, many, long, more)) all_each)
 
 -- ---- in a file whose reached objects keep their rules
 of_key : (kind : Kind) (count i : ℕ) → i < key_count kind count → (kind ≡ kinds.Dict) × (i < count) × (key_count kind count < ref_count kind count)
@@ -104,30 +105,26 @@ module _ (f : List ℕ) (F : Frame) (frame : IsFrame f F) (kept : KeepReachBelow
       abbrev out : ℕ → ℕ
       out n = hidden views.Values (head_found f F n)
 
-      key_bare : (n i : ℕ) → Reaches (refs_at f F) F.top.0 n → i < out n → refs_at f F (slice_index (refs_at f F n) i) ≡ []
-      key_bare n i r low =
+      bare_keys : (n i : ℕ) → Reaches (refs_at f F) F.top.0 n → i < out n → (refs_at f F (slice_index (refs_at f F n) i) ≡ []) × (out n < length (refs_at f F n))
+      bare_keys n i r low =
           let reach = (reach_iff f F n).0 r in
           let within = reach_within f F frame.top n reach in
           let s = kept_spells f F frame kept n reach in
           let head = s.1.shape in
-          let low1 = rw (found_as f F n head s.1.has) at low in
-          let k = of_key head.kind head.count i low1 in
-          let key = (keys n within reach).0 head (shape_announced f F n head s.1.has) k.0 i k.1 in
-          ap (refs_at f F) ((as_spelled f F n head s.1.has s.0 s.1).each i (omega (arith, low1, k.2))) ∙ no_refs_leaf f F _ key.0 key.1.is.0 (of_text key.0.kind key.0.count key.1.kind)
-
-      value_more : (n : ℕ) → Reaches (refs_at f F) F.top.0 n → 0 < out n → out n < length (refs_at f F n)
-      value_more n r some =
-          let s = kept_spells f F frame kept n ((reach_iff f F n).0 r) in
-          let head = s.1.shape in
           let found = found_as f F n head s.1.has in
-          let k = of_key head.kind head.count 0 (rw found at some) in
-          rw found (omega (arith, k.2, (as_spelled f F n head s.1.has s.0 s.1).count))
+          let low1 = rw found at low in
+          let all = as_spelled f F n head s.1.has s.0 s.1 in
+          let k = of_key head.kind head.count i low1 in
+          let key = (keys n within reach).0 head (shape_announced f F n head s.1.has) k.0 i k.1 in (
+            ap (refs_at f F) (all.each i (omega (arith, low1, k.2))) ∙ no_refs_leaf f F _ key.0 key.1.is.0 (of_text key.0.kind key.0.count key.1.kind),
+            rw found (omega (arith, k.2, all.count)),
+          )
 
       pub are_least_all : (heights : List ℕ) → AreLeastOf (refs_in views.Values f F) marks heights → AreLeast (refs_at f F) F.top.0 heights
       are_least_all heights a = record {
         vouched = λ n h.
             let v = a.vouched n h in
             let r = (reach_iff f F n).1 ((marked n).0 v.0) in
-            (r, least_all (refs_at f F) out F.top.0 key_bare value_more n _ r v.1);
+            (r, least_all (refs_at f F) out F.top.0 bare_keys n _ r v.1);
         all = λ n r is. a.all n ((marked n).1 ((reach_iff f F n).0 r)) (ends_others (refs_at f F) out n is);
       }
