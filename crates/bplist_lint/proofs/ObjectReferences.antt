@@ -78,11 +78,11 @@ module _ (f : List ℕ) (F : Frame) (n : ℕ) where
 
   -- ---- the references in a view
   module _ (view : View) where
-    -- there are the more references the fewer are left out
+    -- what a view shows stands behind what it leaves out
     in_view : (i : ℕ) → i < length (refs_in view f F n) → hidden view (head_found f F n) + i < length (refs_at f F n)
     in_view i within = let long = length-drop (hidden view (head_found f F n)) (refs_at f F n) in omega (arith, long, within)
 
-    -- of none there are none
+    -- where there are none it shows none
     pub none_in_view : refs_at f F n ≡ [] → refs_in view f F n ≡ []
     none_in_view e = ap (drop (hidden view (head_found f F n))) e ∙ drop_all (hidden view (head_found f F n)) [] (omega arith)
 
@@ -111,7 +111,7 @@ module _ (f : List ℕ) (F : Frame) (n : ℕ) where
     block_is h has first count block same k low within =
         let a = as_shape h has _ (in_view (first + k) within) in
         let i : ℕ = hidden view (Some h) + first + k in
-        let l : i < ref_count h.kind h.count = let l = some_left h has (first + k) within in omega (arith, l) in
+        let l : i < ref_count h.kind h.count = omega (arith, some_left h has (first + k) within) in
         let at : hidden view (head_found f F n) + (first + k) ≡ i = omega (arith, ap (hidden view) (found_as h has)) in
         same k low (a.low i l) ∙ sym (get_or-drop (hidden view (head_found f F n)) (refs_at f F n) (first + k) 0 ∙ ap (slice_index (refs_at f F n)) at ∙ a.each i l)
 

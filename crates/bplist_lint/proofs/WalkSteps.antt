@@ -109,50 +109,41 @@ walking_open refs marks seen heights stack m count w marked within among counted
       ];
     }
 
--- the visit on top is done, and its object is not founded
-pub walking_leave : (refs : ℕ → List ℕ) (marks seen : List Bool) (heights : List ℕ) (rest : List Visit) (v : Visit) → Walking refs marks seen heights (rest ++ v ∷ []) → v.sound ≡ false → Walking refs marks seen heights rest
-walking_leave refs marks seen heights rest v w unsound =
-    let here = each_last (λ _ g. IsRead refs g) rest v w.visits in
+-- the visit on top is done, and no height is lost
+walking_done : (refs : ℕ → List ℕ) (marks seen : List Bool) (heights heights' : List ℕ) (rest : List Visit) (v : Visit) → Walking refs marks seen heights (rest ++ v ∷ []) → ((n : ℕ) → 0 < get_or heights' n 0 → Least refs n (get_or heights' n 0))
+    → ((n : ℕ) → get_or heights' n 0 ≡ 0 → get_or heights n 0 ≡ 0) → (get_or heights' v.object 0 ≡ 0 → Ends refs v.object → ⊥) → Walking refs marks seen heights' rest
+walking_done refs marks seen heights heights' rest v w measured kept circular =
     let long = length_push rest v in
     record {
       marked = w.marked;
       linked = λ k h. let low : k < length rest = omega arith in
           rw (get_or_append_left rest (v ∷ []) no_visit k low, get_or_append_left rest (v ∷ []) no_visit (suc k) h) at (w.linked k (omega arith));
       visits = each_front (λ _ g. IsRead refs g) rest v w.visits;
-      measured = w.measured;
+      measured = measured;
       settled = λ n h. elim (w.settled n h) [
-        | inl on ↦ elim (on_cases rest v n on) [
-          | inl p ↦ inl p
-          | inr e ↦ inr (rw e (λ _. here.circular unsound))
-        ]
-        | inr is ↦ inr is
+        | inl on ↦ elim (on_cases rest v n on) [ inl p ↦ inl p | inr e ↦ inr (rw e circular) ]
+        | inr is ↦ inr (λ z. is (kept n z))
       ];
     }
 
--- the visit on top is done, and its object gets its height
+-- its object is not founded
+pub walking_leave : (refs : ℕ → List ℕ) (marks seen : List Bool) (heights : List ℕ) (rest : List Visit) (v : Visit) → Walking refs marks seen heights (rest ++ v ∷ []) → v.sound ≡ false → Walking refs marks seen heights rest
+walking_leave refs marks seen heights rest v w unsound =
+    walking_done refs marks seen heights heights rest v w w.measured (λ n z. z) (λ z. (each_last (λ _ g. IsRead refs g) rest v w.visits).circular unsound)
+
+-- its object gets its height
 pub walking_finish : (refs : ℕ → List ℕ) (marks seen : List Bool) (heights : List ℕ) (rest : List Visit) (v : Visit) (h : ℕ) → Walking refs marks seen heights (rest ++ v ∷ []) → v.object < length heights → 0 < h → Least refs v.object h → Walking refs marks seen (set heights v.object h) rest
 walking_finish refs marks seen heights rest v h w within high least =
-    let long = length_push rest v in
-    record {
-      marked = w.marked;
-      linked = λ k h. let low : k < length rest = omega arith in
-          rw (get_or_append_left rest (v ∷ []) no_visit k low, get_or_append_left rest (v ∷ []) no_visit (suc k) h) at (w.linked k (omega arith));
-      visits = each_front (λ _ g. IsRead refs g) rest v w.visits;
-      measured = λ n l. elim (at_set heights v.object h 0 n within) [
-        | inl c ↦ rw (c.1, c.0) least
-        | inr c ↦ rw c.1 (w.measured n (rw c.1 at l))
-      ];
-      settled = λ n l. elim (w.settled n l) [
-        | inl on ↦ elim (on_cases rest v n on) [
-          | inl p ↦ inl p
-          | inr e ↦ inr (rw e (λ z. absurd (let a = get_or-set_same heights v.object h 0 within in omega arith)))
-        ]
-        | inr is ↦ elim (at_set heights v.object h 0 n within) [
-          | inl c ↦ inr (λ z. absurd (let a = c.1 in omega arith))
-          | inr c ↦ inr (λ z. is (sym c.1 ∙ z))
-        ]
-      ];
-    }
+    walking_done refs marks seen heights (set heights v.object h) rest v w
+    (λ n l. elim (at_set heights v.object h 0 n within) [
+      | inl c ↦ rw (c.1, c.0) least
+      | inr c ↦ rw c.1 (w.measured n (rw c.1 at l))
+    ])
+    (λ n z. elim (at_set heights v.object h 0 n within) [
+      | inl c ↦ absurd (let a = c.1 in omega arith)
+      | inr c ↦ sym c.1 ∙ z
+    ])
+    (λ z. absurd (let a = get_or-set_same heights v.object h 0 within in omega arith))
 
 -- what is known to have no references is seen
 pub walking_first : (refs : ℕ → List ℕ) (marks bare : List Bool) → ((n : ℕ) → IsMarked bare n → IsMarked marks n × (refs n ≡ [])) → Walking refs marks bare (map first_height bare) []

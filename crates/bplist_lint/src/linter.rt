@@ -43,8 +43,8 @@ use bplist_octets::Source;
 use std::alloc::Global;
 
 /// The least height of each object that is reached and founded, and 0 for each other, where the reached objects keep rules
-/// 14 to 22, `marks` marks exactly them, and `bare` only objects that have no references. Keys, which are texts then, have
-/// height 1 and nothing is above that by a key alone: the walk looks at the values.
+/// 14 to 22, `marks` marks exactly them, and `bare` only objects that have no references. Keys are texts then, so the walk
+/// looks at the values alone.
 fn find_heights<S: Source>(
     alloc: Global,
     src: &mut S,
