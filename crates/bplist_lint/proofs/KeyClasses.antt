@@ -1,5 +1,5 @@
 -- What the classes of the keys of a dictionary say of them.
-use Rattle.std.proofs.Common.{◌≡◌, ℕ, ◌<◌, ◌↔◌, Bool, List, length, slice_index, sym, ◌∙◌, subst, arith, Contains}
+use Rattle.std.proofs.Common.{◌≡◌, ℕ, ◌<◌, ◌↔◌, Bool, List, length, slice_index, subst, arith, Contains}
 use Rattle.bplist_objects.specs.declared.fault.Fault.{Fault}
 use Rattle.bplist_objects.specs.declared.frame.Frame.{Frame}
 use Rattle.bplist_objects.specs.declared.frame.ObjectNo.{ObjectNo}
@@ -15,7 +15,7 @@ use Rattle.bplist_objects.proofs.HeadTies.{head_tie}
 use Rattle.bplist_keys.specs.Texts.{AreOffsets}
 use Rattle.bplist_keys.specs.Ranks.{AreClasses}
 use Rattle.bplist_cert.specs.Heights.{ref}
-use Rattle.bplist_cert.specs.Keys.{IsKey, IsFirstKeyless, IsFirstTwice}
+use Rattle.bplist_cert.specs.Keys.{IsFirstKeyless, IsFirstTwice}
 use Rattle.bplist_cert.specs.KeyClasses.{KeysAreSound}
 use Rattle.bplist_cert.proofs.KeyClasses as keys
 use Rattle.bplist_lint.specs.Reaching.{IsMarked}

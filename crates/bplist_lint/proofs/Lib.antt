@@ -16,6 +16,7 @@ pub mod HeldValues
 pub mod MergedTables
 pub mod ReferenceGraph
 pub mod KeptRules
+pub mod ValueHeights
 pub mod OneCircle
 pub mod FirstFaults
 pub mod LintAnswers

@@ -1,8 +1,8 @@
 -- What an object's references are, by what was read of it.
-use Rattle.std.proofs.Common.{◌≡◌, ℕ, ◌<◌, ◌+◌, List, [], length, slice_index, Option, Some, None, inl, inr, refl, sym, ap, ◌∙◌, subst, arith}
+use Rattle.std.proofs.Common.{◌≡◌, ℕ, ◌<◌, ◌+◌, ◌-◌, List, [], drop, length, slice_index, Option, Some, None, inl, inr, refl, sym, ap, ◌∙◌, subst, arith}
 use Rattle.std.specs.List.{AllByRecursion}
 use Rattle.std.proofs.lemmas.Bool.{cases_lt}
-use Rattle.std.proofs.lemmas.List.{nil_from_length}
+use Rattle.std.proofs.lemmas.List.{nil_from_length, length-drop, get_or-drop, drop_all}
 use Rattle.bplist_objects.specs.declared.frame.Frame.{Frame}
 use Rattle.bplist_objects.specs.declared.head.Head.{Head}
 use Rattle.bplist_objects.specs.declared.kind.Kind.{Kind}
@@ -18,7 +18,8 @@ use Rattle.bplist_objects.specs.Scan.{AreBelow, nth_number}
 use Rattle.bplist_objects.proofs.References.{nth-refs, each_ref, all_refs}
 use Rattle.bplist_objects.proofs.ReachedObjects.{refs_spelled}
 use Rattle.bplist_objects.proofs.HeadTies.{shape_announced, spells_body}
-use Rattle.bplist_lint.specs.Referring.{IsBlock, refs_announced}
+use Rattle.bplist_lint.specs.declared.object_graph.View.{View}
+use Rattle.bplist_lint.specs.Referring.{IsBlock, refs_announced, hidden, refs_in}
 
 module _ (f : List ℕ) (F : Frame) (n : ℕ) where
   -- an object that spells nothing refers to nothing
@@ -48,53 +49,75 @@ module _ (f : List ℕ) (F : Frame) (n : ℕ) where
       go None e = no_refs (λ c s. let k : None ≡ Some c = sym e ∙ (spells_iff f F n c).0 s in cc k)
       go (Some c) e = of_content c ((spells_iff f F n c).1 e)
 
+  -- its head is found
+  pub found_as : (h : Head) → HasShape f F n h → head_found f F n ≡ Some h
+  found_as h has = head_is_found f F n h (shape_announced f F n h has)
+
   -- the references of an object with a shape: there are as many as the shape says, and they are the numbers that stand there
   pub record IsAs (h : Head) : Type 0 where
     pub count : length (refs_at f F n) ≡ ref_count h.kind h.count
     pub each : (i : ℕ) → i < ref_count h.kind h.count → slice_index (refs_at f F n) i ≡ nth_number f h.body F.ref_size i
     pub low : (i : ℕ) → i < ref_count h.kind h.count → nth_number f h.body F.ref_size i < F.objects
 
+  pub as_spelled : (h : Head) → HasShape f F n h → (c : Content) → Spells f F n c → IsAs h
+  as_spelled h has c s =
+      let body : c ≡ content_at f F h = spells_body f F n h c has s in
+      let is : refs_at f F n ≡ refs (content_at f F h) = refs_spelled f F n c s ∙ ap refs body in
+      record {
+        count = ap length is ∙ length-refs f F h.kind h.count h.body;
+        each = λ k l. ap (λ xs. slice_index xs k) is ∙ nth-refs f F h.kind h.count h.body k l;
+        low = each_ref f F (λ m. m < F.objects) h.kind h.count h.body (subst (λ x. AllByRecursion (λ m. m < F.objects) (refs x)) body s.refs);
+      }
+
   pub as_shape : (h : Head) → HasShape f F n h → (i : ℕ) → i < length (refs_at f F n) → IsAs h
   as_shape h has i within = go (spelled_at f F n) refl
     where
-      of_content : (c : Content) → Spells f F n c → IsAs h
-      of_content c s =
-          let is : refs_at f F n ≡ refs (content_at f F h) = refs_spelled f F n c s ∙ ap refs (spells_body f F n h c has s) in
-          let body : c ≡ content_at f F h = spells_body f F n h c has s in
-          record {
-            count = ap length is ∙ length-refs f F h.kind h.count h.body;
-            each = λ k l. ap (λ xs. slice_index xs k) is ∙ nth-refs f F h.kind h.count h.body k l;
-            low = each_ref f F (λ m. m < F.objects) h.kind h.count h.body (subst (λ x. AllByRecursion (λ m. m < F.objects) (refs x)) body s.refs);
-          }
-
       go : (found : Option Content) → spelled_at f F n ≡ found → IsAs h
       go None e = absurd (let z = ap length (no_refs (λ c s. let k : None ≡ Some c = sym e ∙ (spells_iff f F n c).0 s in cc k)) in omega arith)
-      go (Some c) e = of_content c ((spells_iff f F n c).1 e)
+      go (Some c) e = as_spelled h has c ((spells_iff f F n c).1 e)
 
-  -- there is a reference number i only where the shape says so
-  pub some_left : (h : Head) → HasShape f F n h → (i : ℕ) → i < length (refs_at f F n) → i < ref_count h.kind h.count
-  some_left h has i within = let a = as_shape h has i within in omega (arith, a.count)
+  -- ---- the references in a view
+  module _ (view : View) where
+    -- what a view shows stands behind what it leaves out
+    in_view : (i : ℕ) → i < length (refs_in view f F n) → hidden view (head_found f F n) + i < length (refs_at f F n)
+    in_view i within = let long = length-drop (hidden view (head_found f F n)) (refs_at f F n) in omega (arith, long, within)
 
-  -- a block of them
-  pub block_is : (h : Head) → HasShape f F n h → (first count : ℕ) (block : List ℕ)
-      → ((k : ℕ) → k < count → nth_number f h.body F.ref_size (first + k) < F.objects → slice_index block k ≡ nth_number f h.body F.ref_size (first + k))
-      → IsBlock (refs_at f F n) first count block
-  block_is h has first count block same k low within =
-      let a = as_shape h has (first + k) within in
-      let l : first + k < ref_count h.kind h.count = omega (arith, a.count) in
-      same k low (a.low (first + k) l) ∙ sym (a.each (first + k) l)
+    -- where there are none it shows none
+    pub none_in_view : refs_at f F n ≡ [] → refs_in view f F n ≡ []
+    none_in_view e = ap (drop (hidden view (head_found f F n))) e ∙ drop_all (hidden view (head_found f F n)) [] (omega arith)
 
-  -- as many as a head says
-  pub counted : (h : Head) → refs_at f F n ≡ refs (content_at f F h) → length (refs_at f F n) ≡ ref_count h.kind h.count
-  counted h is = ap length is ∙ length-refs f F h.kind h.count h.body
+    -- how many a head announces, by its shape
+    pub announced_as : (h : Head) → HasShape f F n h → refs_announced (head_found f F n) - hidden view (head_found f F n) ≡ ref_count h.kind h.count - hidden view (Some h)
+    announced_as h has = ap (λ head. refs_announced head - hidden view head) (found_as h has)
 
-  -- how many it announces, by its head
-  pub announced_as : (h : Head) → HasShape f F n h → refs_announced (head_found f F n) ≡ ref_count h.kind h.count
-  announced_as h has = ap refs_announced (head_is_found f F n h (shape_announced f F n h has))
+    -- an object that spells a content has all references that it announces
+    pub all_announced : (c : Content) → Spells f F n c → refs_announced (head_found f F n) - hidden view (head_found f F n) ≡ length (refs_in view f F n)
+    all_announced c s =
+        let count = (as_spelled s.shape s.has c s).count in
+        let all : refs_announced (head_found f F n) ≡ length (refs_at f F n) = ap refs_announced (found_as s.shape s.has) ∙ sym count in
+        omega (arith, all, length-drop (hidden view (head_found f F n)) (refs_at f F n))
 
-  -- an object that spells a content has all references that it announces
-  pub all_announced : (c : Content) → Spells f F n c → refs_announced (head_found f F n) ≡ length (refs_at f F n)
-  all_announced c s = announced_as s.shape s.has ∙ sym (counted s.shape (refs_spelled f F n c s ∙ ap refs s.means))
+    -- there is a reference number i only where the shape says so
+    pub some_left : (h : Head) → HasShape f F n h → (i : ℕ) → i < length (refs_in view f F n) → hidden view (Some h) + i < ref_count h.kind h.count
+    some_left h has i within =
+        let l = in_view i within in
+        let a = as_shape h has _ l in
+        omega (arith, a.count, l, ap (hidden view) (found_as h has))
+
+    -- a block of them
+    pub block_is : (h : Head) → HasShape f F n h → (first count : ℕ) (block : List ℕ)
+        → ((k : ℕ) → k < count → nth_number f h.body F.ref_size (hidden view (Some h) + first + k) < F.objects → slice_index block k ≡ nth_number f h.body F.ref_size (hidden view (Some h) + first + k))
+        → IsBlock (refs_in view f F n) first count block
+    block_is h has first count block same k low within =
+        let a = as_shape h has _ (in_view (first + k) within) in
+        let i : ℕ = hidden view (Some h) + first + k in
+        let l : i < ref_count h.kind h.count = omega (arith, some_left h has (first + k) within) in
+        let at : hidden view (head_found f F n) + (first + k) ≡ i = omega (arith, ap (hidden view) (found_as h has)) in
+        same k low (a.low i l) ∙ sym (get_or-drop (hidden view (head_found f F n)) (refs_at f F n) (first + k) 0 ∙ ap (slice_index (refs_at f F n)) at ∙ a.each i l)
+
+    -- no reference where there is no shape
+    pub none_left : ((h : Head) → HasShape f F n h → ⊥) → (i : ℕ) → i < length (refs_in view f F n) → ⊥
+    none_left never i within = let z = ap length (none_in_view (no_refs_shape never)) in omega arith
 
   -- what has references is no text and no UID
   proper_container : (kind : Kind) (count body : ℕ) → 0 < ref_count kind count → IsProperLeaf f F kind count body
@@ -125,7 +148,3 @@ module _ (f : List ℕ) (F : Frame) (n : ℕ) where
     | inl some ↦ absurd (never (as_shape h has 0 some).low)
     | inr none ↦ omega (arith, none)
   ]
-
-  -- no reference where there is no shape
-  pub none_left : ((h : Head) → HasShape f F n h → ⊥) → (i : ℕ) → i < length (refs_at f F n) → ⊥
-  none_left never i within = let z = ap length (no_refs_shape never) in omega arith

@@ -1,5 +1,5 @@
 -- What the linter's passes come to, one behind the other.
-use Rattle.std.proofs.Common.{◌≡◌, ◌↔◌, ℕ, ◌+◌, ◌<◌, ◌≤◌, inl, inr, Bool, cond, Result, Ok, Err, List, length, slice_index, None, ap, ◌∙◌, arith, lt-ltb}
+use Rattle.std.proofs.Common.{◌≡◌, ℕ, ◌+◌, ◌<◌, ◌≤◌, inl, inr, cond, List, length, slice_index, None, ap, ◌∙◌, arith, lt-ltb}
 use Rattle.std.proofs.lemmas.Bool.{ltb-true}
 use Rattle.bplist_objects.specs.declared.fault.Fault.{Fault}
 use Rattle.bplist_objects.specs.declared.fault.ObjectFault.{ObjectFault}
@@ -22,22 +22,19 @@ use Rattle.bplist_lint.specs.declared.refusal.LintRefusal.{LintRefusal}
 use Rattle.bplist_lint.specs.declared.refusal.LintRefusal.TheVariants as refusals
 use Rattle.bplist_lint.specs.declared.answer.Lint.{Lint}
 use Rattle.bplist_lint.specs.declared.walk.Reached.{Reached}
-use Rattle.bplist_lint.specs.Graph.{Reaches, AreWhole, AreLeast, IsCircleOf}
-use Rattle.bplist_lint.specs.Reaching.{IsMarked}
-use Rattle.bplist_lint.specs.ReachRules.{KeepReachBelow, number_below, references_below, is_marked}
-use Rattle.bplist_lint.specs.Referring.{graph_of}
+use Rattle.bplist_lint.specs.Graph.{AreLeast, IsCircleOf}
+use Rattle.bplist_lint.specs.ReachRules.{number_below, references_below, is_marked}
 use Rattle.bplist_lint.specs.FileFault.{IsFileFault, IsFileCircle, IsObjectsFault, IsFramedCircle}
-use Rattle.bplist_lint.specs.Refusals.{of_object, of_check, Refuses, Lints, no_circle}
+use Rattle.bplist_lint.specs.Refusals.{of_object, of_check, Refuses, no_circle}
 use Rattle.bplist_keys.specs.Places.{AreKept}
 use Rattle.bplist_lint.specs.Places.{AreBelowTable, IsPlaceFault}
 use Rattle.bplist_lint.specs.Least.{AreLeastHeights}
-use Rattle.bplist_lint.specs.Linted.{is_vouched, IsSifted, IsLintedBy, IsLinted, HasNoHeights}
+use Rattle.bplist_lint.specs.Linted.{is_vouched, IsSifted, IsLintedBy, HasNoHeights}
 use Rattle.bplist_lint.proofs.HeldValues.{formed_holds, holds_formed}
 use Rattle.bplist_lint.proofs.KeptRules.{kept_spells}
-use Rattle.bplist_lint.proofs.ObjectReferences.{all_announced}
 use Rattle.bplist_lint.proofs.PlaceSteps.{kept_low, kept_high}
 use Rattle.bplist_lint.proofs.Walks.{sum_alike, same_mark}
-use Rattle.bplist_lint.proofs.ReferenceGraph.{reach_iff, circle_iff}
+use Rattle.bplist_lint.proofs.ReferenceGraph.{circle_iff}
 use Rattle.bplist_lint.proofs.LintAnswers.{formed_by_valid, least_lowest, lint_yes}
 use Rattle.bplist_lint.proofs.FirstFaults.{fault_not_formed, circle_not_formed}
 
@@ -56,18 +53,6 @@ refusal_means P Q R T (refusals.Fault fault) faults circles h = faults fault h
 refusal_means P Q R T (refusals.Circle circle) faults circles h = circles _ h
 refusal_means P Q R T (refusals.Read _) faults circles h = tt
 refusal_means P Q R T refusals.Memory faults circles h = tt
-
-pub lints_mean : {X : Type 0} → (P O : X → Type 0) (Q S : Fault → Type 0) (R T : List ℕ → Type 0) (r : Result X LintRefusal) → ((x : X) → P x → O x) → ((x : Fault) → Q x → S x) → ((x : List ℕ) → R x → T x) → Lints P Q R r → Lints O S T r
-lints_mean P O Q S R T (Ok x) oks faults circles h = oks x h
-lints_mean P O Q S R T (Err e) oks faults circles h = refusal_means Q S R T e faults circles h
-
--- what is reached in the file is marked in the graph
-pub reached_in_graph : (f : List ℕ) (F : Frame) (marks : List Bool) → ((n : ℕ) → IsMarked marks n ↔ Reach f F n) → (n : ℕ) → IsMarked marks n ↔ Reaches (refs_at f F) F.top.0 n
-reached_in_graph f F marks h n = ((λ m. (reach_iff f F n).1 ((h n).0 m)), λ r. (h n).1 ((reach_iff f F n).0 r))
-
--- where the reached objects keep their rules, each has all references that it announces
-pub are_whole : (f : List ℕ) (F : Frame) → IsFrame f F → KeepReachBelow f F F.objects → (through : ℕ) → AreWhole (graph_of through f F) F.top.0
-are_whole f F frame kept through n r = let s = kept_spells f F frame kept n ((reach_iff f F n).0 r) in all_announced f F n s.0 s.1
 
 -- ---- sums over the same objects
 module _ (f : List ℕ) (F : Frame) where
@@ -136,9 +121,6 @@ module _ (f : List ℕ) (F : Frame) (trailed : IsTrailer f F) (places : List ℕ
 
 -- ---- what holds under the frame holds of the file
 module _ (f : List ℕ) (F : Frame) (frame : IsFrame f F) where
-  pub file_yes : (lint : Lint) → IsLintedBy f F lint → IsLinted f lint
-  file_yes lint h = (F, frame, h)
-
   pub file_fault : (fault : Fault) → IsObjectsFault f F fault → IsFileFault f fault
   file_fault fault h = inr (F, frame, h)
 

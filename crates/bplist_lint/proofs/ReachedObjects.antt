@@ -52,10 +52,6 @@ module _ (f : List ℕ) (F : Frame) (n : ℕ) (head : Head) (has : HasHead f F n
     ),
   )
 
-  -- no text of one byte a unit, no UID and no container
-  pub leaf_kept : (head.kind ≡ kinds.Ascii → ⊥) → (head.kind ≡ kinds.Uid → ⊥) → ref_count head.kind head.count ≡ 0 → KeepsAll (KeepsByObject f F n) object_rules
-  leaf_kept ascii uid none = body_kept (λ e. absurd (ascii e)) (λ e. absurd (uid e)) (λ k low. absurd (omega (arith, low, none)))
-
   none_of : (kind : Kind) (count : ℕ) → 0 < ref_count kind count → ((kind ≡ kinds.Ascii → ⊥) × (kind ≡ kinds.Uid → ⊥))
   none_of kinds.Ascii count some = absurd (omega (arith, some))
   none_of kinds.Uid count some = absurd (omega (arith, some))

@@ -15,13 +15,9 @@ use Rattle.bplist_lint.proofs.ListSteps.{upgraded}
 use Rattle.bplist_cert.specs.declared.refusal.Refusal.{Refusal}
 use Rattle.bplist_cert.specs.declared.refusal.Refusal.TheVariants as cert_refusals
 use Rattle.bplist_cert.specs.Refusals.{GivesRefusal}
-use Rattle.bplist_keys.specs.declared.fault.KeysFault.{KeysFault}
-use Rattle.bplist_keys.specs.declared.fault.KeysFault.TheVariants as keys_faults
-use Rattle.bplist_lint.specs.declared.references.WalkFault.{WalkFault}
-use Rattle.bplist_lint.specs.declared.references.WalkFault.TheVariants as walk_faults
 use Rattle.bplist_lint.specs.declared.upgrade_fault.UpgradeFault.{UpgradeFault}
 use Rattle.bplist_lint.specs.declared.upgrade_fault.UpgradeFault.TheVariants as faults
-use Rattle.bplist_lint.specs.Upgrades.{IsNoChange, of_object, of_check, of_walk, of_keys}
+use Rattle.bplist_lint.specs.Upgrades.{IsNoChange, of_object, of_check}
 
 pub object_no_change : (P : Fault → Type 0) (e : ObjectFault) → ((x : Fault) → P x → ⊥) → GivesFault P e → IsNoChange (of_object e)
 object_no_change P (object_faults.Fault fault) never h = never fault h
@@ -31,14 +27,6 @@ pub check_no_change : (e : Refusal) → GivesRefusal Never e → IsNoChange (of_
 check_no_change (cert_refusals.Fault fault) h = h
 check_no_change (cert_refusals.Read _) h = tt
 check_no_change cert_refusals.Memory h = tt
-
-pub walk_no_change : (e : WalkFault) → IsNoChange (of_walk e)
-walk_no_change (walk_faults.Read _) = tt
-walk_no_change walk_faults.Memory = tt
-
-pub keys_no_change : (e : KeysFault) → IsNoChange (of_keys e)
-keys_no_change (keys_faults.Read _) = tt
-keys_no_change keys_faults.Memory = tt
 
 -- what follows from something that is there for no change
 pub open_no_change : {P : Type 0} → ∥ P ∥₁ → (e : UpgradeFault) → (P → IsNoChange e) → IsNoChange e

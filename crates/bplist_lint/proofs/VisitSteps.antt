@@ -206,20 +206,10 @@ standing_start size bare long = record {
   known = λ n h. (first_seen bare n h).0;
 }
 
--- one more reference was looked at
-pub work_advance : (seen : List Bool) (rest : List Visit) (v v' : Visit) → v.next < v.count → v'.next ≡ v.next + 1 → v'.count ≡ v.count → work seen (rest ++ v' ∷ []) < work seen (rest ++ v ∷ [])
-work_advance seen rest v v' more next same =
-    omega (arith, sum_by-append (λ (w : Visit). (w.count - w.next) + 1) rest (v ∷ []), sum_by-append (λ (w : Visit). (w.count - w.next) + 1) rest (v' ∷ []))
-
 -- more references were looked at, and no fewer objects seen
 pub work_onward : (seen seen' : List Bool) (rest : List Visit) (v v' : Visit) → count_by not seen' ≤ count_by not seen → v.next ≤ v'.next → v'.count ≡ v.count → work seen' (rest ++ v' ∷ []) ≤ work seen (rest ++ v ∷ [])
 work_onward seen seen' rest v v' fewer more same =
     omega (arith, fewer, more, same, sum_by-append (λ (w : Visit). (w.count - w.next) + 1) rest (v ∷ []), sum_by-append (λ (w : Visit). (w.count - w.next) + 1) rest (v' ∷ []))
-
--- the visit on top is done
-pub work_done : (seen seen' : List Bool) (rest : List Visit) (v : Visit) → count_by not seen' ≤ count_by not seen → work seen' rest < work seen (rest ++ v ∷ [])
-work_done seen seen' rest v fewer =
-    omega (arith, fewer, sum_by-append (λ (w : Visit). (w.count - w.next) + 1) rest (v ∷ []))
 
 -- the visit on top looked at one more reference, to an object with this height, or without one where it is 0
 pub standing_after : (size : ℕ) (seen : List Bool) (heights : List ℕ) (rest : List Visit) (v v' : Visit) (m h : ℕ) → Standing size seen heights (rest ++ v ∷ []) → v.next < v.count → h ≡ get_or heights m 0

@@ -1,6 +1,6 @@
 -- The marks, the heights and the stack of the walk that finds the least heights, and what it keeps true of them. Source: profile.
 use Rattle.std.specs.Prelude.{◌≡◌, ◌≢◌, ◌⊎◌, ℕ, suc, ◌+◌, ◌*◌, ◌-◌, ◌^◌, ◌<◌, ◌≤◌, Bool, true, false, not, nat_lt, List, length, slice_index_or, slice_index, count_by, sum_by, Contains}
-use Rattle.bplist_lint.specs.Graph.{Reaches, Ends, Least, greatest}
+use Rattle.bplist_lint.specs.Graph.{Graph, IsWhole, Ends, Least, greatest}
 use Rattle.bplist_lint.specs.Reaching.{IsMarked, HasMarks}
 use Rattle.bplist_lint.specs.declared.heights.Visit.{Visit}
 
@@ -58,9 +58,8 @@ pub record Measured (refs : ℕ → List ℕ) (n i best : ℕ) : Type 0 where
   pub best_is : best ≡ greatest heights
 
 -- what a visit knows of the references that were looked at
-pub record IsRead (refs : ℕ → List ℕ) (marks : List Bool) (v : Visit) : Type 0 where
+pub record IsRead (refs : ℕ → List ℕ) (v : Visit) : Type 0 where
   pub counted : v.count ≡ length (refs v.object)
-  pub seen : (k : ℕ) → k < v.next → IsMarked marks (slice_index (refs v.object) k)
   pub measured : v.sound ≡ true → Measured refs v.object v.next v.best
   pub circular : v.sound ≡ false → Ends refs v.object → ⊥
 
@@ -68,15 +67,19 @@ pub record IsRead (refs : ℕ → List ℕ) (marks : List Bool) (v : Visit) : Ty
 abbrev pub IsOnStack : List Visit → ℕ → Type 0
 IsOnStack stack n = (k : ℕ) × (k < length stack) × ((visit_at stack k).object ≡ n)
 
--- all references of the object are seen, and where it has no height it is not founded
-pub record IsSettled (refs : ℕ → List ℕ) (seen : List Bool) (heights : List ℕ) (n : ℕ) : Type 0 where
-  pub all : HasMarks seen (refs n)
-  pub circular : slice_index heights n ≡ 0 → Ends refs n → ⊥
-
 -- what the marks, the heights and the stack say of the references
-pub record Walking (refs : ℕ → List ℕ) (top : ℕ) (seen : List Bool) (heights : List ℕ) (stack : List Visit) : Type 0 where
-  pub reached : (n : ℕ) → IsMarked seen n → Reaches refs top n
+pub record Walking (refs : ℕ → List ℕ) (marks seen : List Bool) (heights : List ℕ) (stack : List Visit) : Type 0 where
+  pub marked : (n : ℕ) → IsMarked seen n → IsMarked marks n
   pub linked : (k : ℕ) → suc k < length stack → Contains (refs (visit_at stack k).object) (visit_at stack (suc k)).object
-  pub visits : EachVisit (λ _ v. IsRead refs seen v) stack
+  pub visits : EachVisit (λ _ v. IsRead refs v) stack
   pub measured : (n : ℕ) → 0 < slice_index heights n → Least refs n (slice_index heights n)
-  pub settled : (n : ℕ) → IsMarked seen n → IsOnStack stack n ⊎ IsSettled refs seen heights n
+  pub settled : (n : ℕ) → IsMarked seen n → IsOnStack stack n ⊎ (slice_index heights n ≡ 0 → Ends refs n → ⊥)
+
+-- each marked object has all references that it announces, and these are marked
+abbrev pub AreClosed : Graph → List Bool → Type 0
+AreClosed graph marks = (n : ℕ) → IsMarked marks n → IsWhole graph n × HasMarks marks (graph.refs n)
+
+-- the least heights of the objects that are marked and founded, 0 of the others
+pub record AreLeastOf (refs : ℕ → List ℕ) (marks : List Bool) (heights : List ℕ) : Type 0 where
+  pub vouched : (n : ℕ) → 0 < slice_index heights n → IsMarked marks n × Least refs n (slice_index heights n)
+  pub all : (n : ℕ) → IsMarked marks n → Ends refs n → 0 < slice_index heights n

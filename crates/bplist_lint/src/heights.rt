@@ -1,11 +1,10 @@
 //! Which objects are founded, and their least heights.
 
-ghost use Rattle.std.specs.Prelude.{◌≡◌, ◌↔◌, ℕ, ◌+◌, ◌^◌, ◌<◌, ◌≤◌, max, List, [], ◌∷◌, ◌++◌, true, false, not, IsTrue, length, map, slice_index, slice_index_or, vec_len, IfOk, IfSome, MatchOption, OnOk};
+ghost use Rattle.std.specs.Prelude.{◌≡◌, ℕ, ◌+◌, ◌^◌, ◌<◌, ◌≤◌, max, Bool, List, [], ◌∷◌, ◌++◌, true, false, not, IsTrue, length, map, slice_index, slice_index_or, vec_len, IfOk, IfSome, MatchOption, OnOk};
 ghost use Rattle.bplist_octets.specs.Meaning.{OnlyReads};
 ghost use Rattle.bplist_lint.specs.Answers.{walk_failed};
-ghost use Rattle.bplist_lint.specs.Graph.{Reaches, AreWhole, AreLeast};
 ghost use Rattle.bplist_lint.specs.Reaching.{IsMarked};
-ghost use Rattle.bplist_lint.specs.Visits.{Standing, Walking, first_height, work};
+ghost use Rattle.bplist_lint.specs.Visits.{Standing, Walking, AreClosed, AreLeastOf, first_height, work};
 ghost use Rattle.bplist_lint.specs.declared.heights.Visit.{Visit as a_visit};
 
 use crate::references::{References, WalkFault};
@@ -75,9 +74,9 @@ fn advance<R: References>(
         → IfOk result (λ found. IfSome found (λ m. m ≡ slice_index ((R.graph graph.old).refs visit.new.object) visit.new.next)) }
     ensures standing { (rest : List a_visit) → Standing (R.graph graph.old).size seen.now heights.now (rest ++ visit.old ∷ [])
         → Standing (R.graph graph.old).size seen.now heights.now (rest ++ visit.new ∷ []) }
-    ensures walking { IsTrue (R.means graph.old).honest → (top : ℕ) (rest : List a_visit)
-        → Walking (R.graph graph.old).refs top seen.now heights.now (rest ++ visit.old ∷ [])
-        → Walking (R.graph graph.old).refs top seen.now heights.now (rest ++ visit.new ∷ []) }
+    ensures walking { IsTrue (R.means graph.old).honest → (marks : List Bool) (rest : List a_visit)
+        → Walking (R.graph graph.old).refs marks seen.now heights.now (rest ++ visit.old ∷ [])
+        → Walking (R.graph graph.old).refs marks seen.now heights.now (rest ++ visit.new ∷ []) }
 {
     while visit.next < visit.count {
         let m = graph.reference(visit.object, visit.next)?;
@@ -107,9 +106,9 @@ fn step<R: References>(
     ensures less { OnOk result (work seen.new.items stack.new.items
         < work seen.old.items (stack.old.items ++ visit ∷ [])) }
     ensures keeps { OnOk result ((m : ℕ) → IsMarked seen.old.items m → IsMarked seen.new.items m) }
-    ensures walking { OnOk result (IsTrue (R.means graph.old).honest → (top : ℕ) → AreWhole (R.graph graph.old) top
-        → Walking (R.graph graph.old).refs top seen.old.items heights.old.items (stack.old.items ++ visit ∷ [])
-        → Walking (R.graph graph.old).refs top seen.new.items heights.new.items stack.new.items) }
+    ensures walking { OnOk result (IsTrue (R.means graph.old).honest → (marks : List Bool) → AreClosed (R.graph graph.old) marks
+        → Walking (R.graph graph.old).refs marks seen.old.items heights.old.items (stack.old.items ++ visit ∷ [])
+        → Walking (R.graph graph.old).refs marks seen.new.items heights.new.items stack.new.items) }
 {
     let Some(m) = advance(graph, seen, heights, &mut visit)? else {
         if visit.sound {
@@ -149,10 +148,10 @@ fn walk_from<R: References>(
     ensures standing { OnOk result (Standing (R.graph graph.old).size seen.new.items heights.new.items []) }
     ensures sees { OnOk result (IsMarked seen.new.items n) }
     ensures keeps { OnOk result ((m : ℕ) → IsMarked seen.old.items m → IsMarked seen.new.items m) }
-    ensures walking { OnOk result (IsTrue (R.means graph.old).honest → (top : ℕ) → AreWhole (R.graph graph.old) top
-        → Reaches (R.graph graph.old).refs top n
-        → Walking (R.graph graph.old).refs top seen.old.items heights.old.items []
-        → Walking (R.graph graph.old).refs top seen.new.items heights.new.items []) }
+    ensures walking { OnOk result (IsTrue (R.means graph.old).honest → (marks : List Bool) → AreClosed (R.graph graph.old) marks
+        → IsMarked marks n
+        → Walking (R.graph graph.old).refs marks seen.old.items heights.old.items []
+        → Walking (R.graph graph.old).refs marks seen.new.items heights.new.items []) }
 {
     if seen[n as usize] {
         return Ok(());
@@ -183,10 +182,10 @@ fn first_heights(alloc: Global, bare: &[bool]) -> Result<Vec<u32>, AllocError>
     Ok(heights)
 }
 
-/// The least height of each founded object among the marked ones, which are those reached from one object, and 0 for
-/// each other. Objects with a mark in `bare` have no references, and so their height at once. A walk begins at each of the
-/// others that is not seen, the last first: where each reference leads to a greater number, the references of each object are
-/// looked at in one go, and the stack takes none but the first.
+/// The least height of each founded object among the marked ones, which refer to marked ones alone, and 0 for each other.
+/// Objects with a mark in `bare` have no references, and so their height at once. A walk begins at each of the others that is
+/// not seen, the last first: where each reference leads to a greater number, the references of each object are looked at in
+/// one go, and the stack takes none but the first.
 pub fn least_heights<R: References>(
     alloc: Global,
     graph: &mut R,
@@ -200,10 +199,9 @@ pub fn least_heights<R: References>(
     ensures same { R.graph graph.new ≡ R.graph graph.old }
     ensures reads { OnlyReads (walk_failed result) (R.means graph.old) (R.means graph.new) }
     ensures all_heights { IfOk result (λ heights. vec_len heights ≡ size) }
-    ensures exact { IsTrue (R.means graph.old).honest → (top : ℕ) → AreWhole (R.graph graph.old) top
-        → ((n : ℕ) → IsMarked marks.now n ↔ Reaches (R.graph graph.old).refs top n)
-        → ((n : ℕ) → IsMarked bare.items n → Reaches (R.graph graph.old).refs top n × ((R.graph graph.old).refs n ≡ []))
-        → IfOk result (λ heights. AreLeast (R.graph graph.old).refs top heights.items) }
+    ensures exact { IsTrue (R.means graph.old).honest → AreClosed (R.graph graph.old) marks.now
+        → ((n : ℕ) → IsMarked bare.items n → IsMarked marks.now n × ((R.graph graph.old).refs n ≡ []))
+        → IfOk result (λ heights. AreLeastOf (R.graph graph.old).refs marks.now heights.items) }
 {
     let mut heights = first_heights(alloc, &bare)?;
     let mut seen = bare;

@@ -18,6 +18,7 @@ ghost use Rattle.bplist_keys.specs.Texts.{AreOffsets};
 ghost use Rattle.bplist_lint.specs.Referring.{AreBare};
 ghost use Rattle.bplist_lint.specs.Trail.{number};
 ghost use Rattle.bplist_lint.specs.ReachRules.{IsReachFault, KeepReachBelow};
+ghost use Rattle.bplist_lint.specs.KeyRules.{KeepKeysBelow};
 ghost use Rattle.bplist_lint.specs.Walks.{Fits, IsWalked, AreNamed};
 ghost use Rattle.bplist_lint.specs.FileFault.{IsObjectsFault, IsFileFault, IsFileCircle, IsFramedCircle};
 ghost use Rattle.bplist_lint.specs.Refusals.{Lints, lint_failed, no_circle};
@@ -27,7 +28,7 @@ use crate::answer::Lint;
 use crate::circle::circle;
 use crate::heights::least_heights;
 use crate::keys::{Looked, check_keys};
-use crate::object_graph::Objects;
+use crate::object_graph::{Objects, View};
 use crate::object_nos::ObjectNos;
 use crate::places::check_places;
 use crate::reach::{Marked, mark_reached};
@@ -42,7 +43,8 @@ use bplist_octets::Source;
 use std::alloc::Global;
 
 /// The least height of each object that is reached and founded, and 0 for each other, where the reached objects keep rules
-/// 14 to 20, `marks` marks exactly them, and `bare` only objects that have no references.
+/// 14 to 22, `marks` marks exactly them, and `bare` only objects that have no references. Keys are texts then, so the walk
+/// looks at the values alone.
 fn find_heights<S: Source>(
     alloc: Global,
     src: &mut S,
@@ -62,11 +64,12 @@ fn find_heights<S: Source>(
     ensures all { IfOk result (λ heights. vec_len heights ≡ frame.now.objects) }
     ensures exact { IsTrue (S.means src.old).honest
         → KeepReachBelow (S.means src.old).octets frame.now frame.now.objects
+        → KeepKeysBelow (S.means src.old).octets frame.now frame.now.objects
         → ((n : ℕ) → IsMarked marks.now n ↔ Reach (S.means src.old).octets frame.now n)
         → IfOk result (λ heights. AreLeast (refs_at (S.means src.old).octets frame.now) frame.now.top.0 heights.items) }
 {
     let size = frame.objects;
-    let mut objects = Objects::new(src, *frame, places);
+    let mut objects = Objects::new(src, *frame, places, View::Values);
     least_heights(alloc, &mut objects, size, marks, bare)
 }
 
@@ -92,7 +95,7 @@ fn find_circle<S: Source>(
         IsCircleOf (refs_at (S.means src.old).octets frame.now) frame.now.top.0 (map number circle.items)) }
 {
     let top = frame.top.0;
-    let mut objects = Objects::new(src, *frame, places);
+    let mut objects = Objects::new(src, *frame, places, View::All);
     circle(alloc, &mut objects, heights, top)
 }
 

@@ -19,8 +19,8 @@ loop-visit-preserved g c =
       within = omega (arith, after.1, after.2, c.loop-visit-test.true);
       standing = λ rest s0.
           standing_after _ _ _ rest v _ m height (i.standing rest s0) c.loop-visit-test.true refl c.after.ensures.found c.after.ensures.circular;
-      walking = λ honest top rest w0.
-          let w1 = i.walking honest top rest w0 in
+      walking = λ honest marks rest w0.
+          let w1 = i.walking honest marks rest w0 in
           let r = top_read _ _ _ _ _ _ w1 in
           let in_refs : v.next < length ((g.R.References.graph c.args.graph.now).refs v.object) = omega (arith, c.loop-visit-test.true, r.counted) in
           let is = (rw (i.same, i.reads) at c.in_ok-m.ensures.value) honest in_refs in

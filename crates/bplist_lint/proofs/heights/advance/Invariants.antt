@@ -1,4 +1,4 @@
-use Rattle.std.proofs.Common.{◌≡◌, ℕ, ◌-◌, ◌≤◌, List, [], ◌∷◌, ◌++◌, IsTrue}
+use Rattle.std.proofs.Common.{◌≡◌, ◌-◌, ◌≤◌, Bool, List, [], ◌∷◌, ◌++◌, IsTrue}
 use Rattle.bplist_lint.specs.Visits.{Standing, Walking}
 use Rattle.bplist_lint.specs.declared.heights.Visit.{Visit}
 use Rattle.bplist_lint.proofs.heights.advance.Given as goal
@@ -12,7 +12,7 @@ invariant-loop-visit g l = record {
   onward : l.fn.visit.next ≤ l.visit.next;
   within : l.visit.next ≤ l.visit.count;
   standing : (rest : List Visit) → Standing (g.R.References.graph l.fn.graph).size l.seen l.heights (rest ++ l.fn.visit ∷ []) → Standing (g.R.References.graph l.fn.graph).size l.seen l.heights (rest ++ l.visit ∷ []);
-  walking : IsTrue (g.R.References.means l.fn.graph).honest → (top : ℕ) (rest : List Visit) → Walking (g.R.References.graph l.fn.graph).refs top l.seen l.heights (rest ++ l.fn.visit ∷ []) → Walking (g.R.References.graph l.fn.graph).refs top l.seen l.heights (rest ++ l.visit ∷ []);
+  walking : IsTrue (g.R.References.means l.fn.graph).honest → (marks : List Bool) (rest : List Visit) → Walking (g.R.References.graph l.fn.graph).refs marks l.seen l.heights (rest ++ l.fn.visit ∷ []) → Walking (g.R.References.graph l.fn.graph).refs marks l.seen l.heights (rest ++ l.visit ∷ []);
 }
 
 abbrev pub decreases-loop-visit : goal.decreases-loop-visit

@@ -1,4 +1,4 @@
-use Rattle.std.proofs.Common.{◌≡◌, ◌-◌, arith, ◌∙◌, inl, inr}
+use Rattle.std.proofs.Common.{◌-◌, arith, ◌∙◌, inl, inr}
 use Rattle.std.proofs.lemmas.Grind.{common_steps}
 use Rattle.std.proofs.lemmas.Bool.{cases_eq}
 use Rattle.bplist_lint.proofs.ReachSteps.{marked_within}
@@ -13,7 +13,7 @@ loop-n-init g c = record {
   empty = grind (arith, common_steps);
   standing = rw (← c.requires.size, c.in_ok-heights.ensures, c.deref.ensures.value) (standing_start _ _ (grind (arith, common_steps)));
   sees = λ m h is. absurd (let low = marked_within c.args.marks.now m is in omega (arith, low, h, c.requires.all_marks));
-  walking = λ honest top whole reached known. rw (c.in_ok-heights.ensures, c.deref.ensures.value) (walking_first _ _ _ known);
+  walking = λ honest closed known. rw (c.in_ok-heights.ensures, c.deref.ensures.value) (walking_first _ _ _ known);
 }
 
 pub loop-n-preserved-in-Continue-branch-2 : goal.loop-n-preserved-in-Continue-branch-2
@@ -29,10 +29,10 @@ loop-n-preserved-in-Continue-branch-2 g c =
         | inl e ↦ rw e walked.sees
         | inr ne ↦ walked.keeps m (i.sees m (omega (arith, h, ne)) is)
       ];
-      walking = λ honest top whole reached known. (rw (i.same, i.reads) at walked.walking) honest top whole (reached _ c.if-marks-n.true) (i.walking honest top whole reached known);
+      walking = λ honest closed known. (rw (i.same, i.reads) at walked.walking) honest _ closed c.if-marks-n.true (i.walking honest closed known);
     }
 
 pub returns-clause-exact : goal.returns-clause-exact
-returns-clause-exact g c = λ honest top whole marked known.
+returns-clause-exact g c = λ honest closed known.
     let i = c.loop-n.invariant in
-    are_least _ _ _ _ (i.walking honest top whole (λ m. (marked m).0) known) (λ m reached. i.sees m (omega arith) ((marked m).1 reached)) i.standing.known
+    are_least _ _ _ _ (i.walking honest closed known) (λ m. i.sees m (omega arith)) i.standing.known

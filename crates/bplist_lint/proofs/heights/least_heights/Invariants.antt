@@ -1,7 +1,6 @@
 use Rattle.std.proofs.Common.{◌≡◌, ◌≤◌, ℕ, [], IsTrue, vec_len}
-use Rattle.bplist_lint.specs.Graph.{Reaches, AreWhole}
 use Rattle.bplist_lint.specs.Reaching.{IsMarked}
-use Rattle.bplist_lint.specs.Visits.{Standing, Walking}
+use Rattle.bplist_lint.specs.Visits.{Standing, Walking, AreClosed}
 use Rattle.bplist_lint.proofs.heights.least_heights.Given as goal
 
 abbrev pub invariant-loop-n : goal.invariant-loop-n
@@ -11,5 +10,5 @@ invariant-loop-n g l = record {
   empty : vec_len l.stack ≡ 0;
   standing : Standing (g.R.References.graph l.fn.graph).size l.seen.items l.heights.items [];
   sees : (m : ℕ) → l.n ≤ m → IsMarked l.marks m → IsMarked l.seen.items m;
-  walking : IsTrue (g.R.References.means l.fn.graph).honest → (top : ℕ) → AreWhole (g.R.References.graph l.fn.graph) top → ((m : ℕ) → IsMarked l.marks m → Reaches (g.R.References.graph l.fn.graph).refs top m) → ((m : ℕ) → IsMarked l.fn.bare.items m → Reaches (g.R.References.graph l.fn.graph).refs top m × ((g.R.References.graph l.fn.graph).refs m ≡ [])) → Walking (g.R.References.graph l.fn.graph).refs top l.seen.items l.heights.items [];
+  walking : IsTrue (g.R.References.means l.fn.graph).honest → AreClosed (g.R.References.graph l.fn.graph) l.marks → ((m : ℕ) → IsMarked l.fn.bare.items m → IsMarked l.marks m × ((g.R.References.graph l.fn.graph).refs m ≡ [])) → Walking (g.R.References.graph l.fn.graph).refs l.marks l.seen.items l.heights.items [];
 }

@@ -2,7 +2,7 @@ use Rattle.std.proofs.Common.{◌≡◌, ◌<◌, [], arith, false, true, length
 use Rattle.std.proofs.lemmas.Grind.{common_steps}
 use Rattle.std.proofs.lemmas.List.{get_or_read, get_or-set_same}
 use Rattle.bplist_lint.proofs.VisitSteps.{seen-set, standing_open}
-use Rattle.bplist_lint.proofs.WalkSteps.{walking_begin}
+use Rattle.bplist_lint.proofs.WalkSteps.{walking_open}
 use Rattle.bplist_lint.proofs.heights.walk_from.Goals as goal
 
 pub loop-visit-init : goal.loop-visit-init
@@ -17,7 +17,7 @@ loop-visit-init g c =
       standing = rw (c.in_ok-push.ensures.items, none) (standing_open _ _ _ [] c.args.n c.in_ok-count.count s c.requires.n_in fresh);
       sees = get_or-set_same c.args.seen.now.items c.args.n true false within;
       keeps = λ m h. seen-set _ _ m within h;
-      walking = λ honest top whole reached w. rw (c.in_ok-push.ensures.items, none) (walking_begin _ _ _ _ c.args.n c.in_ok-count.count w reached within (c.in_ok-count.ensures.value honest (whole _ reached)));
+      walking = λ honest marks closed marked w. rw (c.in_ok-push.ensures.items, none) (walking_open _ _ _ _ [] c.args.n c.in_ok-count.count w marked within (λ k e. absurd (omega arith)) (c.in_ok-count.ensures.value honest (closed _ marked).0));
     }
 
 pub loop-visit-preserved : goal.loop-visit-preserved
@@ -29,7 +29,7 @@ loop-visit-preserved g c =
       standing = rw i.same at c.in_ok-step.ensures.standing;
       sees = c.in_ok-step.ensures.keeps _ i.sees;
       keeps = λ m h. c.in_ok-step.ensures.keeps m (i.keeps m h);
-      walking = λ honest top whole reached w. (rw (i.same, i.reads) at c.in_ok-step.ensures.walking) honest top whole (rw c.in-Some.ensures.items at (i.walking honest top whole reached w));
+      walking = λ honest marks closed marked w. (rw (i.same, i.reads) at c.in_ok-step.ensures.walking) honest marks closed (rw c.in-Some.ensures.items at (i.walking honest marks closed marked w));
     }
 
 pub returns-clause-standing : goal.returns-clause-standing
@@ -38,6 +38,6 @@ returns-clause-standing g c =
     rw empty at c.loop-visit.invariant.standing
 
 pub returns-clause-walking : goal.returns-clause-walking
-returns-clause-walking g c = λ honest top whole reached w.
+returns-clause-walking g c = λ honest marks closed marked w.
     let empty : c.loop-visit.stack.items ≡ [] = grind (arith, common_steps) in
-    rw empty at (c.loop-visit.invariant.walking honest top whole reached w)
+    rw empty at (c.loop-visit.invariant.walking honest marks closed marked w)

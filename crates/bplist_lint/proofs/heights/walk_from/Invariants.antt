@@ -1,7 +1,6 @@
-use Rattle.std.proofs.Common.{◌≡◌, ℕ, [], IsTrue}
-use Rattle.bplist_lint.specs.Graph.{Reaches, AreWhole}
+use Rattle.std.proofs.Common.{◌≡◌, ℕ, Bool, List, [], IsTrue}
 use Rattle.bplist_lint.specs.Reaching.{IsMarked}
-use Rattle.bplist_lint.specs.Visits.{Standing, Walking, work}
+use Rattle.bplist_lint.specs.Visits.{Standing, Walking, AreClosed, work}
 use Rattle.bplist_lint.proofs.heights.walk_from.Given as goal
 
 abbrev pub invariant-loop-visit : goal.invariant-loop-visit
@@ -11,7 +10,7 @@ invariant-loop-visit g l = record {
   standing : Standing (g.R.References.graph l.fn.graph).size l.seen.items l.heights.items l.stack.items;
   sees : IsMarked l.seen.items l.n;
   keeps : (m : ℕ) → IsMarked l.fn.seen.items m → IsMarked l.seen.items m;
-  walking : IsTrue (g.R.References.means l.fn.graph).honest → (top : ℕ) → AreWhole (g.R.References.graph l.fn.graph) top → Reaches (g.R.References.graph l.fn.graph).refs top l.n → Walking (g.R.References.graph l.fn.graph).refs top l.fn.seen.items l.fn.heights.items [] → Walking (g.R.References.graph l.fn.graph).refs top l.seen.items l.heights.items l.stack.items;
+  walking : IsTrue (g.R.References.means l.fn.graph).honest → (marks : List Bool) → AreClosed (g.R.References.graph l.fn.graph) marks → IsMarked marks l.n → Walking (g.R.References.graph l.fn.graph).refs marks l.fn.seen.items l.fn.heights.items [] → Walking (g.R.References.graph l.fn.graph).refs marks l.seen.items l.heights.items l.stack.items;
 }
 
 abbrev pub decreases-loop-visit : goal.decreases-loop-visit

@@ -1,8 +1,14 @@
-use Rattle.bplist_lint.proofs.Passes.{are_whole, reached_in_graph}
-use Rattle.bplist_lint.proofs.ReferenceGraph.{reach_iff}
+use Rattle.std.proofs.Common.{ℕ, Vec, Global}
+use Rattle.std.proofs.lemmas.Result.{IfOk-weaker}
+use Rattle.bplist_lint.specs.declared.object_graph.View.TheVariants as views
+use Rattle.bplist_lint.proofs.ObjectReferences.{none_in_view}
+use Rattle.bplist_lint.proofs.ValueHeights.{all_closed, are_least_all}
 use Rattle.bplist_lint.proofs.linter.find_heights.Goals as goal
 
 pub returns-clause-exact : goal.returns-clause-exact
-returns-clause-exact g c = λ honest kept marked.
+returns-clause-exact g c = λ honest kept keys marked.
     let f = (g.S.Source.means c.args.src.now).octets in
-    (rw (c.new-objects.ensures.means, c.new-objects.ensures.frame) at c.least_heights.ensures.exact) honest c.args.frame.now.top.0 (are_whole f c.args.frame.now (c.requires.framed honest) kept 0) (reached_in_graph f c.args.frame.now c.args.marks.now marked) (λ n m. let b = c.requires.bare honest n m in ((reach_iff f c.args.frame.now n).1 b.0, b.1))
+    let F = c.args.frame.now in
+    let framed = c.requires.framed honest in
+    let least = (rw (c.new-objects.ensures.means, c.new-objects.ensures.frame, c.new-objects.ensures.view) at c.least_heights.ensures.exact) honest (all_closed f F framed kept c.args.marks.now marked views.Values) (λ n m. let b = c.requires.bare honest n m in ((marked n).1 b.0, none_in_view f F n views.Values b.1)) in
+    IfOk-weaker _ _ _ (λ (heights : Vec ℕ Global) is. are_least_all f F framed kept c.args.marks.now marked keys heights.items is) least

@@ -1,17 +1,17 @@
 use Rattle.std.proofs.Common.{sym, ◌∙◌, ap, length}
-use Rattle.bplist_lint.proofs.ObjectReferences.{no_refs_shape, announced_as}
+use Rattle.bplist_lint.proofs.ObjectReferences.{no_refs_shape, none_in_view, announced_as}
 use Rattle.bplist_lint.proofs.object_graph.Objects.read_count.Goals as goal
 
 pub returns-in_default-clause-value : goal.returns-in_default-clause-value
 returns-in_default-clause-value g c = λ honest _. let framed = c.args.self.now.framed honest in
-    sym (ap length (no_refs_shape _ _ _ (rw c.in_default.is at (c.in_ok-head.ensures.shape honest framed (c.args.self.now.placed honest c.args.n c.requires)))))
+    sym (ap length (none_in_view _ _ _ c.args.self.now.view (no_refs_shape _ _ _ (rw c.in_default.is at (c.in_ok-head.ensures.shape honest framed (c.args.self.now.placed honest c.args.n c.requires))))))
 
 pub returns-in_ok-take_in-clause-value : goal.returns-in_ok-take_in-clause-value
 returns-in_ok-take_in-clause-value g c = λ honest whole. let framed = c.args.self.now.framed honest in
     let has = rw c.in-Some.is at (c.in_ok-head.ensures.shape honest framed (c.args.self.now.placed honest c.args.n c.requires)) in
-    c.refs_of-count.ensures ∙ sym (announced_as _ _ _ c.in-Some.head has) ∙ whole
+    c.shown-count.ensures ∙ sym (announced_as _ _ _ _ c.in-Some.head has) ∙ whole
 
 pub returns-else-count-gt0-clause-value : goal.returns-else-count-gt0-clause-value
 returns-else-count-gt0-clause-value g c = λ honest whole. let framed = c.args.self.now.framed honest in
     let has = rw c.in-Some.is at (c.in_ok-head.ensures.shape honest framed (c.args.self.now.placed honest c.args.n c.requires)) in
-    c.refs_of-count.ensures ∙ sym (announced_as _ _ _ c.in-Some.head has) ∙ whole
+    c.shown-count.ensures ∙ sym (announced_as _ _ _ _ c.in-Some.head has) ∙ whole

@@ -14,5 +14,5 @@ invariant_of-self-2 g c =
       few = c.requires.few;
       inside = c.in_ok-self.ensures.inside;
       held = rw same (λ honest k low within. let framed = s.framed honest in
-          block_is _ _ _ _ (c.requires.shape honest framed) c.args.i _ _ (c.in_ok-self.ensures.numbers honest) k low within);
+          block_is _ _ _ s.view _ (c.requires.shape honest framed) c.args.i _ _ (rw c.hides.ensures at (c.in_ok-self.ensures.numbers honest)) k low within);
     }
