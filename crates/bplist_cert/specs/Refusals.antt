@@ -3,8 +3,8 @@ use Rattle.std.specs.Prelude.{◌≡◌, Bool, true, false, Result, Ok, Err, Opt
 use Rattle.bplist_objects.specs.declared.fault.Fault.{Fault}
 use Rattle.bplist_objects.specs.declared.fault.ObjectFault.{ObjectFault}
 use Rattle.bplist_objects.specs.declared.fault.ObjectFault.TheVariants as errors
-use Rattle.bplist_keys.specs.declared.fault.KeysFault.{KeysFault}
-use Rattle.bplist_keys.specs.declared.fault.KeysFault.TheVariants as keys_errors
+use Rattle.bplist_keys.specs.declared.failure.Failure.{Failure}
+use Rattle.bplist_keys.specs.declared.failure.Failure.TheVariants as keys_errors
 use Rattle.bplist_cert.specs.declared.refusal.Refusal.{Refusal}
 use Rattle.bplist_cert.specs.declared.refusal.Refusal.TheVariants as refusals
 use Rattle.bplist_cert.specs.Lists.{Keyed}
@@ -41,6 +41,6 @@ refusal_of (errors.Fault fault) = refusals.Fault fault
 refusal_of (errors.Read fault) = refusals.Read fault
 
 -- the refusal where keys are not ranked
-abbrev pub refusal_of_keys : KeysFault → Refusal
+abbrev pub refusal_of_keys : Failure → Refusal
 refusal_of_keys (keys_errors.Read fault) = refusals.Read fault
 refusal_of_keys keys_errors.Memory = refusals.Memory

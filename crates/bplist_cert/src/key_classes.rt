@@ -13,7 +13,7 @@ ghost use Rattle.bplist_objects.specs.declared.kind.Kind.TheVariants.{Dict};
 ghost use Rattle.bplist_keys.specs.Classes.{AreClassed, IsStamped, IsNew};
 ghost use Rattle.bplist_keys.specs.Ranks.{AreClasses};
 ghost use Rattle.bplist_keys.specs.Texts.{AreOffsets};
-ghost use Rattle.bplist_keys.specs.Faults.{keys_failed};
+ghost use Rattle.bplist_keys.specs.Failures.{failed_to_read};
 ghost use Rattle.bplist_cert.specs.Heights.{ref};
 ghost use Rattle.bplist_cert.specs.Lists.{lists};
 ghost use Rattle.bplist_cert.specs.Valid.{IsVouchedBy};
@@ -30,9 +30,7 @@ use crate::keys::{check_texts, keyless};
 use crate::low_bytes::LowBytes;
 use crate::refusal::Refusal;
 use crate::seen::Seen;
-use bplist_keys::{
-    ClassTable, KeysFault, NamedKeys, Ranks, Wrong, classes_of, places_of, ranks_of,
-};
+use bplist_keys::{ClassTable, Failure, NamedKeys, Ranks, Wrong, classes_of, places_of, ranks_of};
 use bplist_objects::{Fault, Frame, Head, Kind, ObjectNo, Rule, shape_at};
 use bplist_octets::{ReadFault, Source};
 use std::alloc::Global;
@@ -52,11 +50,11 @@ fn key_classes<S: Source>(
     seen: &Seen,
     places: &[u32],
     named: NamedKeys,
-) -> Result<Ranks, KeysFault>
+) -> Result<Ranks, Failure>
     requires safe { IsSafe (length (S.means src.old).octets) seen.now.frame }
     requires places { length places.now ≡ seen.now.frame.objects }
     requires named { length named.table.items ≡ seen.now.frame.objects }
-    ensures reads { OnlyReads (keys_failed result) (S.means src.old) (S.means src.new) }
+    ensures reads { OnlyReads (failed_to_read result) (S.means src.old) (S.means src.new) }
     ensures exact { HonestlyBy (S.means src.old) seen.now.frame (λ f F. AreOffsets f F places.now
         → IfOk result (λ ranks. AreClasses f F named.table.items ranks.table.items)) }
 {

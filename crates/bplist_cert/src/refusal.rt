@@ -3,7 +3,7 @@
 ghost use Rattle.std.specs.Prelude.{◌≡◌};
 ghost use Rattle.bplist_cert.specs.declared.refusal.Refusal.TheVariants.{Memory, Read, Fault as is_fault};
 
-use bplist_keys::KeysFault;
+use bplist_keys::Failure;
 use bplist_objects::{Fault, ObjectFault};
 use bplist_octets::ReadFault;
 use std::alloc::{AllocError, AllocFailed};
@@ -49,15 +49,15 @@ impl From<ObjectFault> for Refusal {
     }
 }
 
-impl From<KeysFault> for Refusal {
+impl From<Failure> for Refusal {
     ghost use Rattle.bplist_cert.specs.Refusals.{refusal_of_keys};
 
     ghost from_gives = { λ fault e. e ≡ refusal_of_keys fault };
 
-    fn from(fault: KeysFault) -> Refusal {
+    fn from(fault: Failure) -> Refusal {
         match fault {
-            KeysFault::Read(fault) => Refusal::Read(fault),
-            KeysFault::Memory => Refusal::Memory,
+            Failure::Read(fault) => Refusal::Read(fault),
+            Failure::Memory => Refusal::Memory,
         }
     }
 }

@@ -3,7 +3,7 @@ pub mod Texts
 pub mod Weights
 pub mod Weighted
 pub mod Ranks
-pub mod Faults
+pub mod Failures
 pub mod Classes
 pub mod Places
 pub mod Notes

@@ -6,9 +6,9 @@ ghost use Rattle.bplist_objects.specs.Frame.{IsFrame};
 ghost use Rattle.bplist_objects.specs.Safe.{IsSafe};
 ghost use Rattle.bplist_keys.specs.Texts.{AreOffsets};
 ghost use Rattle.bplist_keys.specs.Weights.{AreWeighed};
-ghost use Rattle.bplist_keys.specs.Faults.{keys_failed};
+ghost use Rattle.bplist_keys.specs.Failures.{failed_to_read};
 
-use crate::fault::KeysFault;
+use crate::failure::Failure;
 use crate::weight::{Weight, weigh};
 use bplist_objects::Frame;
 use bplist_octets::Source;
@@ -26,10 +26,10 @@ pub(crate) struct Weighing {
 
 impl Weighing {
     /// Object `m` has this weight. It is listed where the weight is not 0.
-    fn put(&mut self, m: u32, weight: u32) -> Result<(), KeysFault>
+    fn put(&mut self, m: u32, weight: u32) -> Result<(), Failure>
         requires { m < length self.old.weights.items }
         ensures by { self.new.by ≡ self.old.by }
-        ensures refused { keys_failed result ≡ false }
+        ensures refused { failed_to_read result ≡ false }
         ensures weights { self.new.weights.items ≡ set self.old.weights.items m weight }
         ensures other { weight ≡ 0 → self.new.texts.items ≡ self.old.texts.items }
         ensures text { 0 < weight → OnOk result (self.new.texts.items ≡ self.old.texts.items ++ m ∷ []) }
@@ -48,12 +48,12 @@ pub(crate) fn weigh_keys<S: Source>(
     frame: &Frame,
     places: &[u32],
     keys: &mut Weighing,
-) -> Result<(), KeysFault>
+) -> Result<(), Failure>
     requires safe { IsSafe (length (S.means src.old).octets) frame.now }
     requires places { length places.now ≡ frame.now.objects }
     requires named { length keys.old.weights.items ≡ frame.now.objects }
     requires none { length keys.old.texts.items ≡ 0 }
-    ensures reads { OnlyReads (keys_failed result) (S.means src.old) (S.means src.new) }
+    ensures reads { OnlyReads (failed_to_read result) (S.means src.old) (S.means src.new) }
     ensures by { keys.new.by ≡ keys.old.by }
     ensures all { length keys.new.weights.items ≡ frame.now.objects }
     ensures texts { OnOk result (All (λ m. 0 < slice_index keys.new.weights.items m) keys.new.texts.items) }

@@ -12,15 +12,14 @@
 //! | the objects that are named as keys | [`NamedKeys::new`], `insert` |
 //! | a class for each: equal exactly where the units are equal | [`classes_of`], [`Ranks`] |
 //! | a rank for each: ordered as the units are | [`ranks_of`], [`Ranks`] |
-//! | a failed read or refused memory | [`KeysFault`] |
+//! | a failed read or refused memory | [`Failure`] |
 //!
 //! A text is read once, for a fingerprint or its first units, and again only where these are equal. Keys that are no texts have
-//! the number
-//! 0. The linter uses classes (rule 22), `upgrade` uses ranks (sorted key lists).
+//! the number 0. The linter uses classes (rule 22), `upgrade` uses ranks (sorted key lists).
 #![tactic(auto)]
 
 mod class_table;
-mod fault;
+mod failure;
 mod key_weights;
 mod merge_sort;
 mod named_keys;
@@ -35,7 +34,7 @@ mod weight;
 mod weighted;
 
 pub use class_table::{ClassTable, Wrong};
-pub use fault::KeysFault;
+pub use failure::Failure;
 pub use named_keys::{NamedKeys, name_keys};
 pub use places::places_of;
 pub use ranks::{Ranks, classes_of, ranks_of};

@@ -3,10 +3,10 @@
 ghost use Rattle.std.specs.Prelude.{◌≡◌, ℕ, ◌+◌, ◌≤◌, ◌<◌, IsTrue, IfOk, is_err, length, slice_index, vec_len};
 ghost use Rattle.bplist_octets.specs.Meaning.{OnlyReads};
 ghost use Rattle.bplist_objects.specs.Safe.{IsSafe};
-ghost use Rattle.bplist_keys.specs.Faults.{keys_failed};
+ghost use Rattle.bplist_keys.specs.Failures.{failed_to_read};
 ghost use Rattle.bplist_keys.specs.Places.{IsKept, AreKept};
 
-use crate::fault::KeysFault;
+use crate::failure::Failure;
 use bplist_objects::{Frame, read_offsets};
 use bplist_octets::{ReadFault, Source};
 use std::alloc::Global;
@@ -55,13 +55,9 @@ fn read_places<S: Source>(
 
 /// The place of each object, in the order of their numbers, as their entries say. One that needs more than 32 bits is
 /// answered as their greatest number.
-pub fn places_of<S: Source>(
-    alloc: Global,
-    src: &mut S,
-    frame: &Frame,
-) -> Result<Vec<u32>, KeysFault>
+pub fn places_of<S: Source>(alloc: Global, src: &mut S, frame: &Frame) -> Result<Vec<u32>, Failure>
     requires { IsSafe (length (S.means src.old).octets) frame.now }
-    ensures reads { OnlyReads (keys_failed result) (S.means src.old) (S.means src.new) }
+    ensures reads { OnlyReads (failed_to_read result) (S.means src.old) (S.means src.new) }
     ensures all { IfOk result (λ places. vec_len places ≡ frame.now.objects) }
     ensures exact { IsTrue (S.means src.old).honest
         → IfOk result (λ places. AreKept (S.means src.old).octets frame.now frame.now.objects places.items) }

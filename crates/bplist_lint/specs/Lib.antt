@@ -1,5 +1,4 @@
 pub mod Graph
-pub mod Answers
 pub mod Reaching
 pub mod Visits
 pub mod Trail

@@ -3,12 +3,10 @@ use Rattle.std.specs.Prelude.{ℕ, Bool, true, false, List, map, Result, Ok, Err
 use Rattle.bplist_objects.specs.declared.fault.Fault.{Fault}
 use Rattle.bplist_objects.specs.declared.fault.ObjectFault.{ObjectFault}
 use Rattle.bplist_objects.specs.declared.fault.ObjectFault.TheVariants as object_faults
-use Rattle.bplist_keys.specs.declared.fault.KeysFault.{KeysFault}
-use Rattle.bplist_keys.specs.declared.fault.KeysFault.TheVariants as keys_faults
+use Rattle.bplist_keys.specs.declared.failure.Failure.{Failure}
+use Rattle.bplist_keys.specs.declared.failure.Failure.TheVariants as failures
 use Rattle.bplist_cert.specs.declared.refusal.Refusal.{Refusal}
 use Rattle.bplist_cert.specs.declared.refusal.Refusal.TheVariants as cert_refusals
-use Rattle.bplist_lint.specs.declared.references.WalkFault.{WalkFault}
-use Rattle.bplist_lint.specs.declared.references.WalkFault.TheVariants as walk_faults
 use Rattle.bplist_lint.specs.declared.refusal.LintRefusal.{LintRefusal}
 use Rattle.bplist_lint.specs.declared.refusal.LintRefusal.TheVariants as refusals
 use Rattle.bplist_lint.specs.Trail.{number}
@@ -18,15 +16,10 @@ abbrev pub of_object : ObjectFault → LintRefusal
 of_object (object_faults.Fault fault) = refusals.Fault fault
 of_object (object_faults.Read error) = refusals.Read error
 
--- a walk's fault as a refusal
-abbrev pub of_walk : WalkFault → LintRefusal
-of_walk (walk_faults.Read error) = refusals.Read error
-of_walk walk_faults.Memory = refusals.Memory
-
--- a fault of keys as a refusal
-abbrev pub of_keys : KeysFault → LintRefusal
-of_keys (keys_faults.Read error) = refusals.Read error
-of_keys keys_faults.Memory = refusals.Memory
+-- a failure as a refusal
+abbrev pub of_failure : Failure → LintRefusal
+of_failure (failures.Read error) = refusals.Read error
+of_failure failures.Memory = refusals.Memory
 
 -- a refusal of the checker as one of the linter
 abbrev pub of_check : Refusal → LintRefusal

@@ -4,10 +4,8 @@ use Rattle.bplist_objects.specs.declared.fault.ObjectFault.{ObjectFault}
 use Rattle.bplist_objects.specs.declared.fault.ObjectFault.TheVariants as object_faults
 use Rattle.bplist_cert.specs.declared.refusal.Refusal.{Refusal}
 use Rattle.bplist_cert.specs.declared.refusal.Refusal.TheVariants as cert_refusals
-use Rattle.bplist_keys.specs.declared.fault.KeysFault.{KeysFault}
-use Rattle.bplist_keys.specs.declared.fault.KeysFault.TheVariants as keys_faults
-use Rattle.bplist_lint.specs.declared.references.WalkFault.{WalkFault}
-use Rattle.bplist_lint.specs.declared.references.WalkFault.TheVariants as walk_faults
+use Rattle.bplist_keys.specs.declared.failure.Failure.{Failure}
+use Rattle.bplist_keys.specs.declared.failure.Failure.TheVariants as failures
 use Rattle.bplist_lint.specs.declared.upgrade_fault.UpgradeFault.{UpgradeFault}
 use Rattle.bplist_lint.specs.declared.upgrade_fault.UpgradeFault.TheVariants as faults
 
@@ -22,15 +20,10 @@ of_check (cert_refusals.Fault _) = faults.Changed
 of_check (cert_refusals.Read error) = faults.Read error
 of_check cert_refusals.Memory = faults.Memory
 
--- a walk's fault as a fault of the upgrade
-abbrev pub of_walk : WalkFault → UpgradeFault
-of_walk (walk_faults.Read error) = faults.Read error
-of_walk walk_faults.Memory = faults.Memory
-
--- a fault of ranking as a fault of the upgrade
-abbrev pub of_keys : KeysFault → UpgradeFault
-of_keys (keys_faults.Read error) = faults.Read error
-of_keys keys_faults.Memory = faults.Memory
+-- a failure as a fault of the upgrade
+abbrev pub of_failure : Failure → UpgradeFault
+of_failure (failures.Read error) = faults.Read error
+of_failure failures.Memory = faults.Memory
 
 -- the fault is a failed read
 abbrev pub is_read : UpgradeFault → Bool

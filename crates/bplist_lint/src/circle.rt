@@ -2,11 +2,12 @@
 
 ghost use Rattle.std.specs.Prelude.{◌≡◌, ℕ, ◌^◌, ◌<◌, ◌≤◌, IsTrue, drop, map, length, slice_index, Contains, IfOk, IfSome, MatchOption, is_err};
 ghost use Rattle.bplist_octets.specs.Meaning.{OnlyReads};
-ghost use Rattle.bplist_lint.specs.Answers.{walk_failed};
+ghost use Rattle.bplist_keys.specs.Failures.{failed_to_read};
 ghost use Rattle.bplist_lint.specs.Graph.{IsWhole, AreWhole, AreLeast, IsCircleOf};
 ghost use Rattle.bplist_lint.specs.Trail.{number, object, AllHave, IsFirstWithout, IsPlaceOf};
 
-use crate::references::{References, WalkFault};
+use crate::references::References;
+use bplist_keys::Failure;
 use bplist_objects::ObjectNo;
 use bplist_octets::ReadFault;
 use std::alloc::{AllocError, Global};
@@ -81,14 +82,14 @@ pub fn circle<R: References>(
     graph: &mut R,
     heights: &[u32],
     top: u32,
-) -> Result<Vec<ObjectNo>, WalkFault>
+) -> Result<Vec<ObjectNo>, Failure>
     requires fits { (R.graph graph.old).size < 2 ^ 32 }
     requires top { top < (R.graph graph.old).size }
     requires all_heights { length heights.now ≡ (R.graph graph.old).size }
     requires heights { IsTrue (R.means graph.old).honest → AreLeast (R.graph graph.old).refs top heights.now }
     requires circular { slice_index heights.now top ≡ 0 }
     ensures same { R.graph graph.new ≡ R.graph graph.old }
-    ensures reads { OnlyReads (walk_failed result) (R.means graph.old) (R.means graph.new) }
+    ensures reads { OnlyReads (failed_to_read result) (R.means graph.old) (R.means graph.new) }
     ensures circle { IsTrue (R.means graph.old).honest → AreWhole (R.graph graph.old) top → IfOk result (λ circle.
         IsCircleOf (R.graph graph.old).refs top (map number circle.items)) }
 {

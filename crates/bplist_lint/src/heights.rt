@@ -2,12 +2,13 @@
 
 ghost use Rattle.std.specs.Prelude.{◌≡◌, ℕ, ◌+◌, ◌^◌, ◌<◌, ◌≤◌, max, Bool, List, [], ◌∷◌, ◌++◌, true, false, not, IsTrue, length, map, slice_index, slice_index_or, vec_len, IfOk, IfSome, MatchOption, OnOk};
 ghost use Rattle.bplist_octets.specs.Meaning.{OnlyReads};
-ghost use Rattle.bplist_lint.specs.Answers.{walk_failed};
+ghost use Rattle.bplist_keys.specs.Failures.{failed_to_read};
 ghost use Rattle.bplist_lint.specs.Reaching.{IsMarked};
 ghost use Rattle.bplist_lint.specs.Visits.{Standing, Walking, AreClosed, AreLeastOf, first_height, work};
 ghost use Rattle.bplist_lint.specs.declared.heights.Visit.{Visit as a_visit};
 
-use crate::references::{References, WalkFault};
+use crate::references::References;
+use bplist_keys::Failure;
 use std::alloc::{AllocError, Global};
 
 /// An object on the stack, whose references are looked at.
@@ -56,13 +57,13 @@ fn advance<R: References>(
     seen: &[bool],
     heights: &[u32],
     visit: &mut Visit,
-) -> Result<Option<u32>, WalkFault>
+) -> Result<Option<u32>, Failure>
     requires inside { visit.old.object < (R.graph graph.old).size }
     requires within { visit.old.next ≤ visit.old.count }
     requires all_seen { length seen.now ≡ (R.graph graph.old).size }
     requires all_heights { length heights.now ≡ (R.graph graph.old).size }
     ensures same { R.graph graph.new ≡ R.graph graph.old }
-    ensures reads { OnlyReads (walk_failed result) (R.means graph.old) (R.means graph.new) }
+    ensures reads { OnlyReads (failed_to_read result) (R.means graph.old) (R.means graph.new) }
     ensures object { visit.new.object ≡ visit.old.object }
     ensures counted { visit.new.count ≡ visit.old.count }
     ensures onward { visit.old.next ≤ visit.new.next }
@@ -97,11 +98,11 @@ fn step<R: References>(
     heights: &mut Vec<u32>,
     stack: &mut Vec<Visit>,
     mut visit: Visit,
-) -> Result<(), WalkFault>
+) -> Result<(), Failure>
     requires fits { (R.graph graph.old).size < 2 ^ 32 }
     requires standing { Standing (R.graph graph.old).size seen.old.items heights.old.items (stack.old.items ++ visit ∷ []) }
     ensures same { R.graph graph.new ≡ R.graph graph.old }
-    ensures reads { OnlyReads (walk_failed result) (R.means graph.old) (R.means graph.new) }
+    ensures reads { OnlyReads (failed_to_read result) (R.means graph.old) (R.means graph.new) }
     ensures standing { OnOk result (Standing (R.graph graph.old).size seen.new.items heights.new.items stack.new.items) }
     ensures less { OnOk result (work seen.new.items stack.new.items
         < work seen.old.items (stack.old.items ++ visit ∷ [])) }
@@ -137,13 +138,13 @@ fn walk_from<R: References>(
     heights: &mut Vec<u32>,
     stack: &mut Vec<Visit>,
     n: u32,
-) -> Result<(), WalkFault>
+) -> Result<(), Failure>
     requires fits { (R.graph graph.old).size < 2 ^ 32 }
     requires n_in { n < (R.graph graph.old).size }
     requires empty { vec_len stack.old ≡ 0 }
     requires standing { Standing (R.graph graph.old).size seen.old.items heights.old.items [] }
     ensures same { R.graph graph.new ≡ R.graph graph.old }
-    ensures reads { OnlyReads (walk_failed result) (R.means graph.old) (R.means graph.new) }
+    ensures reads { OnlyReads (failed_to_read result) (R.means graph.old) (R.means graph.new) }
     ensures empty { OnOk result (vec_len stack.new ≡ 0) }
     ensures standing { OnOk result (Standing (R.graph graph.old).size seen.new.items heights.new.items []) }
     ensures sees { OnOk result (IsMarked seen.new.items n) }
@@ -192,12 +193,12 @@ pub fn least_heights<R: References>(
     size: u32,
     marks: &[bool],
     bare: Vec<bool>,
-) -> Result<Vec<u32>, WalkFault>
+) -> Result<Vec<u32>, Failure>
     requires size { size ≡ (R.graph graph.old).size }
     requires all_marks { length marks.now ≡ size }
     requires all_bare { vec_len bare ≡ size }
     ensures same { R.graph graph.new ≡ R.graph graph.old }
-    ensures reads { OnlyReads (walk_failed result) (R.means graph.old) (R.means graph.new) }
+    ensures reads { OnlyReads (failed_to_read result) (R.means graph.old) (R.means graph.new) }
     ensures all_heights { IfOk result (λ heights. vec_len heights ≡ size) }
     ensures exact { IsTrue (R.means graph.old).honest → AreClosed (R.graph graph.old) marks.now
         → ((n : ℕ) → IsMarked bare.items n → IsMarked marks.now n × ((R.graph graph.old).refs n ≡ []))

@@ -27,7 +27,7 @@ ghost use Rattle.bplist_lint.specs.KeyClasses.{IsWrongFault};
 ghost use Rattle.bplist_objects.specs.declared.head.Head.{Head as head_record};
 
 use bplist_cert::Refusal;
-use bplist_keys::{ClassTable, KeysFault, NamedKeys, Ranks, Wrong, classes_of};
+use bplist_keys::{ClassTable, Failure, NamedKeys, Ranks, Wrong, classes_of};
 use bplist_objects::{Fault, Frame, Head, Kind, ObjectNo, Rule, shape_at};
 use bplist_octets::Source;
 use std::alloc::Global;
@@ -61,8 +61,8 @@ fn key_classes<S: Source>(
 {
     match classes_of(alloc, src, frame, places, named) {
         Ok(classes) => Ok(classes),
-        Err(KeysFault::Read(fault)) => Err(Refusal::Read(fault)),
-        Err(KeysFault::Memory) => Err(Refusal::Memory),
+        Err(Failure::Read(fault)) => Err(Refusal::Read(fault)),
+        Err(Failure::Memory) => Err(Refusal::Memory),
     }
 }
 

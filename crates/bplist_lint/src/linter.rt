@@ -11,7 +11,7 @@ ghost use Rattle.bplist_objects.specs.File.{FileHolds};
 ghost use Rattle.bplist_objects.specs.Answers.{Gives, Never, read_failed};
 ghost use Rattle.bplist_objects.specs.Heads.{HasShape};
 ghost use Rattle.bplist_objects.specs.declared.head.Head.{Head as head};
-ghost use Rattle.bplist_lint.specs.Answers.{walk_failed};
+ghost use Rattle.bplist_keys.specs.Failures.{failed_to_read};
 ghost use Rattle.bplist_lint.specs.Graph.{AreLeast, IsCircleOf};
 ghost use Rattle.bplist_lint.specs.Reaching.{IsMarked};
 ghost use Rattle.bplist_keys.specs.Texts.{AreOffsets};
@@ -33,11 +33,10 @@ use crate::object_nos::ObjectNos;
 use crate::places::check_places;
 use crate::reach::{Marked, mark_reached};
 use crate::reach_rules::check_reached;
-use crate::references::WalkFault;
 use crate::refusal::LintRefusal;
 use crate::walk::{Reached, walk};
 use bplist_cert::Certificate;
-use bplist_keys::{NamedKeys, places_of};
+use bplist_keys::{Failure, NamedKeys, places_of};
 use bplist_objects::{Fault, Frame, Kind, ObjectFault, ObjectNo, Rule, shape_at, trailer_of};
 use bplist_octets::Source;
 use std::alloc::Global;
@@ -52,7 +51,7 @@ fn find_heights<S: Source>(
     places: &[u32],
     marks: &[bool],
     bare: Vec<bool>,
-) -> Result<Vec<u32>, WalkFault>
+) -> Result<Vec<u32>, Failure>
     requires frame { IsSafeFrame (length (S.means src.old).octets) frame.now }
     requires places { length places.now ≡ frame.now.objects }
     requires marks { length marks.now ≡ frame.now.objects }
@@ -60,7 +59,7 @@ fn find_heights<S: Source>(
     requires framed { IsTrue (S.means src.old).honest → IsFrame (S.means src.old).octets frame.now }
     requires placed { IsTrue (S.means src.old).honest → AreOffsets (S.means src.old).octets frame.now places.now }
     requires bare { IsTrue (S.means src.old).honest → AreBare (S.means src.old).octets frame.now bare.items }
-    ensures reads { OnlyReads (walk_failed result) (S.means src.old) (S.means src.new) }
+    ensures reads { OnlyReads (failed_to_read result) (S.means src.old) (S.means src.new) }
     ensures all { IfOk result (λ heights. vec_len heights ≡ frame.now.objects) }
     ensures exact { IsTrue (S.means src.old).honest
         → KeepReachBelow (S.means src.old).octets frame.now frame.now.objects
@@ -80,7 +79,7 @@ fn find_circle<S: Source>(
     frame: &Frame,
     places: &[u32],
     heights: &[u32],
-) -> Result<Vec<ObjectNo>, WalkFault>
+) -> Result<Vec<ObjectNo>, Failure>
     requires frame { IsSafeFrame (length (S.means src.old).octets) frame.now }
     requires places { length places.now ≡ frame.now.objects }
     requires framed { IsTrue (S.means src.old).honest → IsFrame (S.means src.old).octets frame.now }
@@ -89,7 +88,7 @@ fn find_circle<S: Source>(
     requires heights { IsTrue (S.means src.old).honest
         → AreLeast (refs_at (S.means src.old).octets frame.now) frame.now.top.0 heights.now }
     requires circular { slice_index heights.now frame.now.top.0 ≡ 0 }
-    ensures reads { OnlyReads (walk_failed result) (S.means src.old) (S.means src.new) }
+    ensures reads { OnlyReads (failed_to_read result) (S.means src.old) (S.means src.new) }
     ensures circle { IsTrue (S.means src.old).honest
         → KeepReachBelow (S.means src.old).octets frame.now frame.now.objects → IfOk result (λ circle.
         IsCircleOf (refs_at (S.means src.old).octets frame.now) frame.now.top.0 (map number circle.items)) }

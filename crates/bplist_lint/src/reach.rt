@@ -9,13 +9,12 @@ ghost use Rattle.bplist_objects.specs.Reach.{Reach};
 ghost use Rattle.bplist_objects.specs.Safe.{IsSafe, IsSafeFrame, IsSafeHead, ref_count};
 ghost use Rattle.bplist_objects.specs.Scan.{AreBelow};
 ghost use Rattle.bplist_keys.specs.Texts.{AreOffsets};
-ghost use Rattle.bplist_lint.specs.Answers.{walk_failed};
+ghost use Rattle.bplist_keys.specs.Failures.{failed_to_read};
 ghost use Rattle.bplist_lint.specs.Reaching.{IsMarked, HasMarks, number_at, set_size, IsReady, AreGood, AreFollowed, Looked, Searching};
 
 use crate::object_graph::{object_in, shape_there};
 use crate::place_set::PlaceSet;
-use crate::references::WalkFault;
-use bplist_keys::NamedKeys;
+use bplist_keys::{Failure, NamedKeys};
 use bplist_objects::{Frame, Head, ref_at, refs_of};
 use bplist_octets::{ReadFault, Source};
 use std::alloc::{AllocError, Global};
@@ -124,13 +123,13 @@ fn follow<S: Source>(
     frame: &Frame,
     head: &Head,
     search: &mut Search,
-) -> Result<(), WalkFault>
+) -> Result<(), Failure>
     requires safe { IsSafe (length (S.means src.old).octets) frame.now }
     requires top { frame.now.top.0 < frame.now.objects }
     requires small { frame.now.table < 2 ^ 32 }
     requires head { IsSafeHead frame.now head.now }
     requires ready { IsReady frame.now search.old }
-    ensures reads { OnlyReads (walk_failed result) (S.means src.old) (S.means src.new) }
+    ensures reads { OnlyReads (failed_to_read result) (S.means src.old) (S.means src.new) }
     ensures ready { OnOk result (IsReady frame.now search.new) }
     ensures good { search.new.good ≡ search.old.good }
     ensures work { OnOk result (count_by not search.new.marks.items + vec_len search.new.stack
@@ -172,13 +171,13 @@ fn look_at<S: Source>(
     n: u32,
     place: u64,
     search: &mut Search,
-) -> Result<(), WalkFault>
+) -> Result<(), Failure>
     requires safe { IsSafe (length (S.means src.old).octets) frame.now }
     requires top { frame.now.top.0 < frame.now.objects }
     requires small { frame.now.table < 2 ^ 32 }
     requires within { n < frame.now.objects }
     requires ready { IsReady frame.now search.old }
-    ensures reads { OnlyReads (walk_failed result) (S.means src.old) (S.means src.new) }
+    ensures reads { OnlyReads (failed_to_read result) (S.means src.old) (S.means src.new) }
     ensures ready { OnOk result (IsReady frame.now search.new) }
     ensures work { OnOk result (count_by not search.new.marks.items + vec_len search.new.stack
         ≤ count_by not search.old.marks.items + vec_len search.old.stack) }
@@ -228,13 +227,13 @@ pub fn mark_reached<S: Source>(
     src: &mut S,
     frame: &Frame,
     places: &[u32],
-) -> Result<Marked, WalkFault>
+) -> Result<Marked, Failure>
     requires frame { IsSafeFrame (length (S.means src.old).octets) frame.now }
     requires small { frame.now.table < 2 ^ 32 }
     requires places { length places.now ≡ frame.now.objects }
     requires framed { IsTrue (S.means src.old).honest → IsFrame (S.means src.old).octets frame.now }
     requires placed { IsTrue (S.means src.old).honest → AreOffsets (S.means src.old).octets frame.now places.now }
-    ensures reads { OnlyReads (walk_failed result) (S.means src.old) (S.means src.new) }
+    ensures reads { OnlyReads (failed_to_read result) (S.means src.old) (S.means src.new) }
     ensures all { IfOk result (λ marked. vec_len marked.marks ≡ frame.now.objects) }
     ensures all_bare { IfOk result (λ marked. vec_len marked.bare ≡ frame.now.objects) }
     ensures exact { IsTrue (S.means src.old).honest → IfOk result (λ marked.

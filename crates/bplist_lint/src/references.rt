@@ -3,43 +3,8 @@
 ghost use Rattle.std.specs.Prelude.{◌≡◌, ◌<◌, IsTrue, length, slice_index, IfOk, is_err};
 ghost use Rattle.bplist_octets.specs.Meaning.{Meaning, OnlyReads};
 ghost use Rattle.bplist_lint.specs.Graph.{Graph, IsWhole};
-ghost use Rattle.bplist_lint.specs.declared.references.WalkFault.TheVariants.{Read, Memory};
 
 use bplist_octets::ReadFault;
-use std::alloc::{AllocError, AllocFailed};
-
-/// Why a walk ended without its answer.
-#[derive(Clone, Copy, Debug, PartialEq, Eq, Drop)]
-pub enum WalkFault {
-    /// A read of what the references are read from failed.
-    Read(ReadFault),
-    /// Memory was refused.
-    Memory,
-}
-
-impl From<ReadFault> for WalkFault {
-    ghost from_gives = { λ error e. e ≡ Read error };
-
-    fn from(error: ReadFault) -> WalkFault {
-        WalkFault::Read(error)
-    }
-}
-
-impl<T: Drop> From<AllocFailed<T>> for WalkFault {
-    ghost from_gives = { λ _ e. e ≡ Memory };
-
-    fn from(_refused: AllocFailed<T>) -> WalkFault {
-        WalkFault::Memory
-    }
-}
-
-impl From<AllocError> for WalkFault {
-    ghost from_gives = { λ _ e. e ≡ Memory };
-
-    fn from(_refused: AllocError) -> WalkFault {
-        WalkFault::Memory
-    }
-}
 
 /// Objects with numbers, each with a list of references to objects.
 pub trait References {

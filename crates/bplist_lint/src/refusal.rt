@@ -3,15 +3,12 @@
 ghost use Rattle.std.specs.Prelude.{◌≡◌};
 ghost use Rattle.bplist_objects.specs.declared.fault.ObjectFault.{ObjectFault as object_fault};
 ghost use Rattle.bplist_cert.specs.declared.refusal.Refusal.{Refusal as cert_refusal};
-ghost use Rattle.bplist_lint.specs.declared.references.WalkFault.{WalkFault as walk_fault};
 ghost use Rattle.bplist_lint.specs.declared.refusal.LintRefusal.TheVariants.{Fault as is_fault};
-ghost use Rattle.bplist_keys.specs.declared.fault.KeysFault.{KeysFault as keys_fault};
-ghost use Rattle.bplist_lint.specs.Refusals.{of_object, of_walk, of_keys, of_check};
+ghost use Rattle.bplist_lint.specs.Refusals.{of_object, of_failure, of_check};
 
 use crate::object_nos::ObjectNos;
-use crate::references::WalkFault;
 use bplist_cert::Refusal;
-use bplist_keys::KeysFault;
+use bplist_keys::Failure;
 use bplist_objects::{Fault, ObjectFault};
 use bplist_octets::ReadFault;
 
@@ -47,24 +44,13 @@ impl From<ObjectFault> for LintRefusal {
     }
 }
 
-impl From<WalkFault> for LintRefusal {
-    ghost from_gives = { λ fault e. e ≡ of_walk fault };
+impl From<Failure> for LintRefusal {
+    ghost from_gives = { λ fault e. e ≡ of_failure fault };
 
-    fn from(fault: WalkFault) -> LintRefusal {
+    fn from(fault: Failure) -> LintRefusal {
         match fault {
-            WalkFault::Read(error) => LintRefusal::Read(error),
-            WalkFault::Memory => LintRefusal::Memory,
-        }
-    }
-}
-
-impl From<KeysFault> for LintRefusal {
-    ghost from_gives = { λ fault e. e ≡ of_keys fault };
-
-    fn from(fault: KeysFault) -> LintRefusal {
-        match fault {
-            KeysFault::Read(error) => LintRefusal::Read(error),
-            KeysFault::Memory => LintRefusal::Memory,
+            Failure::Read(error) => LintRefusal::Read(error),
+            Failure::Memory => LintRefusal::Memory,
         }
     }
 }

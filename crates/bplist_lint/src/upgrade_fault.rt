@@ -3,12 +3,9 @@
 ghost use Rattle.std.specs.Prelude.{◌≡◌};
 ghost use Rattle.bplist_objects.specs.declared.fault.ObjectFault.{ObjectFault as object_fault};
 ghost use Rattle.bplist_cert.specs.declared.refusal.Refusal.{Refusal as cert_refusal};
-ghost use Rattle.bplist_keys.specs.declared.fault.KeysFault.{KeysFault as keys_fault};
-ghost use Rattle.bplist_lint.specs.declared.references.WalkFault.{WalkFault as walk_fault};
 
-use crate::references::WalkFault;
 use bplist_cert::Refusal;
-use bplist_keys::KeysFault;
+use bplist_keys::Failure;
 use bplist_objects::ObjectFault;
 use bplist_octets::ReadFault;
 use std::alloc::{AllocError, AllocFailed};
@@ -51,28 +48,15 @@ impl From<Refusal> for UpgradeFault {
     }
 }
 
-impl From<WalkFault> for UpgradeFault {
-    ghost use Rattle.bplist_lint.specs.Upgrades.{of_walk};
+impl From<Failure> for UpgradeFault {
+    ghost use Rattle.bplist_lint.specs.Upgrades.{of_failure};
 
-    ghost from_gives = { λ fault e. e ≡ of_walk fault };
+    ghost from_gives = { λ fault e. e ≡ of_failure fault };
 
-    fn from(fault: WalkFault) -> UpgradeFault {
+    fn from(fault: Failure) -> UpgradeFault {
         match fault {
-            WalkFault::Read(error) => UpgradeFault::Read(error),
-            WalkFault::Memory => UpgradeFault::Memory,
-        }
-    }
-}
-
-impl From<KeysFault> for UpgradeFault {
-    ghost use Rattle.bplist_lint.specs.Upgrades.{of_keys};
-
-    ghost from_gives = { λ fault e. e ≡ of_keys fault };
-
-    fn from(fault: KeysFault) -> UpgradeFault {
-        match fault {
-            KeysFault::Read(error) => UpgradeFault::Read(error),
-            KeysFault::Memory => UpgradeFault::Memory,
+            Failure::Read(error) => UpgradeFault::Read(error),
+            Failure::Memory => UpgradeFault::Memory,
         }
     }
 }

@@ -10,15 +10,14 @@ ghost use Rattle.bplist_objects.specs.Scan.{AreBelow};
 ghost use Rattle.bplist_objects.specs.declared.kind.Kind.TheVariants.{Dict};
 ghost use Rattle.bplist_keys.specs.Classes.{key_ref};
 ghost use Rattle.bplist_keys.specs.Texts.{AreOffsets};
-ghost use Rattle.bplist_lint.specs.Answers.{walk_failed};
+ghost use Rattle.bplist_keys.specs.Failures.{failed_to_read};
 ghost use Rattle.bplist_lint.specs.Reaching.{IsMarked};
 ghost use Rattle.bplist_lint.specs.Tallies.{IsRoomy};
 ghost use Rattle.bplist_lint.specs.Walks.{IsSteady, IsSteadyWalk, Noted, Walking, Fits, IsWalked, AreNamed, of_object, stop_failed};
 ghost use Rattle.bplist_lint.specs.declared.walk.Stop.TheVariants.{Read as is_read, Memory as is_memory};
 
-use crate::references::WalkFault;
 use crate::tally::Tally;
-use bplist_keys::NamedKeys;
+use bplist_keys::{Failure, NamedKeys};
 use bplist_objects::{
     Frame, Head, Kind, ObjectFault, ObjectNo, check_body, read_refs, refs_of, shape_at,
 };
@@ -319,12 +318,12 @@ pub fn walk<S: Source>(
     src: &mut S,
     frame: &Frame,
     places: &[u32],
-) -> Result<Option<(Reached, NamedKeys)>, WalkFault>
+) -> Result<Option<(Reached, NamedKeys)>, Failure>
     requires frame { IsSafeFrame (length (S.means src.old).octets) frame.now }
     requires places { length places.now ≡ frame.now.objects }
     requires framed { IsTrue (S.means src.old).honest → IsFrame (S.means src.old).octets frame.now }
     requires placed { IsTrue (S.means src.old).honest → AreOffsets (S.means src.old).octets frame.now places.now }
-    ensures reads { OnlyReads (walk_failed result) (S.means src.old) (S.means src.new) }
+    ensures reads { OnlyReads (failed_to_read result) (S.means src.old) (S.means src.new) }
     ensures fits { IfOk result (λ found. IfSome found (λ known. Fits frame.now known.0)) }
     ensures all_named { IfOk result (λ found. IfSome found (λ known. length known.1.table.items ≡ frame.now.objects)) }
     ensures exact { IsTrue (S.means src.old).honest → IfOk result (λ found. IfSome found
@@ -343,7 +342,7 @@ pub fn walk<S: Source>(
     match visited {
         Ok(()) => Ok(Some((Reached { marks, bare, tally }, named))),
         Err(Stop::Trouble) => Ok(None),
-        Err(Stop::Read(error)) => Err(WalkFault::Read(error)),
-        Err(Stop::Memory) => Err(WalkFault::Memory),
+        Err(Stop::Read(error)) => Err(Failure::Read(error)),
+        Err(Stop::Memory) => Err(Failure::Memory),
     }
 }

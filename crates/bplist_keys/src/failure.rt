@@ -1,0 +1,40 @@
+//! Why a call gives no answer that no rule decides.
+
+ghost use Rattle.std.specs.Prelude.{◌≡◌};
+ghost use Rattle.bplist_keys.specs.declared.failure.Failure.TheVariants.{Read, Memory};
+
+use bplist_octets::ReadFault;
+use std::alloc::{AllocError, AllocFailed};
+
+/// Why a call over a file ended without its answer, whatever the file says.
+#[derive(Clone, Copy, Debug, PartialEq, Eq, Drop)]
+pub enum Failure {
+    /// A read failed.
+    Read(ReadFault),
+    /// Memory was refused.
+    Memory,
+}
+
+impl From<ReadFault> for Failure {
+    ghost from_gives = { λ error e. e ≡ Read error };
+
+    fn from(error: ReadFault) -> Failure {
+        Failure::Read(error)
+    }
+}
+
+impl<T: Drop> From<AllocFailed<T>> for Failure {
+    ghost from_gives = { λ _ e. e ≡ Memory };
+
+    fn from(_refused: AllocFailed<T>) -> Failure {
+        Failure::Memory
+    }
+}
+
+impl From<AllocError> for Failure {
+    ghost from_gives = { λ _ e. e ≡ Memory };
+
+    fn from(_refused: AllocError) -> Failure {
+        Failure::Memory
+    }
+}
