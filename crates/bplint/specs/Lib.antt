@@ -1,3 +1,4 @@
 pub mod Endings
+pub mod FileNames
 pub mod Inputs
 pub mod Lines
