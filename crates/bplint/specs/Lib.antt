@@ -1,3 +1,5 @@
 pub mod Endings
+pub mod FileNames
 pub mod Inputs
 pub mod Lines
+pub mod Usage

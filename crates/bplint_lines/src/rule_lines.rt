@@ -1,15 +1,16 @@
 //! Rules in plain words: of a fault, and by their words.
-ghost use Rattle.std.specs.Prelude.{◌≡◌, IfOk, IfSome, string_bytes};
+ghost use Rattle.std.specs.Prelude.{◌≡◌, IfOk, MatchOption, string_bytes};
 ghost use Rattle.bplist_objects.specs.Words.{word_of};
+ghost use Rattle.bplist_objects.specs.declared.rule.Rule.{Rule};
 ghost use Rattle.bplint_lines.specs.Explanation.{rule_line, rule_page};
 
 use crate::rule_texts::{breach_of, demand_of};
 use bplist_objects::{Rule, rule_name, rule_number, rule_of_number};
 use std::alloc::{AllocError, Global};
 
-/// The rule of a word, as fault lines have it.
+/// The rule of a word, as fault lines have it, if there is one.
 pub fn rule_of_word(word: &str) -> Option<Rule>
-    ensures { IfSome result (λ rule. word_of rule ≡ word.now) }
+    ensures { MatchOption result ((rule : Rule) → ¬ (word_of rule ≡ word.now)) (λ rule. word_of rule ≡ word.now) }
 {
     for number in 1..u32::MAX {
         let rule = rule_of_number(number)?;
