@@ -2,3 +2,4 @@ pub mod Endings
 pub mod FileNames
 pub mod Inputs
 pub mod Lines
+pub mod Usage

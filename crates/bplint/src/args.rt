@@ -1,6 +1,7 @@
 //! The command line, by `clap`.
 ghost use Rattle.std.specs.Prelude.{◌≡◌, ◌≢◌, ◌≤◌, ◌<◌, ◌∷◌, [], IfOk, codes, false, length, map, string_bytes, true};
 ghost use Rattle.bplint.specs.Lines.{ExplainsWord, IsFlag, IsLimit, IsLineOf, IsShownBy, RunsOnePath, paths_in, shown_in, text_in, texts_in, verb_named};
+ghost use Rattle.bplint.specs.Usage.{IsLineIn};
 ghost use Rattle.std.specs.Str.{bytes_eq};
 ghost use Rattle.bplint_engine.specs.Commands.{PrintsOnePath};
 
@@ -255,7 +256,8 @@ fn spare_path(alloc: Global) -> Result<Error, AllocError> {
 
 /// Takes a command line, or says why not in `clap`'s words.
 pub fn read_line<'a>(alloc: Global, words: &'a [String]) -> Result<Line<'a>, Error>
-    ensures { IfOk result RunsOnePath }
+    ensures named { IfOk result (IsLineIn (map (λ word. string_bytes word) words.entry.now)) }
+    ensures one_path { IfOk result RunsOnePath }
 {
     let matches = bplint(alloc)?.try_get_matches_from(words)?;
     let Some((name, below)) = matches.subcommand() else {

@@ -2,6 +2,11 @@
 //!
 //! Each argument is made by a function of its own: many of them in one function take minutes to check.
 
+ghost use Rattle.std.specs.Prelude.{◌≡◌, ◌∷◌, [], IfOk, codes};
+ghost use Rattle.bplint.specs.Usage.{IsArg, IsSubcommand, flag, operands};
+ghost use Rattle.bplint.specs.Usage as usage;
+ghost use Rattle.clap.specs.Words.{app_of};
+
 use clap::{Arg, ArgAction, Command, value_parser};
 use std::alloc::{AllocError, Global};
 
@@ -61,18 +66,24 @@ const HELP: &str = "Example: bplint lint Info.plist
 Exit status: 0 yes, 1 no, 2 a wrong command line or path, 3 a failed read or write, 4 no memory.
 The rules: man bplint, or docs/RULES.md.";
 
-fn hex<'a>(alloc: Global) -> Arg<'a> {
+fn hex<'a>(alloc: Global) -> Arg<'a>
+    ensures { IsArg (flag (codes "hex")) result }
+{
     Arg::new(alloc, "hex")
         .long("hex")
         .action(ArgAction::SetTrue)
         .help("FILE and CERT hold hexadecimal text, and OUT will")
 }
 
-fn operand<'a>(alloc: Global, name: &'a str, help: &'a str) -> Arg<'a> {
+fn operand<'a>(alloc: Global, name: &'a str, help: &'a str) -> Arg<'a>
+    ensures { IsArg (usage.operand name.entry.now) result }
+{
     Arg::new(alloc, name).required(true).help(help)
 }
 
-fn file<'a>(alloc: Global) -> Arg<'a> {
+fn file<'a>(alloc: Global) -> Arg<'a>
+    ensures { IsArg (usage.operand (codes "FILE")) result }
+{
     operand(
         alloc,
         "FILE",
@@ -80,44 +91,60 @@ fn file<'a>(alloc: Global) -> Arg<'a> {
     )
 }
 
-fn files<'a>(alloc: Global) -> Arg<'a> {
+fn files<'a>(alloc: Global) -> Arg<'a>
+    ensures { IsArg (operands (codes "FILE")) result }
+{
     file(alloc).num_args(1..).action(ArgAction::Append)
 }
 
-fn quiet<'a>(alloc: Global) -> Arg<'a> {
+fn quiet<'a>(alloc: Global) -> Arg<'a>
+    ensures { IsArg (flag (codes "quiet")) result }
+{
     Arg::new(alloc, "quiet")
         .long("quiet")
         .action(ArgAction::SetTrue)
         .help("Print nothing for a file that holds a value")
 }
 
-fn explain_flag<'a>(alloc: Global) -> Arg<'a> {
+fn explain_flag<'a>(alloc: Global) -> Arg<'a>
+    ensures { IsArg (flag (codes "explain")) result }
+{
     Arg::new(alloc, "explain")
         .long("explain")
         .action(ArgAction::SetTrue)
         .help("Say under a fault what its rule asks, and where it is broken")
 }
 
-fn word<'a>(alloc: Global) -> Arg<'a> {
+fn word<'a>(alloc: Global) -> Arg<'a>
+    ensures { IsArg (usage.operand (codes "WORD")) result }
+{
     operand(alloc, "WORD", "The word of a rule, as fault lines have it")
 }
 
-fn out<'a>(alloc: Global) -> Arg<'a> {
+fn out<'a>(alloc: Global) -> Arg<'a>
+    ensures { IsArg (usage.operand (codes "OUT")) result }
+{
     operand(alloc, "OUT", "Where to write, or - for standard output")
 }
 
-fn sorted<'a>(alloc: Global) -> Arg<'a> {
+fn sorted<'a>(alloc: Global) -> Arg<'a>
+    ensures { IsArg (flag (codes "sorted")) result }
+{
     Arg::new(alloc, "sorted")
         .long("sorted")
         .action(ArgAction::SetTrue)
         .help("Write each dictionary's keys in sorted order too")
 }
 
-fn cert<'a>(alloc: Global) -> Arg<'a> {
+fn cert<'a>(alloc: Global) -> Arg<'a>
+    ensures { IsArg (usage.operand (codes "CERT")) result }
+{
     operand(alloc, "CERT", "A certificate of FILE")
 }
 
-fn path<'a>(alloc: Global) -> Arg<'a> {
+fn path<'a>(alloc: Global) -> Arg<'a>
+    ensures { IsArg (usage.operand (codes "PATH")) result }
+{
     operand(
         alloc,
         "PATH",
@@ -125,11 +152,15 @@ fn path<'a>(alloc: Global) -> Arg<'a> {
     )
 }
 
-fn paths<'a>(alloc: Global) -> Arg<'a> {
+fn paths<'a>(alloc: Global) -> Arg<'a>
+    ensures { IsArg (operands (codes "PATH")) result }
+{
     path(alloc).num_args(1..).action(ArgAction::Append)
 }
 
-fn limit<'a>(alloc: Global) -> Arg<'a> {
+fn limit<'a>(alloc: Global) -> Arg<'a>
+    ensures { IsArg usage.limit result }
+{
     operand(
         alloc,
         "LIMIT",
@@ -138,14 +169,18 @@ fn limit<'a>(alloc: Global) -> Arg<'a> {
     .value_parser(value_parser!(u64))
 }
 
-fn text<'a>(alloc: Global) -> Arg<'a> {
+fn text<'a>(alloc: Global) -> Arg<'a>
+    ensures { IsArg (flag (codes "text")) result }
+{
     Arg::new(alloc, "text")
         .long("text")
         .action(ArgAction::SetTrue)
         .help("Print the value under one PATH as old-style text")
 }
 
-fn text_limit<'a>(alloc: Global) -> Result<Arg<'a>, AllocError> {
+fn text_limit<'a>(alloc: Global) -> Result<Arg<'a>, AllocError>
+    ensures { IfOk result (IsArg usage.text_limit) }
+{
     Arg::new(alloc, "LIMIT")
         .long("limit")
         .default_value("1048576")
@@ -159,14 +194,18 @@ fn subcommand<'a>(
     name: &'a str,
     about: &'a str,
     help: &'a str,
-) -> Result<Command<'a>, AllocError> {
+) -> Result<Command<'a>, AllocError>
+    ensures { IfOk result (IsSubcommand (usage.subcommand name.entry.now (flag (codes "hex") ∷ []))) }
+{
     Command::new(alloc, name)
         .about(about)
         .after_help(help)
         .arg(hex(alloc))
 }
 
-fn lint<'a>(alloc: Global) -> Result<Command<'a>, AllocError> {
+fn lint<'a>(alloc: Global) -> Result<Command<'a>, AllocError>
+    ensures { IfOk result (IsSubcommand usage.lint_shape) }
+{
     let about = "Says whether each FILE holds a value";
     subcommand(alloc, "lint", about, LINT_HELP)?
         .arg(quiet(alloc))?
@@ -174,7 +213,9 @@ fn lint<'a>(alloc: Global) -> Result<Command<'a>, AllocError> {
         .arg(files(alloc))
 }
 
-fn certify<'a>(alloc: Global) -> Result<Command<'a>, AllocError> {
+fn certify<'a>(alloc: Global) -> Result<Command<'a>, AllocError>
+    ensures { IfOk result (IsSubcommand usage.certify_shape) }
+{
     let about = "Writes a certificate of FILE to OUT";
     subcommand(alloc, "certify", about, CERTIFY_HELP)?
         .arg(file(alloc))?
@@ -182,7 +223,9 @@ fn certify<'a>(alloc: Global) -> Result<Command<'a>, AllocError> {
         .arg(out(alloc))
 }
 
-fn check<'a>(alloc: Global) -> Result<Command<'a>, AllocError> {
+fn check<'a>(alloc: Global) -> Result<Command<'a>, AllocError>
+    ensures { IfOk result (IsSubcommand usage.check_shape) }
+{
     let about = "Checks a certificate of FILE";
     subcommand(alloc, "check", about, CHECK_HELP)?
         .arg(explain_flag(alloc))?
@@ -190,7 +233,9 @@ fn check<'a>(alloc: Global) -> Result<Command<'a>, AllocError> {
         .arg(cert(alloc))
 }
 
-fn get<'a>(alloc: Global) -> Result<Command<'a>, AllocError> {
+fn get<'a>(alloc: Global) -> Result<Command<'a>, AllocError>
+    ensures { IfOk result (IsSubcommand usage.get_shape) }
+{
     let about = "Prints what lies under each PATH, by a certificate";
     subcommand(alloc, "get", about, GET_HELP)?
         .arg(file(alloc))?
@@ -198,7 +243,9 @@ fn get<'a>(alloc: Global) -> Result<Command<'a>, AllocError> {
         .arg(paths(alloc))
 }
 
-fn print<'a>(alloc: Global) -> Result<Command<'a>, AllocError> {
+fn print<'a>(alloc: Global) -> Result<Command<'a>, AllocError>
+    ensures { IfOk result (IsSubcommand usage.print_shape) }
+{
     let about = "Prints the value under PATH as old-style text, by a certificate";
     subcommand(alloc, "print", about, PRINT_HELP)?
         .arg(file(alloc))?
@@ -207,7 +254,9 @@ fn print<'a>(alloc: Global) -> Result<Command<'a>, AllocError> {
         .arg(limit(alloc))
 }
 
-fn show<'a>(alloc: Global) -> Result<Command<'a>, AllocError> {
+fn show<'a>(alloc: Global) -> Result<Command<'a>, AllocError>
+    ensures { IfOk result (IsSubcommand usage.show_shape) }
+{
     let about = "Prints what lies under each PATH, or the whole";
     subcommand(alloc, "show", about, SHOW_HELP)?
         .arg(text(alloc))?
@@ -216,32 +265,47 @@ fn show<'a>(alloc: Global) -> Result<Command<'a>, AllocError> {
         .arg(paths(alloc).required(false))
 }
 
-fn ls<'a>(alloc: Global) -> Result<Command<'a>, AllocError> {
+fn ls<'a>(alloc: Global) -> Result<Command<'a>, AllocError>
+    ensures { IfOk result (IsSubcommand usage.ls_shape) }
+{
     let about = "Lists the members of the value under PATH, or of the whole";
     subcommand(alloc, "ls", about, LS_HELP)?
         .arg(file(alloc))?
         .arg(path(alloc).required(false))
 }
 
-fn map<'a>(alloc: Global) -> Result<Command<'a>, AllocError> {
+fn map<'a>(alloc: Global) -> Result<Command<'a>, AllocError>
+    ensures { IfOk result (IsSubcommand usage.map_shape) }
+{
     let about = "Lists objects, gaps and overlaps of FILE in byte order";
     subcommand(alloc, "map", about, MAP_HELP)?.arg(file(alloc))
 }
 
-fn explain<'a>(alloc: Global) -> Result<Command<'a>, AllocError> {
+fn explain<'a>(alloc: Global) -> Result<Command<'a>, AllocError>
+    ensures { IfOk result (IsSubcommand usage.explain_shape) }
+{
     Command::new(alloc, "explain")
         .about("Says what the rule of WORD asks")
         .after_help(EXPLAIN_HELP)
         .arg(word(alloc))
 }
 
-/// The command line of the program.
-pub fn bplint<'a>(alloc: Global) -> Result<Command<'a>, AllocError> {
+/// The command of the program, without its subcommands.
+fn bare<'a>(alloc: Global) -> Command<'a>
+    ensures { app_of result ≡ usage.bare }
+{
     Command::new(alloc, "bplint")
         .about("Lints, checks and reads binary property lists")
         .version("0.2.0")
         .after_help(HELP)
         .subcommand_required(true)
+}
+
+/// The command line of the program.
+pub fn bplint<'a>(alloc: Global) -> Result<Command<'a>, AllocError>
+    ensures { IfOk result (λ command. app_of command ≡ usage.usage) }
+{
+    bare(alloc)
         .subcommand(lint(alloc)?)?
         .subcommand(show(alloc)?)?
         .subcommand(ls(alloc)?)?
