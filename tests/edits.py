@@ -133,14 +133,20 @@ def rounds(edits):
 
 
 def turned(edits, folder):
-    """The texts of the files that the edits change."""
-    texts = {}
+    """The texts of the files that the edits change. Each finds its place in the text as it is, whatever the others write."""
+    places = {}
     for edit in edits:
         for file, old, new in edit.pairs:
-            text = texts.get(file) or (folder / file).read_text()
+            text = (folder / file).read_text()
             if text.count(old) != 1:
                 raise ValueError(f"{edit.name}: its old text is in {file} {text.count(old)} times")
-            texts[file] = text.replace(old, new)
+            places.setdefault(file, []).append((text.index(old), old, new))
+    texts = {}
+    for file, changes in places.items():
+        text = (folder / file).read_text()
+        for at, old, new in sorted(changes, reverse=True):
+            text = text[:at] + new + text[at + len(old) :]
+        texts[file] = text
     return texts
 
 
