@@ -253,8 +253,8 @@ def main(words):
     crates = [it for it in rt.rtlib.crates_below(str(ROOT)) if (EDITS / it.name).is_dir() and words[:1] in ([], [it.name])]
     if not crates:
         sys.exit(__doc__)
-    # The largest first, so that none of them is left for the end.
-    crates.sort(key=lambda it: -rt.need(it))
+    # The uppermost first: they load most and take longest, so none of them is left for the end.
+    crates.reverse()
     jobs = 1 if is_table else at_once()
     with concurrent.futures.ThreadPoolExecutor(jobs) as pool:
         try:
