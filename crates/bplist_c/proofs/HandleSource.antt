@@ -1,26 +1,27 @@
 -- What the checked file of a handle says, the handle says.
 use Rattle.std.proofs.Common.{arith, ◌≡◌, ◌<◌, ◌∙◌, ℕ, List, length, Some, Result, Err, ap, inl, inr, subst, sym}
+use denote.Ref.{Bor}
 use Rattle.bplist_cert.specs.CheckedFile.{CheckedFile}
 use Rattle.bplist_c.specs.declared.handle.BplistHandle.{BplistHandle}
 use Rattle.bplist_c.specs.declared.session.Session.{Session}
 use Rattle.bplist_c.specs.declared.status.Status.{Status}
 use Rattle.bplist_c.specs.Sessions.{IsRefused, OnHandle, checked_of}
 
-module _ {X : Type 0} (f : List ℕ) (handle : BplistHandle) (Says : CheckedFile → Result X Status → Type 0) where
+module _ {X : Type 0} (file : Bor (List ℕ)) (handle : BplistHandle) (Says : CheckedFile → Result X Status → Type 0) where
   -- the handle lent its checked file
-  pub on_lent : (s : Session) (checked : CheckedFile) (answer : Result X Status) → 0 < handle.length → handle.length ≡ length f
-      → handle.held.value ≡ Some s → checked ≡ checked_of f s → Says checked answer → OnHandle f handle Says answer
+  pub on_lent : (s : Session) (checked : CheckedFile) (answer : Result X Status) → 0 < handle.length → handle.length ≡ length file.now
+      → handle.held.value ≡ Some s → checked ≡ checked_of file s → Says checked answer → OnHandle file handle Says answer
   on_lent s checked answer some same value is said = record {
     closed = λ e. absurd (omega (arith, some, e));
     other = λ a b. absurd (b same);
     opened = λ a b t has.
         let both : Some s ≡ Some t = sym value ∙ has in
         let e : s ≡ t = cc in
-        subst (λ (x : Session). Says (checked_of f x) answer) e (subst (λ (x : CheckedFile). Says x answer) is said);
+        subst (λ (x : Session). Says (checked_of file x) answer) e (subst (λ (x : CheckedFile). Says x answer) is said);
   }
 
   -- the handle lent nothing
-  pub on_refused : (why : Status) → IsRefused f handle why → OnHandle f handle Says (Err why)
+  pub on_refused : (why : Status) → IsRefused file.now handle why → OnHandle file handle Says (Err why)
   on_refused why refused = elim refused [
     | inl r ↦ record { closed = λ e. ap Err r.1; other = λ a b. absurd (a r.0); opened = λ a b t has. absurd (a r.0) }
     | inr r ↦ record { closed = λ e. absurd (r.0 e); other = λ a b. ap Err r.2; opened = λ a b t has. absurd (r.1 b) }

@@ -1,7 +1,9 @@
 -- A checked file with the key lists that its certificate was upgraded to.
-use Rattle.std.proofs.Common.{◌≡◌, ◌∙◌, List, [], ℕ, length, Option, Some, None, IsSome, IsTrue, true, ap, refl, sym, subst}
+use Rattle.std.proofs.Common.{◌≡◌, ◌∙◌, List, ℕ, length, Option, Some, None, IsSome, IsTrue, ap, refl, sym, subst}
 use Rattle.std.proofs.lemmas.Grind.{not_there}
 use Rattle.std.proofs.Math.Logic.{∥∥₁_map}
+use denote.Ref.{Bor}
+use Rattle.bplist_octets.specs.Slices.{source_over}
 use Rattle.bplist_objects.specs.declared.frame.Frame.{Frame}
 use Rattle.bplist_cert.specs.CheckedFile.{CheckedFile, IsChecked}
 use Rattle.bplist_cert.specs.Lists.{Keyed, Lists}
@@ -12,14 +14,24 @@ stable_some : (keys : Option Keyed) → ((IsSome keys → ⊥) → ⊥) → IsSo
 stable_some None h = absurd (h (λ e. cc e))
 stable_some (Some keyed) h = refl
 
+-- what is checked is so wherever its bytes stand
+pub anywhere : (checked : CheckedFile) → IsChecked checked → IsTrue checked.source.honest → (file : Bor (List ℕ)) → file.now ≡ checked.source.octets
+    → IsChecked (record { source = source_over file; frame = checked.frame; certificate = checked.certificate })
+anywhere checked is honest file e = record {
+  safe = rw e is.safe;
+  count = is.count;
+  framed = λ _. rw e (is.framed honest);
+  accepted = λ _. rw e (is.accepted honest);
+}
+
 module _ (checked : CheckedFile) (certificate : Lists) (upgraded : ∥ IsUpgraded checked.source.octets checked.frame checked.certificate.heights certificate ∥₁) where
   pub has_keys : IsSome certificate.keys
   has_keys = stable_some certificate.keys (λ bad. not_there upgraded (λ u. bad (subst IsSome (sym u.keys) refl)))
 
-  pub keyed_checked : (f : List ℕ) (F : Frame) → IsChecked checked → IsTrue checked.source.honest → f ≡ checked.source.octets → F ≡ checked.frame
+  pub keyed_checked : (file : Bor (List ℕ)) (F : Frame) → IsChecked checked → IsTrue checked.source.honest → file.now ≡ checked.source.octets → F ≡ checked.frame
       → certificate.heights ≡ checked.certificate.heights
-      → IsChecked (record { source = record { octets = f; honest = true; failures = 0; beside = [] }; frame = F; certificate = certificate })
-  keyed_checked f F is honest e d same = record {
+      → IsChecked (record { source = source_over file; frame = F; certificate = certificate })
+  keyed_checked file F is honest e d same = record {
     safe = rw (e, d) is.safe;
     count = ap length same ∙ is.count ∙ ap (λ (G : Frame). G.objects) (sym d);
     framed = λ h. rw (e, d) (is.framed honest);

@@ -1,6 +1,8 @@
 -- What opening a file answers. Source: profile.
 use Rattle.std.specs.Prelude.{◌≡◌, ◌≢◌, ◌⊎◌, ℕ, List, [], length, slice_index, Bool, true, IsTrue, IsSome, Some, Result, Ok, Err, Vec}
 use Rattle.std.specs.Global.{Global}
+use denote.Ref.{Bor}
+use Rattle.bplist_octets.specs.Slices.{source_over}
 use Rattle.bplist_objects.specs.declared.fault.Fault.{Fault}
 use Rattle.bplist_objects.specs.declared.frame.Frame.{Frame}
 use Rattle.bplist_objects.specs.declared.head.Head.{Head}
@@ -29,9 +31,8 @@ abbrev pub IsAcceptedFor : List ℕ → Lists → Type 0
 IsAcceptedFor f certificate = (F : Frame) × IsFrame f F × IsAccepted f F certificate
 
 -- the checked file is of these bytes and that certificate
-abbrev pub IsCheckedFor : List ℕ → Lists → CheckedFile → Type 0
-IsCheckedFor f certificate checked =
-    (checked.source ≡ record { octets = f; honest = true; failures = 0; beside = [] }) × (checked.certificate ≡ certificate)
+abbrev pub IsCheckedFor : Bor (List ℕ) → Lists → CheckedFile → Type 0
+IsCheckedFor file certificate checked = (checked.source ≡ source_over file) × (checked.certificate ≡ certificate)
 
 -- the session is of these bytes and heights, with key lists if they are asked for
 pub record IsKept (f : List ℕ) (certificate : Lists) (sorted : Bool) (s : Session) : Type 0 where
@@ -53,10 +54,10 @@ LintOpens f sorted (Ok lint) handle verdict status =
 LintOpens f sorted (Err refusal) handle verdict status = ShowsLint f (Err refusal) verdict status × (handle.length ≡ 0)
 
 -- the checked file is of these bytes and this certificate, and the check has accepted it
-abbrev pub IsPair : List ℕ → List ℕ → CheckedFile → Type 0
-IsPair f octets checked =
+abbrev pub IsPair : Bor (List ℕ) → List ℕ → CheckedFile → Type 0
+IsPair file octets checked =
     IsChecked checked × IsCertificate checked.certificate × (octets ≡ octets_of checked.certificate)
-    × (checked.source ≡ record { octets = f; honest = true; failures = 0; beside = [] })
+    × (checked.source ≡ source_over file)
 
 -- the first broken rule of certificate and file, or refused memory
 abbrev pub IsPairRefusal : List ℕ → List ℕ → CertRefusal → Type 0
@@ -78,11 +79,11 @@ ShowsPair checked verdict =
     }) 0 0
 
 -- file and certificate are opened, or their first fault told, or memory was refused
-abbrev pub PairOpens : List ℕ → List ℕ → Bool → BplistHandle → BplistVerdict → ℕ → Type 0
-PairOpens f octets sorted handle verdict status =
-    ((checked : CheckedFile) × IsPair f octets checked
-    × ((shown : BplistVerdict) × ShowsPair checked shown × IsOpened f checked.certificate sorted handle shown verdict status))
-    ⊎ ((fault : Fault) × IsPairRefusal f octets (refusals.Fault fault) × (verdict ≡ fault_verdict fault) × (status ≡ 1) × (handle.length ≡ 0))
+abbrev pub PairOpens : Bor (List ℕ) → List ℕ → Bool → BplistHandle → BplistVerdict → ℕ → Type 0
+PairOpens file octets sorted handle verdict status =
+    ((checked : CheckedFile) × IsPair file octets checked
+    × ((shown : BplistVerdict) × ShowsPair checked shown × IsOpened file.now checked.certificate sorted handle shown verdict status))
+    ⊎ ((fault : Fault) × IsPairRefusal file.now octets (refusals.Fault fault) × (verdict ≡ fault_verdict fault) × (status ≡ 1) × (handle.length ≡ 0))
     ⊎ ((verdict ≡ no_verdict) × (status ≡ 2) × (handle.length ≡ 0))
 
 -- the bytes of the handle's certificate, or refused memory, or that it is closed

@@ -1,18 +1,20 @@
 -- What a handle says of a file. Source: profile.
 use Rattle.std.specs.Prelude.{◌≡◌, ◌≢◌, ◌⊎◌, ℕ, List, [], length, true, Some, IfSome, Result, Err}
+use denote.Ref.{Bor}
+use Rattle.bplist_octets.specs.Slices.{source_over}
 use Rattle.bplist_cert.specs.CheckedFile.{CheckedFile, IsChecked}
 use Rattle.bplist_c.specs.declared.session.Session.{Session}
 use Rattle.bplist_c.specs.declared.handle.BplistHandle.{BplistHandle}
 use Rattle.bplist_c.specs.declared.status.Status.{Status}
 use Rattle.bplist_c.specs.declared.status.Status.TheVariants as statuses
 
--- the checked file of these bytes and that session
-abbrev pub checked_of : List ℕ → Session → CheckedFile
-checked_of f s = record { source = record { octets = f; honest = true; failures = 0; beside = [] }; frame = s.frame; certificate = s.certificate }
+-- the checked file of this slice and that session
+abbrev pub checked_of : Bor (List ℕ) → Session → CheckedFile
+checked_of file s = record { source = source_over file; frame = s.frame; certificate = s.certificate }
 
--- the session is one of a file with these bytes
+-- the session is one of a file with these bytes, wherever they stand
 abbrev pub IsSessionOf : List ℕ → Session → Type 0
-IsSessionOf f s = IsChecked (checked_of f s)
+IsSessionOf f s = IsChecked (checked_of (record { ref_ptr = (0, 0); now = f }) s)
 
 -- the handle is closed, or of a file of another length, or of these bytes
 abbrev pub IsFileOf : List ℕ → BplistHandle → Type 0
@@ -28,7 +30,7 @@ IsRefused f handle why =
     ((handle.length ≡ 0) × (why ≡ statuses.Closed)) ⊎ ((handle.length ≢ 0) × (handle.length ≢ length f) × (why ≡ statuses.OtherFile))
 
 -- a call on a handle is refused, or answers of the file that was opened
-pub record OnHandle {X : Type 0} (f : List ℕ) (handle : BplistHandle) (Says : CheckedFile → Result X Status → Type 0) (answer : Result X Status) : Type 0 where
+pub record OnHandle {X : Type 0} (file : Bor (List ℕ)) (handle : BplistHandle) (Says : CheckedFile → Result X Status → Type 0) (answer : Result X Status) : Type 0 where
   pub closed : handle.length ≡ 0 → answer ≡ Err statuses.Closed
-  pub other : handle.length ≢ 0 → handle.length ≢ length f → answer ≡ Err statuses.OtherFile
-  pub opened : handle.length ≢ 0 → handle.length ≡ length f → (s : Session) → handle.held.value ≡ Some s → Says (checked_of f s) answer
+  pub other : handle.length ≢ 0 → handle.length ≢ length file.now → answer ≡ Err statuses.OtherFile
+  pub opened : handle.length ≢ 0 → handle.length ≡ length file.now → (s : Session) → handle.held.value ≡ Some s → Says (checked_of file s) answer

@@ -116,7 +116,7 @@ pub extern "C" fn bplist_find(
     requires same { IsFileOf file.now handle.old }
     ensures kept { IsSame handle.old handle.new }
     ensures exact { (answer : Result lead status) × TellsLead answer out.old out.new result
-        × OnHandle file.now handle.old (λ checked. FindSays checked path.now) answer }
+        × OnHandle file.entry handle.old (λ checked. FindSays checked path.now) answer }
 {
     let answer = match lend(alloc, handle, file) {
         Ok(lent) => {
@@ -172,7 +172,7 @@ pub extern "C" fn bplist_find_key(
     requires same { IsFileOf file.now handle.old }
     ensures kept { IsSame handle.old handle.new }
     ensures exact { (answer : Result ℕ status) × Tells answer out.old out.new result
-        × OnHandle file.now handle.old (λ checked. StepSays checked object units.now) answer }
+        × OnHandle file.entry handle.old (λ checked. StepSays checked object units.now) answer }
 {
     let answer = match lend(alloc, handle, file) {
         Ok(lent) => {

@@ -28,7 +28,7 @@ pub(crate) fn lend<'a>(
     requires same { IsFileOf file.now handle.old }
     ensures { MatchResult result
         (λ lent. (0 < handle.old.length) × (handle.old.length ≡ length file.now)
-        × ((s : session) × (handle.old.held.value ≡ Some s) × (lent.checked ≡ checked_of file.now s) × (lent.session.value.frame ≡ s.frame)))
+        × ((s : session) × (handle.old.held.value ≡ Some s) × (lent.checked ≡ checked_of file.entry s) × (lent.session.value.frame ≡ s.frame)))
         (λ why. (handle.new ≡ handle.old) × IsRefused file.now handle.old why) }
 {
     if handle.length == 0 {

@@ -250,7 +250,7 @@ pub extern "C" fn bplist_face(
     requires same { IsFileOf file.now handle.old }
     ensures kept { IsSame handle.old handle.new }
     ensures exact { (answer : Result body status) × Tells answer out.old out.new result
-        × OnHandle file.now handle.old (λ checked. FaceSays checked object) answer }
+        × OnHandle file.entry handle.old (λ checked. FaceSays checked object) answer }
 {
     let answer = match lend(alloc, handle, file) {
         Ok(lent) => {
@@ -275,7 +275,7 @@ pub extern "C" fn bplist_int(
     requires same { IsFileOf file.now handle.old }
     ensures kept { IsSame handle.old handle.new }
     ensures exact { (answer : Result number status) × Tells answer out.old out.new result
-        × OnHandle file.now handle.old (λ checked. IntSays checked object) answer }
+        × OnHandle file.entry handle.old (λ checked. IntSays checked object) answer }
 {
     let answer = match lend(alloc, handle, file) {
         Ok(lent) => {
@@ -300,7 +300,7 @@ pub extern "C" fn bplist_uid(
     requires same { IsFileOf file.now handle.old }
     ensures kept { IsSame handle.old handle.new }
     ensures exact { (answer : Result ℕ status) × Tells answer out.old out.new result
-        × OnHandle file.now handle.old (λ checked. UidSays checked object) answer }
+        × OnHandle file.entry handle.old (λ checked. UidSays checked object) answer }
 {
     let answer = match lend(alloc, handle, file) {
         Ok(lent) => {
@@ -326,7 +326,7 @@ pub extern "C" fn bplist_member(
     requires same { IsFileOf file.now handle.old }
     ensures kept { IsSame handle.old handle.new }
     ensures exact { (answer : Result ℕ status) × Tells answer out.old out.new result
-        × OnHandle file.now handle.old (λ checked. MemberSays checked object i) answer }
+        × OnHandle file.entry handle.old (λ checked. MemberSays checked object i) answer }
 {
     let answer = match lend(alloc, handle, file) {
         Ok(lent) => {
@@ -354,7 +354,7 @@ pub extern "C" fn bplist_units(
     requires same { IsFileOf file.now handle.old }
     ensures kept { IsSame handle.old handle.new }
     ensures exact { (answer : Result ℕ status) × Tells answer count.old count.new result
-        × OnHandle file.now handle.old (λ checked. UnitsSay checked object from units.old units.new) answer }
+        × OnHandle file.entry handle.old (λ checked. UnitsSay checked object from units.old units.new) answer }
 {
     let answer = match lend(alloc, handle, file) {
         Ok(lent) => {

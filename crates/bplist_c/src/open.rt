@@ -34,7 +34,7 @@ use std::mem;
 /// The checked file of a certificate that is one of these bytes.
 fn vouched(file: &[u8], certificate: Certificate) -> Checked<SliceSource<'_>>
     requires { IsAcceptedFor file.now certificate }
-    ensures { IsCheckedFor file.now certificate result }
+    ensures { IsCheckedFor file.entry certificate result }
 {
     let mut source = SliceSource::new(file);
     match frame_of(&mut source) {
@@ -149,7 +149,7 @@ fn check_pair<'a>(
     file: &'a [u8],
     certificate: &[u8],
 ) -> Result<Checked<SliceSource<'a>>, CertRefusal>
-    ensures { MatchResult result (IsPair file.now certificate.now) (IsPairRefusal file.now certificate.now) }
+    ensures { MatchResult result (IsPair file.entry certificate.now) (IsPairRefusal file.now certificate.now) }
 {
     let certificate = Certificate::from_octets(alloc, certificate)?;
     match check(alloc, SliceSource::new(file), certificate) {
@@ -200,7 +200,7 @@ pub extern "C" fn bplist_open_certified(
     out: &mut BplistVerdict,
 ) -> u32
     ensures opened { handle.old.length ≢ 0 → IsSame handle.old handle.new × (out.new ≡ no_verdict) × (result ≡ 4) }
-    ensures exact { handle.old.length ≡ 0 → PairOpens file.now certificate.now sorted handle.new out.new result }
+    ensures exact { handle.old.length ≡ 0 → PairOpens file.entry certificate.now sorted handle.new out.new result }
 {
     if handle.length != 0 {
         *out = BplistVerdict::nothing();

@@ -105,7 +105,7 @@ pub extern "C" fn bplist_size(
     requires same { IsFileOf file.now handle.old }
     ensures kept { IsSame handle.old handle.new }
     ensures exact { (answer : Result sizes status) × Tells answer out.old out.new result
-        × OnHandle file.now handle.old (λ checked. SizeSays checked object) answer }
+        × OnHandle file.entry handle.old (λ checked. SizeSays checked object) answer }
 {
     let answer = match lend(alloc, handle, file) {
         Ok(lent) => {

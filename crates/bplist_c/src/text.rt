@@ -133,7 +133,7 @@ pub extern "C" fn bplist_text(
     requires same { IsFileOf file.now handle.old }
     ensures kept { IsSame handle.old handle.new }
     ensures exact { (answer : Result text status) × TellsText answer buffer.old buffer.new out.old out.new result
-        × OnHandle file.now handle.old (λ checked. TextSays checked object (length buffer.old)) answer }
+        × OnHandle file.entry handle.old (λ checked. TextSays checked object (length buffer.old)) answer }
 {
     let room = buffer.len() as u64;
     let answer = match lend(alloc, handle, file) {

@@ -1,6 +1,7 @@
 //! A source with a certificate that the check has accepted.
 
 ghost use Rattle.std.specs.Prelude.{◌≡◌, slice_index, IsTrue};
+ghost use Rattle.bplist_octets.specs.Slices.{StandsAt};
 ghost use Rattle.bplist_cert.specs.CheckedFile.{IsChecked};
 
 use crate::certificate::Certificate;
@@ -102,9 +103,10 @@ impl<S: Source> Checked<S> {
 }
 
 impl<'a> Checked<SliceSource<'a>> {
-    /// The bytes of the file. The source is honest, and no read of it fails.
+    /// The bytes of the file, where they stand. The source is honest, and no read of it fails.
     pub fn octets(&self) -> &'a [u8]
         ensures octets { result.now ≡ self.now.source.octets }
+        ensures place { StandsAt self.now.source 0 result }
         ensures honest { IsTrue self.now.source.honest }
         ensures failures { self.now.source.failures ≡ 0 }
     {

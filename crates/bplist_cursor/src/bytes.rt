@@ -1,8 +1,8 @@
 //! Bodies lent from the caller's own slice.
 
-ghost use Rattle.std.specs.Prelude.{ℕ, List, MatchOption};
+ghost use Rattle.std.specs.Prelude.{ℕ, List, IfSome, MatchOption};
 ghost use Rattle.bplist_cert.specs.Valid.{IsVouchedBy};
-ghost use Rattle.bplist_cursor.specs.Lent.{SpellsBytes};
+ghost use Rattle.bplist_cursor.specs.Lent.{SpellsBytes, StandsAtBody};
 
 use crate::found::Node;
 use bplist_cert::Checked;
@@ -12,11 +12,12 @@ use bplist_octets::SliceSource;
 /// The body of a node's object where it is data or a text of one byte a unit, as a part of the slice that was checked.
 /// None for every other object, and for one that the certificate does not vouch for. Nothing is copied.
 pub fn bytes_of<'a>(checked: &Checked<SliceSource<'a>>, node: Node) -> Option<&'a [u8]>
-    ensures { MatchOption result
+    ensures bytes { MatchOption result
         ((bytes : List ℕ) → IsVouchedBy checked.now.certificate.heights node.object.0
         → SpellsBytes checked.now.source.octets checked.now.frame node.object.0 bytes → ⊥)
         (λ lent. IsVouchedBy checked.now.certificate.heights node.object.0
         × SpellsBytes checked.now.source.octets checked.now.frame node.object.0 lent.now) }
+    ensures place { IfSome result (StandsAtBody checked.now node.object.0) }
 {
     if checked.height(node.object) == 0 {
         return None;

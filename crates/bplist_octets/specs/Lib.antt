@@ -1,4 +1,5 @@
 pub mod Octets
 pub mod Meaning
+pub mod Slices
 pub mod Sources
 pub mod Windows

@@ -1,8 +1,9 @@
 //! A source over a slice.
 
-ghost use Rattle.std.specs.Prelude.{◌≡◌, ◌+◌, ◌≤◌, length, true, [], IsTrue, OnOk, is_err};
+ghost use Rattle.std.specs.Prelude.{◌≡◌, ◌+◌, ◌≤◌, length, IsTrue, OnOk, is_err};
 ghost use Rattle.bplist_octets.specs.Octets.{part};
 ghost use Rattle.bplist_octets.specs.Meaning.{OnlyReads};
+ghost use Rattle.bplist_octets.specs.Slices.{StandsAt, source_over};
 
 use crate::source::{ReadFault, Source};
 
@@ -13,7 +14,7 @@ pub struct SliceSource<'a> {
 }
 
 impl<'a> Source for SliceSource<'a> {
-    ghost means = { λ s. record { octets = s.octets.now; honest = true; failures = 0; beside = [] } };
+    ghost means = { λ s. source_over s.octets };
 
     fn len(&self) -> u64 {
         self.octets.len() as u64
@@ -37,7 +38,8 @@ impl<'a> Source for SliceSource<'a> {
 impl<'a> SliceSource<'a> {
     /// A source over these bytes.
     pub fn new(octets: &'a [u8]) -> SliceSource<'a>
-        ensures { (⟦<SliceSource<'a> as Source>⟧.means result).octets ≡ octets.now }
+        ensures octets { (⟦<SliceSource<'a> as Source>⟧.means result).octets ≡ octets.now }
+        ensures means { ⟦<SliceSource<'a> as Source>⟧.means result ≡ source_over octets.entry }
     {
         SliceSource { octets }
     }
@@ -45,7 +47,8 @@ impl<'a> SliceSource<'a> {
     /// The `n` bytes from place `at` on, which must lie inside the source.
     pub fn borrow(&self, at: u64, n: u64) -> &'a [u8]
         requires { at + n ≤ length (⟦<SliceSource<'a> as Source>⟧.means self.now).octets }
-        ensures { result.now ≡ part (⟦<SliceSource<'a> as Source>⟧.means self.now).octets at n }
+        ensures part { result.now ≡ part (⟦<SliceSource<'a> as Source>⟧.means self.now).octets at n }
+        ensures place { StandsAt (⟦<SliceSource<'a> as Source>⟧.means self.now) at result }
     {
         let start = at as usize;
         &self.octets[start..start + n as usize]

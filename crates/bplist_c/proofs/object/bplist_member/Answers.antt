@@ -8,8 +8,8 @@ returns-clause-exact c = (
   c.match-lend.answer,
   c.tell.ensures,
   elim c.match-lend.branch [
-    | in-Ok w ↦ rw w.answer-is (on_lent c.args.file.now c.args.handle.now (λ checked. MemberSays checked c.args.object c.args.i) w.in-Ok.ensures.2.0 w.in-Ok.lent.checked
+    | in-Ok w ↦ rw w.answer-is (on_lent c.args.file c.args.handle.now (λ checked. MemberSays checked c.args.object c.args.i) w.in-Ok.ensures.2.0 w.in-Ok.lent.checked
         w.member_of-answer.result w.in-Ok.ensures.0 w.in-Ok.ensures.1 w.in-Ok.ensures.2.1 w.in-Ok.ensures.2.2 w.member_of-answer.ensures.exact)
-    | in-Err w ↦ rw w.answer-is (on_refused c.args.file.now c.args.handle.now (λ checked. MemberSays checked c.args.object c.args.i) w.in-Err.status w.in-Err.ensures.1)
+    | in-Err w ↦ rw w.answer-is (on_refused c.args.file c.args.handle.now (λ checked. MemberSays checked c.args.object c.args.i) w.in-Err.status w.in-Err.ensures.1)
   ],
 )

@@ -10,7 +10,7 @@ use Rattle.bplist_c.proofs.object.head_of_object.Goals as goal
 pub returns-in-Ok-clause-exact : goal.returns-in-Ok-clause-exact
 returns-in-Ok-clause-exact c =
     let framed = c.frame-frame.ensures.checked.framed c.octets.ensures.honest in
-    let octets : c.new-source.result.octets.now ≡ c.args.checked.now.source.octets = c.new-source.ensures ∙ c.octets.ensures.octets in
+    let octets : c.new-source.result.octets.now ≡ c.args.checked.now.source.octets = c.new-source.ensures.octets ∙ c.octets.ensures.octets in
     let shaped = rw (c.frame-frame.ensures.frame, octets) at c.in-Ok.ensures.shaped in
     let vouched : IsVouchedBy c.args.checked.now.certificate.heights c.args.object = omega arith in
     head_found c.args.checked.now c.args.object c.in-Ok.head vouched (λ x has. shaped refl framed x has)
@@ -23,7 +23,7 @@ returns-in-Ok-clause-body c =
 pub returns-in-Err-clause-exact : goal.returns-in-Err-clause-exact
 returns-in-Err-clause-exact c =
     let framed = c.frame-frame.ensures.checked.framed c.octets.ensures.honest in
-    let octets : c.new-source.result.octets.now ≡ c.args.checked.now.source.octets = c.new-source.ensures ∙ c.octets.ensures.octets in
+    let octets : c.new-source.result.octets.now ≡ c.args.checked.now.source.octets = c.new-source.ensures.octets ∙ c.octets.ensures.octets in
     let shaped = rw (c.frame-frame.ensures.frame, octets) at c.shape_of.ensures.shaped in
     let sound = slice_never_fails (read_failed c.shape_of.result) c.new-source.result c.shape_of.new.src c.shape_of.ensures.reads in
     let vouched : IsVouchedBy c.args.checked.now.certificate.heights c.args.object = omega arith in

@@ -9,7 +9,7 @@ new-requires c =
     let checked = c.args.checked in
     let source = c.into_parts.ensures.source ∙ c.in-Ok.ensures.source in
     let honest : IsTrue checked.source.honest = sym (ap (λ (m : Meaning). m.honest) source) in
-    keyed_checked checked c.in-Ok.certificate (c.in-Ok.ensures.exact honest) c.into_parts.result.0.octets.now c.frame-frame.result c.frame-frame.ensures.checked honest
+    keyed_checked checked c.in-Ok.certificate (c.in-Ok.ensures.exact honest) c.into_parts.result.0.octets c.frame-frame.result c.frame-frame.ensures.checked honest
     (ap (λ (m : Meaning). m.octets) source) c.frame-frame.ensures.frame c.in-Ok.ensures.heights
 
 pub returns-in-Ok : goal.returns-in-Ok
