@@ -2,9 +2,9 @@
 
 ghost use Rattle.std.specs.Prelude.{◌≡◌, ◌+◌, ◌≤◌, ◌<◌, ℕ, suc, length, slice_index, IfOk, IfErr, IfSome, MatchResult, Some, None, ◌⊎◌};
 ghost use Rattle.bplist_octets.specs.Meaning.{OnlyReads, Honestly};
-ghost use Rattle.bplist_objects.specs.Framed.{HonestlyBy, frame_in, HonestlyIn};
+ghost use Rattle.bplist_objects.specs.Framed.{frame_in, HonestlyIn};
 ghost use Rattle.bplist_objects.specs.Frame.{off};
-ghost use Rattle.bplist_objects.specs.Safe.{IsSafe, IsSafeHead, IsSafeFrame};
+ghost use Rattle.bplist_objects.specs.Safe.{IsSafeHead, IsSafeFrame};
 ghost use Rattle.bplist_objects.specs.Rules.{KeepsAll};
 ghost use Rattle.bplist_objects.specs.Announced.{HasHead};
 ghost use Rattle.bplist_objects.specs.ObjectRules.{KeepsByObject, body_rules};
@@ -253,17 +253,17 @@ fn see_objects<P: Framed>(
 }
 
 /// Looks at the keys of the vouched dictionaries that were seen.
-fn check_keys<S: Source>(
+fn check_keys<P: Framed>(
     alloc: Global,
-    src: &mut S,
+    src: &mut P,
     seen: &Seen,
     keys: &Option<KeyLists>,
 ) -> Result<(), Refusal>
-    requires safe { IsSafe (length (S.means src.old).octets) seen.now.frame }
+    requires all { length seen.now.heights.now ≡ (frame_in (P.means src.old)).objects }
     requires starts { HasStarts seen.now.heights.now keys.now }
-    ensures reads { OnlyReads (refused_read result) (S.means src.old) (S.means src.new) }
+    ensures reads { OnlyReads (refused_read result) (P.means src.old) (P.means src.new) }
     ensures memory { IfErr result (MayRefuse keys.now) }
-    ensures exact { HonestlyBy (S.means src.old) seen.now.frame (λ f F. AreSeen f F seen.now.heights.now seen.now.bound
+    ensures exact { HonestlyIn (P.means src.old) (λ f F. AreSeen f F seen.now.heights.now seen.now.bound
         → Judges (λ _. (n : ℕ) → n < seen.now.bound → IsVouchedBy seen.now.heights.now n → HasGoodKeys f F keys.now n)
         (IsFirstKeysFault f F (lists seen.now.heights.now keys.now) seen.now.bound) result) }
 {
@@ -299,22 +299,20 @@ fn check_objects<P: Framed>(
         Judges (Running f F (lists heights.now keys.now) exact F.objects)
         (IsVouchedFault f F (lists heights.now keys.now)) result) }
 {
-    let frame = src.frame();
+    let objects = src.frame().objects;
     match see_objects(src, heights, keys) {
         Ok(used) => {
             let seen = Seen {
-                frame,
                 heights,
-                bound: frame.objects,
+                bound: objects,
             };
             check_keys(alloc, src, &seen, keys)?;
             Ok(used)
         }
         Err(Refusal::Fault(fault)) => {
             let seen = Seen {
-                frame,
                 heights,
-                bound: object_of(&fault).min(frame.objects),
+                bound: object_of(&fault).min(objects),
             };
             check_keys(alloc, src, &seen, keys)?;
             Err(Refusal::Fault(fault))

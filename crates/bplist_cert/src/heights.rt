@@ -1,14 +1,14 @@
 //! The heights of references: rules 28 and 29.
 
-ghost use Rattle.std.specs.Prelude.{◌≡◌, ◌↔◌, ◌+◌, ◌*◌, ◌<◌, length, slice_index, IsTrue, IfOk, IfSome, MatchOption, is_err};
+ghost use Rattle.std.specs.Prelude.{◌≡◌, ◌↔◌, ◌<◌, length, slice_index, IsTrue, IfOk, IfSome, MatchOption, is_err};
 ghost use Rattle.bplist_octets.specs.Meaning.{OnlyReads};
 ghost use Rattle.bplist_objects.specs.Framed.{frame_in, HonestlyIn};
-ghost use Rattle.bplist_objects.specs.Safe.{IsSafe, IsSafeHead, ref_count};
+ghost use Rattle.bplist_objects.specs.Safe.{IsSafeHead, ref_count};
 ghost use Rattle.bplist_objects.specs.Answers.{Gives, read_failed};
 ghost use Rattle.bplist_cert.specs.Heights.{Meets, AreMet, AreMetBy, AreLower, IsFirstUnmet, IsFirstUnmetBy, IsUnmetFault, IsHeightFault, rule_of};
 
 use bplist_objects::{
-    Fault, Frame, Framed, Head, ObjectFault, ObjectNo, Rule, read_refs_in, refs_of,
+    Fault, Framed, Head, ObjectFault, ObjectNo, Rule, read_refs_in, ref_place, refs_of,
 };
 use bplist_octets::ReadFault;
 
@@ -122,19 +122,9 @@ pub(crate) fn check_refs<P: Framed>(
         Some(i) => Err(ObjectFault::Fault(Fault {
             rule: wanted.rule(),
             object: Some(n),
-            place: bplist_objects::ref_place(src, head, i),
+            place: ref_place(src, head, i),
         })),
     }
-}
-
-/// The place of reference `i` in a file of so many bytes.
-pub(crate) fn ref_place(frame: &Frame, head: &Head, i: u64, len: u64) -> u64
-    requires safe { IsSafe len frame.now }
-    requires head { IsSafeHead frame.now head.now }
-    requires within { i < ref_count head.now.kind head.now.count }
-    ensures { result ≡ head.now.body + i * frame.now.ref_size }
-{
-    head.body + i * frame.ref_size as u64
 }
 
 /// Looks at the heights of the references of object `n`, which is vouched for, by its head.

@@ -50,19 +50,20 @@ fn name_object<S: Source>(
 pub(crate) fn seen_keys<S: Source>(
     alloc: Global,
     src: &mut S,
+    frame: &Frame,
     seen: &Seen,
     places: &[u32],
 ) -> Result<NamedKeys, Refusal>
-    requires safe { IsSafe (length (S.means src.old).octets) seen.now.frame }
-    requires places { length places.now ≡ seen.now.frame.objects }
+    requires safe { IsSafe (length (S.means src.old).octets) frame.now }
+    requires places { length places.now ≡ frame.now.objects }
+    requires heights { length seen.now.heights.now ≡ frame.now.objects }
     ensures reads { OnlyReads (refused_read result) (S.means src.old) (S.means src.new) }
-    ensures all { IfOk result (λ named. length named.table.items ≡ seen.now.frame.objects) }
-    ensures exact { HonestlyBy (S.means src.old) seen.now.frame (λ f F. AreOffsets f F places.now
+    ensures all { IfOk result (λ named. length named.table.items ≡ frame.now.objects) }
+    ensures exact { HonestlyBy (S.means src.old) frame.now (λ f F. AreOffsets f F places.now
         → AreSeen f F seen.now.heights.now seen.now.bound
         → Judges (λ named. (n : ℕ) → n < seen.now.bound → IsVouchedBy seen.now.heights.now n
         → HasNamedKeys f F named.table.items n) Never result) }
 {
-    let frame = &seen.frame;
     let mut named = NamedKeys::new(alloc, frame.objects)?;
     for n in 0..seen.bound {
         if seen.heights[n as usize] > 1 {
@@ -90,9 +91,8 @@ pub fn vouched_keys<S: Source>(
         → Judges (λ named. (n : ℕ) → IsVouchedBy heights.now n → HasNamedKeys f F named.table.items n) Never result) }
 {
     let seen = Seen {
-        frame: *frame,
         heights,
         bound: frame.objects,
     };
-    seen_keys(alloc, src, &seen, places)
+    seen_keys(alloc, src, frame, &seen, places)
 }

@@ -13,9 +13,9 @@ returns-in_err-check_keys-in-Ok-clause-exact g c = λ honest.
     let heights = c.args.heights.now in
     let keys = c.args.keys.now in
     let run = c.in-Ok.ensures.exact honest in
-    let keyed = rw (c.in-Ok.ensures.reads, c.frame-frame.ensures.frame) at c.in_err-check_keys-in-Ok.ensures.exact in
+    let keyed = rw (c.in-Ok.ensures.reads, c.frame-objects.ensures.frame) at c.in_err-check_keys-in-Ok.ensures.exact in
     let p = err_from_is_err_and c.from_residual.result c.from_residual.ensures.1 in
-    rw (p.1, p.2) (refused_weaker _ _ c.in_err-check_keys-in-Ok.field-0.0 (λ fault h. keys_first f F heights keys fault F.objects run.kept h) (keyed honest (c.frame-frame.ensures.framed.framed honest) run.kept))
+    rw (p.1, p.2) (refused_weaker _ _ c.in_err-check_keys-in-Ok.field-0.0 (λ fault h. keys_first f F heights keys fault F.objects run.kept h) (keyed honest run.kept))
 
 pub returns-in_err-check_keys-in-Err-Fault-clause-exact : goal.returns-in_err-check_keys-in-Err-Fault-clause-exact
 returns-in_err-check_keys-in-Err-Fault-clause-exact g c = λ honest.
@@ -26,13 +26,13 @@ returns-in_err-check_keys-in-Err-Fault-clause-exact g c = λ honest.
     let s = (rw c.in-Err-Fault.field-0-is at c.in-Err-Fault.ensures.exact) honest in
     let named = c.object_of.ensures _ (seen_object f F heights keys _ s) in
     let inside = vouched_inside heights F.objects s.object c.requires.all s.vouched in
-    let objects : c.frame-frame.result.objects ≡ F.objects = ap (λ (x : Frame). x.objects) c.frame-frame.ensures.frame in
+    let objects : c.frame-objects.result.objects ≡ F.objects = ap (λ (x : Frame). x.objects) c.frame-objects.ensures.frame in
     let bound : c.min.result ≡ s.object = omega (arith, c.min.ensures, named, inside, objects) in
     let seen = subst (AreSeen f F heights) (sym bound) s.seen in
     let reads = rw c.in-Err-Fault.field-0-is at c.in-Err-Fault.ensures.reads in
-    let keyed = rw (reads, c.frame-frame.ensures.frame) at c.in_err-check_keys-in-Err-Fault.ensures.exact in
+    let keyed = rw reads at c.in_err-check_keys-in-Err-Fault.ensures.exact in
     let p = err_from_is_err_and c.from_residual-in_err-check_keys-in-Err-Fault.result c.from_residual-in_err-check_keys-in-Err-Fault.ensures.1 in
-    rw (p.1, p.2) (refused_weaker _ _ c.in_err-check_keys-in-Err-Fault.field-0.0 (λ fault h. keys_first f F heights keys fault c.min.result seen h) (keyed honest (c.frame-frame.ensures.framed.framed honest) seen))
+    rw (p.1, p.2) (refused_weaker _ _ c.in_err-check_keys-in-Err-Fault.field-0.0 (λ fault h. keys_first f F heights keys fault c.min.result seen h) (keyed honest seen))
 
 pub returns-in_ok-check_keys-in-Ok-clause-exact : goal.returns-in_ok-check_keys-in-Ok-clause-exact
 returns-in_ok-check_keys-in-Ok-clause-exact g c = λ honest.
@@ -41,8 +41,8 @@ returns-in_ok-check_keys-in-Ok-clause-exact g c = λ honest.
     let heights = c.args.heights.now in
     let keys = c.args.keys.now in
     let run = c.in-Ok.ensures.exact honest in
-    let keyed = rw (c.in-Ok.ensures.reads, c.frame-frame.ensures.frame) at c.in_ok-check_keys-in-Ok.ensures.exact in
-    all_good f F heights keys c.in-Ok.used run (keyed honest (c.frame-frame.ensures.framed.framed honest) run.kept)
+    let keyed = rw (c.in-Ok.ensures.reads, c.frame-objects.ensures.frame) at c.in_ok-check_keys-in-Ok.ensures.exact in
+    all_good f F heights keys c.in-Ok.used run (keyed honest run.kept)
 
 pub returns-in_ok-check_keys-in-Err-Fault-clause-exact : goal.returns-in_ok-check_keys-in-Err-Fault-clause-exact
 returns-in_ok-check_keys-in-Err-Fault-clause-exact g c = λ honest.
@@ -53,10 +53,10 @@ returns-in_ok-check_keys-in-Err-Fault-clause-exact g c = λ honest.
     let s = (rw c.in-Err-Fault.field-0-is at c.in-Err-Fault.ensures.exact) honest in
     let named = c.object_of.ensures _ (seen_object f F heights keys _ s) in
     let inside = vouched_inside heights F.objects s.object c.requires.all s.vouched in
-    let objects : c.frame-frame.result.objects ≡ F.objects = ap (λ (x : Frame). x.objects) c.frame-frame.ensures.frame in
+    let objects : c.frame-objects.result.objects ≡ F.objects = ap (λ (x : Frame). x.objects) c.frame-objects.ensures.frame in
     let bound : c.min.result ≡ s.object = omega (arith, c.min.ensures, named, inside, objects) in
     let seen = subst (AreSeen f F heights) (sym bound) s.seen in
     let reads = rw c.in-Err-Fault.field-0-is at c.in-Err-Fault.ensures.reads in
-    let keyed = rw (reads, c.frame-frame.ensures.frame) at c.in_ok-check_keys-in-Err-Fault.ensures.exact in
-    let good = keyed honest (c.frame-frame.ensures.framed.framed honest) seen in
+    let keyed = rw reads at c.in_ok-check_keys-in-Err-Fault.ensures.exact in
+    let good = keyed honest seen in
     seen_first f F heights keys _ s (λ n lt v. good n (omega (arith, lt, bound)) v)

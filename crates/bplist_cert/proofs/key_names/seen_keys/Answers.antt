@@ -12,13 +12,13 @@ returns-in_err-name_object-clause-exact g c = λ honest framed placed seen.
     let n = c.loop-n.n in
     let p = err_from_is_err_and c.from_residual-in_err-name_object.result c.from_residual-in_err-name_object.ensures.1 in
     let v : IsVouchedBy c.args.seen.now.heights.now n = omega (arith, c.if-seen-n-gt1.true) in
-    rw (p.1, p.2) ((rw c.loop-n.invariant.same at c.in_err-name_object.ensures.exact) honest framed (placed n (omega (arith, c.loop-n-test.true))) (seen n c.loop-n-test.true v).own)
+    rw (p.1, p.2) ((rw c.loop-n.invariant.same at c.in_err-name_object.ensures.exact) honest framed (placed n (omega (arith, c.loop-n-test.true, c.args.seen.now.within, c.requires.heights))) (seen n c.loop-n-test.true v).own)
 
 pub loop-n-preserved : goal.loop-n-preserved
 loop-n-preserved g c =
     let v = c.loop-n.invariant in
     let f = (g.S.Source.means c.args.src.now).octets in
-    let F = c.args.seen.now.frame in
+    let F = c.args.frame.now in
     let heights = c.args.seen.now.heights.now in
     let n = c.loop-n.n in
     elim c.if-seen-n-gt1.branch [
@@ -26,7 +26,7 @@ loop-n-preserved g c =
         same = rw w.src-is (w.in_ok-name_object.ensures.reads ∙ v.same);
         all = rw w.named-is w.in_ok-name_object.ensures.all;
         named = λ honest framed placed seen m low vouched. rw w.named-is (elim (cases_eq m n) [
-          | inl e ↦ subst (HasNamedKeys f F w.name_object.new.named.table.items) (sym e) ((rw v.same at w.in_ok-name_object.ensures.exact) honest framed (placed n (omega (arith, c.loop-n-test.true))) (seen n (omega (arith, c.loop-n-test.true)) (subst (IsVouchedBy heights) e vouched)).own)
+          | inl e ↦ subst (HasNamedKeys f F w.name_object.new.named.table.items) (sym e) ((rw v.same at w.in_ok-name_object.ensures.exact) honest framed (placed n (omega (arith, c.loop-n-test.true, c.args.seen.now.within, c.requires.heights))) (seen n c.loop-n-test.true (subst (IsVouchedBy heights) e vouched)).own)
           | inr d ↦ λ head has dict k l. w.in_ok-name_object.ensures.keeps _ (v.named honest framed placed seen m (omega (arith, low, d)) vouched head has dict k l)
         ]);
       }
