@@ -173,7 +173,7 @@ pub(crate) fn check_keys<P: Framed>(alloc: Global, src: &mut P, seen: &Seen) -> 
 {
     let frame = src.frame();
     let places = places_of(alloc, src, &frame)?;
-    let named = seen_keys(alloc, src, &frame, seen, &places)?;
+    let named = seen_keys(alloc, src, seen, &places)?;
     let classes = key_classes(alloc, src, seen, &places, named)?;
     let mut look = ClassLook {
         table: ClassTable::new(alloc, classes)?,
