@@ -190,7 +190,6 @@ struct ListLook {
 /// Whether the key list of dictionary `n` has its keys in order, which are texts by marker and count then.
 fn has_good_list<P: Framed>(
     src: &mut P,
-    seen: &Seen,
     keys: &KeyLists,
     n: ObjectNo,
     head: &Head,
@@ -234,7 +233,7 @@ fn check_list<P: Framed>(
         → Gives (λ _. HaveTexts f F head.now head.now.count × HasOrder f F (Some keys.now) n.0 head.now)
         (IsKeysFault f F F.objects (Some keys.now) n.0 head.now) result) }
 {
-    let good = has_good_list(src, seen, keys, n, head, &mut look.pairs)?;
+    let good = has_good_list(src, keys, n, head, &mut look.pairs)?;
     if good && seen.is_whole() {
         return Ok(());
     }

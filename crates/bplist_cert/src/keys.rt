@@ -59,7 +59,7 @@ fn first_other<P: Framed>(
     refs: &[u64],
     offsets: &[u64],
 ) -> Result<Option<usize>, ReadFault>
-    requires many { length offsets.now ≡ length refs.now }
+    requires { length offsets.now ≡ length refs.now }
     ensures reads { OnlyReads (is_err result) (P.means src.old) (P.means src.new) }
     ensures low { IsTrue (P.means src.old).honest → AreLow (P.means src.old).octets low.old.rows
         → AreLow (P.means src.old).octets low.new.rows }
@@ -74,35 +74,6 @@ fn first_other<P: Framed>(
         }
     }
     Ok(None)
-}
-
-/// The first key of a block that is no text, where those before the block are.
-fn search_keys<P: Framed>(
-    src: &mut P,
-    low: &mut LowBytes,
-    head: &Head,
-    done: u64,
-    refs: &mut [u64],
-    found: &mut [u64],
-) -> Result<Option<u64>, ReadFault>
-    requires head { IsSafeHead (frame_in (P.means src.old)) head.now }
-    requires dict { head.now.kind ≡ Dict }
-    requires within { done + length refs.old ≤ head.now.count }
-    requires many { length found.old ≡ length refs.old }
-    ensures reads { OnlyReads (is_err result) (P.means src.old) (P.means src.new) }
-    ensures low { IsTrue (P.means src.old).honest → AreLow (P.means src.old).octets low.old.rows
-        → AreLow (P.means src.old).octets low.new.rows }
-    ensures first { IfOk result (λ first. HonestlyIn (P.means src.old)
-        (λ f F. AreLow f low.old.rows → HaveTexts f F head.now done
-        → MatchOption first (HaveTexts f F head.now (done + length refs.old)) (IsFirstKeyless f F head.now))) }
-    ensures inside { IfOk result (λ first. IfSome first (λ i. i < head.now.count)) }
-{
-    let _count = head.count;
-    read_places(src, head, done, refs, found)?;
-    match first_other(src, low, refs, found)? {
-        Some(i) => Ok(Some(done + i as u64)),
-        None => Ok(None),
-    }
 }
 
 /// The first key of a dictionary that is no text.
@@ -128,9 +99,10 @@ fn first_keyless<P: Framed>(
     while done < count {
         let now = (count - done).min(BLOCK as u64);
         let block = &mut refs[..now as usize];
-        let at = &mut found[..now as usize];
-        if let Some(i) = search_keys(src, low, head, done, block, at)? {
-            return Ok(Some(i));
+        let places = &mut found[..now as usize];
+        read_places(src, head, done, block, places)?;
+        if let Some(i) = first_other(src, low, block, places)? {
+            return Ok(Some(done + i as u64));
         }
         done += now;
     }
