@@ -2,9 +2,9 @@
 
 ghost use Rattle.std.specs.Prelude.{◌≡◌, ◌+◌, ◌≤◌, ◌<◌, ℕ, suc, length, slice_index, IfOk, IfErr, IfSome, MatchResult, Some, None, ◌⊎◌};
 ghost use Rattle.bplist_octets.specs.Meaning.{OnlyReads, Honestly};
-ghost use Rattle.bplist_objects.specs.Framed.{HonestlyBy};
+ghost use Rattle.bplist_objects.specs.Framed.{frame_in, HonestlyIn};
 ghost use Rattle.bplist_objects.specs.Frame.{off};
-ghost use Rattle.bplist_objects.specs.Safe.{IsSafe, IsSafeHead, IsSafeFrame};
+ghost use Rattle.bplist_objects.specs.Safe.{IsSafeHead, IsSafeFrame};
 ghost use Rattle.bplist_objects.specs.Rules.{KeepsAll};
 ghost use Rattle.bplist_objects.specs.Announced.{HasHead};
 ghost use Rattle.bplist_objects.specs.ObjectRules.{KeepsByObject, body_rules};
@@ -32,8 +32,8 @@ use crate::refusal::Refusal;
 use crate::seen::Seen;
 use crate::{key_classes, key_lists};
 use bplist_objects::{
-    Fault, Frame, Head, ObjectFault, ObjectNo, Rule, check_body, frame_of, head_at, read_offsets,
-    refs_of, shape_at,
+    Fault, Frame, Framed, Head, ObjectFault, ObjectNo, Plist, Rule, check_body, frame_of, head_in,
+    read_offsets_in, refs_of, shape_in,
 };
 use bplist_octets::Source;
 use std::alloc::Global;
@@ -53,102 +53,95 @@ enum Look {
 /// What a walk over the vouched objects goes by, beside the source.
 #[derive(Drop)]
 struct Walk<'a> {
-    frame: Frame,
     heights: &'a [u32],
     keys: &'a Option<KeyLists>,
     look: Look,
-    pub ghost all: { length heights.now ≡ frame.objects },
 }
 
 /// Looks at the body of object `n`, which stands at `place` and has this head: at a leaf's by rules 18 and 19, and at references
 /// by rules 20, 28 and 29 at once, since objects alone have heights. A fault does not say which of them is broken.
-fn check_contents<S: Source>(
-    src: &mut S,
+fn check_contents<P: Framed>(
+    src: &mut P,
     walk: &Walk,
     n: ObjectNo,
     place: u64,
     head: &Head,
 ) -> Result<(), ObjectFault>
-    requires safe { IsSafe (length (S.means src.old).octets) walk.now.frame }
-    requires head { IsSafeHead walk.now.frame head.now }
-    ensures reads { OnlyReads (read_failed result) (S.means src.old) (S.means src.new) }
-    ensures kept { HonestlyBy (S.means src.old) walk.now.frame (λ f F. place ≡ off f F n.0 → HasHead f F n.0 head.now
+    requires all { length walk.now.heights.now ≡ (frame_in (P.means src.old)).objects }
+    requires head { IsSafeHead (frame_in (P.means src.old)) head.now }
+    ensures reads { OnlyReads (read_failed result) (P.means src.old) (P.means src.new) }
+    ensures kept { HonestlyIn (P.means src.old) (λ f F. place ≡ off f F n.0 → HasHead f F n.0 head.now
         → IfOk result (λ _. KeepsAll (KeepsByObject f F n.0) body_rules × AreLower f F walk.now.heights.now n.0 head.now)) }
 {
+    let frame = src.frame();
     if refs_of(head) == 0 {
-        return check_body(src, &walk.frame, n, place, head);
+        return check_body(src, &frame, n, place, head);
     }
     let own = height_at(walk.heights, n.0 as u64);
-    check_refs(
-        src,
-        &walk.frame,
-        walk.heights,
-        n,
-        head,
-        Wanted::VouchedBelow(own),
-    )
+    check_refs(src, walk.heights, n, head, Wanted::VouchedBelow(own))
 }
 
 /// Looks at object `n` as `check_object` does, and reads no byte twice.
-fn look_quickly<S: Source>(
-    src: &mut S,
+fn look_quickly<P: Framed>(
+    src: &mut P,
     walk: &Walk,
     n: ObjectNo,
     place: u64,
     used: u64,
 ) -> Result<u64, Refusal>
-    requires safe { IsSafe (length (S.means src.old).octets) walk.now.frame }
-    requires within { n.0 < walk.now.frame.objects }
-    ensures reads { OnlyReads (refused_read result) (S.means src.old) (S.means src.new) }
+    requires all { length walk.now.heights.now ≡ (frame_in (P.means src.old)).objects }
+    requires within { n.0 < (frame_in (P.means src.old)).objects }
+    ensures reads { OnlyReads (refused_read result) (P.means src.old) (P.means src.new) }
     ensures memory { IfErr result (MayRefuse walk.now.keys.now) }
-    ensures exact { HonestlyBy (S.means src.old) walk.now.frame (λ f F. place ≡ off f F n.0
+    ensures exact { HonestlyIn (P.means src.old) (λ f F. place ≡ off f F n.0
         → IsVouchedBy walk.now.heights.now n.0 → Sums f F walk.now.heights.now n.0 used
         → Judges (IsHeld f F (lists walk.now.heights.now walk.now.keys.now) quick n.0)
         (IsShownFault f F (lists walk.now.heights.now walk.now.keys.now) quick n.0) result) }
 {
-    let head = shape_at(src, &walk.frame, n, place)?;
-    let now = check_extent(&walk.frame, n, &head, place, used)?;
+    let _frame = src.frame();
+    let head = shape_in(src, n, place)?;
+    let now = check_extent(src, n, &head, place, used)?;
     check_contents(src, walk, n, place, &head)?;
     Ok(now)
 }
 
 /// Looks at object `n` as `check_object` does, by the rules in their order.
-fn look_exactly<S: Source>(
-    src: &mut S,
+fn look_exactly<P: Framed>(
+    src: &mut P,
     walk: &Walk,
     n: ObjectNo,
     place: u64,
     used: u64,
 ) -> Result<u64, Refusal>
-    requires safe { IsSafe (length (S.means src.old).octets) walk.now.frame }
-    requires within { n.0 < walk.now.frame.objects }
-    ensures reads { OnlyReads (refused_read result) (S.means src.old) (S.means src.new) }
+    requires { n.0 < (frame_in (P.means src.old)).objects }
+    ensures reads { OnlyReads (refused_read result) (P.means src.old) (P.means src.new) }
     ensures memory { IfErr result (MayRefuse walk.now.keys.now) }
-    ensures exact { HonestlyBy (S.means src.old) walk.now.frame (λ f F. place ≡ off f F n.0
+    ensures exact { HonestlyIn (P.means src.old) (λ f F. place ≡ off f F n.0
         → IsVouchedBy walk.now.heights.now n.0 → Sums f F walk.now.heights.now n.0 used
         → Judges (IsHeld f F (lists walk.now.heights.now walk.now.keys.now) quick n.0)
         (IsShownFault f F (lists walk.now.heights.now walk.now.keys.now) exact n.0) result) }
 {
-    let head = head_at(src, &walk.frame, n, place)?;
-    let now = check_extent(&walk.frame, n, &head, place, used)?;
-    check_heights(src, &walk.frame, walk.heights, n, &head)?;
+    let _frame = src.frame();
+    let head = head_in(src, n, place)?;
+    let now = check_extent(src, n, &head, place, used)?;
+    check_heights(src, walk.heights, n, &head)?;
     Ok(now)
 }
 
 /// Looks at object `n`, which is vouched for and stands at `place`, by the rules before those of keys, where the vouched
 /// objects before it take `used` bytes, and answers how many they take with it.
-fn check_object<S: Source>(
-    src: &mut S,
+fn check_object<P: Framed>(
+    src: &mut P,
     walk: &Walk,
     n: ObjectNo,
     place: u64,
     used: u64,
 ) -> Result<u64, Refusal>
-    requires safe { IsSafe (length (S.means src.old).octets) walk.now.frame }
-    requires within { n.0 < walk.now.frame.objects }
-    ensures reads { OnlyReads (refused_read result) (S.means src.old) (S.means src.new) }
+    requires all { length walk.now.heights.now ≡ (frame_in (P.means src.old)).objects }
+    requires within { n.0 < (frame_in (P.means src.old)).objects }
+    ensures reads { OnlyReads (refused_read result) (P.means src.old) (P.means src.new) }
     ensures memory { IfErr result (MayRefuse walk.now.keys.now) }
-    ensures exact { HonestlyBy (S.means src.old) walk.now.frame (λ f F. place ≡ off f F n.0
+    ensures exact { HonestlyIn (P.means src.old) (λ f F. place ≡ off f F n.0
         → IsVouchedBy walk.now.heights.now n.0 → Sums f F walk.now.heights.now n.0 used
         → Judges (IsHeld f F (lists walk.now.heights.now walk.now.keys.now) quick n.0)
         (IsShownFault f F (lists walk.now.heights.now walk.now.keys.now) walk.now.look n.0) result) }
@@ -160,18 +153,18 @@ fn check_object<S: Source>(
 }
 
 /// Looks at object `n`, which stands at `place`, where the vouched objects before it are as they should be.
-fn check_step<S: Source>(
-    src: &mut S,
+fn check_step<P: Framed>(
+    src: &mut P,
     walk: &Walk,
     n: ObjectNo,
     place: u64,
     used: u64,
 ) -> Result<u64, Refusal>
-    requires safe { IsSafe (length (S.means src.old).octets) walk.now.frame }
-    requires within { n.0 < walk.now.frame.objects }
-    ensures reads { OnlyReads (refused_read result) (S.means src.old) (S.means src.new) }
+    requires all { length walk.now.heights.now ≡ (frame_in (P.means src.old)).objects }
+    requires within { n.0 < (frame_in (P.means src.old)).objects }
+    ensures reads { OnlyReads (refused_read result) (P.means src.old) (P.means src.new) }
     ensures memory { IfErr result (MayRefuse walk.now.keys.now) }
-    ensures exact { HonestlyBy (S.means src.old) walk.now.frame (λ f F. place ≡ off f F n.0
+    ensures exact { HonestlyIn (P.means src.old) (λ f F. place ≡ off f F n.0
         → Running f F (lists walk.now.heights.now walk.now.keys.now) quick n.0 used
         → Judges (Running f F (lists walk.now.heights.now walk.now.keys.now) quick (suc n.0))
         (IsWalkFault f F (lists walk.now.heights.now walk.now.keys.now) walk.now.look) result) }
@@ -183,24 +176,24 @@ fn check_step<S: Source>(
 }
 
 /// Looks at the objects from number `from` on, which stand at these places.
-fn check_block<S: Source>(
-    src: &mut S,
+fn check_block<P: Framed>(
+    src: &mut P,
     walk: &Walk,
     from: u32,
     places: &[u64],
     used: u64,
 ) -> Result<u64, Refusal>
-    requires safe { IsSafe (length (S.means src.old).octets) walk.now.frame }
-    requires within { from + length places.now ≤ walk.now.frame.objects }
-    ensures reads { OnlyReads (refused_read result) (S.means src.old) (S.means src.new) }
+    requires all { length walk.now.heights.now ≡ (frame_in (P.means src.old)).objects }
+    requires within { from + length places.now ≤ (frame_in (P.means src.old)).objects }
+    ensures reads { OnlyReads (refused_read result) (P.means src.old) (P.means src.new) }
     ensures memory { IfErr result (MayRefuse walk.now.keys.now) }
-    ensures exact { HonestlyBy (S.means src.old) walk.now.frame (λ f F. ((k : ℕ) → k < length places.now
+    ensures exact { HonestlyIn (P.means src.old) (λ f F. ((k : ℕ) → k < length places.now
         → slice_index places.now k ≡ off f F (from + k))
         → Running f F (lists walk.now.heights.now walk.now.keys.now) quick from used
         → Judges (Running f F (lists walk.now.heights.now walk.now.keys.now) quick (from + length places.now))
         (IsWalkFault f F (lists walk.now.heights.now walk.now.keys.now) walk.now.look) result) }
 {
-    let _objects = walk.frame.objects;
+    let _frame = src.frame();
     let mut used = used;
     for (i, place) in places.iter().enumerate() {
         let n = ObjectNo(from + i as u32);
@@ -210,22 +203,22 @@ fn check_block<S: Source>(
 }
 
 /// Looks at all vouched objects, in the order of their numbers. How many bytes they take.
-fn check_all<S: Source>(src: &mut S, walk: &Walk) -> Result<u64, Refusal>
-    requires safe { IsSafe (length (S.means src.old).octets) walk.now.frame }
-    ensures reads { OnlyReads (refused_read result) (S.means src.old) (S.means src.new) }
+fn check_all<P: Framed>(src: &mut P, walk: &Walk) -> Result<u64, Refusal>
+    requires { length walk.now.heights.now ≡ (frame_in (P.means src.old)).objects }
+    ensures reads { OnlyReads (refused_read result) (P.means src.old) (P.means src.new) }
     ensures memory { IfErr result (MayRefuse walk.now.keys.now) }
-    ensures exact { HonestlyBy (S.means src.old) walk.now.frame (λ f F.
+    ensures exact { HonestlyIn (P.means src.old) (λ f F.
         Judges (Running f F (lists walk.now.heights.now walk.now.keys.now) quick F.objects)
         (IsWalkFault f F (lists walk.now.heights.now walk.now.keys.now) walk.now.look) result) }
 {
-    let objects = walk.frame.objects;
+    let objects = src.frame().objects;
     let mut buffer = [0u64; BLOCK];
     let mut used = 0u64;
     let mut done = 0u32;
     while done < objects {
         let now = (objects - done).min(BLOCK as u32);
         let places = &mut buffer[..now as usize];
-        read_offsets(src, &walk.frame, done, places)?;
+        read_offsets_in(src, done, places)?;
         used = check_block(src, walk, done, places, used)?;
         done += now;
     }
@@ -234,22 +227,19 @@ fn check_all<S: Source>(src: &mut S, walk: &Walk) -> Result<u64, Refusal>
 
 /// Looks at all vouched objects by the rules before those of keys: quickly, and where that finds a fault again, by the rules
 /// in their order. How many bytes they take.
-fn see_objects<S: Source>(
-    src: &mut S,
-    frame: &Frame,
+fn see_objects<P: Framed>(
+    src: &mut P,
     heights: &[u32],
     keys: &Option<KeyLists>,
 ) -> Result<u64, Refusal>
-    requires safe { IsSafe (length (S.means src.old).octets) frame.now }
-    requires all { length heights.now ≡ frame.now.objects }
-    ensures reads { OnlyReads (refused_read result) (S.means src.old) (S.means src.new) }
+    requires { length heights.now ≡ (frame_in (P.means src.old)).objects }
+    ensures reads { OnlyReads (refused_read result) (P.means src.old) (P.means src.new) }
     ensures memory { IfErr result (MayRefuse keys.now) }
-    ensures exact { HonestlyBy (S.means src.old) frame.now (λ f F.
+    ensures exact { HonestlyIn (P.means src.old) (λ f F.
         Judges (Running f F (lists heights.now keys.now) quick F.objects)
         (IsSeenFault f F (lists heights.now keys.now)) result) }
 {
     let mut walk = Walk {
-        frame: *frame,
         heights,
         keys,
         look: Look::Quick,
@@ -263,17 +253,17 @@ fn see_objects<S: Source>(
 }
 
 /// Looks at the keys of the vouched dictionaries that were seen.
-fn check_keys<S: Source>(
+fn check_keys<P: Framed>(
     alloc: Global,
-    src: &mut S,
+    src: &mut P,
     seen: &Seen,
     keys: &Option<KeyLists>,
 ) -> Result<(), Refusal>
-    requires safe { IsSafe (length (S.means src.old).octets) seen.now.frame }
+    requires all { length seen.now.heights.now ≡ (frame_in (P.means src.old)).objects }
     requires starts { HasStarts seen.now.heights.now keys.now }
-    ensures reads { OnlyReads (refused_read result) (S.means src.old) (S.means src.new) }
+    ensures reads { OnlyReads (refused_read result) (P.means src.old) (P.means src.new) }
     ensures memory { IfErr result (MayRefuse keys.now) }
-    ensures exact { HonestlyBy (S.means src.old) seen.now.frame (λ f F. AreSeen f F seen.now.heights.now seen.now.bound
+    ensures exact { HonestlyIn (P.means src.old) (λ f F. AreSeen f F seen.now.heights.now seen.now.bound
         → Judges (λ _. (n : ℕ) → n < seen.now.bound → IsVouchedBy seen.now.heights.now n → HasGoodKeys f F keys.now n)
         (IsFirstKeysFault f F (lists seen.now.heights.now keys.now) seen.now.bound) result) }
 {
@@ -295,37 +285,34 @@ fn object_of(fault: &Fault) -> u32
 
 /// Looks at all vouched objects, and then at the keys of the dictionaries among them, up to the first object that breaks a
 /// rule before those of keys. How many bytes they take.
-fn check_objects<S: Source>(
+fn check_objects<P: Framed>(
     alloc: Global,
-    src: &mut S,
-    frame: &Frame,
+    src: &mut P,
     heights: &[u32],
     keys: &Option<KeyLists>,
 ) -> Result<u64, Refusal>
-    requires safe { IsSafe (length (S.means src.old).octets) frame.now }
-    requires all { length heights.now ≡ frame.now.objects }
+    requires all { length heights.now ≡ (frame_in (P.means src.old)).objects }
     requires starts { HasStarts heights.now keys.now }
-    ensures reads { OnlyReads (refused_read result) (S.means src.old) (S.means src.new) }
+    ensures reads { OnlyReads (refused_read result) (P.means src.old) (P.means src.new) }
     ensures memory { IfErr result (MayRefuse keys.now) }
-    ensures exact { HonestlyBy (S.means src.old) frame.now
-        (λ f F. Judges (Running f F (lists heights.now keys.now) exact F.objects) (IsVouchedFault f F (lists heights.now
-        keys.now)) result) }
+    ensures exact { HonestlyIn (P.means src.old) (λ f F.
+        Judges (Running f F (lists heights.now keys.now) exact F.objects)
+        (IsVouchedFault f F (lists heights.now keys.now)) result) }
 {
-    match see_objects(src, frame, heights, keys) {
+    let objects = src.frame().objects;
+    match see_objects(src, heights, keys) {
         Ok(used) => {
             let seen = Seen {
-                frame: *frame,
                 heights,
-                bound: frame.objects,
+                bound: objects,
             };
             check_keys(alloc, src, &seen, keys)?;
             Ok(used)
         }
         Err(Refusal::Fault(fault)) => {
             let seen = Seen {
-                frame: *frame,
                 heights,
-                bound: object_of(&fault).min(frame.objects),
+                bound: object_of(&fault).min(objects),
             };
             check_keys(alloc, src, &seen, keys)?;
             Err(Refusal::Fault(fault))
@@ -368,7 +355,8 @@ fn check_lists<S: Source>(alloc: Global, src: &mut S, cert: &Certificate) -> Res
 {
     let frame = frame_of(src)?;
     check_count(&frame, &cert.heights)?;
-    check_objects(alloc, src, &frame, &cert.heights, &cert.keys)?;
+    let mut plist = Plist::new(src, frame);
+    check_objects(alloc, &mut plist, &cert.heights, &cert.keys)?;
     Ok(frame)
 }
 

@@ -1,13 +1,16 @@
 //! The heights of references: rules 28 and 29.
 
-ghost use Rattle.std.specs.Prelude.{◌≡◌, ◌↔◌, ◌+◌, ◌*◌, ◌≤◌, ◌<◌, length, slice_index, IsTrue, IfOk, IfSome, MatchOption, is_err};
-ghost use Rattle.bplist_octets.specs.Meaning.{OnlyReads, Honestly};
-ghost use Rattle.bplist_objects.specs.Safe.{IsSafe, IsSafeHead, ref_count};
+ghost use Rattle.std.specs.Prelude.{◌≡◌, ◌↔◌, ◌<◌, length, slice_index, IsTrue, IfOk, IfSome, MatchOption, is_err};
+ghost use Rattle.bplist_octets.specs.Meaning.{OnlyReads};
+ghost use Rattle.bplist_objects.specs.Framed.{frame_in, HonestlyIn};
+ghost use Rattle.bplist_objects.specs.Safe.{IsSafeHead, ref_count};
 ghost use Rattle.bplist_objects.specs.Answers.{Gives, read_failed};
 ghost use Rattle.bplist_cert.specs.Heights.{Meets, AreMet, AreMetBy, AreLower, IsFirstUnmet, IsFirstUnmetBy, IsUnmetFault, IsHeightFault, rule_of};
 
-use bplist_objects::{Fault, Frame, Head, ObjectFault, ObjectNo, Rule, read_refs, refs_of};
-use bplist_octets::{ReadFault, Source};
+use bplist_objects::{
+    Fault, Framed, Head, ObjectFault, ObjectNo, Rule, read_refs_in, ref_place, refs_of,
+};
+use bplist_octets::ReadFault;
 
 /// How many references are read at once at most: few, as room for a block is cleared for each container.
 const BLOCK: usize = 32;
@@ -70,59 +73,30 @@ fn first_unmet_in(heights: &[u32], refs: &[u64], wanted: Wanted) -> Option<usize
     None
 }
 
-/// The first reference of a block whose height is not as it is wanted, where those before the block are.
-fn search_refs<S: Source>(
-    src: &mut S,
-    frame: &Frame,
-    heights: &[u32],
-    head: &Head,
-    wanted: Wanted,
-    done: u64,
-    block: &mut [u64],
-) -> Result<Option<u64>, ReadFault>
-    requires safe { IsSafe (length (S.means src.old).octets) frame.now }
-    requires head { IsSafeHead frame.now head.now }
-    requires within { done + length block.old ≤ ref_count head.now.kind head.now.count }
-    ensures reads { OnlyReads (is_err result) (S.means src.old) (S.means src.new) }
-    ensures found { IfOk result (λ found. Honestly (S.means src.old)
-        (λ f. AreMet f frame.now heights.now head.now wanted done
-        → MatchOption found (AreMet f frame.now heights.now head.now wanted (done + length block.old)) (IsFirstUnmet f
-        frame.now heights.now head.now wanted))) }
-    ensures inside { IfOk result (λ found. IfSome found (λ i. i < ref_count head.now.kind head.now.count)) }
-{
-    let _len = src.len();
-    read_refs(src, frame, head, done, block)?;
-    match first_unmet_in(heights, block, wanted) {
-        Some(i) => Ok(Some(done + i as u64)),
-        None => Ok(None),
-    }
-}
-
 /// The first reference whose height is not as it is wanted.
-fn first_unmet<S: Source>(
-    src: &mut S,
-    frame: &Frame,
+fn first_unmet<P: Framed>(
+    src: &mut P,
     heights: &[u32],
     head: &Head,
     wanted: Wanted,
 ) -> Result<Option<u64>, ReadFault>
-    requires safe { IsSafe (length (S.means src.old).octets) frame.now }
-    requires head { IsSafeHead frame.now head.now }
-    ensures reads { OnlyReads (is_err result) (S.means src.old) (S.means src.new) }
-    ensures found { IfOk result (λ found. Honestly (S.means src.old)
-        (λ f. MatchOption found (AreMet f frame.now heights.now head.now wanted (ref_count head.now.kind
-        head.now.count)) (IsFirstUnmet f frame.now heights.now head.now wanted))) }
+    requires { IsSafeHead (frame_in (P.means src.old)) head.now }
+    ensures reads { OnlyReads (is_err result) (P.means src.old) (P.means src.new) }
+    ensures found { IfOk result (λ found. HonestlyIn (P.means src.old)
+        (λ f F. MatchOption found (AreMet f F heights.now head.now wanted (ref_count head.now.kind head.now.count))
+        (IsFirstUnmet f F heights.now head.now wanted))) }
     ensures inside { IfOk result (λ found. IfSome found (λ i. i < ref_count head.now.kind head.now.count)) }
 {
-    let _len = src.len();
+    let _frame = src.frame();
     let refs = refs_of(head);
     let mut buffer = [0u64; BLOCK];
     let mut done = 0u64;
     while done < refs {
         let now = (refs - done).min(BLOCK as u64);
         let block = &mut buffer[..now as usize];
-        if let Some(i) = search_refs(src, frame, heights, head, wanted, done, block)? {
-            return Ok(Some(i));
+        read_refs_in(src, head, done, block)?;
+        if let Some(i) = first_unmet_in(heights, block, wanted) {
+            return Ok(Some(done + i as u64));
         }
         done += now;
     }
@@ -130,56 +104,42 @@ fn first_unmet<S: Source>(
 }
 
 /// Looks for a reference of object `n` whose height is not as it is wanted.
-pub(crate) fn check_refs<S: Source>(
-    src: &mut S,
-    frame: &Frame,
+pub(crate) fn check_refs<P: Framed>(
+    src: &mut P,
     heights: &[u32],
     n: ObjectNo,
     head: &Head,
     wanted: Wanted,
 ) -> Result<(), ObjectFault>
-    requires safe { IsSafe (length (S.means src.old).octets) frame.now }
-    requires head { IsSafeHead frame.now head.now }
-    ensures reads { OnlyReads (read_failed result) (S.means src.old) (S.means src.new) }
-    ensures exact { Honestly (S.means src.old) (λ f. Gives
-        (λ _. AreMet f frame.now heights.now head.now wanted (ref_count head.now.kind head.now.count)) (IsUnmetFault f
-        frame.now heights.now n.0 head.now wanted) result) }
+    requires { IsSafeHead (frame_in (P.means src.old)) head.now }
+    ensures reads { OnlyReads (read_failed result) (P.means src.old) (P.means src.new) }
+    ensures exact { HonestlyIn (P.means src.old) (λ f F. Gives
+        (λ _. AreMet f F heights.now head.now wanted (ref_count head.now.kind head.now.count))
+        (IsUnmetFault f F heights.now n.0 head.now wanted) result) }
 {
-    match first_unmet(src, frame, heights, head, wanted)? {
+    match first_unmet(src, heights, head, wanted)? {
         None => Ok(()),
         Some(i) => Err(ObjectFault::Fault(Fault {
             rule: wanted.rule(),
             object: Some(n),
-            place: ref_place(frame, head, i, src.len()),
+            place: ref_place(src, head, i),
         })),
     }
 }
 
-/// The place of reference `i` in a file of so many bytes.
-pub(crate) fn ref_place(frame: &Frame, head: &Head, i: u64, len: u64) -> u64
-    requires safe { IsSafe len frame.now }
-    requires head { IsSafeHead frame.now head.now }
-    requires within { i < ref_count head.now.kind head.now.count }
-    ensures { result ≡ head.now.body + i * frame.now.ref_size }
-{
-    head.body + i * frame.ref_size as u64
-}
-
 /// Looks at the heights of the references of object `n`, which is vouched for, by its head.
-pub(crate) fn check_heights<S: Source>(
-    src: &mut S,
-    frame: &Frame,
+pub(crate) fn check_heights<P: Framed>(
+    src: &mut P,
     heights: &[u32],
     n: ObjectNo,
     head: &Head,
 ) -> Result<(), ObjectFault>
-    requires safe { IsSafe (length (S.means src.old).octets) frame.now }
-    requires head { IsSafeHead frame.now head.now }
-    ensures reads { OnlyReads (read_failed result) (S.means src.old) (S.means src.new) }
-    ensures exact { Honestly (S.means src.old) (λ f. Gives
-        (λ _. AreLower f frame.now heights.now n.0 head.now) (IsHeightFault f frame.now heights.now n.0 head.now) result) }
+    requires { IsSafeHead (frame_in (P.means src.old)) head.now }
+    ensures reads { OnlyReads (read_failed result) (P.means src.old) (P.means src.new) }
+    ensures exact { HonestlyIn (P.means src.old) (λ f F. Gives
+        (λ _. AreLower f F heights.now n.0 head.now) (IsHeightFault f F heights.now n.0 head.now) result) }
 {
-    check_refs(src, frame, heights, n, head, Wanted::Vouched)?;
+    check_refs(src, heights, n, head, Wanted::Vouched)?;
     let own = height_at(heights, n.0 as u64);
-    check_refs(src, frame, heights, n, head, Wanted::Below(own))
+    check_refs(src, heights, n, head, Wanted::Below(own))
 }

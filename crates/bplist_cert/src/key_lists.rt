@@ -4,10 +4,10 @@ ghost use Rattle.std.specs.Prelude.{◌≡◌, ◌≤◌, ◌<◌, ℕ, Some, Is
 ghost use Rattle.bplist_octets.specs.Meaning.{OnlyReads};
 ghost use Rattle.bplist_objects.specs.Answers.{Gives, read_failed};
 ghost use Rattle.bplist_objects.specs.Announced.{HasHead};
-ghost use Rattle.bplist_objects.specs.Framed.{HonestlyBy};
+ghost use Rattle.bplist_objects.specs.Framed.{frame_in, HonestlyIn};
 ghost use Rattle.bplist_objects.specs.Rules.{KeepsAll};
 ghost use Rattle.bplist_objects.specs.ObjectRules.{KeepsByObject, object_rules};
-ghost use Rattle.bplist_objects.specs.Safe.{IsSafe, IsSafeBody, IsSafeHead};
+ghost use Rattle.bplist_objects.specs.Safe.{IsSafeBody, IsSafeHead};
 ghost use Rattle.bplist_objects.specs.Units.{IsTextKind};
 ghost use Rattle.bplist_objects.specs.declared.head.Head.{Head as head};
 ghost use Rattle.bplist_objects.specs.declared.kind.Kind.TheVariants.{Dict};
@@ -28,8 +28,8 @@ use crate::key_pairs::OrderedPairs;
 use crate::keys::check_texts;
 use crate::low_bytes::LowBytes;
 use crate::seen::Seen;
-use bplist_objects::{Frame, Head, Kind, ObjectFault, ObjectNo, offset_of, ref_at, shape_at};
-use bplist_octets::{ReadFault, Source};
+use bplist_objects::{Framed, Head, Kind, ObjectFault, ObjectNo, offset_of, ref_at, shape_at};
+use bplist_octets::ReadFault;
 
 /// A key that was looked at: its object, and its head where that was read.
 #[derive(Clone, Copy, Debug)]
@@ -39,36 +39,33 @@ struct ReadKey {
 }
 
 /// The head of a key, where its marker and count are those of a text. It is not read a second time.
-fn head_of<S: Source>(src: &mut S, frame: &Frame, key: &ReadKey) -> Result<Option<Head>, ReadFault>
-    requires safe { IsSafe (length (S.means src.old).octets) frame.now }
-    requires within { key.now.object < frame.now.objects }
-    requires head { IsSafeKey (length (S.means src.old).octets) key.now }
-    ensures reads { OnlyReads (is_err result) (S.means src.old) (S.means src.new) }
-    ensures exact { HonestlyBy (S.means src.old) frame.now (λ f F. IsReadKey f F key.now
+fn head_of<P: Framed>(src: &mut P, key: &ReadKey) -> Result<Option<Head>, ReadFault>
+    requires within { key.now.object < (frame_in (P.means src.old)).objects }
+    requires head { IsSafeKey (length (P.means src.old).octets) key.now }
+    ensures reads { OnlyReads (is_err result) (P.means src.old) (P.means src.new) }
+    ensures exact { HonestlyIn (P.means src.old) (λ f F. IsReadKey f F key.now
         → IfOk result (λ found. MatchOption found (HasTextShape f F key.now.object → ⊥) (IsTextHead f F key.now.object))) }
-    ensures safe { IfOk result (λ found. IfSome found (λ head. IsTextKind head.kind × IsSafeBody (length (S.means src.old).octets) head)) }
+    ensures safe { IfOk result (λ found. IfSome found (λ head. IsTextKind head.kind × IsSafeBody (length (P.means src.old).octets) head)) }
 {
     match key.head {
         Some(head) => Ok(Some(head)),
-        None => text_of(src, frame, key.object),
+        None => text_of(src, key.object),
     }
 }
 
 /// Object `m` as a key, where it and the key before are texts by marker and count, of which that one comes before it.
-fn ascend<S: Source>(
-    src: &mut S,
-    frame: &Frame,
+fn ascend<P: Framed>(
+    src: &mut P,
     last: &ReadKey,
     m: u32,
     pairs: &mut OrderedPairs,
 ) -> Result<Option<ReadKey>, ReadFault>
-    requires safe { IsSafe (length (S.means src.old).octets) frame.now }
-    requires last { last.now.object < frame.now.objects }
-    requires head { IsSafeKey (length (S.means src.old).octets) last.now }
-    requires within { m < frame.now.objects }
-    ensures reads { OnlyReads (is_err result) (S.means src.old) (S.means src.new) }
-    ensures key { IfOk result (λ found. IfSome found (λ key. (key.object ≡ m) × IsSafeKey (length (S.means src.old).octets) key)) }
-    ensures exact { HonestlyBy (S.means src.old) frame.now (λ f F. AreKnown f F pairs.old → IsReadKey f F last.now
+    requires last { last.now.object < (frame_in (P.means src.old)).objects }
+    requires head { IsSafeKey (length (P.means src.old).octets) last.now }
+    requires within { m < (frame_in (P.means src.old)).objects }
+    ensures reads { OnlyReads (is_err result) (P.means src.old) (P.means src.new) }
+    ensures key { IfOk result (λ found. IfSome found (λ key. (key.object ≡ m) × IsSafeKey (length (P.means src.old).octets) key)) }
+    ensures exact { HonestlyIn (P.means src.old) (λ f F. AreKnown f F pairs.old → IsReadKey f F last.now
         → IfOk result (λ found. AreKnown f F pairs.new
         × IfSome found (λ key. IsReadKey f F key × Ascends f F last.now.object m))) }
 {
@@ -78,10 +75,10 @@ fn ascend<S: Source>(
             head: None,
         }));
     }
-    let Some(first) = head_of(src, frame, last)? else {
+    let Some(first) = head_of(src, last)? else {
         return Ok(None);
     };
-    let Some(second) = text_of(src, frame, m)? else {
+    let Some(second) = text_of(src, m)? else {
         return Ok(None);
     };
     if !comes_after(src, &mut pairs.runs, &Some(first), &second)? {
@@ -95,25 +92,23 @@ fn ascend<S: Source>(
 }
 
 /// Object `m` as a key, where it is a text by marker and count, and comes after the key before it, if there is one.
-fn follows<S: Source>(
-    src: &mut S,
-    frame: &Frame,
+fn follows<P: Framed>(
+    src: &mut P,
     before: &Option<ReadKey>,
     m: u32,
     pairs: &mut OrderedPairs,
 ) -> Result<Option<ReadKey>, ReadFault>
-    requires safe { IsSafe (length (S.means src.old).octets) frame.now }
-    requires before { IfSome before.now (λ last. (last.object < frame.now.objects) × IsSafeKey (length (S.means src.old).octets) last) }
-    requires within { m < frame.now.objects }
-    ensures reads { OnlyReads (is_err result) (S.means src.old) (S.means src.new) }
-    ensures key { IfOk result (λ found. IfSome found (λ key. (key.object ≡ m) × IsSafeKey (length (S.means src.old).octets) key)) }
-    ensures exact { HonestlyBy (S.means src.old) frame.now (λ f F. AreKnown f F pairs.old → IfSome before.now (IsReadKey f F)
+    requires before { IfSome before.now (λ last. (last.object < (frame_in (P.means src.old)).objects) × IsSafeKey (length (P.means src.old).octets) last) }
+    requires within { m < (frame_in (P.means src.old)).objects }
+    ensures reads { OnlyReads (is_err result) (P.means src.old) (P.means src.new) }
+    ensures key { IfOk result (λ found. IfSome found (λ key. (key.object ≡ m) × IsSafeKey (length (P.means src.old).octets) key)) }
+    ensures exact { HonestlyIn (P.means src.old) (λ f F. AreKnown f F pairs.old → IfSome before.now (IsReadKey f F)
         → IfOk result (λ found. AreKnown f F pairs.new
         × IfSome found (λ key. IsReadKey f F key × Follows f F before.now m))) }
 {
     match before {
         None => {
-            let Some(head) = text_of(src, frame, m)? else {
+            let Some(head) = text_of(src, m)? else {
                 return Ok(None);
             };
             Ok(Some(ReadKey {
@@ -121,29 +116,24 @@ fn follows<S: Source>(
                 head: Some(head),
             }))
         }
-        Some(last) => ascend(src, frame, last, m, pairs),
+        Some(last) => ascend(src, last, m, pairs),
     }
 }
 
 /// The object that the key at a position of a dictionary names, where there are such a key and such an object.
-fn key_at<S: Source>(
-    src: &mut S,
-    frame: &Frame,
-    head: &Head,
-    position: u32,
-) -> Result<Option<u32>, ReadFault>
-    requires safe { IsSafe (length (S.means src.old).octets) frame.now }
-    requires head { IsSafeHead frame.now head.now }
+fn key_at<P: Framed>(src: &mut P, head: &Head, position: u32) -> Result<Option<u32>, ReadFault>
+    requires head { IsSafeHead (frame_in (P.means src.old)) head.now }
     requires dict { head.now.kind ≡ Dict }
-    ensures reads { OnlyReads (is_err result) (S.means src.old) (S.means src.new) }
-    ensures inside { IfOk result (λ found. IfSome found (λ m. (position < head.now.count) × (m < frame.now.objects))) }
-    ensures exact { HonestlyBy (S.means src.old) frame.now (λ f F.
+    ensures reads { OnlyReads (is_err result) (P.means src.old) (P.means src.new) }
+    ensures inside { IfOk result (λ found. IfSome found (λ m. (position < head.now.count) × (m < (frame_in (P.means src.old)).objects))) }
+    ensures exact { HonestlyIn (P.means src.old) (λ f F.
         IfOk result (λ found. IfSome found (λ m. m ≡ ref f F head.now position))) }
 {
     if position as u64 >= head.count {
         return Ok(None);
     }
-    let m = ref_at(src, frame, head, position as u64)?;
+    let frame = src.frame();
+    let m = ref_at(src, &frame, head, position as u64)?;
     if m >= frame.objects as u64 {
         return Ok(None);
     }
@@ -151,28 +141,26 @@ fn key_at<S: Source>(
 }
 
 /// Whether the keys at the positions of a key list are texts by marker and count that ascend.
-fn is_ascending<S: Source>(
-    src: &mut S,
-    frame: &Frame,
+fn is_ascending<P: Framed>(
+    src: &mut P,
     head: &Head,
     list: &[u32],
     pairs: &mut OrderedPairs,
 ) -> Result<bool, ReadFault>
-    requires safe { IsSafe (length (S.means src.old).octets) frame.now }
-    requires head { IsSafeHead frame.now head.now }
+    requires head { IsSafeHead (frame_in (P.means src.old)) head.now }
     requires dict { head.now.kind ≡ Dict }
     requires whole { length list.now ≡ head.now.count }
-    ensures reads { OnlyReads (is_err result) (S.means src.old) (S.means src.new) }
-    ensures exact { HonestlyBy (S.means src.old) frame.now (λ f F. AreKnown f F pairs.old
+    ensures reads { OnlyReads (is_err result) (P.means src.old) (P.means src.new) }
+    ensures exact { HonestlyIn (P.means src.old) (λ f F. AreKnown f F pairs.old
         → IfOk result (λ good. AreKnown f F pairs.new
         × (IsTrue good → HaveTextShapes f F head.now × AreInOrder f F head.now list.now head.now.count))) }
 {
     let mut before: Option<ReadKey> = None;
     for position in list {
-        let Some(m) = key_at(src, frame, head, *position)? else {
+        let Some(m) = key_at(src, head, *position)? else {
             return Ok(false);
         };
-        let Some(key) = follows(src, frame, &before, m, pairs)? else {
+        let Some(key) = follows(src, &before, m, pairs)? else {
             return Ok(false);
         };
         before = Some(key);
@@ -200,85 +188,84 @@ struct ListLook {
 }
 
 /// Whether the key list of dictionary `n` has its keys in order, which are texts by marker and count then.
-fn has_good_list<S: Source>(
-    src: &mut S,
-    seen: &Seen,
+fn has_good_list<P: Framed>(
+    src: &mut P,
     keys: &KeyLists,
     n: ObjectNo,
     head: &Head,
     pairs: &mut OrderedPairs,
 ) -> Result<bool, ReadFault>
-    requires safe { IsSafe (length (S.means src.old).octets) seen.now.frame }
-    requires head { IsSafeHead seen.now.frame head.now }
+    requires head { IsSafeHead (frame_in (P.means src.old)) head.now }
     requires dict { head.now.kind ≡ Dict }
-    requires within { n.0 < seen.now.frame.objects }
-    requires starts { length keys.now.starts ≡ seen.now.frame.objects }
-    ensures reads { OnlyReads (is_err result) (S.means src.old) (S.means src.new) }
-    ensures exact { HonestlyBy (S.means src.old) seen.now.frame (λ f F. AreKnown f F pairs.old
+    requires within { n.0 < (frame_in (P.means src.old)).objects }
+    requires starts { length keys.now.starts ≡ (frame_in (P.means src.old)).objects }
+    ensures reads { OnlyReads (is_err result) (P.means src.old) (P.means src.new) }
+    ensures exact { HonestlyIn (P.means src.old) (λ f F. AreKnown f F pairs.old
         → IfOk result (λ good. AreKnown f F pairs.new
         × (IsTrue good → HaveTextShapes f F head.now × HasOrder f F (Some keys.now) n.0 head.now))) }
 {
     match key_list(keys, n.0, head.count) {
         None => Ok(false),
-        Some(list) => is_ascending(src, &seen.frame, head, list, pairs),
+        Some(list) => is_ascending(src, head, list, pairs),
     }
 }
 
 /// Looks at the keys of dictionary `n` and at its key list. Where all vouched objects were seen, keys that are texts by marker
 /// and count are texts.
-fn check_list<S: Source>(
-    src: &mut S,
+fn check_list<P: Framed>(
+    src: &mut P,
     seen: &Seen,
     keys: &KeyLists,
     n: ObjectNo,
     head: &Head,
     look: &mut ListLook,
 ) -> Result<(), ObjectFault>
-    requires safe { IsSafe (length (S.means src.old).octets) seen.now.frame }
-    requires head { IsSafeHead seen.now.frame head.now }
+    requires all { length seen.now.heights.now ≡ (frame_in (P.means src.old)).objects }
+    requires head { IsSafeHead (frame_in (P.means src.old)) head.now }
     requires dict { head.now.kind ≡ Dict }
-    requires within { n.0 < seen.now.frame.objects }
-    requires starts { length keys.now.starts ≡ seen.now.frame.objects }
-    ensures reads { OnlyReads (read_failed result) (S.means src.old) (S.means src.new) }
-    ensures known { HonestlyBy (S.means src.old) seen.now.frame (λ f F. AreKnown f F look.old.pairs → AreLow f look.old.low.rows
+    requires within { n.0 < (frame_in (P.means src.old)).objects }
+    requires starts { length keys.now.starts ≡ (frame_in (P.means src.old)).objects }
+    ensures reads { OnlyReads (read_failed result) (P.means src.old) (P.means src.new) }
+    ensures known { HonestlyIn (P.means src.old) (λ f F. AreKnown f F look.old.pairs → AreLow f look.old.low.rows
         → OnOk result (AreKnown f F look.new.pairs × AreLow f look.new.low.rows)) }
-    ensures exact { HonestlyBy (S.means src.old) seen.now.frame (λ f F. AreKnown f F look.old.pairs → AreLow f look.old.low.rows
+    ensures exact { HonestlyIn (P.means src.old) (λ f F. AreKnown f F look.old.pairs → AreLow f look.old.low.rows
         → (seen.now.bound ≡ F.objects → HaveTextShapes f F head.now → HaveTexts f F head.now head.now.count)
         → Gives (λ _. HaveTexts f F head.now head.now.count × HasOrder f F (Some keys.now) n.0 head.now)
         (IsKeysFault f F F.objects (Some keys.now) n.0 head.now) result) }
 {
-    let good = has_good_list(src, seen, keys, n, head, &mut look.pairs)?;
+    let good = has_good_list(src, keys, n, head, &mut look.pairs)?;
     if good && seen.is_whole() {
         return Ok(());
     }
-    check_texts(src, &seen.frame, &mut look.low, n, head)?;
+    check_texts(src, &mut look.low, n, head)?;
     if good {
         return Ok(());
     }
-    check_order(src, &seen.frame, keys, n, head, &mut look.pairs.runs)
+    check_order(src, keys, n, head, &mut look.pairs.runs)
 }
 
 /// Looks at the keys of vouched object `n`, where it is a dictionary.
-fn check_object<S: Source>(
-    src: &mut S,
+fn check_object<P: Framed>(
+    src: &mut P,
     seen: &Seen,
     keys: &KeyLists,
     n: u32,
     look: &mut ListLook,
 ) -> Result<(), ObjectFault>
-    requires safe { IsSafe (length (S.means src.old).octets) seen.now.frame }
-    requires within { n < seen.now.frame.objects }
-    requires starts { length keys.now.starts ≡ seen.now.frame.objects }
-    ensures reads { OnlyReads (read_failed result) (S.means src.old) (S.means src.new) }
-    ensures known { HonestlyBy (S.means src.old) seen.now.frame (λ f F. AreKnown f F look.old.pairs → AreLow f look.old.low.rows
+    requires all { length seen.now.heights.now ≡ (frame_in (P.means src.old)).objects }
+    requires within { n < (frame_in (P.means src.old)).objects }
+    requires starts { length keys.now.starts ≡ (frame_in (P.means src.old)).objects }
+    ensures reads { OnlyReads (read_failed result) (P.means src.old) (P.means src.new) }
+    ensures known { HonestlyIn (P.means src.old) (λ f F. AreKnown f F look.old.pairs → AreLow f look.old.low.rows
         → OnOk result (AreKnown f F look.new.pairs × AreLow f look.new.low.rows)) }
-    ensures exact { HonestlyBy (S.means src.old) seen.now.frame (λ f F. AreKnown f F look.old.pairs → AreLow f look.old.low.rows
+    ensures exact { HonestlyIn (P.means src.old) (λ f F. AreKnown f F look.old.pairs → AreLow f look.old.low.rows
         → KeepsAll (KeepsByObject f F n) object_rules
         → ((head : head) → HasHead f F n head → head.kind ≡ Dict → seen.now.bound ≡ F.objects → KeysAreSound f F head)
         → Gives (λ _. HasGoodKeys f F (Some keys.now) n) (BreaksKeys f F F.objects (Some keys.now) n) result) }
 {
-    let place = offset_of(src, &seen.frame, ObjectNo(n))?;
-    let head = shape_at(src, &seen.frame, ObjectNo(n), place)?;
+    let frame = src.frame();
+    let place = offset_of(src, &frame, ObjectNo(n))?;
+    let head = shape_at(src, &frame, ObjectNo(n), place)?;
     match head.kind {
         Kind::Dict => check_list(src, seen, keys, ObjectNo(n), &head, look),
         _ => Ok(()),
@@ -299,15 +286,15 @@ fn may_be_wrong(keys: &KeyLists, n: u32, height: u32) -> bool
 }
 
 /// Looks at the keys of the vouched dictionaries that were seen: they are texts, and the key lists have them in order.
-pub(crate) fn check_keys<S: Source>(
-    src: &mut S,
+pub(crate) fn check_keys<P: Framed>(
+    src: &mut P,
     seen: &Seen,
     keys: &KeyLists,
 ) -> Result<(), ObjectFault>
-    requires safe { IsSafe (length (S.means src.old).octets) seen.now.frame }
-    requires starts { length keys.now.starts ≡ seen.now.frame.objects }
-    ensures reads { OnlyReads (read_failed result) (S.means src.old) (S.means src.new) }
-    ensures exact { HonestlyBy (S.means src.old) seen.now.frame (λ f F. AreSeen f F seen.now.heights.now seen.now.bound
+    requires all { length seen.now.heights.now ≡ (frame_in (P.means src.old)).objects }
+    requires starts { length keys.now.starts ≡ (frame_in (P.means src.old)).objects }
+    ensures reads { OnlyReads (read_failed result) (P.means src.old) (P.means src.new) }
+    ensures exact { HonestlyIn (P.means src.old) (λ f F. AreSeen f F seen.now.heights.now seen.now.bound
         → Gives (λ _. (n : ℕ) → n < seen.now.bound → IsVouchedBy seen.now.heights.now n → HasGoodKeys f F (Some keys.now) n)
         (IsFirstKeysFault f F (lists seen.now.heights.now (Some keys.now)) seen.now.bound) result) }
 {

@@ -2,9 +2,9 @@
 
 ghost use Rattle.std.specs.Prelude.{◌≡◌, ◌↔◌, IsTrue, ◌+◌, ◌*◌, ◌≤◌, ◌<◌, length, IfOk, IfSome, MatchOption, Some, is_err};
 ghost use Rattle.bplist_octets.specs.Meaning.{OnlyReads};
-ghost use Rattle.bplist_objects.specs.Framed.{HonestlyBy};
+ghost use Rattle.bplist_objects.specs.Framed.{frame_in, HonestlyIn};
 ghost use Rattle.bplist_objects.specs.Frame.{off};
-ghost use Rattle.bplist_objects.specs.Safe.{IsSafe, IsSafeHead, IsSafeBody};
+ghost use Rattle.bplist_objects.specs.Safe.{IsSafeHead, IsSafeBody};
 ghost use Rattle.bplist_objects.specs.Units.{IsTextKind};
 ghost use Rattle.bplist_objects.specs.Announced.{HasHead};
 ghost use Rattle.bplist_objects.specs.Rules.{KeepsAll};
@@ -17,33 +17,31 @@ ghost use Rattle.bplist_cert.specs.Keys.{IsText, IsKey, HaveTexts, IsFirstKeyles
 ghost use Rattle.bplist_cert.specs.LowBytes.{AreLow};
 ghost use Rattle.bplist_cert.specs.KeyPlaces.{IsPlaced, ArePlaced, AreTexts, IsFirstOther};
 
-use crate::heights::ref_place;
 use crate::key_places::{BLOCK, read_places};
 use crate::low_bytes::LowBytes;
-use bplist_objects::{Fault, Frame, Head, Kind, ObjectFault, ObjectNo, Rule, shape_at};
-use bplist_octets::{ReadFault, Source};
+use bplist_objects::{Fault, Framed, Head, Kind, ObjectFault, ObjectNo, Rule, ref_place, shape_at};
+use bplist_octets::ReadFault;
 
 /// Whether object number `m`, which stands at `place`, spells a text. The bytes of an Ascii one that are not known to be low
 /// are read.
-fn is_text<S: Source>(
-    src: &mut S,
-    frame: &Frame,
+fn is_text<P: Framed>(
+    src: &mut P,
     low: &mut LowBytes,
     m: u64,
     place: u64,
 ) -> Result<bool, ReadFault>
-    requires safe { IsSafe (length (S.means src.old).octets) frame.now }
-    ensures reads { OnlyReads (is_err result) (S.means src.old) (S.means src.new) }
-    ensures low { IsTrue (S.means src.old).honest → AreLow (S.means src.old).octets low.old.rows
-        → AreLow (S.means src.old).octets low.new.rows }
-    ensures exact { IfOk result (λ text. HonestlyBy (S.means src.old) frame.now (λ f F. AreLow f low.old.rows → IsPlaced f F m place
+    ensures reads { OnlyReads (is_err result) (P.means src.old) (P.means src.new) }
+    ensures low { IsTrue (P.means src.old).honest → AreLow (P.means src.old).octets low.old.rows
+        → AreLow (P.means src.old).octets low.new.rows }
+    ensures exact { IfOk result (λ text. HonestlyIn (P.means src.old) (λ f F. AreLow f low.old.rows → IsPlaced f F m place
         → IsTrue text ↔ ((key : head_record) × IsText f F m key))) }
 {
+    let frame = src.frame();
     let _len = src.len();
     if m >= frame.objects as u64 {
         return Ok(false);
     }
-    match shape_at(src, frame, ObjectNo(m as u32), place) {
+    match shape_at(src, &frame, ObjectNo(m as u32), place) {
         Ok(head) => match head.kind {
             Kind::Ascii => low.covers(src, head.body, head.body + head.count),
             Kind::Wide => Ok(true),
@@ -55,76 +53,41 @@ fn is_text<S: Source>(
 }
 
 /// The first of these objects, which stand at these places, that is no text.
-fn first_other<S: Source>(
-    src: &mut S,
-    frame: &Frame,
+fn first_other<P: Framed>(
+    src: &mut P,
     low: &mut LowBytes,
     refs: &[u64],
     offsets: &[u64],
 ) -> Result<Option<usize>, ReadFault>
-    requires safe { IsSafe (length (S.means src.old).octets) frame.now }
-    requires many { length offsets.now ≡ length refs.now }
-    ensures reads { OnlyReads (is_err result) (S.means src.old) (S.means src.new) }
-    ensures low { IsTrue (S.means src.old).honest → AreLow (S.means src.old).octets low.old.rows
-        → AreLow (S.means src.old).octets low.new.rows }
-    ensures found { IfOk result (λ found. HonestlyBy (S.means src.old) frame.now
+    requires { length offsets.now ≡ length refs.now }
+    ensures reads { OnlyReads (is_err result) (P.means src.old) (P.means src.new) }
+    ensures low { IsTrue (P.means src.old).honest → AreLow (P.means src.old).octets low.old.rows
+        → AreLow (P.means src.old).octets low.new.rows }
+    ensures found { IfOk result (λ found. HonestlyIn (P.means src.old)
         (λ f F. AreLow f low.old.rows → ArePlaced f F refs.now offsets.now (length refs.now)
         → MatchOption found (AreTexts f F refs.now (length refs.now)) (IsFirstOther f F refs.now))) }
     ensures inside { IfOk result (λ found. IfSome found (λ i. i < length refs.now)) }
 {
     for i in 0..refs.len() {
-        if !is_text(src, frame, low, refs[i], offsets[i])? {
+        if !is_text(src, low, refs[i], offsets[i])? {
             return Ok(Some(i));
         }
     }
     Ok(None)
 }
 
-/// The first key of a block that is no text, where those before the block are.
-fn search_keys<S: Source>(
-    src: &mut S,
-    frame: &Frame,
-    low: &mut LowBytes,
-    head: &Head,
-    done: u64,
-    refs: &mut [u64],
-    found: &mut [u64],
-) -> Result<Option<u64>, ReadFault>
-    requires safe { IsSafe (length (S.means src.old).octets) frame.now }
-    requires head { IsSafeHead frame.now head.now }
-    requires dict { head.now.kind ≡ Dict }
-    requires within { done + length refs.old ≤ head.now.count }
-    requires many { length found.old ≡ length refs.old }
-    ensures reads { OnlyReads (is_err result) (S.means src.old) (S.means src.new) }
-    ensures low { IsTrue (S.means src.old).honest → AreLow (S.means src.old).octets low.old.rows
-        → AreLow (S.means src.old).octets low.new.rows }
-    ensures first { IfOk result (λ first. HonestlyBy (S.means src.old) frame.now
-        (λ f F. AreLow f low.old.rows → HaveTexts f F head.now done
-        → MatchOption first (HaveTexts f F head.now (done + length refs.old)) (IsFirstKeyless f F head.now))) }
-    ensures inside { IfOk result (λ first. IfSome first (λ i. i < head.now.count)) }
-{
-    let _count = head.count;
-    read_places(src, frame, head, done, refs, found)?;
-    match first_other(src, frame, low, refs, found)? {
-        Some(i) => Ok(Some(done + i as u64)),
-        None => Ok(None),
-    }
-}
-
 /// The first key of a dictionary that is no text.
-fn first_keyless<S: Source>(
-    src: &mut S,
-    frame: &Frame,
+fn first_keyless<P: Framed>(
+    src: &mut P,
     low: &mut LowBytes,
     head: &Head,
 ) -> Result<Option<u64>, ReadFault>
-    requires safe { IsSafe (length (S.means src.old).octets) frame.now }
-    requires head { IsSafeHead frame.now head.now }
+    requires head { IsSafeHead (frame_in (P.means src.old)) head.now }
     requires dict { head.now.kind ≡ Dict }
-    ensures reads { OnlyReads (is_err result) (S.means src.old) (S.means src.new) }
-    ensures low { IsTrue (S.means src.old).honest → AreLow (S.means src.old).octets low.old.rows
-        → AreLow (S.means src.old).octets low.new.rows }
-    ensures found { IfOk result (λ found. HonestlyBy (S.means src.old) frame.now
+    ensures reads { OnlyReads (is_err result) (P.means src.old) (P.means src.new) }
+    ensures low { IsTrue (P.means src.old).honest → AreLow (P.means src.old).octets low.old.rows
+        → AreLow (P.means src.old).octets low.new.rows }
+    ensures found { IfOk result (λ found. HonestlyIn (P.means src.old)
         (λ f F. AreLow f low.old.rows
         → MatchOption found (HaveTexts f F head.now head.now.count) (IsFirstKeyless f F head.now))) }
     ensures inside { IfOk result (λ found. IfSome found (λ i. i < head.now.count)) }
@@ -136,9 +99,10 @@ fn first_keyless<S: Source>(
     while done < count {
         let now = (count - done).min(BLOCK as u64);
         let block = &mut refs[..now as usize];
-        let at = &mut found[..now as usize];
-        if let Some(i) = search_keys(src, frame, low, head, done, block, at)? {
-            return Ok(Some(i));
+        let places = &mut found[..now as usize];
+        read_places(src, head, done, block, places)?;
+        if let Some(i) = first_other(src, low, block, places)? {
+            return Ok(Some(done + i as u64));
         }
         done += now;
     }
@@ -147,39 +111,37 @@ fn first_keyless<S: Source>(
 
 /// Looks for a key of dictionary `n`, whose head this is, that is no text: rule 21. The fault is that of the first such
 /// key, at its reference, counted from the file's first byte. `Read` where a read failed.
-pub(crate) fn check_texts<S: Source>(
-    src: &mut S,
-    frame: &Frame,
+pub(crate) fn check_texts<P: Framed>(
+    src: &mut P,
     low: &mut LowBytes,
     n: ObjectNo,
     head: &Head,
 ) -> Result<(), ObjectFault>
-    requires safe { IsSafe (length (S.means src.old).octets) frame.now }
-    requires head { IsSafeHead frame.now head.now }
+    requires head { IsSafeHead (frame_in (P.means src.old)) head.now }
     requires dict { head.now.kind ≡ Dict }
-    ensures reads { OnlyReads (read_failed result) (S.means src.old) (S.means src.new) }
-    ensures low { IsTrue (S.means src.old).honest → AreLow (S.means src.old).octets low.old.rows
-        → AreLow (S.means src.old).octets low.new.rows }
-    ensures exact { HonestlyBy (S.means src.old) frame.now (λ f F. AreLow f low.old.rows
+    ensures reads { OnlyReads (read_failed result) (P.means src.old) (P.means src.new) }
+    ensures low { IsTrue (P.means src.old).honest → AreLow (P.means src.old).octets low.old.rows
+        → AreLow (P.means src.old).octets low.new.rows }
+    ensures exact { HonestlyIn (P.means src.old) (λ f F. AreLow f low.old.rows
         → Gives (λ _. HaveTexts f F head.now head.now.count) (IsKeylessFault f F n.0 head.now) result) }
 {
-    match first_keyless(src, frame, low, head)? {
+    match first_keyless(src, low, head)? {
         None => Ok(()),
-        Some(i) => Err(ObjectFault::Fault(keyless(frame, n, head, i, src.len()))),
+        Some(i) => Err(ObjectFault::Fault(keyless(src, n, head, i))),
     }
 }
 
-/// The fault of key `i` of dictionary `n`, in a file of so many bytes.
-pub(crate) fn keyless(frame: &Frame, n: ObjectNo, head: &Head, i: u64, len: u64) -> Fault
-    requires safe { IsSafe len frame.now }
-    requires head { IsSafeHead frame.now head.now }
+/// The fault of key `i` of dictionary `n`.
+pub(crate) fn keyless<P: Framed>(src: &P, n: ObjectNo, head: &Head, i: u64) -> Fault
+    requires head { IsSafeHead (frame_in (P.means src.now)) head.now }
     requires dict { head.now.kind ≡ Dict }
     requires within { i < head.now.count }
-    ensures { (result.rule ≡ KeyKind) × (result.object ≡ Some n) × (result.place ≡ head.now.body + i * frame.now.ref_size) }
+    ensures { (result.rule ≡ KeyKind) × (result.object ≡ Some n)
+        × (result.place ≡ head.now.body + i * (frame_in (P.means src.now)).ref_size) }
 {
     Fault {
         rule: Rule::KeyKind,
         object: Some(n),
-        place: ref_place(frame, head, i, len),
+        place: ref_place(src, head, i),
     }
 }

@@ -2,23 +2,19 @@
 
 ghost use Rattle.std.specs.Prelude.{◌≡◌, ◌≤◌, IsTrue, ◌↔◌, length};
 
-use bplist_objects::Frame;
-
 /// The vouched objects with numbers below `bound`, which keep the rules before those of keys.
 #[derive(Drop)]
 pub(crate) struct Seen<'a> {
-    pub frame: Frame,
     pub heights: &'a [u32],
     pub bound: u32,
-    pub ghost all: { length heights.now ≡ frame.objects },
-    pub ghost within: { bound ≤ frame.objects },
+    pub ghost within: { bound ≤ length heights.now },
 }
 
 impl Seen<'_> {
     /// These are all vouched objects.
     pub(crate) fn is_whole(&self) -> bool
-        ensures { IsTrue result ↔ (self.now.bound ≡ self.now.frame.objects) }
+        ensures { IsTrue result ↔ (self.now.bound ≡ length self.now.heights.now) }
     {
-        self.bound == self.frame.objects
+        self.bound as usize == self.heights.len()
     }
 }

@@ -3,6 +3,7 @@
 ghost use Rattle.std.specs.Prelude.{◌≡◌, ◌+◌, ◌≤◌, ◌<◌, ℕ, List, set, length, IsTrue, IfOk, vec_len};
 ghost use Rattle.bplist_octets.specs.Meaning.{OnlyReads};
 ghost use Rattle.bplist_objects.specs.Frame.{off, IsFrame};
+ghost use Rattle.bplist_objects.specs.Framed.{frame_in, HonestlyIn};
 ghost use Rattle.bplist_objects.specs.Safe.{IsSafe};
 ghost use Rattle.bplist_keys.specs.Texts.{AreOffsets};
 ghost use Rattle.bplist_keys.specs.Ranks.{AreRanks};
@@ -15,7 +16,7 @@ use crate::key_lists::KeySorting;
 use crate::upgrade_fault::UpgradeFault;
 use bplist_cert::{Certificate, Checked, KeyLists, vouched_keys};
 use bplist_keys::{Ranks, places_of, ranks_of};
-use bplist_objects::{Frame, Kind, ObjectNo, shape_at};
+use bplist_objects::{Frame, Framed, Kind, ObjectNo, shape_at};
 use bplist_octets::Source;
 use std::alloc::Global;
 
@@ -98,27 +99,26 @@ fn list_all<S: Source>(
 }
 
 /// The key lists of the vouched dictionaries of a file, where the heights are given.
-fn list_keys_of<S: Source>(
+fn list_keys_of<P: Framed>(
     alloc: Global,
-    src: &mut S,
-    frame: &Frame,
+    src: &mut P,
     heights: &[u32],
 ) -> Result<KeyLists, UpgradeFault>
-    requires safe { IsSafe (length (S.means src.old).octets) frame.now }
-    requires heights { length heights.now ≡ frame.now.objects }
-    ensures reads { OnlyReads (upgrade_failed result) (S.means src.old) (S.means src.new) }
-    ensures starts { IfOk result (λ keys. length keys.starts ≡ frame.now.objects) }
-    ensures exact { IsTrue (S.means src.old).honest → IsValid (S.means src.old).octets frame.now heights.now
-        → Upgrades (λ keys. Listed (S.means src.old).octets frame.now heights.now frame.now.objects keys.starts keys.positions) result }
+    requires { length heights.now ≡ (frame_in (P.means src.old)).objects }
+    ensures reads { OnlyReads (upgrade_failed result) (P.means src.old) (P.means src.new) }
+    ensures starts { IfOk result (λ keys. length keys.starts ≡ (frame_in (P.means src.old)).objects) }
+    ensures exact { HonestlyIn (P.means src.old) (λ f F. IsValid f F heights.now
+        → Upgrades (λ keys. Listed f F heights.now F.objects keys.starts keys.positions) result) }
 {
-    let places = places_of(alloc, src, frame)?;
-    let named = vouched_keys(alloc, src, frame, &places, heights)?;
-    let ranks = ranks_of(alloc, src, frame, &places, named)?;
+    let frame = src.frame();
+    let places = places_of(alloc, src, &frame)?;
+    let named = vouched_keys(alloc, src, &places, heights)?;
+    let ranks = ranks_of(alloc, src, &frame, &places, named)?;
     let vouched = Vouched {
         places: &places,
         heights,
     };
-    list_all(alloc, src, frame, &vouched, ranks)
+    list_all(alloc, src, &frame, &vouched, ranks)
 }
 
 /// The certificate of version 2 of a checked file: its heights, and the key lists of the vouched dictionaries one behind
@@ -139,9 +139,9 @@ pub fn upgrade<S: Source>(
     ensures exact { IsTrue checked.old.source.honest → Upgrades (λ certificate.
         ∥ IsUpgraded checked.old.source.octets checked.old.frame checked.old.certificate.heights certificate ∥₁) result }
 {
-    let frame = checked.frame();
+    let _frame = checked.frame();
     let heights = checked.certificate().heights.to_vec(alloc)?;
-    let keys = list_keys_of(alloc, checked, &frame, &heights)?;
+    let keys = list_keys_of(alloc, checked, &heights)?;
     Ok(Certificate {
         heights,
         keys: Some(keys),

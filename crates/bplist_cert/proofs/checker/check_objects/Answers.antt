@@ -1,54 +1,62 @@
-use Rattle.std.proofs.Common.{◌≡◌, sym, subst, arith}
+use Rattle.std.proofs.Common.{◌≡◌, ap, sym, subst, arith}
 use Rattle.std.proofs.lemmas.Result.{err_from_is_err_and}
+use Rattle.bplist_objects.specs.declared.frame.Frame.{Frame}
+use Rattle.bplist_objects.specs.Framed.{frame_in}
 use Rattle.bplist_cert.specs.Looks.{AreSeen}
 use Rattle.bplist_cert.proofs.CheckSteps.{all_good, seen_first, seen_object, vouched_inside, keys_first, refused_weaker}
 use Rattle.bplist_cert.proofs.checker.check_objects.Goals as goal
 
 pub returns-in_err-check_keys-in-Ok-clause-exact : goal.returns-in_err-check_keys-in-Ok-clause-exact
-returns-in_err-check_keys-in-Ok-clause-exact g c = λ honest framed.
-    let f = (g.S.Source.means c.args.src.now).octets in
-    let F = c.args.frame.now in
+returns-in_err-check_keys-in-Ok-clause-exact g c = λ honest.
+    let f = (g.P.Source.means c.args.src.now).octets in
+    let F : Frame = frame_in (g.P.Source.means c.args.src.now) in
     let heights = c.args.heights.now in
     let keys = c.args.keys.now in
-    let run = c.in-Ok.ensures.exact honest framed in
+    let run = c.in-Ok.ensures.exact honest in
+    let keyed = rw (c.in-Ok.ensures.reads, c.frame-objects.ensures.frame) at c.in_err-check_keys-in-Ok.ensures.exact in
     let p = err_from_is_err_and c.from_residual.result c.from_residual.ensures.1 in
-    rw (p.1, p.2) (refused_weaker _ _ c.in_err-check_keys-in-Ok.field-0.0 (λ fault h. keys_first f F heights keys fault F.objects run.kept h) ((rw c.in-Ok.ensures.reads at c.in_err-check_keys-in-Ok.ensures.exact) honest framed run.kept))
+    rw (p.1, p.2) (refused_weaker _ _ c.in_err-check_keys-in-Ok.field-0.0 (λ fault h. keys_first f F heights keys fault F.objects run.kept h) (keyed honest run.kept))
 
 pub returns-in_err-check_keys-in-Err-Fault-clause-exact : goal.returns-in_err-check_keys-in-Err-Fault-clause-exact
-returns-in_err-check_keys-in-Err-Fault-clause-exact g c = λ honest framed.
-    let f = (g.S.Source.means c.args.src.now).octets in
-    let F = c.args.frame.now in
+returns-in_err-check_keys-in-Err-Fault-clause-exact g c = λ honest.
+    let f = (g.P.Source.means c.args.src.now).octets in
+    let F : Frame = frame_in (g.P.Source.means c.args.src.now) in
     let heights = c.args.heights.now in
     let keys = c.args.keys.now in
-    let s = (rw c.in-Err-Fault.field-0-is at c.in-Err-Fault.ensures.exact) honest framed in
+    let s = (rw c.in-Err-Fault.field-0-is at c.in-Err-Fault.ensures.exact) honest in
     let named = c.object_of.ensures _ (seen_object f F heights keys _ s) in
     let inside = vouched_inside heights F.objects s.object c.requires.all s.vouched in
-    let bound : c.min.result ≡ s.object = omega (arith, c.min.ensures, named, inside) in
+    let objects : c.frame-objects.result.objects ≡ F.objects = ap (λ (x : Frame). x.objects) c.frame-objects.ensures.frame in
+    let bound : c.min.result ≡ s.object = omega (arith, c.min.ensures, named, inside, objects) in
     let seen = subst (AreSeen f F heights) (sym bound) s.seen in
     let reads = rw c.in-Err-Fault.field-0-is at c.in-Err-Fault.ensures.reads in
+    let keyed = rw reads at c.in_err-check_keys-in-Err-Fault.ensures.exact in
     let p = err_from_is_err_and c.from_residual-in_err-check_keys-in-Err-Fault.result c.from_residual-in_err-check_keys-in-Err-Fault.ensures.1 in
-    rw (p.1, p.2) (refused_weaker _ _ c.in_err-check_keys-in-Err-Fault.field-0.0 (λ fault h. keys_first f F heights keys fault c.min.result seen h) ((rw reads at c.in_err-check_keys-in-Err-Fault.ensures.exact) honest framed seen))
+    rw (p.1, p.2) (refused_weaker _ _ c.in_err-check_keys-in-Err-Fault.field-0.0 (λ fault h. keys_first f F heights keys fault c.min.result seen h) (keyed honest seen))
 
 pub returns-in_ok-check_keys-in-Ok-clause-exact : goal.returns-in_ok-check_keys-in-Ok-clause-exact
-returns-in_ok-check_keys-in-Ok-clause-exact g c = λ honest framed.
-    let f = (g.S.Source.means c.args.src.now).octets in
-    let F = c.args.frame.now in
+returns-in_ok-check_keys-in-Ok-clause-exact g c = λ honest.
+    let f = (g.P.Source.means c.args.src.now).octets in
+    let F : Frame = frame_in (g.P.Source.means c.args.src.now) in
     let heights = c.args.heights.now in
     let keys = c.args.keys.now in
-    let run = c.in-Ok.ensures.exact honest framed in
-    all_good f F heights keys c.in-Ok.used run ((rw c.in-Ok.ensures.reads at c.in_ok-check_keys-in-Ok.ensures.exact) honest framed run.kept)
+    let run = c.in-Ok.ensures.exact honest in
+    let keyed = rw (c.in-Ok.ensures.reads, c.frame-objects.ensures.frame) at c.in_ok-check_keys-in-Ok.ensures.exact in
+    all_good f F heights keys c.in-Ok.used run (keyed honest run.kept)
 
 pub returns-in_ok-check_keys-in-Err-Fault-clause-exact : goal.returns-in_ok-check_keys-in-Err-Fault-clause-exact
-returns-in_ok-check_keys-in-Err-Fault-clause-exact g c = λ honest framed.
-    let f = (g.S.Source.means c.args.src.now).octets in
-    let F = c.args.frame.now in
+returns-in_ok-check_keys-in-Err-Fault-clause-exact g c = λ honest.
+    let f = (g.P.Source.means c.args.src.now).octets in
+    let F : Frame = frame_in (g.P.Source.means c.args.src.now) in
     let heights = c.args.heights.now in
     let keys = c.args.keys.now in
-    let s = (rw c.in-Err-Fault.field-0-is at c.in-Err-Fault.ensures.exact) honest framed in
+    let s = (rw c.in-Err-Fault.field-0-is at c.in-Err-Fault.ensures.exact) honest in
     let named = c.object_of.ensures _ (seen_object f F heights keys _ s) in
     let inside = vouched_inside heights F.objects s.object c.requires.all s.vouched in
-    let bound : c.min.result ≡ s.object = omega (arith, c.min.ensures, named, inside) in
+    let objects : c.frame-objects.result.objects ≡ F.objects = ap (λ (x : Frame). x.objects) c.frame-objects.ensures.frame in
+    let bound : c.min.result ≡ s.object = omega (arith, c.min.ensures, named, inside, objects) in
     let seen = subst (AreSeen f F heights) (sym bound) s.seen in
     let reads = rw c.in-Err-Fault.field-0-is at c.in-Err-Fault.ensures.reads in
-    let good = (rw reads at c.in_ok-check_keys-in-Err-Fault.ensures.exact) honest framed seen in
+    let keyed = rw reads at c.in_ok-check_keys-in-Err-Fault.ensures.exact in
+    let good = keyed honest seen in
     seen_first f F heights keys _ s (λ n lt v. good n (omega (arith, lt, bound)) v)

@@ -2,6 +2,8 @@ use Rattle.std.proofs.Common.{◌≡◌, ◌<◌, None, slice_index, sym, subst,
 use Rattle.std.proofs.lemmas.Bool.{cases_eq}
 use Rattle.std.proofs.lemmas.List.{get_or_read}
 use Rattle.std.proofs.lemmas.Result.{err_from_is_err_and}
+use Rattle.bplist_objects.specs.declared.frame.Frame.{Frame}
+use Rattle.bplist_objects.specs.Framed.{frame_in}
 use Rattle.bplist_keys.proofs.PlaceSteps.{framed_offsets}
 use Rattle.bplist_keys.proofs.LookUps.{new_low, stamped_low}
 use Rattle.bplist_cert.specs.Valid.{IsVouchedBy}
@@ -13,38 +15,39 @@ use Rattle.bplist_cert.proofs.key_classes.check_keys.Goals as goal
 use Rattle.bplist_cert.proofs.key_classes.check_keys.Goals.{then-seen-n-gt1+in_ok-check_object, else-seen-n-gt1}
 
 pub returns-in_err-check_object-clause-exact : goal.returns-in_err-check_object-clause-exact
-returns-in_err-check_object-clause-exact g c = λ honest framed seen.
-    let f = (g.S.Source.means c.args.src.now).octets in
-    let F = c.args.seen.now.frame in
+returns-in_err-check_object-clause-exact g c = λ honest seen.
+    let framed = c.frame-frame.ensures.framed.framed honest in
+    let f = (g.P.Source.means c.args.src.now).octets in
+    let F : Frame = frame_in (g.P.Source.means c.args.src.now) in
     let heights = c.args.seen.now.heights.now in
     let v = c.loop-n.invariant in
     let n = c.loop-n.n in
-    let within : n < F.objects = omega (arith, c.loop-n-test.true, c.args.seen.now.within) in
+    let within : n < F.objects = omega (arith, c.loop-n-test.true, c.args.seen.now.within, c.requires) in
     let table_is : c.loop-n.look.table.classes.table.items ≡ c.in_ok-classes.classes.table.items = v.same ∙ c.in_ok-new.ensures.classes in
     let here : IsVouchedBy heights n = omega (arith, c.if-seen-n-gt1.true) in
-    let placed = framed_offsets f F c.in_ok-places.places.items (c.in_ok-places.ensures.exact honest) framed in
-    let named = (rw (c.deref.ensures.value, c.in_ok-places.ensures.reads) at c.in_ok-named.ensures.exact) honest framed placed seen n c.loop-n-test.true here in
-    let classes = (rw (c.deref-2.ensures.value, c.in_ok-named.ensures.reads, c.in_ok-places.ensures.reads) at c.in_ok-classes.ensures.exact) honest framed placed in
-    let read : c.index.result.now ≡ slice_index c.in_ok-places.places.items n = get_or_read c.in_ok-places.places.items n c.index.result.now (subst (λ k. n < k) (sym c.in_ok-places.ensures.all ∙ c.in_ok-places.places.ok.0) within) c.index.ensures 0 in
-    let judged = (rw (v.reads, table_is) at c.in_err-check_object.ensures.exact) honest framed (read ∙ placed n within) (seen n c.loop-n-test.true here).own (new_low n _ (v.stamps honest)) (v.low honest)
+    let placed = framed_offsets f F c.in_ok-places.places.items ((rw c.frame-frame.ensures.frame at c.in_ok-places.ensures.exact) honest) framed in
+    let named = (rw (c.deref.ensures.value, c.in_ok-places.ensures.reads) at c.in_ok-named.ensures.exact) honest placed seen n c.loop-n-test.true here in
+    let classes = (rw (c.deref-2.ensures.value, c.in_ok-named.ensures.reads, c.in_ok-places.ensures.reads) at c.in_ok-classes.ensures.exact) honest placed in
+    let read : c.index.result.now ≡ slice_index c.in_ok-places.places.items n = get_or_read c.in_ok-places.places.items n c.index.result.now (subst (λ k. n < k) (sym (rw c.frame-frame.ensures.frame at c.in_ok-places.ensures.all) ∙ c.in_ok-places.places.ok.0) within) c.index.ensures 0 in
+    let judged = (rw (v.reads, table_is) at c.in_err-check_object.ensures.exact) honest (read ∙ placed n within) (seen n c.loop-n-test.true here).own (new_low n _ (v.stamps honest)) (v.low honest)
     (λ head has dict. (keys_classed f F _ c.in_ok-classes.classes.table.items n classes named head has dict, λ whole. sound_keys f F heights (subst (AreSeen f F heights) whole seen) n within here head has dict)) in
     let p = err_from_is_err_and c.from_residual-in_err-check_object.result c.from_residual-in_err-check_object.ensures.1 in
     rw (p.1, p.2) (refused_weaker _ _ c.in_err-check_object.field-0.0 (λ fault h. record {
       object = n;
       within = c.loop-n-test.true;
       vouched = here;
-      breaks = subst (λ count. BreaksKeys f F count None n fault) (sym c.args.seen.now.all) h;
-      before = v.exact honest framed seen;
+      breaks = subst (λ count. BreaksKeys f F count None n fault) (sym c.requires) h;
+      before = v.exact honest seen;
     }) judged)
 
 pub loop-n-preserved : goal.loop-n-preserved
 loop-n-preserved g c =
-    let f = (g.S.Source.means c.args.src.now).octets in
-    let F = c.args.seen.now.frame in
+    let f = (g.P.Source.means c.args.src.now).octets in
+    let F : Frame = frame_in (g.P.Source.means c.args.src.now) in
     let heights = c.args.seen.now.heights.now in
     let v = c.loop-n.invariant in
     let n = c.loop-n.n in
-    let within : n < F.objects = omega (arith, c.loop-n-test.true, c.args.seen.now.within) in
+    let within : n < F.objects = omega (arith, c.loop-n-test.true, c.args.seen.now.within, c.requires) in
     elim c.if-seen-n-gt1.branch [
       | then-seen-n-gt1+in_ok-check_object w ↦
           let table_is : c.loop-n.look.table.classes.table.items ≡ c.in_ok-classes.classes.table.items = v.same ∙ c.in_ok-new.ensures.classes in
@@ -53,17 +56,18 @@ loop-n-preserved g c =
             same = rw w.look-is (w.in_ok-check_object.ensures.same ∙ v.same);
             stamps = λ honest. rw w.look-is (stamped_low n _ _ w.check_object.ensures.stamped (v.stamps honest));
             low = λ honest. rw w.look-is ((rw v.reads at w.in_ok-check_object.ensures.low) honest (v.low honest));
-            exact = λ honest framed seen m low vouched. elim (cases_eq m n) [
+            exact = λ honest seen m low vouched. elim (cases_eq m n) [
               | inl e ↦
                   let here = subst (IsVouchedBy heights) e vouched in
-                  let placed = framed_offsets f F c.in_ok-places.places.items (c.in_ok-places.ensures.exact honest) framed in
-                  let named = (rw (c.deref.ensures.value, c.in_ok-places.ensures.reads) at c.in_ok-named.ensures.exact) honest framed placed seen n c.loop-n-test.true here in
-                  let classes = (rw (c.deref-2.ensures.value, c.in_ok-named.ensures.reads, c.in_ok-places.ensures.reads) at c.in_ok-classes.ensures.exact) honest framed placed in
-                  let read : w.index.result.now ≡ slice_index c.in_ok-places.places.items n = get_or_read c.in_ok-places.places.items n w.index.result.now (subst (λ k. n < k) (sym c.in_ok-places.ensures.all ∙ c.in_ok-places.places.ok.0) within) w.index.ensures 0 in
-                  let good = (rw (v.reads, table_is) at w.in_ok-check_object.ensures.exact) honest framed (read ∙ placed n within) (seen n c.loop-n-test.true here).own (new_low n _ (v.stamps honest)) (v.low honest)
+                  let framed = c.frame-frame.ensures.framed.framed honest in
+                  let placed = framed_offsets f F c.in_ok-places.places.items ((rw c.frame-frame.ensures.frame at c.in_ok-places.ensures.exact) honest) framed in
+                  let named = (rw (c.deref.ensures.value, c.in_ok-places.ensures.reads) at c.in_ok-named.ensures.exact) honest placed seen n c.loop-n-test.true here in
+                  let classes = (rw (c.deref-2.ensures.value, c.in_ok-named.ensures.reads, c.in_ok-places.ensures.reads) at c.in_ok-classes.ensures.exact) honest placed in
+                  let read : w.index.result.now ≡ slice_index c.in_ok-places.places.items n = get_or_read c.in_ok-places.places.items n w.index.result.now (subst (λ k. n < k) (sym (rw c.frame-frame.ensures.frame at c.in_ok-places.ensures.all) ∙ c.in_ok-places.places.ok.0) within) w.index.ensures 0 in
+                  let good = (rw (v.reads, table_is) at w.in_ok-check_object.ensures.exact) honest (read ∙ placed n within) (seen n c.loop-n-test.true here).own (new_low n _ (v.stamps honest)) (v.low honest)
                   (λ head has dict. (keys_classed f F _ c.in_ok-classes.classes.table.items n classes named head has dict, λ whole. sound_keys f F heights (subst (AreSeen f F heights) whole seen) n within here head has dict)) in
                   subst (HasGoodKeys f F None) (sym e) good
-              | inr d ↦ v.exact honest framed seen m (omega (arith, low, d)) vouched
+              | inr d ↦ v.exact honest seen m (omega (arith, low, d)) vouched
             ];
           }
       | else-seen-n-gt1 w ↦ record {
@@ -71,13 +75,13 @@ loop-n-preserved g c =
         same = rw w.look-is v.same;
         stamps = λ honest x. rw w.look-is (let l = v.stamps honest x in omega (arith, l));
         low = λ honest. rw w.look-is (v.low honest);
-        exact = λ honest framed seen m low vouched. elim (cases_eq m n) [
+        exact = λ honest seen m low vouched. elim (cases_eq m n) [
           | inl e ↦ good_low f F heights m (seen m (omega (arith, e, c.loop-n-test.true)) vouched) (rw e (omega (arith, w.if-seen-n-gt1.false)))
-          | inr d ↦ v.exact honest framed seen m (omega (arith, low, d)) vouched
+          | inr d ↦ v.exact honest seen m (omega (arith, low, d)) vouched
         ];
       }
     ]
 
 pub returns-clause-exact : goal.returns-clause-exact
-returns-clause-exact g c = λ honest framed seen n low vouched.
-    c.loop-n.invariant.exact honest framed seen n (omega (arith, low, c.loop-n-test.false)) vouched
+returns-clause-exact g c = λ honest seen n low vouched.
+    c.loop-n.invariant.exact honest seen n (omega (arith, low, c.loop-n-test.false)) vouched

@@ -1,5 +1,5 @@
 use Rattle.std.proofs.Common.{◌≡◌, ℕ, ◌<◌, ◌≤◌, None, slice_index, IsTrue}
-use Rattle.bplist_objects.specs.Frame.{IsFrame}
+use Rattle.bplist_objects.specs.Framed.{HonestlyIn}
 use Rattle.bplist_cert.specs.Valid.{IsVouchedBy}
 use Rattle.bplist_cert.specs.Looks.{AreSeen}
 use Rattle.bplist_cert.specs.LowBytes.{AreLow}
@@ -9,12 +9,12 @@ use Rattle.bplist_cert.proofs.key_classes.check_keys.Given as goal
 -- the keys of the vouched dictionaries so far are good
 abbrev pub invariant-loop-n : goal.invariant-loop-n
 invariant-loop-n g l =
-    let m = g.S.Source.means l.fn.src in
+    let m = g.P.Source.means l.fn.src in
     record {
-      reads : g.S.Source.means l.src ≡ m;
+      reads : g.P.Source.means l.src ≡ m;
       same : l.look.table.classes.table.items ≡ l.initial.look.table.classes.table.items;
       stamps : IsTrue m.honest → (x : ℕ) → slice_index l.look.table.seen.items x ≤ l.n;
       low : IsTrue m.honest → AreLow m.octets l.look.low.rows;
-      exact : IsTrue m.honest → IsFrame m.octets l.seen.frame → AreSeen m.octets l.seen.frame l.seen.heights.now l.seen.bound
-          → (k : ℕ) → k < l.n → IsVouchedBy l.seen.heights.now k → HasGoodKeys m.octets l.seen.frame None k;
+      exact : HonestlyIn m (λ f F. AreSeen f F l.seen.heights.now l.seen.bound
+          → (k : ℕ) → k < l.n → IsVouchedBy l.seen.heights.now k → HasGoodKeys f F None k);
     }

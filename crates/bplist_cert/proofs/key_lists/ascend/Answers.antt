@@ -1,20 +1,22 @@
 use Rattle.std.proofs.Common.{ap₂, ◌∙◌}
+use Rattle.bplist_objects.specs.declared.frame.Frame.{Frame}
+use Rattle.bplist_objects.specs.Framed.{frame_in}
 use Rattle.bplist_objects.specs.Units.{compare_units}
 use Rattle.bplist_keys.proofs.WeightSteps.{text_units-head}
 use Rattle.bplist_cert.specs.KeyPairs.{Ascends}
 use Rattle.bplist_cert.proofs.key_lists.ascend.Goals as goal
 
 pub returns-then-not-branch-clause-exact : goal.returns-then-not-branch-clause-exact
-returns-then-not-branch-clause-exact g c = λ honest framed known read.
+returns-then-not-branch-clause-exact g c = λ honest known read.
     let runs = (rw (c.in_ok-second.ensures.reads, c.in_ok-first.ensures.reads) at c.in_ok-comes_after.ensures.runs) honest known.1 in
     ((known.0, runs), tt)
 
 pub returns-clause-exact : goal.returns-clause-exact
-returns-clause-exact g c = λ honest framed known read.
-    let f = (g.S.Source.means c.args.src.now).octets in
-    let F = c.args.frame.now in
-    let first = (rw c.in-Some.is at c.in_ok-first.ensures.exact) honest framed read in
-    let second = (rw (c.in-Some-2.is, c.in_ok-first.ensures.reads) at c.in_ok-second.ensures.exact) honest framed in
+returns-clause-exact g c = λ honest known read.
+    let f = (g.P.Source.means c.args.src.now).octets in
+    let F : Frame = frame_in (g.P.Source.means c.args.src.now) in
+    let first = (rw c.in-Some.is at c.in_ok-first.ensures.exact) honest read in
+    let second = (rw (c.in-Some-2.is, c.in_ok-first.ensures.reads) at c.in_ok-second.ensures.exact) honest in
     let after = (rw (c.in_ok-second.ensures.reads, c.in_ok-first.ensures.reads) at c.in_ok-comes_after.ensures.value) honest known.1 in
     let runs = (rw (c.in_ok-second.ensures.reads, c.in_ok-first.ensures.reads) at c.in_ok-comes_after.ensures.runs) honest known.1 in
     let less = after.0 c.if-not-branch.false in

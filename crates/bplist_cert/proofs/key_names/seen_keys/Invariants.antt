@@ -1,5 +1,5 @@
-use Rattle.std.proofs.Common.{◌≡◌, ℕ, ◌<◌, length, IsTrue}
-use Rattle.bplist_objects.specs.Frame.{IsFrame}
+use Rattle.std.proofs.Common.{◌≡◌, ℕ, ◌<◌, length}
+use Rattle.bplist_objects.specs.Framed.{frame_in, HonestlyIn}
 use Rattle.bplist_keys.specs.Classes.{HasNamedKeys}
 use Rattle.bplist_keys.specs.Texts.{AreOffsets}
 use Rattle.bplist_cert.specs.Valid.{IsVouchedBy}
@@ -9,11 +9,10 @@ use Rattle.bplist_cert.proofs.key_names.seen_keys.Given as goal
 -- the keys of the vouched dictionaries so far are named
 abbrev pub invariant-loop-n : goal.invariant-loop-n
 invariant-loop-n g l =
-    let means = g.S.Source.means in
-    let f = (means l.fn.src).octets in
+    let means = g.P.Source.means in
     record {
       same : means l.src ≡ means l.fn.src;
-      all : length l.named.table.items ≡ l.frame.objects;
-      named : IsTrue (means l.fn.src).honest → IsFrame f l.frame → AreOffsets f l.frame l.places → AreSeen f l.frame l.seen.heights.now l.seen.bound
-          → (m : ℕ) → m < l.n → IsVouchedBy l.seen.heights.now m → HasNamedKeys f l.frame l.named.table.items m;
+      all : length l.named.table.items ≡ (frame_in (means l.fn.src)).objects;
+      named : HonestlyIn (means l.fn.src) (λ f F. AreOffsets f F l.places → AreSeen f F l.seen.heights.now l.seen.bound
+          → (m : ℕ) → m < l.n → IsVouchedBy l.seen.heights.now m → HasNamedKeys f F l.named.table.items m);
     }

@@ -1,6 +1,7 @@
 use Rattle.std.proofs.Common.{ℕ, ◌<◌, List, Result, Ok, Err, length, slice_index}
 use Rattle.bplist_objects.specs.declared.frame.Frame.{Frame}
 use Rattle.bplist_objects.specs.Answers.{Never}
+use Rattle.bplist_objects.specs.Framed.{frame_in}
 use Rattle.bplist_keys.specs.declared.named_keys.NamedKeys.{NamedKeys}
 use Rattle.bplist_keys.specs.Classes.{HasNamedKeys}
 use Rattle.bplist_cert.specs.declared.refusal.Refusal.{Refusal}
@@ -17,6 +18,8 @@ all_named f F heights inside (Ok named) h = λ n vouched. h n (inside n vouched)
 all_named f F heights inside (Err e) h = h
 
 pub returns-clause-exact : goal.returns-clause-exact
-returns-clause-exact g c = λ honest framed placed seen.
-    all_named (g.S.Source.means c.args.src.now).octets c.args.frame.now c.args.heights.now (λ n vouched. vouched_inside c.args.heights.now c.args.frame.now.objects n c.requires.heights vouched)
-    c.seen_keys.result (c.seen_keys.ensures.exact honest framed placed seen)
+returns-clause-exact g c = λ honest placed seen.
+    let m = g.P.Source.means c.args.src.now in
+    let F : Frame = frame_in m in
+    all_named m.octets F c.args.heights.now (λ n vouched. vouched_inside c.args.heights.now F.objects n c.requires.heights vouched)
+    c.seen_keys.result ((rw c.frame.ensures.frame at c.seen_keys.ensures.exact) honest placed seen)

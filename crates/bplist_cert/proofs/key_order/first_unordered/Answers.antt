@@ -1,34 +1,46 @@
 use Rattle.std.proofs.Common.{◌∙◌, arith}
+use Rattle.bplist_objects.specs.declared.frame.Frame.{Frame}
+use Rattle.bplist_objects.specs.Framed.{frame_in}
 use Rattle.bplist_cert.proofs.OrderedLists.{in_order, out_of_order, order_more}
 use Rattle.bplist_cert.proofs.key_order.first_unordered.Goals as goal
 
 pub returns-in_default-clause-exact : goal.returns-in_default-clause-exact
-returns-in_default-clause-exact g c = λ honest framed runs texts.
-    absurd ((rw (c.loop-j.invariant.same, c.in_default.is) at c.in_ok-key.ensures.exact) honest framed texts)
+returns-in_default-clause-exact g c = λ honest runs texts.
+    absurd ((rw (c.loop-j.invariant.same, c.in_default.is) at c.in_ok-key.ensures.exact) honest texts)
+
+pub returns-in_err-comes_after-clause-runs : goal.returns-in_err-comes_after-clause-runs
+returns-in_err-comes_after-clause-runs g c = λ honest runs.
+    (rw (c.in_ok-key.ensures.reads, c.loop-j.invariant.same) at c.in_err-comes_after.ensures.runs) honest (c.loop-j.invariant.runs honest runs)
+
+pub returns-then-not-branch-clause-runs : goal.returns-then-not-branch-clause-runs
+returns-then-not-branch-clause-runs g c = λ honest runs.
+    (rw (c.in_ok-key.ensures.reads, c.loop-j.invariant.same) at c.in_ok-comes_after.ensures.runs) honest (c.loop-j.invariant.runs honest runs)
 
 pub returns-then-not-branch-clause-exact : goal.returns-then-not-branch-clause-exact
-returns-then-not-branch-clause-exact g c = λ honest framed runs texts.
-    let f = (g.S.Source.means c.args.src.now).octets in
-    let key = (rw (c.loop-j.invariant.same, c.in-Some.is) at c.in_ok-key.ensures.exact) honest framed texts in
+returns-then-not-branch-clause-exact g c = λ honest runs texts.
+    let f = (g.P.Source.means c.args.src.now).octets in
+    let F : Frame = frame_in (g.P.Source.means c.args.src.now) in
+    let key = (rw (c.loop-j.invariant.same, c.in-Some.is) at c.in_ok-key.ensures.exact) honest texts in
     let after = (rw (c.in_ok-key.ensures.reads, c.loop-j.invariant.same) at c.in_ok-comes_after.ensures.value) honest (c.loop-j.invariant.runs honest runs) in
     record {
       within = omega (arith, c.loop-j-test.true, c.requires.whole);
-      wrong = out_of_order f c.args.frame.now c.args.head.now c.args.list.now c.loop-j.j c.loop-j.before (c.loop-j.invariant.last honest framed texts) c.in-Some.key key c.in_ok-comes_after.field-0 after c.if-not-branch.true;
-      before = c.loop-j.invariant.ordered honest framed runs texts;
+      wrong = out_of_order f F c.args.head.now c.args.list.now c.loop-j.j c.loop-j.before (c.loop-j.invariant.last honest texts) c.in-Some.key key c.in_ok-comes_after.field-0 after c.if-not-branch.true;
+      before = c.loop-j.invariant.ordered honest runs texts;
     }
 
 pub loop-j-preserved : goal.loop-j-preserved
 loop-j-preserved g c = record {
   same = c.in_ok-comes_after.ensures.reads ∙ c.in_ok-key.ensures.reads ∙ c.loop-j.invariant.same;
   runs = λ honest runs. (rw (c.in_ok-key.ensures.reads, c.loop-j.invariant.same) at c.in_ok-comes_after.ensures.runs) honest (c.loop-j.invariant.runs honest runs);
-  ordered = λ honest framed runs texts.
-      let f = (g.S.Source.means c.args.src.now).octets in
-      let key = (rw (c.loop-j.invariant.same, c.in-Some.is) at c.in_ok-key.ensures.exact) honest framed texts in
+  ordered = λ honest runs texts.
+      let f = (g.P.Source.means c.args.src.now).octets in
+      let F : Frame = frame_in (g.P.Source.means c.args.src.now) in
+      let key = (rw (c.loop-j.invariant.same, c.in-Some.is) at c.in_ok-key.ensures.exact) honest texts in
       let after = (rw (c.in_ok-key.ensures.reads, c.loop-j.invariant.same) at c.in_ok-comes_after.ensures.value) honest (c.loop-j.invariant.runs honest runs) in
-      order_more f c.args.frame.now c.args.head.now c.args.list.now c.loop-j.j (c.loop-j.invariant.ordered honest framed runs texts)
-      (in_order f c.args.frame.now c.args.head.now c.args.list.now c.loop-j.j c.loop-j.before (c.loop-j.invariant.last honest framed texts) c.in-Some.key key (omega (arith, c.if-position-head.false)) c.in_ok-comes_after.field-0 after c.if-not-branch.false);
-  last = λ honest framed texts.
-      let key = (rw (c.loop-j.invariant.same, c.in-Some.is) at c.in_ok-key.ensures.exact) honest framed texts in
+      order_more f F c.args.head.now c.args.list.now c.loop-j.j (c.loop-j.invariant.ordered honest runs texts)
+      (in_order f F c.args.head.now c.args.list.now c.loop-j.j c.loop-j.before (c.loop-j.invariant.last honest texts) c.in-Some.key key (omega (arith, c.if-position-head.false)) c.in_ok-comes_after.field-0 after c.if-not-branch.false);
+  last = λ honest texts.
+      let key = (rw (c.loop-j.invariant.same, c.in-Some.is) at c.in_ok-key.ensures.exact) honest texts in
       (c.loop-j.j, omega arith, key);
   safe = (rw (c.loop-j.invariant.same, c.in-Some.is) at c.in_ok-key.ensures.safe);
 }

@@ -1,5 +1,5 @@
 use Rattle.std.proofs.Common.{◌≡◌, IsTrue, length, IfSome}
-use Rattle.bplist_objects.specs.Frame.{IsFrame}
+use Rattle.bplist_objects.specs.Framed.{HonestlyIn}
 use Rattle.bplist_objects.specs.Safe.{IsSafeBody}
 use Rattle.bplist_objects.specs.Units.{IsTextKind}
 use Rattle.bplist_keys.specs.Runs.{AreRuns}
@@ -10,13 +10,11 @@ use Rattle.bplist_cert.proofs.key_order.first_unordered.Given as goal
 -- the source is as it was, the numbers so far are positions whose keys ascend, and the last of them is kept
 abbrev pub invariant-loop-j : goal.invariant-loop-j
 invariant-loop-j g l =
-    let means = g.S.Source.means in
+    let means = g.P.Source.means in
     record {
       same : means l.src ≡ means l.fn.src;
       runs : IsTrue (means l.fn.src).honest → AreRuns (means l.fn.src).octets l.fn.runs.rows → AreRuns (means l.fn.src).octets l.runs.rows;
-      ordered : IsTrue (means l.fn.src).honest → IsFrame (means l.fn.src).octets l.frame → AreRuns (means l.fn.src).octets l.fn.runs.rows → HaveTexts (means l.fn.src).octets l.frame l.head l.head.count
-          → AreInOrder (means l.fn.src).octets l.frame l.head l.list l.j;
-      last : IsTrue (means l.fn.src).honest → IsFrame (means l.fn.src).octets l.frame → HaveTexts (means l.fn.src).octets l.frame l.head l.head.count
-          → IsBefore (means l.fn.src).octets l.frame l.head l.list l.j l.before;
+      ordered : HonestlyIn (means l.fn.src) (λ f F. AreRuns f l.fn.runs.rows → HaveTexts f F l.head l.head.count → AreInOrder f F l.head l.list l.j);
+      last : HonestlyIn (means l.fn.src) (λ f F. HaveTexts f F l.head l.head.count → IsBefore f F l.head l.list l.j l.before);
       safe : IfSome l.before (λ key. IsTextKind key.kind × IsSafeBody (length (means l.fn.src).octets) key);
     }

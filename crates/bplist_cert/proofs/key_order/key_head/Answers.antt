@@ -2,17 +2,19 @@ use Rattle.std.proofs.Common.{ℕ, List, Result, Ok, Err, Option, Some, None, Ma
 use Rattle.bplist_octets.specs.declared.source.ReadFault.{ReadFault}
 use Rattle.bplist_objects.specs.declared.frame.Frame.{Frame}
 use Rattle.bplist_objects.specs.declared.head.Head.{Head}
+use Rattle.bplist_objects.specs.Framed.{frame_in}
 use Rattle.bplist_objects.proofs.Fronts.{one_shape}
 use Rattle.bplist_keys.specs.Texts.{HasTextShape, IsTextHead}
 use Rattle.bplist_cert.specs.Keys.{IsText}
 use Rattle.bplist_cert.proofs.key_order.key_head.Goals as goal
 
 pub returns-then-m-frame-clause-exact : goal.returns-then-m-frame-clause-exact
-returns-then-m-frame-clause-exact g c = λ honest framed texts.
+returns-then-m-frame-clause-exact g c = λ honest texts.
     let text = texts c.args.i c.requires.within in
-    let value = c.in_ok-m.ensures.value honest in
+    let value = (rw c.frame-frame.ensures.frame at c.in_ok-m.ensures.value) honest in
+    let high = rw c.frame-frame.ensures.frame at c.if-m-frame.true in
     let low = text.1.within in
-    omega (arith, value, c.if-m-frame.true, low)
+    omega (arith, value, high, low)
 
 -- a text's shape is its own
 shape_is : (f : List ℕ) (F : Frame) (m : ℕ) (key : Head) → IsText f F m key → (r : Result (Option Head) ReadFault) → IfOk r (λ found. MatchOption found (HasTextShape f F m → ⊥) (IsTextHead f F m))
@@ -22,9 +24,9 @@ shape_is f F m key is (Ok (Some found)) h = subst (λ (x : Head). IsText f F m x
 shape_is f F m key is (Err e) h = h
 
 pub returns-clause-exact : goal.returns-clause-exact
-returns-clause-exact g c = λ honest framed texts.
-    let f = (g.S.Source.means c.args.src.now).octets in
+returns-clause-exact g c = λ honest texts.
+    let m = g.P.Source.means c.args.src.now in
     let text = texts c.args.i c.requires.within in
-    let value = c.in_ok-m.ensures.value honest in
-    let found = (rw c.in_ok-m.ensures.reads at c.text_of.ensures.exact) honest framed in
-    shape_is f c.args.frame.now _ text.0 text.1 c.text_of.result (rw value at found)
+    let value = (rw c.frame-frame.ensures.frame at c.in_ok-m.ensures.value) honest in
+    let found = (rw c.in_ok-m.ensures.reads at c.text_of.ensures.exact) honest in
+    shape_is m.octets (frame_in m) _ text.0 text.1 c.text_of.result (rw value at found)

@@ -1,12 +1,13 @@
-use Rattle.std.proofs.Common.{◌≡◌, IsTrue}
+use Rattle.std.proofs.Common.{◌≡◌}
+use Rattle.bplist_objects.specs.Framed.{HonestlyIn}
 use Rattle.bplist_cert.specs.KeyPlaces.{ArePlaced}
 use Rattle.bplist_cert.proofs.key_places.read_places.Given as goal
 
 -- the source is as it was, and what was found so far are the places of the objects
 abbrev pub invariant-loop-k : goal.invariant-loop-k
 invariant-loop-k g l =
-    let means = g.S.Source.means in
+    let means = g.P.Source.means in
     record {
       same : means l.src ≡ means l.fn.src;
-      placed : IsTrue (means l.fn.src).honest → ArePlaced (means l.fn.src).octets l.frame l.refs l.found l.k;
+      placed : HonestlyIn (means l.fn.src) (λ f F. ArePlaced f F l.refs l.found l.k);
     }

@@ -1,5 +1,5 @@
 use Rattle.std.proofs.Common.{◌≡◌, ◌≤◌, ◌-◌, IsTrue}
-use Rattle.bplist_objects.specs.Frame.{IsFrame}
+use Rattle.bplist_objects.specs.Framed.{HonestlyIn}
 use Rattle.bplist_cert.specs.LowBytes.{AreLow}
 use Rattle.bplist_cert.specs.Keys.{HaveTexts}
 use Rattle.bplist_cert.proofs.keys.first_keyless.Given as goal
@@ -7,13 +7,12 @@ use Rattle.bplist_cert.proofs.keys.first_keyless.Given as goal
 -- the source is as it was, and the keys so far are texts
 abbrev pub invariant-loop-done : goal.invariant-loop-done
 invariant-loop-done g l =
-    let means = g.S.Source.means in
+    let means = g.P.Source.means in
     record {
       same : means l.src ≡ means l.fn.src;
       reached : l.done ≤ l.count;
       low : IsTrue (means l.fn.src).honest → AreLow (means l.fn.src).octets l.fn.low.rows → AreLow (means l.fn.src).octets l.low.rows;
-      texts : IsTrue (means l.fn.src).honest → IsFrame (means l.fn.src).octets l.frame → AreLow (means l.fn.src).octets l.fn.low.rows
-          → HaveTexts (means l.fn.src).octets l.frame l.head l.done;
+      texts : HonestlyIn (means l.fn.src) (λ f F. AreLow f l.fn.low.rows → HaveTexts f F l.head l.done);
     }
 
 abbrev pub decreases-loop-done : goal.decreases-loop-done
