@@ -30,7 +30,7 @@ use crate::heights::least_heights;
 use crate::keys::{Looked, check_keys};
 use crate::object_graph::{Objects, View};
 use crate::object_nos::ObjectNos;
-use crate::places::check_places;
+use crate::places::{Table, check_places};
 use crate::reach::{Marked, mark_reached};
 use crate::reach_rules::check_reached;
 use crate::refusal::LintRefusal;
@@ -150,7 +150,8 @@ fn find_reached<S: Source>(
         × AreNamed (S.means src.old).octets frame.now known.1.table.items) (IsReachFault (S.means src.old).octets frame.now)
         no_circle result }
 {
-    match walk(alloc, src, frame, places)? {
+    let walked = walk(alloc, &mut Table::new(src, *frame, places))?;
+    match walked {
         Some(known) => Ok(known),
         None => find_reached_in_order(alloc, src, frame, places),
     }
