@@ -9,10 +9,10 @@ returns-in_err-keys-clause-exact g c = λ honest.
     let same : c.in_ok-heights.heights.items ≡ c.args.checked.now.certificate.heights = search rules in
     let accepted = c.frame-frame.ensures.checked.accepted honest in
     rw (p.1, p.2) (open_no_change accepted c.in_err-keys.field-0.0 (λ a.
-    (rw (c.deref-2.ensures.value, c.frame-frame.ensures.frame, same) at c.in_err-keys.ensures.exact) honest a.valid))
+    (rw (c.deref-2.ensures.value, same) at c.in_err-keys.ensures.exact) honest a.valid))
 
 pub returns-clause-exact : goal.returns-clause-exact
 returns-clause-exact g c = λ honest.
     let same : c.in_ok-heights.heights.items ≡ c.args.checked.now.certificate.heights = search rules in
-    rw same (upgrade_yes c.args.checked.now.source.octets c.args.checked.now.frame c.args.checked.now.certificate c.in_ok-keys.keys (c.frame-frame.ensures.checked.accepted honest) (rw c.frame-frame.ensures.frame at c.in_ok-keys.ensures.starts) (λ valid.
-    (rw (c.deref-2.ensures.value, c.frame-frame.ensures.frame, same) at c.in_ok-keys.ensures.exact) honest valid))
+    rw same (upgrade_yes c.args.checked.now.source.octets c.args.checked.now.frame c.args.checked.now.certificate c.in_ok-keys.keys (c.frame-frame.ensures.checked.accepted honest) c.in_ok-keys.ensures.starts (λ valid.
+    (rw (c.deref-2.ensures.value, same) at c.in_ok-keys.ensures.exact) honest valid))
