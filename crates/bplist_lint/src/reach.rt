@@ -7,7 +7,7 @@ ghost use Rattle.bplist_objects.specs.Framed.{frame_in, HonestlyIn};
 ghost use Rattle.bplist_objects.specs.Heads.{content_at, refs};
 ghost use Rattle.bplist_objects.specs.Reach.{Reach};
 ghost use Rattle.bplist_objects.specs.Safe.{IsSafeHead, ref_count};
-ghost use Rattle.bplist_objects.specs.Scan.{AreBelow, nth_number};
+ghost use Rattle.bplist_objects.specs.Scan.{AreBelow};
 ghost use Rattle.bplist_keys.specs.Failures.{failed_to_read};
 ghost use Rattle.bplist_lint.specs.Reaching.{IsMarked, HasMarks, number_at, set_size, IsReady, AreGood, AreFollowed, Looked, Searching};
 
@@ -79,17 +79,6 @@ fn number_of<P: Framed>(src: &P, place: u64) -> u64
     place % size * row + place / size
 }
 
-/// Reference `i` of an object with this head, as `ref_at` answers it.
-fn reference_in<P: Framed>(src: &mut P, head: &Head, i: u64) -> Result<u64, ReadFault>
-    requires head { IsSafeHead (frame_in (P.means src.old)) head.now }
-    requires within { i < ref_count head.now.kind head.now.count }
-    ensures reads { OnlyReads (is_err result) (P.means src.old) (P.means src.new) }
-    ensures value { HonestlyIn (P.means src.old) (λ f F. IfOk result (λ x. x ≡ nth_number f head.now.body F.ref_size i)) }
-{
-    let frame = src.frame();
-    ref_at(src, &frame, head, i)
-}
-
 /// Whether each reference of an object with this head is the number of an object. Places at which one stands are put
 /// into the set.
 fn are_good<P: Framed>(src: &mut P, head: &Head, good: &mut PlaceSet) -> Result<bool, ReadFault>
@@ -103,13 +92,13 @@ fn are_good<P: Framed>(src: &mut P, head: &Head, good: &mut PlaceSet) -> Result<
         → IfOk result (λ all. IsTrue all
         ↔ AreBelow f head.now.body F.ref_size (ref_count head.now.kind head.now.count) F.objects)) }
 {
-    let objects = src.frame().objects;
+    let frame = src.frame();
     let first = number_of(src, head.body);
     let end = first + refs_of(head);
     let mut number = good.next_outside(first);
     while number < end {
-        let reference = reference_in(src, head, number - first)?;
-        if reference >= objects as u64 {
+        let reference = ref_at(src, &frame, head, number - first)?;
+        if reference >= frame.objects as u64 {
             return Ok(false);
         }
         good.insert(number);
@@ -148,7 +137,7 @@ fn follow<P: Framed>(src: &mut P, head: &Head, search: &mut Search) -> Result<()
     let end = first + refs_of(head);
     let mut number = search.followed.next_outside(first);
     while number < end {
-        let reference = reference_in(src, head, number - first)?;
+        let reference = ref_at(src, &frame, head, number - first)?;
         let m = object_in(&frame, reference);
         search.followed.insert(number);
         search.mark(m)?;

@@ -88,14 +88,14 @@ loop-number-preserved g c =
         ]
       ]);
       looked = λ honest below all.
-          let value = (rw i.reads at c.in_ok-reference.ensures.value) honest in
+          let value = (rw (c.frame-frame.ensures.frame, i.reads) at c.in_ok-reference.ensures.value) honest in
           let good = below k low in
           let m_is : m ≡ nth_number f h.body F.ref_size k = (rw c.frame-frame.ensures.frame at c.object_in-m.ensures.same) (omega (arith, value, good)) ∙ value in
           c.in_ok-mark.ensures.looked _ _ _ (i.looked honest below all) (among_at (refs (content_at f F h)) k m (omega (arith, low, length-refs f F h.kind h.count h.body)) (m_is ∙ sym (nth-refs f F h.kind h.count h.body k low)));
       followed = λ honest below all q is. elim (c.insert.ensures.only q (rw same at is)) [
         | inl old ↦ c.mark.ensures.keeps _ (i.followed honest below all q old)
         | inr e ↦
-            let value = (rw i.reads at c.in_ok-reference.ensures.value) honest in
+            let value = (rw (c.frame-frame.ensures.frame, i.reads) at c.in_ok-reference.ensures.value) honest in
             let good = below k low in
             let m_is : m ≡ nth_number f h.body F.ref_size k = (rw c.frame-frame.ensures.frame at c.object_in-m.ensures.same) (omega (arith, value, good)) ∙ value in
             rw e (subst (IsMarked c.mark.new.self.marks.items) (m_is ∙ sym at_j) c.mark.ensures.marked)
