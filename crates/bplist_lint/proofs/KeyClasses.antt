@@ -12,7 +12,6 @@ use Rattle.bplist_objects.specs.Reach.{Reach, next}
 use Rattle.bplist_objects.specs.Rules.{IsFirstFault}
 use Rattle.bplist_objects.proofs.Lists.{all_from}
 use Rattle.bplist_objects.proofs.HeadTies.{head_tie}
-use Rattle.bplist_keys.specs.Texts.{AreOffsets}
 use Rattle.bplist_keys.specs.Ranks.{AreClasses}
 use Rattle.bplist_cert.specs.Heights.{ref}
 use Rattle.bplist_cert.specs.Keys.{IsFirstKeyless, IsFirstTwice}
@@ -32,29 +31,28 @@ use Rattle.bplist_cert.proofs.KeyTies.{each_key}
 
 module _ (f : List ℕ) (F : Frame) where
   -- where exactly the reached objects are marked, and keep the rules
-  pub reached_sound : (places : List ℕ) (marks : List Bool) → length marks ≡ F.objects → IsFrame f F → AreOffsets f F places → ((m : ℕ) → IsMarked marks m ↔ Reach f F m)
-      → KeepReachBelow f F F.objects → AreSound f F places marks
-  reached_sound places marks many framed placed reached kept = record {
+  pub reached_sound : (marks : List Bool) → length marks ≡ F.objects → IsFrame f F → ((m : ℕ) → IsMarked marks m ↔ Reach f F m)
+      → KeepReachBelow f F F.objects → AreSound f F marks
+  reached_sound marks many framed reached kept = record {
     framed = framed;
-    placed = placed;
     kept = λ m marked. own_rules f F m (kept m (subst (λ n. m < n) many (marked_within marks m marked)) ((reached m).0 marked));
     closed = λ n m marked r. (reached m).1 (next ((reached n).0 marked) r);
   }
 
   -- the keys of a marked dictionary keep rules 14 to 20
-  pub sound_keys : (places : List ℕ) (marks : List Bool) → AreSound f F places marks → (n : ℕ) → n < F.objects → IsMarked marks n → (head : Head) → HasHead f F n head → head.kind ≡ Dict
+  pub sound_keys : (marks : List Bool) → AreSound f F marks → (n : ℕ) → n < F.objects → IsMarked marks n → (head : Head) → HasHead f F n head → head.kind ≡ Dict
       → KeysAreSound f F head
-  sound_keys places marks sound n within marked head has dict k low inside =
+  sound_keys marks sound n within marked head has dict k low inside =
       let c = content_at f F head in
       let spells = ((head_tie f F n sound.framed within head).0 (has, sound.kept n marked)).1 in
       let among = each_key f F (Contains (refs c)) head dict (all_from (Contains (refs c)) (refs c) (λ m in_refs. in_refs)) k low in
       sound.kept (ref f F head k) (sound.closed n (ref f F head k) marked (c, spells, among))
 
   -- what is known of the keys of a marked dictionary
-  pub keys_known : (places : List ℕ) (marks : List Bool) (named classes : List ℕ) (n : ℕ) → AreSound f F places marks → AreClasses f F named classes → HasNamedKeys f F named n → n < F.objects → IsMarked marks n
+  pub keys_known : (marks : List Bool) (named classes : List ℕ) (n : ℕ) → AreSound f F marks → AreClasses f F named classes → HasNamedKeys f F named n → n < F.objects → IsMarked marks n
       → (head : Head) → HasHead f F n head → head.kind ≡ Dict → AreClassed f F classes head × KeysAreSound f F head
-  keys_known places marks named classes n sound are named_keys within marked head has dict =
-      (keys.keys_classed f F named classes n are named_keys head has dict, sound_keys places marks sound n within marked head has dict)
+  keys_known marks named classes n sound are named_keys within marked head has dict =
+      (keys.keys_classed f F named classes n are named_keys head has dict, sound_keys marks sound n within marked head has dict)
 
   module _ (framed : IsFrame f F) (head : Head) (classes : List ℕ) (classed : AreClassed f F classes head) (sound : KeysAreSound f F head)
       (inside : (k : ℕ) → k < head.count → ref f F head k < F.objects) where

@@ -9,16 +9,14 @@ use Rattle.bplist_objects.specs.Frame.{IsFrame}
 use Rattle.bplist_objects.specs.Reach.{Refs}
 use Rattle.bplist_objects.specs.Rules.{KeepsAll}
 use Rattle.bplist_objects.specs.ObjectRules.{KeepsByObject, object_rules}
-use Rattle.bplist_keys.specs.Texts.{AreOffsets}
 use Rattle.bplist_keys.specs.declared.class_table.Wrong.{Wrong}
 use Rattle.bplist_keys.specs.declared.class_table.Wrong.TheVariants as wrongs
 use Rattle.bplist_lint.specs.Reaching.{IsMarked}
 
 module _ (f : List ℕ) (F : Frame) where
-  -- F is the frame of f, these are the places of the objects, and those that are marked keep rules 14 to 20 and refer to marked ones alone
-  pub record AreSound (places : List ℕ) (marks : List Bool) : Type 0 where
+  -- F is the frame of f, and the marked objects keep rules 14 to 20 and refer to marked ones alone
+  pub record AreSound (marks : List Bool) : Type 0 where
     pub framed : IsFrame f F
-    pub placed : AreOffsets f F places
     pub kept : (m : ℕ) → IsMarked marks m → KeepsAll (KeepsByObject f F m) object_rules
     pub closed : (n m : ℕ) → IsMarked marks n → Refs f F n m → IsMarked marks m
 

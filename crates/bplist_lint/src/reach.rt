@@ -3,20 +3,20 @@
 
 ghost use Rattle.std.specs.Prelude.{◌≡◌, ◌↔◌, ℕ, Bool, All, Contains, List, ◌+◌, ◌^◌, ◌≤◌, ◌<◌, [], ◌∷◌, ◌++◌, not, IsTrue, IfOk, OnOk, is_err, replicate, count_by, length, vec_len};
 ghost use Rattle.bplist_octets.specs.Meaning.{OnlyReads};
-ghost use Rattle.bplist_objects.specs.Frame.{off, IsFrame};
+ghost use Rattle.bplist_objects.specs.Framed.{frame_in, HonestlyIn};
 ghost use Rattle.bplist_objects.specs.Heads.{content_at, refs};
 ghost use Rattle.bplist_objects.specs.Reach.{Reach};
-ghost use Rattle.bplist_objects.specs.Safe.{IsSafe, IsSafeFrame, IsSafeHead, ref_count};
+ghost use Rattle.bplist_objects.specs.Safe.{IsSafeHead, ref_count};
 ghost use Rattle.bplist_objects.specs.Scan.{AreBelow};
-ghost use Rattle.bplist_keys.specs.Texts.{AreOffsets};
 ghost use Rattle.bplist_keys.specs.Failures.{failed_to_read};
 ghost use Rattle.bplist_lint.specs.Reaching.{IsMarked, HasMarks, number_at, set_size, IsReady, AreGood, AreFollowed, Looked, Searching};
 
-use crate::object_graph::{object_in, shape_there};
+use crate::object_graph::object_in;
 use crate::place_set::PlaceSet;
+use crate::places::{Placed, shape_there};
 use bplist_keys::{Failure, NamedKeys};
-use bplist_objects::{Frame, Head, ref_at, refs_of};
-use bplist_octets::{ReadFault, Source};
+use bplist_objects::{Framed, Head, ref_at, refs_of};
+use bplist_octets::ReadFault;
 use std::alloc::{AllocError, Global};
 
 /// Marks on the objects of a file, one for each.
@@ -68,13 +68,12 @@ impl Search {
 }
 
 /// The number of a place: those of references that stand one behind the other follow one another.
-fn number_of(frame: &Frame, place: u64) -> u64
-    requires low { 1 ≤ frame.now.ref_size }
-    requires high { frame.now.ref_size ≤ 8 }
-    requires small { frame.now.table < 2 ^ 32 }
-    requires within { place ≤ frame.now.table }
-    ensures { result ≡ number_at frame.now place }
+fn number_of<P: Framed>(src: &P, place: u64) -> u64
+    requires small { (frame_in (P.means src.now)).table < 2 ^ 32 }
+    requires within { place ≤ (frame_in (P.means src.now)).table }
+    ensures { result ≡ number_at (frame_in (P.means src.now)) place }
 {
+    let frame = src.frame();
     let size = frame.ref_size as u64;
     let row = frame.table / size + 1;
     place % size * row + place / size
@@ -82,31 +81,23 @@ fn number_of(frame: &Frame, place: u64) -> u64
 
 /// Whether each reference of an object with this head is the number of an object. Places at which one stands are put
 /// into the set.
-fn are_good<S: Source>(
-    src: &mut S,
-    frame: &Frame,
-    head: &Head,
-    good: &mut PlaceSet,
-) -> Result<bool, ReadFault>
-    requires safe { IsSafe (length (S.means src.old).octets) frame.now }
-    requires small { frame.now.table < 2 ^ 32 }
-    requires head { IsSafeHead frame.now head.now }
-    requires size { good.old.size ≡ set_size frame.now }
-    ensures reads { OnlyReads (is_err result) (S.means src.old) (S.means src.new) }
+fn are_good<P: Framed>(src: &mut P, head: &Head, good: &mut PlaceSet) -> Result<bool, ReadFault>
+    requires small { (frame_in (P.means src.old)).table < 2 ^ 32 }
+    requires head { IsSafeHead (frame_in (P.means src.old)) head.now }
+    requires size { good.old.size ≡ set_size (frame_in (P.means src.old)) }
+    ensures reads { OnlyReads (is_err result) (P.means src.old) (P.means src.new) }
     ensures size { good.new.size ≡ good.old.size }
-    ensures good { IsTrue (S.means src.old).honest
-        → AreGood (S.means src.old).octets frame.now good.old.words.items
-        → AreGood (S.means src.old).octets frame.now good.new.words.items }
-    ensures exact { IsTrue (S.means src.old).honest
-        → AreGood (S.means src.old).octets frame.now good.old.words.items
-        → IfOk result (λ all. IsTrue all ↔ AreBelow (S.means src.old).octets head.now.body frame.now.ref_size
-        (ref_count head.now.kind head.now.count) frame.now.objects) }
+    ensures good { HonestlyIn (P.means src.old) (λ f F. AreGood f F good.old.words.items → AreGood f F good.new.words.items) }
+    ensures exact { HonestlyIn (P.means src.old) (λ f F. AreGood f F good.old.words.items
+        → IfOk result (λ all. IsTrue all
+        ↔ AreBelow f head.now.body F.ref_size (ref_count head.now.kind head.now.count) F.objects)) }
 {
-    let first = number_of(frame, head.body);
+    let frame = src.frame();
+    let first = number_of(src, head.body);
     let end = first + refs_of(head);
     let mut number = good.next_outside(first);
     while number < end {
-        let reference = ref_at(src, frame, head, number - first)?;
+        let reference = ref_at(src, &frame, head, number - first)?;
         if reference >= frame.objects as u64 {
             return Ok(false);
         }
@@ -118,45 +109,36 @@ fn are_good<S: Source>(
 
 /// Follows the references of an object with this head, each of which is the number of an object, at places where none
 /// was followed: marks each, and puts it on the stack where it was not marked.
-fn follow<S: Source>(
-    src: &mut S,
-    frame: &Frame,
-    head: &Head,
-    search: &mut Search,
-) -> Result<(), Failure>
-    requires safe { IsSafe (length (S.means src.old).octets) frame.now }
-    requires top { frame.now.top.0 < frame.now.objects }
-    requires small { frame.now.table < 2 ^ 32 }
-    requires head { IsSafeHead frame.now head.now }
-    requires ready { IsReady frame.now search.old }
-    ensures reads { OnlyReads (failed_to_read result) (S.means src.old) (S.means src.new) }
-    ensures ready { OnOk result (IsReady frame.now search.new) }
+fn follow<P: Framed>(src: &mut P, head: &Head, search: &mut Search) -> Result<(), Failure>
+    requires small { (frame_in (P.means src.old)).table < 2 ^ 32 }
+    requires head { IsSafeHead (frame_in (P.means src.old)) head.now }
+    requires ready { IsReady (frame_in (P.means src.old)) search.old }
+    ensures reads { OnlyReads (failed_to_read result) (P.means src.old) (P.means src.new) }
+    ensures ready { OnOk result (IsReady (frame_in (P.means src.old)) search.new) }
     ensures good { search.new.good ≡ search.old.good }
     ensures work { OnOk result (count_by not search.new.marks.items + vec_len search.new.stack
         ≤ count_by not search.old.marks.items + vec_len search.old.stack) }
-    ensures looked { OnOk result (IsTrue (S.means src.old).honest
-        → AreBelow (S.means src.old).octets head.now.body frame.now.ref_size
-        (ref_count head.now.kind head.now.count) frame.now.objects
-        → AreFollowed (S.means src.old).octets frame.now search.old.followed.words.items search.old.marks.items
-        → Looked (refs (content_at (S.means src.old).octets frame.now head.now))
-        search.old.marks.items search.old.stack.items search.new.marks.items search.new.stack.items) }
-    ensures all { OnOk result (IsTrue (S.means src.old).honest
-        → AreBelow (S.means src.old).octets head.now.body frame.now.ref_size
-        (ref_count head.now.kind head.now.count) frame.now.objects
-        → AreFollowed (S.means src.old).octets frame.now search.old.followed.words.items search.old.marks.items
-        → HasMarks search.new.marks.items (refs (content_at (S.means src.old).octets frame.now head.now))) }
-    ensures followed { OnOk result (IsTrue (S.means src.old).honest
-        → AreBelow (S.means src.old).octets head.now.body frame.now.ref_size
-        (ref_count head.now.kind head.now.count) frame.now.objects
-        → AreFollowed (S.means src.old).octets frame.now search.old.followed.words.items search.old.marks.items
-        → AreFollowed (S.means src.old).octets frame.now search.new.followed.words.items search.new.marks.items) }
+    ensures looked { OnOk result (HonestlyIn (P.means src.old) (λ f F.
+        AreBelow f head.now.body F.ref_size (ref_count head.now.kind head.now.count) F.objects
+        → AreFollowed f F search.old.followed.words.items search.old.marks.items
+        → Looked (refs (content_at f F head.now))
+        search.old.marks.items search.old.stack.items search.new.marks.items search.new.stack.items)) }
+    ensures all { OnOk result (HonestlyIn (P.means src.old) (λ f F.
+        AreBelow f head.now.body F.ref_size (ref_count head.now.kind head.now.count) F.objects
+        → AreFollowed f F search.old.followed.words.items search.old.marks.items
+        → HasMarks search.new.marks.items (refs (content_at f F head.now)))) }
+    ensures followed { OnOk result (HonestlyIn (P.means src.old) (λ f F.
+        AreBelow f head.now.body F.ref_size (ref_count head.now.kind head.now.count) F.objects
+        → AreFollowed f F search.old.followed.words.items search.old.marks.items
+        → AreFollowed f F search.new.followed.words.items search.new.marks.items)) }
 {
-    let first = number_of(frame, head.body);
+    let frame = src.frame();
+    let first = number_of(src, head.body);
     let end = first + refs_of(head);
     let mut number = search.followed.next_outside(first);
     while number < end {
-        let reference = ref_at(src, frame, head, number - first)?;
-        let m = object_in(frame, reference);
+        let reference = ref_at(src, &frame, head, number - first)?;
+        let m = object_in(&frame, reference);
         search.followed.insert(number);
         search.mark(m)?;
         number = search.followed.next_outside(number + 1);
@@ -164,47 +146,36 @@ fn follow<S: Source>(
     Ok(())
 }
 
-/// Marks the references of object `n`, which stands at `place`.
-fn look_at<S: Source>(
-    src: &mut S,
-    frame: &Frame,
-    n: u32,
-    place: u64,
-    search: &mut Search,
-) -> Result<(), Failure>
-    requires safe { IsSafe (length (S.means src.old).octets) frame.now }
-    requires top { frame.now.top.0 < frame.now.objects }
-    requires small { frame.now.table < 2 ^ 32 }
-    requires within { n < frame.now.objects }
-    requires ready { IsReady frame.now search.old }
-    ensures reads { OnlyReads (failed_to_read result) (S.means src.old) (S.means src.new) }
-    ensures ready { OnOk result (IsReady frame.now search.new) }
+/// Marks the references of object `n`.
+fn look_at<P: Placed>(src: &mut P, n: u32, search: &mut Search) -> Result<(), Failure>
+    requires small { (frame_in (P.means src.old)).table < 2 ^ 32 }
+    requires within { n < (frame_in (P.means src.old)).objects }
+    requires ready { IsReady (frame_in (P.means src.old)) search.old }
+    ensures reads { OnlyReads (failed_to_read result) (P.means src.old) (P.means src.new) }
+    ensures ready { OnOk result (IsReady (frame_in (P.means src.old)) search.new) }
     ensures work { OnOk result (count_by not search.new.marks.items + vec_len search.new.stack
         ≤ count_by not search.old.marks.items + vec_len search.old.stack) }
-    ensures searching { OnOk result (IsTrue (S.means src.old).honest → IsFrame (S.means src.old).octets frame.now
-        → place ≡ off (S.means src.old).octets frame.now n
-        → Searching (S.means src.old).octets frame.now (search.old.stack.items ++ n ∷ []) search.old
-        → Searching (S.means src.old).octets frame.now search.new.stack.items search.new) }
+    ensures searching { OnOk result (HonestlyIn (P.means src.old) (λ f F.
+        Searching f F (search.old.stack.items ++ n ∷ []) search.old → Searching f F search.new.stack.items search.new)) }
 {
-    let Some(head) = shape_there(src, frame, n, place)? else {
+    let Some(head) = shape_there(src, n)? else {
         return Ok(());
     };
-    let all = are_good(src, frame, &head, &mut search.good)?;
+    let all = are_good(src, &head, &mut search.good)?;
     if all {
-        follow(src, frame, &head, search)?;
+        follow(src, &head, search)?;
     }
     Ok(())
 }
 
 /// The search before its first step: the top is marked, and its references are still to be followed.
-fn begin(alloc: Global, frame: &Frame) -> Result<Search, AllocError>
-    requires top { frame.now.top.0 < frame.now.objects }
-    requires low { 1 ≤ frame.now.ref_size }
-    requires high { frame.now.ref_size ≤ 8 }
-    requires small { frame.now.table < 2 ^ 32 }
-    ensures ready { IfOk result (IsReady frame.now) }
-    ensures searching { IfOk result (λ search. (f : List ℕ) → Searching f frame.now search.stack.items search) }
+fn begin<P: Framed>(alloc: Global, src: &P) -> Result<Search, AllocError>
+    requires small { (frame_in (P.means src.now)).table < 2 ^ 32 }
+    ensures ready { IfOk result (IsReady (frame_in (P.means src.now))) }
+    ensures searching { IfOk result (λ search. (f : List ℕ)
+        → Searching f (frame_in (P.means src.now)) search.stack.items search) }
 {
+    let frame = src.frame();
     let mut marks = vec![in alloc; false; frame.objects as usize]?;
     marks[frame.top.0 as usize] = true;
     let mut stack = Vec::new(alloc);
@@ -222,30 +193,22 @@ fn begin(alloc: Global, frame: &Frame) -> Result<Search, AllocError>
 }
 
 /// Marks exactly the objects that the top reaches.
-pub fn mark_reached<S: Source>(
-    alloc: Global,
-    src: &mut S,
-    frame: &Frame,
-    places: &[u32],
-) -> Result<Marked, Failure>
-    requires frame { IsSafeFrame (length (S.means src.old).octets) frame.now }
-    requires small { frame.now.table < 2 ^ 32 }
-    requires places { length places.now ≡ frame.now.objects }
-    requires framed { IsTrue (S.means src.old).honest → IsFrame (S.means src.old).octets frame.now }
-    requires placed { IsTrue (S.means src.old).honest → AreOffsets (S.means src.old).octets frame.now places.now }
-    ensures reads { OnlyReads (failed_to_read result) (S.means src.old) (S.means src.new) }
-    ensures all { IfOk result (λ marked. vec_len marked.marks ≡ frame.now.objects) }
-    ensures all_bare { IfOk result (λ marked. vec_len marked.bare ≡ frame.now.objects) }
-    ensures exact { IsTrue (S.means src.old).honest → IfOk result (λ marked.
-        (n : ℕ) → IsMarked marked.marks.items n ↔ Reach (S.means src.old).octets frame.now n) }
+pub fn mark_reached<P: Placed>(alloc: Global, src: &mut P) -> Result<Marked, Failure>
+    requires small { (frame_in (P.means src.old)).table < 2 ^ 32 }
+    ensures reads { OnlyReads (failed_to_read result) (P.means src.old) (P.means src.new) }
+    ensures all { IfOk result (λ marked. vec_len marked.marks ≡ (frame_in (P.means src.old)).objects) }
+    ensures all_bare { IfOk result (λ marked. vec_len marked.bare ≡ (frame_in (P.means src.old)).objects) }
+    ensures exact { HonestlyIn (P.means src.old) (λ f F. IfOk result (λ marked.
+        (n : ℕ) → IsMarked marked.marks.items n ↔ Reach f F n)) }
     ensures bare { IfOk result (λ marked. (n : ℕ) → IsMarked marked.bare.items n → ⊥) }
-    ensures named { IfOk result (λ marked. marked.named.table.items ≡ replicate frame.now.objects 1) }
+    ensures named { IfOk result (λ marked. marked.named.table.items ≡ replicate (frame_in (P.means src.old)).objects 1) }
 {
-    let bare = vec![in alloc; false; frame.objects as usize]?;
-    let table = vec![in alloc; 1; frame.objects as usize]?;
-    let mut search = begin(alloc, frame)?;
+    let objects = src.frame().objects as usize;
+    let bare = vec![in alloc; false; objects]?;
+    let table = vec![in alloc; 1; objects]?;
+    let mut search = begin(alloc, src)?;
     while let Some(n) = search.stack.pop() {
-        look_at(src, frame, n, places[n as usize] as u64, &mut search)?;
+        look_at(src, n, &mut search)?;
     }
     Ok(Marked {
         marks: search.marks,

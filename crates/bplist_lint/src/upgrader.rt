@@ -2,10 +2,7 @@
 
 ghost use Rattle.std.specs.Prelude.{◌≡◌, ◌+◌, ◌≤◌, ◌<◌, ℕ, List, set, length, IsTrue, IfOk, vec_len};
 ghost use Rattle.bplist_octets.specs.Meaning.{OnlyReads};
-ghost use Rattle.bplist_objects.specs.Frame.{off, IsFrame};
 ghost use Rattle.bplist_objects.specs.Framed.{frame_in, HonestlyIn};
-ghost use Rattle.bplist_objects.specs.Safe.{IsSafe};
-ghost use Rattle.bplist_keys.specs.Texts.{AreOffsets};
 ghost use Rattle.bplist_keys.specs.Ranks.{AreRanks};
 ghost use Rattle.bplist_cert.specs.Valid.{IsVouchedBy, IsValid};
 ghost use Rattle.bplist_keys.specs.Classes.{HasNamedKeys};
@@ -13,85 +10,65 @@ ghost use Rattle.bplist_lint.specs.Upgraded.{Listed, IsUpgraded};
 ghost use Rattle.bplist_lint.specs.Upgrades.{Upgrades, upgrade_failed};
 
 use crate::key_lists::KeySorting;
+use crate::places::{Placed, Table};
 use crate::upgrade_fault::UpgradeFault;
 use bplist_cert::{Certificate, Checked, KeyLists, vouched_keys};
 use bplist_keys::{Ranks, places_of, ranks_of};
-use bplist_objects::{Frame, Framed, Kind, ObjectNo, shape_at};
+use bplist_objects::{Framed, Kind, ObjectNo, shape_in};
 use bplist_octets::Source;
 use std::alloc::Global;
 
-/// The objects that are vouched for.
-#[derive(Clone, Copy)]
-struct Vouched<'a> {
-    /// The places of all objects.
-    places: &'a [u32],
-    /// An object with a height above 0 is vouched for.
-    heights: &'a [u32],
-}
-
-/// Puts the key list of vouched object `n`, which stands at `place`, behind those before it, where it is a dictionary.
-/// The start of the list, 0 for any other object.
-fn list_object<S: Source>(
-    src: &mut S,
-    frame: &Frame,
-    place: u64,
-    n: u32,
-    lists: &mut KeySorting,
-) -> Result<u32, UpgradeFault>
-    requires safe { IsSafe (length (S.means src.old).octets) frame.now }
-    requires within { n < frame.now.objects }
+/// Puts the key list of vouched object `n` behind those before it, where it is a dictionary. The start of the list, 0 for
+/// any other object.
+fn list_object<P: Placed>(src: &mut P, n: u32, lists: &mut KeySorting) -> Result<u32, UpgradeFault>
+    requires within { n < (frame_in (P.means src.old)).objects }
     requires few { vec_len lists.old.positions ≤ 4294967295 }
-    ensures reads { OnlyReads (upgrade_failed result) (S.means src.old) (S.means src.new) }
+    ensures reads { OnlyReads (upgrade_failed result) (P.means src.old) (P.means src.new) }
     ensures same { lists.new.ranks.table.items ≡ lists.old.ranks.table.items }
     ensures few { IfOk result (λ _. vec_len lists.new.positions ≤ 4294967295) }
-    ensures exact { IsTrue (S.means src.old).honest → IsFrame (S.means src.old).octets frame.now
-        → place ≡ off (S.means src.old).octets frame.now n → (named heights starts : List ℕ)
-        → AreRanks (S.means src.old).octets frame.now named lists.old.ranks.table.items
-        → HasNamedKeys (S.means src.old).octets frame.now named n
-        → IsValid (S.means src.old).octets frame.now heights → IsVouchedBy heights n → n < length starts
-        → Listed (S.means src.old).octets frame.now heights n starts lists.old.positions.items
-        → Upgrades (λ start. Listed (S.means src.old).octets frame.now heights (n + 1) (set starts n start) lists.new.positions.items) result }
+    ensures exact { HonestlyIn (P.means src.old) (λ f F. (named heights starts : List ℕ)
+        → AreRanks f F named lists.old.ranks.table.items → HasNamedKeys f F named n
+        → IsValid f F heights → IsVouchedBy heights n → n < length starts
+        → Listed f F heights n starts lists.old.positions.items
+        → Upgrades (λ start. Listed f F heights (n + 1) (set starts n start) lists.new.positions.items) result) }
 {
-    let head = shape_at(src, frame, ObjectNo(n), place)?;
+    let place = src.place(n);
+    let head = shape_in(src, ObjectNo(n), place)?;
     match head.kind {
         Kind::Dict => {
             let start = lists.positions.len() as u32;
             if head.count > (u32::MAX - start) as u64 {
                 return Err(UpgradeFault::Changed);
             }
-            lists.list(src, frame, &head)?;
+            lists.list(src, &head)?;
             Ok(start)
         }
         _ => Ok(0),
     }
 }
 
-/// The key lists of the vouched dictionaries, one behind the other in the order of the objects, by these ranks of the texts
-/// that they name as keys.
-fn list_all<S: Source>(
+/// The key lists of the vouched dictionaries, which are those with a height above 0, one behind the other in the order of
+/// the objects, by these ranks of the texts that they name as keys.
+fn list_all<P: Placed>(
     alloc: Global,
-    src: &mut S,
-    frame: &Frame,
-    vouched: &Vouched,
+    src: &mut P,
+    heights: &[u32],
     ranks: Ranks,
 ) -> Result<KeyLists, UpgradeFault>
-    requires safe { IsSafe (length (S.means src.old).octets) frame.now }
-    requires places { length vouched.now.places.now ≡ frame.now.objects }
-    requires heights { length vouched.now.heights.now ≡ frame.now.objects }
-    ensures reads { OnlyReads (upgrade_failed result) (S.means src.old) (S.means src.new) }
-    ensures starts { IfOk result (λ keys. length keys.starts ≡ frame.now.objects) }
-    ensures exact { IsTrue (S.means src.old).honest → AreOffsets (S.means src.old).octets frame.now vouched.now.places.now
-        → IsValid (S.means src.old).octets frame.now vouched.now.heights.now
-        → (named : List ℕ) → AreRanks (S.means src.old).octets frame.now named ranks.table.items
-        → ((n : ℕ) → IsVouchedBy vouched.now.heights.now n → HasNamedKeys (S.means src.old).octets frame.now named n)
-        → Upgrades (λ keys. Listed (S.means src.old).octets frame.now vouched.now.heights.now frame.now.objects keys.starts keys.positions) result }
+    requires { length heights.now ≡ (frame_in (P.means src.old)).objects }
+    ensures reads { OnlyReads (upgrade_failed result) (P.means src.old) (P.means src.new) }
+    ensures starts { IfOk result (λ keys. length keys.starts ≡ (frame_in (P.means src.old)).objects) }
+    ensures exact { HonestlyIn (P.means src.old) (λ f F. IsValid f F heights.now
+        → (named : List ℕ) → AreRanks f F named ranks.table.items
+        → ((n : ℕ) → IsVouchedBy heights.now n → HasNamedKeys f F named n)
+        → Upgrades (λ keys. Listed f F heights.now F.objects keys.starts keys.positions) result) }
 {
-    let (places, heights) = (vouched.places, vouched.heights);
+    let frame = src.frame();
     let mut starts = vec![in alloc; 0; frame.objects as usize]?;
     let mut lists = KeySorting::new(alloc, ranks);
     for n in 0..frame.objects {
         if heights[n as usize] > 0 {
-            starts[n as usize] = list_object(src, frame, places[n as usize] as u64, n, &mut lists)?;
+            starts[n as usize] = list_object(src, n, &mut lists)?;
         }
     }
     let KeySorting { positions, .. } = lists;
@@ -114,11 +91,7 @@ fn list_keys_of<P: Framed>(
     let places = places_of(alloc, src, &frame)?;
     let named = vouched_keys(alloc, src, &places, heights)?;
     let ranks = ranks_of(alloc, src, &frame, &places, named)?;
-    let vouched = Vouched {
-        places: &places,
-        heights,
-    };
-    list_all(alloc, src, &frame, &vouched, ranks)
+    list_all(alloc, &mut Table::new(src, frame, &places), heights, ranks)
 }
 
 /// The certificate of version 2 of a checked file: its heights, and the key lists of the vouched dictionaries one behind

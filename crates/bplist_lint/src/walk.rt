@@ -3,25 +3,25 @@
 ghost use Rattle.std.specs.Prelude.{◌≡◌, ◌≢◌, ◌↔◌, ℕ, List, ◌+◌, ◌≤◌, ◌<◌, [], ◌∷◌, ◌++◌, not, IsTrue, false, IfOk, IfSome, OnOk, count_by, length, slice_index, vec_len};
 ghost use Rattle.bplist_octets.specs.Meaning.{OnlyReads};
 ghost use Rattle.bplist_objects.specs.declared.fault.ObjectFault.{ObjectFault as object_fault};
-ghost use Rattle.bplist_objects.specs.Frame.{off, IsFrame};
+ghost use Rattle.bplist_objects.specs.Framed.{frame_in, HonestlyIn};
 ghost use Rattle.bplist_objects.specs.Heads.{content_at, refs};
-ghost use Rattle.bplist_objects.specs.Safe.{IsSafe, IsSafeFrame, IsSafeHead, ref_count};
+ghost use Rattle.bplist_objects.specs.Safe.{IsSafeHead, ref_count};
 ghost use Rattle.bplist_objects.specs.Scan.{AreBelow};
 ghost use Rattle.bplist_objects.specs.declared.kind.Kind.TheVariants.{Dict};
 ghost use Rattle.bplist_keys.specs.Classes.{key_ref};
-ghost use Rattle.bplist_keys.specs.Texts.{AreOffsets};
 ghost use Rattle.bplist_keys.specs.Failures.{failed_to_read};
 ghost use Rattle.bplist_lint.specs.Reaching.{IsMarked};
 ghost use Rattle.bplist_lint.specs.Tallies.{IsRoomy};
 ghost use Rattle.bplist_lint.specs.Walks.{IsSteady, IsSteadyWalk, Noted, Walking, Fits, IsWalked, AreNamed, of_object, stop_failed};
 ghost use Rattle.bplist_lint.specs.declared.walk.Stop.TheVariants.{Read as is_read, Memory as is_memory};
 
+use crate::places::Placed;
 use crate::tally::Tally;
 use bplist_keys::{Failure, NamedKeys};
 use bplist_objects::{
-    Frame, Head, Kind, ObjectFault, ObjectNo, check_body, read_refs, refs_of, shape_at,
+    Framed, Head, Kind, ObjectFault, ObjectNo, check_body, read_refs_in, refs_of, shape_in,
 };
-use bplist_octets::{ReadFault, Source};
+use bplist_octets::ReadFault;
 use std::alloc::{AllocError, AllocFailed, Global};
 
 /// Why the walk ended before all reached objects were visited.
@@ -107,21 +107,21 @@ pub struct Reached {
 /// How many references are read at once.
 const BLOCK: usize = 32;
 
-/// Marks the objects with these numbers. One that was not marked and that the walk does not come to later goes onto the
-/// stack.
-fn mark_block(frame: &Frame, numbers: &[u64], worklist: &mut Worklist) -> Result<(), Stop>
-    requires steady { IsSteady frame.now.objects worklist.old }
-    ensures steady { OnOk result (IsSteady frame.now.objects worklist.new) }
+/// Marks the objects with these numbers, of so many objects. One that was not marked and that the walk does not come to
+/// later goes onto the stack.
+fn mark_block(objects: u32, numbers: &[u64], worklist: &mut Worklist) -> Result<(), Stop>
+    requires steady { IsSteady objects worklist.old }
+    ensures steady { OnOk result (IsSteady objects worklist.new) }
     ensures reads { stop_failed result ≡ false }
     ensures current { worklist.new.current ≡ worklist.old.current }
     ensures work { OnOk result (count_by not worklist.new.marks.items + vec_len worklist.new.stack
         ≤ count_by not worklist.old.marks.items + vec_len worklist.old.stack) }
-    ensures below { OnOk result ((k : ℕ) → k < length numbers.now → slice_index numbers.now k < frame.now.objects) }
+    ensures below { OnOk result ((k : ℕ) → k < length numbers.now → slice_index numbers.now k < objects) }
     ensures noted { OnOk result (Noted numbers.now (worklist.old.current + 1) (length numbers.now)
         worklist.old.marks.items worklist.old.stack.items worklist.new.marks.items worklist.new.stack.items) }
 {
     for number in numbers {
-        if *number >= frame.objects as u64 {
+        if *number >= objects as u64 {
             return Err(Stop::Trouble);
         }
         let m = *number as u32;
@@ -148,154 +148,118 @@ fn keys_among(head: &Head, done: u64, references: usize) -> usize
 }
 
 /// Marks the references of an object with this head, block by block, and names those to keys.
-fn mark_body<S: Source>(
-    src: &mut S,
-    frame: &Frame,
+fn mark_body<P: Framed>(
+    src: &mut P,
     head: &Head,
     worklist: &mut Worklist,
     named: &mut NamedKeys,
 ) -> Result<(), Stop>
-    requires safe { IsSafe (length (S.means src.old).octets) frame.now }
-    requires head { IsSafeHead frame.now head.now }
-    requires steady { IsSteady frame.now.objects worklist.old }
-    requires all_named { length named.old.table.items ≡ frame.now.objects }
-    ensures reads { OnlyReads (stop_failed result) (S.means src.old) (S.means src.new) }
-    ensures steady { OnOk result (IsSteady frame.now.objects worklist.new) }
+    requires head { IsSafeHead (frame_in (P.means src.old)) head.now }
+    requires steady { IsSteady (frame_in (P.means src.old)).objects worklist.old }
+    requires all_named { length named.old.table.items ≡ (frame_in (P.means src.old)).objects }
+    ensures reads { OnlyReads (stop_failed result) (P.means src.old) (P.means src.new) }
+    ensures steady { OnOk result (IsSteady (frame_in (P.means src.old)).objects worklist.new) }
     ensures current { worklist.new.current ≡ worklist.old.current }
     ensures work { OnOk result (count_by not worklist.new.marks.items + vec_len worklist.new.stack
         ≤ count_by not worklist.old.marks.items + vec_len worklist.old.stack) }
-    ensures below { OnOk result (IsTrue (S.means src.old).honest
-        → AreBelow (S.means src.old).octets head.now.body frame.now.ref_size
-        (ref_count head.now.kind head.now.count) frame.now.objects) }
-    ensures noted { OnOk result (IsTrue (S.means src.old).honest
-        → Noted (refs (content_at (S.means src.old).octets frame.now head.now)) (worklist.old.current + 1)
-        (ref_count head.now.kind head.now.count)
-        worklist.old.marks.items worklist.old.stack.items worklist.new.marks.items worklist.new.stack.items) }
-    ensures all_named { length named.new.table.items ≡ frame.now.objects }
+    ensures below { OnOk result (HonestlyIn (P.means src.old) (λ f F.
+        AreBelow f head.now.body F.ref_size (ref_count head.now.kind head.now.count) F.objects)) }
+    ensures noted { OnOk result (HonestlyIn (P.means src.old) (λ f F.
+        Noted (refs (content_at f F head.now)) (worklist.old.current + 1) (ref_count head.now.kind head.now.count)
+        worklist.old.marks.items worklist.old.stack.items worklist.new.marks.items worklist.new.stack.items)) }
+    ensures all_named { length named.new.table.items ≡ (frame_in (P.means src.old)).objects }
     ensures keeps_named { (m : ℕ) → 0 < slice_index named.old.table.items m → 0 < slice_index named.new.table.items m }
-    ensures named { OnOk result (IsTrue (S.means src.old).honest → head.now.kind ≡ Dict → (k : ℕ) → k < head.now.count
-        → 0 < slice_index named.new.table.items (key_ref (S.means src.old).octets frame.now head.now k)) }
+    ensures named { OnOk result (HonestlyIn (P.means src.old) (λ f F. head.now.kind ≡ Dict → (k : ℕ) → k < head.now.count
+        → 0 < slice_index named.new.table.items (key_ref f F head.now k))) }
 {
+    let objects = src.frame().objects;
     let count = refs_of(head);
-    let _objects = frame.objects;
     let mut numbers = [0; BLOCK];
     let mut done = 0;
     while done < count {
         let now = (count - done).min(BLOCK as u64);
         let block = &mut numbers[..now as usize];
-        read_refs(src, frame, head, done, block)?;
-        mark_block(frame, block, worklist)?;
+        read_refs_in(src, head, done, block)?;
+        mark_block(objects, block, worklist)?;
         named.insert_all(&block[..keys_among(head, done, block.len())]);
         done += now;
     }
     Ok(())
 }
 
-/// Looks at reached object `n`, which stands at `place`, marks its references and names its keys.
-fn visit<S: Source>(
-    src: &mut S,
-    frame: &Frame,
-    n: u32,
-    place: u64,
-    progress: &mut Progress,
-) -> Result<(), Stop>
-    requires safe { IsSafe (length (S.means src.old).octets) frame.now }
-    requires within { n < frame.now.objects }
-    requires steady { IsSteadyWalk frame.now progress.old }
-    ensures reads { OnlyReads (stop_failed result) (S.means src.old) (S.means src.new) }
-    ensures steady { OnOk result (IsSteadyWalk frame.now progress.new) }
+/// Looks at reached object `n`, marks its references and names its keys.
+fn visit<P: Placed>(src: &mut P, n: u32, progress: &mut Progress) -> Result<(), Stop>
+    requires within { n < (frame_in (P.means src.old)).objects }
+    requires steady { IsSteadyWalk (frame_in (P.means src.old)) progress.old }
+    ensures reads { OnlyReads (stop_failed result) (P.means src.old) (P.means src.new) }
+    ensures steady { OnOk result (IsSteadyWalk (frame_in (P.means src.old)) progress.new) }
     ensures current { progress.new.worklist.current ≡ progress.old.worklist.current }
     ensures work { OnOk result (count_by not progress.new.worklist.marks.items + vec_len progress.new.worklist.stack
         ≤ count_by not progress.old.worklist.marks.items + vec_len progress.old.worklist.stack) }
-    ensures walking { OnOk result (IsTrue (S.means src.old).honest → IsFrame (S.means src.old).octets frame.now
-        → place ≡ off (S.means src.old).octets frame.now n
-        → Walking (S.means src.old).octets frame.now (progress.old.worklist.current + 1) (progress.old.worklist.stack.items ++ n ∷ []) progress.old
-        → Walking (S.means src.old).octets frame.now (progress.old.worklist.current + 1) progress.new.worklist.stack.items progress.new) }
+    ensures walking { OnOk result (HonestlyIn (P.means src.old) (λ f F.
+        Walking f F (progress.old.worklist.current + 1) (progress.old.worklist.stack.items ++ n ∷ []) progress.old
+        → Walking f F (progress.old.worklist.current + 1) progress.new.worklist.stack.items progress.new)) }
 {
-    let head = shape_at(src, frame, ObjectNo(n), place)?;
-    let Some(tally) = progress.tally.with(frame, place, &head) else {
+    let frame = src.frame();
+    let place = src.place(n);
+    let head = shape_in(src, ObjectNo(n), place)?;
+    let Some(tally) = progress.tally.with(&frame, place, &head) else {
         return Err(Stop::Trouble);
     };
     progress.tally = tally;
     if refs_of(&head) == 0 {
         progress.bare[n as usize] = true;
-        check_body(src, frame, ObjectNo(n), place, &head)?;
+        check_body(src, &frame, ObjectNo(n), place, &head)?;
         Ok(())
     } else {
-        mark_body(
-            src,
-            frame,
-            &head,
-            &mut progress.worklist,
-            &mut progress.named,
-        )
+        mark_body(src, &head, &mut progress.worklist, &mut progress.named)
     }
 }
 
 /// Visits marked object `n` and all that it leads to by references to objects that are not above it.
-fn visit_from<S: Source>(
-    src: &mut S,
-    frame: &Frame,
-    places: &[u32],
-    n: u32,
-    progress: &mut Progress,
-) -> Result<(), Stop>
-    requires safe { IsSafe (length (S.means src.old).octets) frame.now }
-    requires within { n < frame.now.objects }
-    requires places { length places.now ≡ frame.now.objects }
-    requires steady { IsSteadyWalk frame.now progress.old }
+fn visit_from<P: Placed>(src: &mut P, n: u32, progress: &mut Progress) -> Result<(), Stop>
+    requires within { n < (frame_in (P.means src.old)).objects }
+    requires steady { IsSteadyWalk (frame_in (P.means src.old)) progress.old }
     requires empty { vec_len progress.old.worklist.stack ≡ 0 }
-    ensures reads { OnlyReads (stop_failed result) (S.means src.old) (S.means src.new) }
-    ensures steady { OnOk result (IsSteadyWalk frame.now progress.new) }
+    ensures reads { OnlyReads (stop_failed result) (P.means src.old) (P.means src.new) }
+    ensures steady { OnOk result (IsSteadyWalk (frame_in (P.means src.old)) progress.new) }
     ensures empty { OnOk result (vec_len progress.new.worklist.stack ≡ 0) }
-    ensures walking { OnOk result (IsTrue (S.means src.old).honest → IsFrame (S.means src.old).octets frame.now
-        → AreOffsets (S.means src.old).octets frame.now places.now
-        → IsMarked progress.old.worklist.marks.items n
-        → Walking (S.means src.old).octets frame.now n [] progress.old
-        → Walking (S.means src.old).octets frame.now (n + 1) [] progress.new) }
+    ensures walking { OnOk result (HonestlyIn (P.means src.old) (λ f F. IsMarked progress.old.worklist.marks.items n
+        → Walking f F n [] progress.old → Walking f F (n + 1) [] progress.new)) }
 {
     progress.worklist.current = n;
-    visit(src, frame, n, places[n as usize] as u64, progress)?;
+    visit(src, n, progress)?;
     while let Some(m) = progress.worklist.stack.pop() {
-        visit(src, frame, m, places[m as usize] as u64, progress)?;
+        visit(src, m, progress)?;
     }
     Ok(())
 }
 
 /// Visits all reached objects, of which only the top is marked yet.
-fn visit_all<S: Source>(
-    src: &mut S,
-    frame: &Frame,
-    places: &[u32],
-    progress: &mut Progress,
-) -> Result<(), Stop>
-    requires safe { IsSafe (length (S.means src.old).octets) frame.now }
-    requires places { length places.now ≡ frame.now.objects }
-    requires steady { IsSteadyWalk frame.now progress.old }
+fn visit_all<P: Placed>(src: &mut P, progress: &mut Progress) -> Result<(), Stop>
+    requires steady { IsSteadyWalk (frame_in (P.means src.old)) progress.old }
     requires empty { vec_len progress.old.worklist.stack ≡ 0 }
-    ensures reads { OnlyReads (stop_failed result) (S.means src.old) (S.means src.new) }
-    ensures steady { OnOk result (IsSteadyWalk frame.now progress.new) }
-    ensures walking { OnOk result (IsTrue (S.means src.old).honest → IsFrame (S.means src.old).octets frame.now
-        → AreOffsets (S.means src.old).octets frame.now places.now
-        → Walking (S.means src.old).octets frame.now 0 [] progress.old
-        → Walking (S.means src.old).octets frame.now frame.now.objects [] progress.new) }
+    ensures reads { OnlyReads (stop_failed result) (P.means src.old) (P.means src.new) }
+    ensures steady { OnOk result (IsSteadyWalk (frame_in (P.means src.old)) progress.new) }
+    ensures walking { OnOk result (HonestlyIn (P.means src.old) (λ f F.
+        Walking f F 0 [] progress.old → Walking f F F.objects [] progress.new)) }
 {
+    let frame = src.frame();
     for n in 0..frame.objects {
         if progress.worklist.marks[n as usize] {
-            visit_from(src, frame, places, n, progress)?;
+            visit_from(src, n, progress)?;
         }
     }
     Ok(())
 }
 
 /// The walk's first step: the top is marked.
-fn begin(alloc: Global, frame: &Frame) -> Result<Progress, AllocError>
-    requires top { frame.now.top.0 < frame.now.objects }
-    requires table { 9 ≤ frame.now.table }
-    ensures steady { IfOk result (IsSteadyWalk frame.now) }
+fn begin<P: Framed>(alloc: Global, src: &P) -> Result<Progress, AllocError>
+    ensures steady { IfOk result (IsSteadyWalk (frame_in (P.means src.now))) }
     ensures empty { IfOk result (λ progress. vec_len progress.worklist.stack ≡ 0) }
-    ensures walking { IfOk result (λ progress. (f : List ℕ) → Walking f frame.now 0 [] progress) }
+    ensures walking { IfOk result (λ progress. (f : List ℕ) → Walking f (frame_in (P.means src.now)) 0 [] progress) }
 {
+    let frame = src.frame();
     let mut marks = vec![in alloc; false; frame.objects as usize]?;
     marks[frame.top.0 as usize] = true;
     let bare = vec![in alloc; false; frame.objects as usize]?;
@@ -313,25 +277,16 @@ fn begin(alloc: Global, frame: &Frame) -> Result<Progress, AllocError>
 
 /// Visits each reached object once, and says what is known of them: all keep rules 14 to 20 and 31. Beside that the objects
 /// that they name as keys. Where one of them breaks a rule there is no answer, and nothing is said of the others.
-pub fn walk<S: Source>(
-    alloc: Global,
-    src: &mut S,
-    frame: &Frame,
-    places: &[u32],
-) -> Result<Option<(Reached, NamedKeys)>, Failure>
-    requires frame { IsSafeFrame (length (S.means src.old).octets) frame.now }
-    requires places { length places.now ≡ frame.now.objects }
-    requires framed { IsTrue (S.means src.old).honest → IsFrame (S.means src.old).octets frame.now }
-    requires placed { IsTrue (S.means src.old).honest → AreOffsets (S.means src.old).octets frame.now places.now }
-    ensures reads { OnlyReads (failed_to_read result) (S.means src.old) (S.means src.new) }
-    ensures fits { IfOk result (λ found. IfSome found (λ known. Fits frame.now known.0)) }
-    ensures all_named { IfOk result (λ found. IfSome found (λ known. length known.1.table.items ≡ frame.now.objects)) }
-    ensures exact { IsTrue (S.means src.old).honest → IfOk result (λ found. IfSome found
-        (λ known. IsWalked (S.means src.old).octets frame.now known.0
-        × AreNamed (S.means src.old).octets frame.now known.1.table.items)) }
+pub fn walk<P: Placed>(alloc: Global, src: &mut P) -> Result<Option<(Reached, NamedKeys)>, Failure>
+    ensures reads { OnlyReads (failed_to_read result) (P.means src.old) (P.means src.new) }
+    ensures fits { IfOk result (λ found. IfSome found (λ known. Fits (frame_in (P.means src.old)) known.0)) }
+    ensures all_named { IfOk result (λ found. IfSome found (λ known. length known.1.table.items ≡ (frame_in (P.means src.old)).objects)) }
+    ensures exact { HonestlyIn (P.means src.old) (λ f F. IfOk result (λ found. IfSome found
+        (λ known. IsWalked f F known.0 × AreNamed f F known.1.table.items))) }
 {
-    let mut progress = begin(alloc, frame)?;
-    let visited = visit_all(src, frame, places, &mut progress);
+    let _frame = src.frame();
+    let mut progress = begin(alloc, src)?;
+    let visited = visit_all(src, &mut progress);
     let Progress {
         worklist,
         bare,

@@ -1,5 +1,7 @@
 use Rattle.std.proofs.Common.{arith}
 use Rattle.std.proofs.lemmas.Result.{err_from_is_err_and}
+use Rattle.bplist_objects.specs.declared.frame.Frame.{Frame}
+use Rattle.bplist_objects.specs.Framed.{frame_in}
 use Rattle.bplist_cert.proofs.Texts.{shape_kept}
 use Rattle.bplist_cert.proofs.CheckSteps.{object_refused}
 use Rattle.bplist_lint.proofs.KeySteps.{kept_keys}
@@ -8,32 +10,35 @@ use Rattle.bplist_lint.proofs.KeyClasses.{wrong_fault}
 use Rattle.bplist_lint.proofs.keys.check_object.Goals as goal
 
 pub returns-in_err-head-clause-exact : goal.returns-in_err-head-clause-exact
-returns-in_err-head-clause-exact g c = λ honest framed place kept keys low.
+returns-in_err-head-clause-exact g c = λ honest kept keys low.
     let p = err_from_is_err_and c.from_residual.result c.from_residual.ensures.1 in
-    rw (p.1, p.2) (object_refused _ _ c.in_err-head.field-0.0 (λ fault h. absurd (shape_kept (g.S.Source.means c.args.src.now).octets c.args.frame.now c.args.n fault kept h)) (c.in_err-head.ensures.rules honest framed place))
+    let F : Frame = frame_in (g.P.Source.means c.args.src.now) in
+    rw (p.1, p.2) (object_refused _ _ c.in_err-head.field-0.0 (λ fault h. absurd (shape_kept (g.P.Source.means c.args.src.now).octets F c.args.n fault kept h)) (c.in_err-head.ensures.rules honest (c.place-place.ensures honest)))
 
 pub returns-in-None-clause-exact : goal.returns-in-None-clause-exact
-returns-in-None-clause-exact g c = λ honest framed place kept keys low.
-    let f = (g.S.Source.means c.args.src.now).octets in
-    let F = c.args.frame.now in
+returns-in-None-clause-exact g c = λ honest kept keys low.
+    let f = (g.P.Source.means c.args.src.now).octets in
+    let F : Frame = frame_in (g.P.Source.means c.args.src.now) in
+    let framed = c.frame-frame.ensures.framed.framed honest in
     let n = c.args.n in
     let head = c.in_ok-head.head in
     let classes = c.args.table.now.classes.table.items in
-    let has = (c.in_ok-head.ensures.rules honest framed place).0 in
+    let has = (c.in_ok-head.ensures.rules honest (c.place-place.ensures honest)).0 in
     let known = keys head has c.in-Dict.is in
     let inside = keys_inside f F n kept head has c.in-Dict.is in
-    let good = (rw (c.in_ok-head.ensures.reads, c.in-None.is) at c.in_ok-first_wrong-in-Dict.ensures.exact) honest low in
+    let good = (rw (c.frame-frame.ensures.frame, c.in_ok-head.ensures.reads, c.in-None.is) at c.in_ok-first_wrong-in-Dict.ensures.exact) honest low in
     kept_keys f F n head has (classed_texts f F head classes known.0 framed known.1 inside head.count (omega arith) good.0) (apart_differ f F head classes known.0 head.count (omega arith) good.1)
 
 pub returns-in-Some-clause-exact : goal.returns-in-Some-clause-exact
-returns-in-Some-clause-exact g c = λ honest framed place kept keys low.
-    let f = (g.S.Source.means c.args.src.now).octets in
-    let F = c.args.frame.now in
+returns-in-Some-clause-exact g c = λ honest kept keys low.
+    let f = (g.P.Source.means c.args.src.now).octets in
+    let F : Frame = frame_in (g.P.Source.means c.args.src.now) in
+    let framed = c.frame-frame.ensures.framed.framed honest in
     let n = c.args.n in
     let head = c.in_ok-head.head in
     let classes = c.args.table.now.classes.table.items in
-    let has = (c.in_ok-head.ensures.rules honest framed place).0 in
+    let has = (c.in_ok-head.ensures.rules honest (c.place-place.ensures honest)).0 in
     let known = keys head has c.in-Dict.is in
     let inside = keys_inside f F n kept head has c.in-Dict.is in
-    let wrong = (rw (c.in_ok-head.ensures.reads, c.in-Some.is) at c.in_ok-first_wrong-in-Dict.ensures.exact) honest low in
-    wrong_fault f F framed head classes known.0 known.1 inside (record { 0 = n }) has c.in-Dict.is c.in-Some.wrong c.key_fault.result wrong c.key_fault.ensures
+    let wrong = (rw (c.frame-frame.ensures.frame, c.in_ok-head.ensures.reads, c.in-Some.is) at c.in_ok-first_wrong-in-Dict.ensures.exact) honest low in
+    wrong_fault f F framed head classes known.0 known.1 inside (record { 0 = n }) has c.in-Dict.is c.in-Some.wrong c.key_fault.result wrong (rw (c.in_ok-first_wrong-in-Dict.ensures.reads, c.in_ok-head.ensures.reads) at c.key_fault.ensures)

@@ -1,5 +1,7 @@
 use Rattle.std.proofs.Common.{◌≡◌, ◌+◌, ◌-◌, ◌<◌, arith, rules, inl, inr, ap, sym, ◌∙◌}
 use Rattle.std.proofs.lemmas.Bool.{cases_lt, cases_eq}
+use Rattle.bplist_objects.specs.declared.frame.Frame.{Frame}
+use Rattle.bplist_objects.specs.Framed.{frame_in}
 use Rattle.bplist_objects.specs.Safe.{ref_count}
 use Rattle.bplist_objects.specs.Scan.{nth_number}
 use Rattle.bplist_objects.proofs.BodyLaws.{refs_fit}
@@ -9,54 +11,55 @@ use Rattle.bplist_lint.proofs.reach.are_good.Goals as goal
 
 pub refs_of-requires : goal.refs_of-requires
 refs_of-requires g c =
+    let F : Frame = frame_in (g.P.Source.means c.args.src.now) in
     let h = c.args.head.now in
-    let fit = refs_fit c.args.frame.now.ref_size h.count h.kind c.requires.safe.ref_low in
+    let fit = refs_fit F.ref_size h.count h.kind c.frame-frame.ensures.framed.safe.safe.ref_low in
     omega (arith, fit.1, c.requires.head.body)
 
 pub overflow_add-end : goal.overflow_add-end
 overflow_add-end g c =
-    let f = (g.S.Source.means c.args.src.now).octets in
-    let F = c.args.frame.now in
+    let f = (g.P.Source.means c.args.src.now).octets in
+    let F : Frame = frame_in (g.P.Source.means c.args.src.now) in
     let h = c.args.head.now in
-    let low = numbers_low f F h c.requires.safe.ref_low c.requires.head in
+    let low = numbers_low f F h c.frame-frame.ensures.framed.safe.safe.ref_low c.requires.head in
     let few = size_small F in
-    omega (arith, low, few, c.requires.small, c.number_of-first.ensures, c.refs_of.ensures, c.requires.safe.ref_high)
+    omega (arith, low, few, c.requires.small, c.number_of-first.ensures, c.refs_of.ensures, c.frame-frame.ensures.framed.safe.safe.ref_high)
 
 pub next_outside-number-requires : goal.next_outside-number-requires
 next_outside-number-requires g c =
-    let f = (g.S.Source.means c.args.src.now).octets in
-    let F = c.args.frame.now in
+    let f = (g.P.Source.means c.args.src.now).octets in
+    let F : Frame = frame_in (g.P.Source.means c.args.src.now) in
     let h = c.args.head.now in
-    let low = numbers_low f F h c.requires.safe.ref_low c.requires.head in
+    let low = numbers_low f F h c.frame-frame.ensures.framed.safe.safe.ref_low c.requires.head in
     omega (arith, low, c.number_of-first.ensures, c.requires.size)
 
 pub insert-requires : goal.insert-requires
 insert-requires g c =
-    let f = (g.S.Source.means c.args.src.now).octets in
-    let F = c.args.frame.now in
+    let f = (g.P.Source.means c.args.src.now).octets in
+    let F : Frame = frame_in (g.P.Source.means c.args.src.now) in
     let h = c.args.head.now in
-    let low = numbers_low f F h c.requires.safe.ref_low c.requires.head in
+    let low = numbers_low f F h c.frame-frame.ensures.framed.safe.safe.ref_low c.requires.head in
     omega (arith, low, c.loop-number-test.true, c.number_of-first.ensures, c.refs_of.ensures, c.loop-number.invariant.size, c.requires.size)
 
 pub next_outside-number-requires-in-loop-number : goal.next_outside-number-requires-in-loop-number
 next_outside-number-requires-in-loop-number g c =
-    let f = (g.S.Source.means c.args.src.now).octets in
-    let F = c.args.frame.now in
+    let f = (g.P.Source.means c.args.src.now).octets in
+    let F : Frame = frame_in (g.P.Source.means c.args.src.now) in
     let h = c.args.head.now in
-    let low = numbers_low f F h c.requires.safe.ref_low c.requires.head in
+    let low = numbers_low f F h c.frame-frame.ensures.framed.safe.safe.ref_low c.requires.head in
     omega (arith, low, c.loop-number-test.true, c.number_of-first.ensures, c.refs_of.ensures, c.insert.ensures.size, c.loop-number.invariant.size, c.requires.size)
 
 pub loop-number-preserved : goal.loop-number-preserved
 loop-number-preserved g c =
-    let f = (g.S.Source.means c.args.src.now).octets in
-    let F = c.args.frame.now in
+    let f = (g.P.Source.means c.args.src.now).octets in
+    let F : Frame = frame_in (g.P.Source.means c.args.src.now) in
     let h = c.args.head.now in
     let i = c.loop-number.invariant in
     let j = c.loop-number.number in
     let k = j - c.number_of-first.result in
     let below : k < ref_count h.kind h.count = omega (arith, c.loop-number-test.true, c.refs_of.ensures, i.from) in
     let back : number_at F h.body + k ≡ j = omega (arith, c.number_of-first.ensures, i.from) in
-    let at_j : reference_at f F j ≡ nth_number f h.body F.ref_size k = ap (reference_at f F) (sym back) ∙ reference_at_k f F h c.requires.safe.ref_low c.requires.head k below in
+    let at_j : reference_at f F j ≡ nth_number f h.body F.ref_size k = ap (reference_at f F) (sym back) ∙ reference_at_k f F h c.frame-frame.ensures.framed.safe.safe.ref_low c.requires.head k below in
     let next = c.next_outside-number-in-loop-number.ensures in
     let same = ap (λ v. v.items) next.words in
     record {
@@ -66,8 +69,8 @@ loop-number-preserved g c =
       good = λ honest known m is. elim (c.insert.ensures.only m (rw same at is)) [
         | inl old ↦ i.good honest known m old
         | inr e ↦
-            let value = (rw i.reads at c.in_ok-reference.ensures.value) honest in
-            let low_j : reference_at f F j < F.objects = omega (arith, at_j, value, c.if-reference-frame.false) in
+            let value = (rw (c.frame-frame.ensures.frame, i.reads) at c.in_ok-reference.ensures.value) honest in
+            let low_j : reference_at f F j < F.objects = (let high = rw c.frame-frame.ensures.frame at c.if-reference-frame.false in omega (arith, at_j, value, high)) in
             rw e low_j
       ];
       known = λ m low high. rw same (elim (cases_lt m j) [
@@ -81,10 +84,10 @@ loop-number-preserved g c =
 
 pub returns-clause-exact : goal.returns-clause-exact
 returns-clause-exact g c = λ honest known.
-    let f = (g.S.Source.means c.args.src.now).octets in
-    let F = c.args.frame.now in
+    let f = (g.P.Source.means c.args.src.now).octets in
+    let F : Frame = frame_in (g.P.Source.means c.args.src.now) in
     let h = c.args.head.now in
     let i = c.loop-number.invariant in (
-      (λ _. all_good f F h c.requires.safe.ref_low c.requires.head c.loop-number.good.words.items (i.good honest known) (λ k low. i.known _ (omega (arith, c.number_of-first.ensures)) (omega (arith, low, c.loop-number-test.false, c.number_of-first.ensures, c.refs_of.ensures)))),
+      (λ _. all_good f F h c.frame-frame.ensures.framed.safe.safe.ref_low c.requires.head c.loop-number.good.words.items (i.good honest known) (λ k low. i.known _ (omega (arith, c.number_of-first.ensures)) (omega (arith, low, c.loop-number-test.false, c.number_of-first.ensures, c.refs_of.ensures)))),
       (λ _. search rules),
     )

@@ -1,5 +1,7 @@
 use Rattle.std.proofs.Common.{◌≡◌, ◌+◌, ◌-◌, ◌<◌, arith, inl, inr, ap, sym, subst, ◌∙◌}
 use Rattle.std.proofs.lemmas.Bool.{cases_lt, cases_eq}
+use Rattle.bplist_objects.specs.declared.frame.Frame.{Frame}
+use Rattle.bplist_objects.specs.Framed.{frame_in}
 use Rattle.bplist_objects.specs.Heads.{content_at, refs}
 use Rattle.bplist_objects.specs.Safe.{ref_count}
 use Rattle.bplist_objects.specs.Scan.{nth_number}
@@ -13,55 +15,56 @@ use Rattle.bplist_lint.proofs.reach.follow.Goals as goal
 
 pub refs_of-requires : goal.refs_of-requires
 refs_of-requires g c =
+    let F : Frame = frame_in (g.P.Source.means c.args.src.now) in
     let h = c.args.head.now in
-    let fit = refs_fit c.args.frame.now.ref_size h.count h.kind c.requires.safe.ref_low in
+    let fit = refs_fit F.ref_size h.count h.kind c.frame-frame.ensures.framed.safe.safe.ref_low in
     omega (arith, fit.1, c.requires.head.body)
 
 pub overflow_add-end : goal.overflow_add-end
 overflow_add-end g c =
-    let f = (g.S.Source.means c.args.src.now).octets in
-    let F = c.args.frame.now in
+    let f = (g.P.Source.means c.args.src.now).octets in
+    let F : Frame = frame_in (g.P.Source.means c.args.src.now) in
     let h = c.args.head.now in
-    let low = numbers_low f F h c.requires.safe.ref_low c.requires.head in
+    let low = numbers_low f F h c.frame-frame.ensures.framed.safe.safe.ref_low c.requires.head in
     let few = size_small F in
-    omega (arith, low, few, c.requires.small, c.number_of-first.ensures, c.refs_of.ensures, c.requires.safe.ref_high)
+    omega (arith, low, few, c.requires.small, c.number_of-first.ensures, c.refs_of.ensures, c.frame-frame.ensures.framed.safe.safe.ref_high)
 
 pub next_outside-number-requires : goal.next_outside-number-requires
 next_outside-number-requires g c =
-    let f = (g.S.Source.means c.args.src.now).octets in
-    let F = c.args.frame.now in
+    let f = (g.P.Source.means c.args.src.now).octets in
+    let F : Frame = frame_in (g.P.Source.means c.args.src.now) in
     let h = c.args.head.now in
-    let low = numbers_low f F h c.requires.safe.ref_low c.requires.head in
+    let low = numbers_low f F h c.frame-frame.ensures.framed.safe.safe.ref_low c.requires.head in
     omega (arith, low, c.number_of-first.ensures, c.requires.ready.followed_size)
 
 pub insert-requires : goal.insert-requires
 insert-requires g c =
-    let f = (g.S.Source.means c.args.src.now).octets in
-    let F = c.args.frame.now in
+    let f = (g.P.Source.means c.args.src.now).octets in
+    let F : Frame = frame_in (g.P.Source.means c.args.src.now) in
     let h = c.args.head.now in
-    let low = numbers_low f F h c.requires.safe.ref_low c.requires.head in
+    let low = numbers_low f F h c.frame-frame.ensures.framed.safe.safe.ref_low c.requires.head in
     omega (arith, low, c.loop-number-test.true, c.number_of-first.ensures, c.refs_of.ensures, c.loop-number.invariant.ready.followed_size)
 
 pub next_outside-number-requires-in-loop-number : goal.next_outside-number-requires-in-loop-number
 next_outside-number-requires-in-loop-number g c =
-    let f = (g.S.Source.means c.args.src.now).octets in
-    let F = c.args.frame.now in
+    let f = (g.P.Source.means c.args.src.now).octets in
+    let F : Frame = frame_in (g.P.Source.means c.args.src.now) in
     let h = c.args.head.now in
-    let low = numbers_low f F h c.requires.safe.ref_low c.requires.head in
+    let low = numbers_low f F h c.frame-frame.ensures.framed.safe.safe.ref_low c.requires.head in
     let same = ap (λ (s : PlaceSet). s.size) c.mark.ensures.followed in
     omega (arith, low, same, c.loop-number-test.true, c.number_of-first.ensures, c.refs_of.ensures, c.insert.ensures.size, c.loop-number.invariant.ready.followed_size)
 
 pub loop-number-preserved : goal.loop-number-preserved
 loop-number-preserved g c =
-    let f = (g.S.Source.means c.args.src.now).octets in
-    let F = c.args.frame.now in
+    let f = (g.P.Source.means c.args.src.now).octets in
+    let F : Frame = frame_in (g.P.Source.means c.args.src.now) in
     let h = c.args.head.now in
     let i = c.loop-number.invariant in
     let j = c.loop-number.number in
     let k = j - c.number_of-first.result in
     let low : k < ref_count h.kind h.count = omega (arith, c.loop-number-test.true, c.refs_of.ensures, i.from) in
     let back : number_at F h.body + k ≡ j = omega (arith, c.number_of-first.ensures, i.from) in
-    let at_j : reference_at f F j ≡ nth_number f h.body F.ref_size k = ap (reference_at f F) (sym back) ∙ reference_at_k f F h c.requires.safe.ref_low c.requires.head k low in
+    let at_j : reference_at f F j ≡ nth_number f h.body F.ref_size k = ap (reference_at f F) (sym back) ∙ reference_at_k f F h c.frame-frame.ensures.framed.safe.safe.ref_low c.requires.head k low in
     let next = c.next_outside-number-in-loop-number.ensures in
     let same = ap (λ v. v.items) next.words ∙ ap (λ (s : PlaceSet). s.words.items) c.mark.ensures.followed in
     let before = rw (ap (λ (s : PlaceSet). s.words.items) c.mark.ensures.followed) at next.before in
@@ -85,24 +88,24 @@ loop-number-preserved g c =
         ]
       ]);
       looked = λ honest below all.
-          let value = (rw i.reads at c.in_ok-reference.ensures.value) honest in
+          let value = (rw (c.frame-frame.ensures.frame, i.reads) at c.in_ok-reference.ensures.value) honest in
           let good = below k low in
-          let m_is : m ≡ nth_number f h.body F.ref_size k = c.object_in-m.ensures.same (omega (arith, value, good)) ∙ value in
+          let m_is : m ≡ nth_number f h.body F.ref_size k = (rw c.frame-frame.ensures.frame at c.object_in-m.ensures.same) (omega (arith, value, good)) ∙ value in
           c.in_ok-mark.ensures.looked _ _ _ (i.looked honest below all) (among_at (refs (content_at f F h)) k m (omega (arith, low, length-refs f F h.kind h.count h.body)) (m_is ∙ sym (nth-refs f F h.kind h.count h.body k low)));
       followed = λ honest below all q is. elim (c.insert.ensures.only q (rw same at is)) [
         | inl old ↦ c.mark.ensures.keeps _ (i.followed honest below all q old)
         | inr e ↦
-            let value = (rw i.reads at c.in_ok-reference.ensures.value) honest in
+            let value = (rw (c.frame-frame.ensures.frame, i.reads) at c.in_ok-reference.ensures.value) honest in
             let good = below k low in
-            let m_is : m ≡ nth_number f h.body F.ref_size k = c.object_in-m.ensures.same (omega (arith, value, good)) ∙ value in
+            let m_is : m ≡ nth_number f h.body F.ref_size k = (rw c.frame-frame.ensures.frame at c.object_in-m.ensures.same) (omega (arith, value, good)) ∙ value in
             rw e (subst (IsMarked c.mark.new.self.marks.items) (m_is ∙ sym at_j) c.mark.ensures.marked)
       ];
     }
 
 pub returns-clause-all : goal.returns-clause-all
 returns-clause-all g c = λ honest below all.
-    let f = (g.S.Source.means c.args.src.now).octets in
-    let F = c.args.frame.now in
+    let f = (g.P.Source.means c.args.src.now).octets in
+    let F : Frame = frame_in (g.P.Source.means c.args.src.now) in
     let h = c.args.head.now in
     let i = c.loop-number.invariant in
-    all_marked f F h c.requires.safe.ref_low c.requires.head c.loop-number.search.followed.words.items c.loop-number.search.marks.items (i.followed honest below all) (λ k low. i.known _ (omega (arith, c.number_of-first.ensures)) (omega (arith, low, c.loop-number-test.false, c.number_of-first.ensures, c.refs_of.ensures)))
+    all_marked f F h c.frame-frame.ensures.framed.safe.safe.ref_low c.requires.head c.loop-number.search.followed.words.items c.loop-number.search.marks.items (i.followed honest below all) (λ k low. i.known _ (omega (arith, c.number_of-first.ensures)) (omega (arith, low, c.loop-number-test.false, c.number_of-first.ensures, c.refs_of.ensures)))

@@ -1,4 +1,4 @@
-use Rattle.std.proofs.Common.{◌≡◌, ◌<◌, [], arith, ◌∙◌}
+use Rattle.std.proofs.Common.{◌≡◌, [], arith, ◌∙◌}
 use Rattle.std.proofs.lemmas.Grind.{common_steps, elements}
 use Rattle.bplist_lint.proofs.ReachSteps.{searching_end}
 use Rattle.bplist_lint.proofs.reach.mark_reached.Goals as goal
@@ -10,37 +10,29 @@ loop-n-init g c = record {
   searching = λ honest. c.in_ok-search.ensures.searching _;
 }
 
-pub bounds-places-n : goal.bounds-places-n
-bounds-places-n g c =
-    let all = c.loop-n.invariant.ready.stack_in in
-    let inside : c.in-Some.n < c.args.frame.now.objects = grind (arith, elements) in
-    omega (arith, inside, c.requires.places)
-
 pub look_at-requires-clause-within : goal.look_at-requires-clause-within
 look_at-requires-clause-within g c =
     let all = c.loop-n.invariant.ready.stack_in in
-    grind (arith, elements)
+    rw c.loop-n.invariant.reads (grind (arith, elements))
 
 pub look_at-requires-clause-ready : goal.look_at-requires-clause-ready
 look_at-requires-clause-ready g c =
     let r = c.loop-n.invariant.ready in
     let all = r.stack_in in
-    record {
+    rw c.loop-n.invariant.reads (record {
       all_marks = r.all_marks;
       stack_in = grind (arith, elements);
       good_size = r.good_size;
       followed_size = r.followed_size;
-    }
+    })
 
 pub loop-n-preserved : goal.loop-n-preserved
 loop-n-preserved g c =
     let i = c.loop-n.invariant in
-    let all = i.ready.stack_in in
-    let inside : c.in-Some.n < c.args.frame.now.objects = grind (arith, elements) in
     record {
       reads = c.in_ok-look_at.ensures.reads ∙ i.reads;
-      ready = c.in_ok-look_at.ensures.ready;
-      searching = λ honest. (rw i.reads at c.in_ok-look_at.ensures.searching) honest (c.requires.framed honest) (c.requires.placed honest c.in-Some.n inside) (rw c.in-Some.ensures.items at (i.searching honest));
+      ready = rw i.reads at c.in_ok-look_at.ensures.ready;
+      searching = λ honest. (rw i.reads at c.in_ok-look_at.ensures.searching) honest (rw c.in-Some.ensures.items at (i.searching honest));
     }
 
 pub returns-clause-exact : goal.returns-clause-exact

@@ -1,15 +1,16 @@
-use Rattle.std.proofs.Common.{◌≡◌, ◌↔◌, ℕ, IsTrue}
-use Rattle.bplist_objects.specs.Frame.{IsFrame}
+use Rattle.std.proofs.Common.{◌≡◌, ◌↔◌, ℕ}
+use Rattle.bplist_objects.specs.Framed.{frame_in, HonestlyIn}
 use Rattle.bplist_objects.specs.Reach.{Reach}
 use Rattle.bplist_lint.specs.Reaching.{IsMarked}
-use Rattle.bplist_keys.specs.Texts.{AreOffsets}
 use Rattle.bplist_lint.specs.ReachRules.{Tallied}
 use Rattle.bplist_lint.specs.Tallies.{IsRoomy}
 use Rattle.bplist_lint.proofs.reach_rules.check_reached.Given as goal
 
 abbrev pub invariant-loop-n : goal.invariant-loop-n
-invariant-loop-n g l = record {
-  reads : g.S.Source.means l.src ≡ g.S.Source.means l.fn.src;
-  roomy : IsRoomy l.frame l.tally;
-  exact : IsTrue (g.S.Source.means l.fn.src).honest → IsFrame (g.S.Source.means l.fn.src).octets l.frame → AreOffsets (g.S.Source.means l.fn.src).octets l.frame l.places → ((n : ℕ) → IsMarked l.marks n ↔ Reach (g.S.Source.means l.fn.src).octets l.frame n) → Tallied (g.S.Source.means l.fn.src).octets l.frame l.marks l.n l.tally;
-}
+invariant-loop-n g l =
+    let means = g.P.Source.means in
+    record {
+      reads : means l.src ≡ means l.fn.src;
+      roomy : IsRoomy (frame_in (means l.fn.src)) l.tally;
+      exact : HonestlyIn (means l.fn.src) (λ f F. ((n : ℕ) → IsMarked l.marks n ↔ Reach f F n) → Tallied f F l.marks l.n l.tally);
+    }

@@ -1,6 +1,8 @@
 use Rattle.std.proofs.Common.{◌≡◌, ◌<◌, length, replicate, arith, rules, ◌∙◌}
 use Rattle.std.proofs.lemmas.Grind.{common_steps}
 use Rattle.std.proofs.lemmas.Result.{err_from_is_err_and}
+use Rattle.bplist_objects.specs.declared.frame.Frame.{Frame}
+use Rattle.bplist_objects.specs.Framed.{frame_in}
 use Rattle.bplist_cert.specs.Valid.{IsVouchedBy}
 use Rattle.bplist_lint.proofs.VisitSteps.{nothing, unwritten}
 use Rattle.bplist_lint.proofs.ListSteps.{listed_none, listed_over}
@@ -8,22 +10,23 @@ use Rattle.bplist_lint.proofs.upgrader.list_all.Goals as goal
 use Rattle.bplist_lint.proofs.upgrader.list_all.Goals.{then-heights-n-gt0+in_ok-starts-2, else-heights-n-gt0}
 
 pub returns-in_err-starts-2-clause-exact : goal.returns-in_err-starts-2-clause-exact
-returns-in_err-starts-2-clause-exact g c = λ honest placed valid named ranked given.
+returns-in_err-starts-2-clause-exact g c = λ honest valid named ranked given.
     let v = c.loop-n.invariant in
     let p = err_from_is_err_and c.from_residual-in_err-starts-2.result c.from_residual-in_err-starts-2.ensures.1 in
-    let room : c.loop-n.n < length c.loop-n.starts.items = omega (arith, v.all, c.loop-n.starts.ok.0, c.loop-n-test.true) in
-    let vouched : IsVouchedBy c.args.vouched.now.heights.now c.loop-n.n = omega (arith, c.if-heights-n-gt0.true) in
-    rw (p.1, p.2) ((rw (v.reads, v.same) at c.in_err-starts-2.ensures.exact) honest valid.frame (placed c.loop-n.n (omega (arith, c.loop-n-test.true))) named c.args.vouched.now.heights.now c.loop-n.starts.items ranked (given c.loop-n.n vouched) valid vouched room (v.exact honest placed valid named ranked given))
+    let low = rw c.frame-frame.ensures.frame at c.loop-n-test.true in
+    let room : c.loop-n.n < length c.loop-n.starts.items = omega (arith, v.all, c.loop-n.starts.ok.0, low) in
+    let vouched : IsVouchedBy c.args.heights.now c.loop-n.n = omega (arith, c.if-heights-n-gt0.true) in
+    rw (p.1, p.2) ((rw (v.reads, v.same) at c.in_err-starts-2.ensures.exact) honest named c.args.heights.now c.loop-n.starts.items ranked (given c.loop-n.n vouched) valid vouched room (v.exact honest valid named ranked given))
 
 pub loop-n-init : goal.loop-n-init
 loop-n-init g c =
-    let all_low : c.in_ok-starts.starts.items ≡ replicate c.args.frame.now.objects nothing = search rules in
+    let all_low : c.in_ok-starts.starts.items ≡ replicate c.frame-frame.result.objects nothing = search rules in
     record {
       reads = cc;
       all = grind (arith, common_steps);
       few = grind (arith, common_steps);
       same = c.new-lists.ensures.ranks;
-      exact = λ honest placed valid named ranked given. rw (all_low, c.new-lists.ensures.none) (listed_none _ _ _ (replicate c.args.frame.now.objects nothing) (λ n. unwritten c.args.frame.now.objects n nothing));
+      exact = λ honest valid named ranked given. rw (all_low, c.new-lists.ensures.none) (listed_none _ _ _ (replicate c.frame-frame.result.objects nothing) (λ n. unwritten c.frame-frame.result.objects n nothing));
     }
 
 pub loop-n-preserved : goal.loop-n-preserved
@@ -35,21 +38,23 @@ loop-n-preserved g c =
         all = rw w.starts-is v.all;
         few = rw w.lists-is w.in_ok-starts-2.ensures.few;
         same = rw w.lists-is (w.in_ok-starts-2.ensures.same ∙ v.same);
-        exact = λ honest placed valid named ranked given.
-            let room : c.loop-n.n < length c.loop-n.starts.items = omega (arith, v.all, c.loop-n.starts.ok.0, c.loop-n-test.true) in
-            let vouched : IsVouchedBy c.args.vouched.now.heights.now c.loop-n.n = omega (arith, w.if-heights-n-gt0.true) in
-            rw (w.starts-is, w.lists-is) ((rw (v.reads, v.same) at w.in_ok-starts-2.ensures.exact) honest valid.frame (placed c.loop-n.n (omega (arith, c.loop-n-test.true))) named c.args.vouched.now.heights.now c.loop-n.starts.items ranked (given c.loop-n.n vouched) valid vouched room (v.exact honest placed valid named ranked given));
+        exact = λ honest valid named ranked given.
+            let low = rw c.frame-frame.ensures.frame at c.loop-n-test.true in
+            let room : c.loop-n.n < length c.loop-n.starts.items = omega (arith, v.all, c.loop-n.starts.ok.0, low) in
+            let vouched : IsVouchedBy c.args.heights.now c.loop-n.n = omega (arith, w.if-heights-n-gt0.true) in
+            rw (w.starts-is, w.lists-is) ((rw (v.reads, v.same) at w.in_ok-starts-2.ensures.exact) honest named c.args.heights.now c.loop-n.starts.items ranked (given c.loop-n.n vouched) valid vouched room (v.exact honest valid named ranked given));
       }
       | else-heights-n-gt0 w ↦ record {
         reads = rw w.src-is v.reads;
         all = rw w.starts-is v.all;
         few = rw w.lists-is v.few;
         same = rw w.lists-is v.same;
-        exact = λ honest placed valid named ranked given. rw (w.starts-is, w.lists-is) (listed_over _ _ _ c.loop-n.n _ _ (v.exact honest placed valid named ranked given) (omega (arith, w.if-heights-n-gt0.false)));
+        exact = λ honest valid named ranked given. rw (w.starts-is, w.lists-is) (listed_over _ _ _ c.loop-n.n _ _ (v.exact honest valid named ranked given) (omega (arith, w.if-heights-n-gt0.false)));
       }
     ]
 
 pub returns-clause-exact : goal.returns-clause-exact
-returns-clause-exact g c = λ honest placed valid named ranked given.
-    let last : c.loop-n.n ≡ c.args.frame.now.objects = grind (arith, common_steps) in
-    rw last at (c.loop-n.invariant.exact honest placed valid named ranked given)
+returns-clause-exact g c = λ honest valid named ranked given.
+    let F : Frame = frame_in (g.P.Source.means c.args.src.now) in
+    let last : c.loop-n.n ≡ F.objects = (let low = rw c.frame-frame.ensures.frame at c.loop-n-test.false in grind (arith, common_steps)) in
+    rw last at (c.loop-n.invariant.exact honest valid named ranked given)

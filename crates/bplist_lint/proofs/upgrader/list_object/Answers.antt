@@ -1,5 +1,7 @@
 use Rattle.std.proofs.Common.{◌≡◌, length, arith}
 use Rattle.std.proofs.lemmas.Result.{err_from_is_err_and}
+use Rattle.bplist_objects.specs.declared.frame.Frame.{Frame}
+use Rattle.bplist_objects.specs.Framed.{frame_in}
 use Rattle.bplist_objects.proofs.FirstFaults.{no_shape}
 use Rattle.bplist_lint.proofs.KeyLists.{have_ranks}
 use Rattle.bplist_cert.proofs.AcceptedCertificates.{vouched_shape, vouched_keys}
@@ -8,64 +10,64 @@ use Rattle.bplist_lint.proofs.UpgradeSteps.{object_no_change}
 use Rattle.bplist_lint.proofs.upgrader.list_object.Goals as goal
 
 pub returns-in_err-head-clause-exact : goal.returns-in_err-head-clause-exact
-returns-in_err-head-clause-exact g c = λ honest framed place named heights starts ranked given valid v room l.
-    let f = (g.S.Source.means c.args.src.now).octets in
-    let F = c.args.frame.now in
+returns-in_err-head-clause-exact g c = λ honest named heights starts ranked given valid v room l.
+    let f = (g.P.Source.means c.args.src.now).octets in
+    let F : Frame = frame_in (g.P.Source.means c.args.src.now) in
     let p = err_from_is_err_and c.from_residual.result c.from_residual.ensures.1 in
     let s = (valid.vouched c.args.n v).spells in
-    rw (p.1, p.2) (object_no_change _ c.in_err-head.field-0.0 (λ fault h. no_shape f F c.args.n fault s.shape h s.has) (c.in_err-head.ensures.rules honest framed place))
+    rw (p.1, p.2) (object_no_change _ c.in_err-head.field-0.0 (λ fault h. no_shape f F c.args.n fault s.shape h s.has) (c.in_err-head.ensures.rules honest (c.place-place.ensures honest)))
 
 pub returns-then-head-start-clause-exact : goal.returns-then-head-start-clause-exact
-returns-then-head-start-clause-exact g c = λ honest framed place named heights starts ranked given valid v room l.
-    let f = (g.S.Source.means c.args.src.now).octets in
-    let F = c.args.frame.now in
+returns-then-head-start-clause-exact g c = λ honest named heights starts ranked given valid v room l.
+    let f = (g.P.Source.means c.args.src.now).octets in
+    let F : Frame = frame_in (g.P.Source.means c.args.src.now) in
     let n = c.args.n in
     let head = c.in_ok-head.head in
-    let has = (c.in_ok-head.ensures.rules honest framed place).0 in
+    let has = (c.in_ok-head.ensures.rules honest (c.place-place.ensures honest)).0 in
     let shape = vouched_shape f F heights valid n v head has in
     let o = valid.vouched n v in
     let begin : c.len-start.result ≡ length c.args.lists.now.positions.items = omega (arith, c.args.lists.now.positions.ok.0, c.len-start.ensures) in
-    let fits = listed_room f F heights n starts c.args.lists.now.positions.items l v room head shape o.content o.spells c.in-Dict.is c.requires.safe.ref_low valid.room in
-    omega (arith, fits, begin, framed.table_late, framed.large, c.if-head-start.true)
+    let fits = listed_room f F heights n starts c.args.lists.now.positions.items l v room head shape o.content o.spells c.in-Dict.is valid.frame.ref_size.0 valid.room in
+    omega (arith, fits, begin, valid.frame.table_late, valid.frame.large, c.if-head-start.true)
 
 pub returns-in_err-list-in-Dict-clause-exact : goal.returns-in_err-list-in-Dict-clause-exact
-returns-in_err-list-in-Dict-clause-exact g c = λ honest framed place named heights starts ranked given valid v room l.
-    let f = (g.S.Source.means c.args.src.now).octets in
-    let F = c.args.frame.now in
+returns-in_err-list-in-Dict-clause-exact g c = λ honest named heights starts ranked given valid v room l.
+    let f = (g.P.Source.means c.args.src.now).octets in
+    let F : Frame = frame_in (g.P.Source.means c.args.src.now) in
     let n = c.args.n in
     let head = c.in_ok-head.head in
-    let has = (c.in_ok-head.ensures.rules honest framed place).0 in
+    let has = (c.in_ok-head.ensures.rules honest (c.place-place.ensures honest)).0 in
     let keys = vouched_keys f F heights valid n v head has c.in-Dict.is in
     let have = have_ranks f F named c.args.lists.now.ranks.table.items ranked n given head has c.in-Dict.is keys.0 keys.1 in
     let p = err_from_is_err_and c.from_residual-in_err-list-in-Dict.result c.from_residual-in_err-list-in-Dict.ensures.1 in
     rw (p.1, p.2) ((rw c.in_ok-head.ensures.reads at c.in_err-list-in-Dict.ensures.exact) honest have)
 
 pub returns-in_ok-list-in-Dict-clause-exact : goal.returns-in_ok-list-in-Dict-clause-exact
-returns-in_ok-list-in-Dict-clause-exact g c = λ honest framed place named heights starts ranked given valid v room l.
-    let f = (g.S.Source.means c.args.src.now).octets in
-    let F = c.args.frame.now in
+returns-in_ok-list-in-Dict-clause-exact g c = λ honest named heights starts ranked given valid v room l.
+    let f = (g.P.Source.means c.args.src.now).octets in
+    let F : Frame = frame_in (g.P.Source.means c.args.src.now) in
     let n = c.args.n in
     let head = c.in_ok-head.head in
-    let has = (c.in_ok-head.ensures.rules honest framed place).0 in
+    let has = (c.in_ok-head.ensures.rules honest (c.place-place.ensures honest)).0 in
     let keys = vouched_keys f F heights valid n v head has c.in-Dict.is in
     let have = have_ranks f F named c.args.lists.now.ranks.table.items ranked n given head has c.in-Dict.is keys.0 keys.1 in
     let shape = vouched_shape f F heights valid n v head has in
     let o = valid.vouched n v in
     let begin : c.len-start.result ≡ length c.args.lists.now.positions.items = omega (arith, c.args.lists.now.positions.ok.0, c.len-start.ensures) in
     let listed = (rw c.in_ok-head.ensures.reads at c.in_ok-list-in-Dict.ensures.exact) honest have in
-    rw begin (listed_dict f F heights n starts c.args.lists.now.positions.items l v room head shape o.content o.spells c.in-Dict.is c.requires.safe.ref_low c.list.new.self.positions.items listed)
+    rw begin (listed_dict f F heights n starts c.args.lists.now.positions.items l v room head shape o.content o.spells c.in-Dict.is valid.frame.ref_size.0 c.list.new.self.positions.items listed)
 
 pub returns-in_default : goal.returns-in_default
 returns-in_default g c = record {
   reads = c.in_ok-head.ensures.reads;
   same = cc;
   few = c.requires.few;
-  exact = λ honest framed place named heights starts ranked given valid v room l.
-      let f = (g.S.Source.means c.args.src.now).octets in
-      let F = c.args.frame.now in
+  exact = λ honest named heights starts ranked given valid v room l.
+      let f = (g.P.Source.means c.args.src.now).octets in
+      let F : Frame = frame_in (g.P.Source.means c.args.src.now) in
       let n = c.args.n in
       let head = c.in_ok-head.head in
-      let has = (c.in_ok-head.ensures.rules honest framed place).0 in
+      let has = (c.in_ok-head.ensures.rules honest (c.place-place.ensures honest)).0 in
       let shape = vouched_shape f F heights valid n v head has in
       let o = valid.vouched n v in
       listed_other f F heights n starts c.args.lists.now.positions.items l v room head shape o.content o.spells c.in_default.not-Dict;

@@ -24,7 +24,7 @@ loop-number-preserved c =
     let fits : number < length c.loop-number.worklist.marks.items = grind (arith, common_steps) in
     let read = get_or_read c.loop-number.worklist.marks.items number c.index.result.now fits c.index.ensures false in
     let more = count-set not c.loop-number.worklist.marks.items number true false fits in
-    let below = below_more _ _ i.below c.if-number-frame.false in
+    let below = below_more _ _ i.below c.if-number-objects.false in
     elim c.if-not-index.branch [
       | then-not-index+then-m-worklist+in_ok-push w ↦
           let unmarked : get_or c.loop-number.worklist.marks.items number false ≡ false = sym read ∙ w.if-not-index.true in

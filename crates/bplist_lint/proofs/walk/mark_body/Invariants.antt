@@ -1,4 +1,5 @@
-use Rattle.std.proofs.Common.{◌≡◌, ℕ, ◌+◌, ◌≤◌, ◌<◌, ◌-◌, not, IsTrue, count_by, length, slice_index, vec_len}
+use Rattle.std.proofs.Common.{◌≡◌, ℕ, ◌+◌, ◌≤◌, ◌<◌, ◌-◌, not, count_by, length, slice_index, vec_len}
+use Rattle.bplist_objects.specs.Framed.{frame_in, HonestlyIn}
 use Rattle.bplist_objects.specs.Heads.{content_at, refs}
 use Rattle.bplist_objects.specs.Scan.{AreBelow}
 use Rattle.bplist_objects.specs.declared.kind.Kind.TheVariants.{Dict}
@@ -7,19 +8,21 @@ use Rattle.bplist_lint.specs.Walks.{IsSteady, Noted}
 use Rattle.bplist_lint.proofs.walk.mark_body.Given as goal
 
 abbrev pub invariant-loop-done : goal.invariant-loop-done
-invariant-loop-done g l = record {
-  reads : g.S.Source.means l.src ≡ g.S.Source.means l.fn.src;
-  few : l.done ≤ l.count;
-  room : length l.numbers ≡ 32;
-  steady : IsSteady l.frame.objects l.worklist;
-  current : l.worklist.current ≡ l.fn.worklist.current;
-  work : count_by not l.worklist.marks.items + vec_len l.worklist.stack ≤ count_by not l.fn.worklist.marks.items + vec_len l.fn.worklist.stack;
-  all_named : length l.named.table.items ≡ l.frame.objects;
-  keeps_named : (m : ℕ) → 0 < slice_index l.fn.named.table.items m → 0 < slice_index l.named.table.items m;
-  named : IsTrue (g.S.Source.means l.fn.src).honest → l.head.kind ≡ Dict → (k : ℕ) → k < l.done → k < l.head.count → 0 < slice_index l.named.table.items (key_ref (g.S.Source.means l.fn.src).octets l.frame l.head k);
-  below : IsTrue (g.S.Source.means l.fn.src).honest → AreBelow (g.S.Source.means l.fn.src).octets l.head.body l.frame.ref_size l.done l.frame.objects;
-  noted : IsTrue (g.S.Source.means l.fn.src).honest → Noted (refs (content_at (g.S.Source.means l.fn.src).octets l.frame l.head)) (l.fn.worklist.current + 1) l.done l.fn.worklist.marks.items l.fn.worklist.stack.items l.worklist.marks.items l.worklist.stack.items;
-}
+invariant-loop-done g l =
+    let means = g.P.Source.means in
+    record {
+      reads : means l.src ≡ means l.fn.src;
+      few : l.done ≤ l.count;
+      room : length l.numbers ≡ 32;
+      steady : IsSteady (frame_in (means l.fn.src)).objects l.worklist;
+      current : l.worklist.current ≡ l.fn.worklist.current;
+      work : count_by not l.worklist.marks.items + vec_len l.worklist.stack ≤ count_by not l.fn.worklist.marks.items + vec_len l.fn.worklist.stack;
+      all_named : length l.named.table.items ≡ (frame_in (means l.fn.src)).objects;
+      keeps_named : (m : ℕ) → 0 < slice_index l.fn.named.table.items m → 0 < slice_index l.named.table.items m;
+      named : HonestlyIn (means l.fn.src) (λ f F. l.head.kind ≡ Dict → (k : ℕ) → k < l.done → k < l.head.count → 0 < slice_index l.named.table.items (key_ref f F l.head k));
+      below : HonestlyIn (means l.fn.src) (λ f F. AreBelow f l.head.body F.ref_size l.done F.objects);
+      noted : HonestlyIn (means l.fn.src) (λ f F. Noted (refs (content_at f F l.head)) (l.fn.worklist.current + 1) l.done l.fn.worklist.marks.items l.fn.worklist.stack.items l.worklist.marks.items l.worklist.stack.items);
+    }
 
 abbrev pub decreases-loop-done : goal.decreases-loop-done
 decreases-loop-done g l = l.count - l.done

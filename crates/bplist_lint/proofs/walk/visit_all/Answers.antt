@@ -16,14 +16,14 @@ loop-n-preserved g c =
     elim c.if-index.branch [
       | then-index+in_ok-visit_from w ↦ rw (w.src-is, w.progress-is) (record {
         reads = w.in_ok-visit_from.ensures.reads ∙ i.reads;
-        steady = w.in_ok-visit_from.ensures.steady;
+        steady = rw i.reads at w.in_ok-visit_from.ensures.steady;
         empty = w.in_ok-visit_from.ensures.empty;
-        walking = λ honest framed placed start. (rw i.reads at w.in_ok-visit_from.ensures.walking) honest framed placed (sym read ∙ w.if-index.true) (i.walking honest framed placed start);
+        walking = λ honest start. (rw i.reads at w.in_ok-visit_from.ensures.walking) honest (sym read ∙ w.if-index.true) (i.walking honest start);
       })
       | else-index w ↦ rw (w.src-is, w.progress-is) (record {
         reads = i.reads;
         steady = i.steady;
         empty = i.empty;
-        walking = λ honest framed placed start. walking_over _ _ _ _ _ _ _ (i.walking honest framed placed start) (sym read ∙ w.if-index.false);
+        walking = λ honest start. walking_over _ _ _ _ _ _ _ (i.walking honest start) (sym read ∙ w.if-index.false);
       })
     ]

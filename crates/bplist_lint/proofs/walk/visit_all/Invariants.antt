@@ -1,13 +1,14 @@
-use Rattle.std.proofs.Common.{◌≡◌, [], IsTrue, vec_len}
-use Rattle.bplist_objects.specs.Frame.{IsFrame}
-use Rattle.bplist_keys.specs.Texts.{AreOffsets}
+use Rattle.std.proofs.Common.{◌≡◌, [], vec_len}
+use Rattle.bplist_objects.specs.Framed.{frame_in, HonestlyIn}
 use Rattle.bplist_lint.specs.Walks.{IsSteadyWalk, Walking}
 use Rattle.bplist_lint.proofs.walk.visit_all.Given as goal
 
 abbrev pub invariant-loop-n : goal.invariant-loop-n
-invariant-loop-n g l = record {
-  reads : g.S.Source.means l.src ≡ g.S.Source.means l.fn.src;
-  steady : IsSteadyWalk l.frame l.progress;
-  empty : vec_len l.progress.worklist.stack ≡ 0;
-  walking : IsTrue (g.S.Source.means l.fn.src).honest → IsFrame (g.S.Source.means l.fn.src).octets l.frame → AreOffsets (g.S.Source.means l.fn.src).octets l.frame l.places → Walking (g.S.Source.means l.fn.src).octets l.frame 0 [] l.fn.progress → Walking (g.S.Source.means l.fn.src).octets l.frame l.n [] l.progress;
-}
+invariant-loop-n g l =
+    let means = g.P.Source.means in
+    record {
+      reads : means l.src ≡ means l.fn.src;
+      steady : IsSteadyWalk (frame_in (means l.fn.src)) l.progress;
+      empty : vec_len l.progress.worklist.stack ≡ 0;
+      walking : HonestlyIn (means l.fn.src) (λ f F. Walking f F 0 [] l.fn.progress → Walking f F l.n [] l.progress);
+    }

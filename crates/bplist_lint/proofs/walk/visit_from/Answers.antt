@@ -1,4 +1,4 @@
-use Rattle.std.proofs.Common.{◌≡◌, ◌<◌, [], arith, ◌∙◌}
+use Rattle.std.proofs.Common.{◌≡◌, [], arith, ◌∙◌}
 use Rattle.std.proofs.lemmas.Grind.{common_steps, elements}
 use Rattle.bplist_lint.proofs.Walks.{walking_on}
 use Rattle.bplist_lint.proofs.walk.visit_from.Goals as goal
@@ -10,39 +10,31 @@ loop-m-init g c =
       reads = c.in_ok-visit.ensures.reads;
       steady = c.in_ok-visit.ensures.steady;
       current = c.visit.ensures.current;
-      walking = λ honest framed placed marked w. c.in_ok-visit.ensures.walking honest framed (placed c.args.n c.requires.within) (rw none (walking_on _ _ _ _ _ _ _ w marked));
+      walking = λ honest marked w. c.in_ok-visit.ensures.walking honest (rw none (walking_on _ _ _ _ _ _ _ w marked));
     }
-
-pub bounds-places-m : goal.bounds-places-m
-bounds-places-m g c =
-    let all = c.loop-m.invariant.steady.worklist.stack_in in
-    let inside : c.in-Some.m < c.args.frame.now.objects = grind (arith, elements) in
-    omega (arith, inside, c.requires.places)
 
 pub visit-requires-in-Some-clause-within : goal.visit-requires-in-Some-clause-within
 visit-requires-in-Some-clause-within g c =
     let all = c.loop-m.invariant.steady.worklist.stack_in in
-    grind (arith, elements)
+    rw c.loop-m.invariant.reads (grind (arith, elements))
 
 pub visit-requires-in-Some-clause-steady : goal.visit-requires-in-Some-clause-steady
 visit-requires-in-Some-clause-steady g c =
     let s = c.loop-m.invariant.steady in
     let all = s.worklist.stack_in in
-    record {
+    rw c.loop-m.invariant.reads (record {
       worklist = record { all_marks = s.worklist.all_marks; stack_in = grind (arith, elements) };
       all_bare = s.all_bare;
       all_named = s.all_named;
       roomy = s.roomy;
-    }
+    })
 
 pub loop-m-preserved : goal.loop-m-preserved
 loop-m-preserved g c =
     let i = c.loop-m.invariant in
-    let all = i.steady.worklist.stack_in in
-    let inside : c.in-Some.m < c.args.frame.now.objects = grind (arith, elements) in
     record {
       reads = c.in_ok-visit-2.ensures.reads ∙ i.reads;
-      steady = c.in_ok-visit-2.ensures.steady;
+      steady = rw i.reads at c.in_ok-visit-2.ensures.steady;
       current = c.visit-in-Some.ensures.current ∙ i.current;
-      walking = λ honest framed placed marked w. (rw (i.reads, i.current) at c.in_ok-visit-2.ensures.walking) honest framed (placed c.in-Some.m inside) (rw c.in-Some.ensures.items at (i.walking honest framed placed marked w));
+      walking = λ honest marked w. (rw (i.reads, i.current) at c.in_ok-visit-2.ensures.walking) honest (rw c.in-Some.ensures.items at (i.walking honest marked w));
     }
