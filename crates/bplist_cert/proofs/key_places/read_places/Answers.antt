@@ -1,14 +1,24 @@
 use Rattle.std.proofs.Common.{◌∙◌, arith}
+use Rattle.bplist_objects.specs.declared.frame.Frame.{Frame}
 use Rattle.bplist_objects.specs.Framed.{frame_in}
 use Rattle.bplist_cert.proofs.PlacedKeys.{placed_more}
 use Rattle.bplist_cert.proofs.key_places.read_places.Goals as goal
+use Rattle.bplist_cert.proofs.key_places.read_places.Goals.{then-m-frame+in_ok-found, else-m-frame}
 
 pub loop-k-preserved : goal.loop-k-preserved
 loop-k-preserved g c =
     let m = g.P.Source.means c.args.src.now in
-    record {
-      same = c.in_ok-found.ensures.reads ∙ c.loop-k.invariant.same;
-      placed = λ honest.
-          placed_more m.octets (frame_in m) c.read_refs_in.new.into c.loop-k.found c.loop-k.k c.in_ok-found.field-0 (omega arith)
-          (c.loop-k.invariant.placed honest) ((rw c.loop-k.invariant.same at c.in_ok-found.ensures.value) honest);
-    }
+    let F : Frame = frame_in m in
+    let v = c.loop-k.invariant in
+    elim c.if-m-frame.branch [
+      | then-m-frame+in_ok-found w ↦ record {
+        same = rw w.src-is (w.in_ok-found.ensures.reads ∙ v.same);
+        placed = λ honest. rw w.found-is (placed_more m.octets F c.read_refs.new.into c.loop-k.found c.loop-k.k w.in_ok-found.field-0 (omega arith) (v.placed honest)
+            (λ _. (rw (v.same, c.frame-frame.ensures.frame) at w.in_ok-found.ensures.value) honest));
+      }
+      | else-m-frame w ↦ record {
+        same = rw w.src-is v.same;
+        placed = λ honest. rw w.found-is (placed_more m.octets F c.read_refs.new.into c.loop-k.found c.loop-k.k 0 (omega arith) (v.placed honest)
+            (λ low. let high = rw c.frame-frame.ensures.frame at w.if-m-frame.false in absurd (omega (arith, low, high))));
+      }
+    ]
