@@ -3,7 +3,6 @@
 ghost use Rattle.std.specs.Prelude.{◌≡◌, ◌<◌, ℕ, None, IfOk, IsTrue, MatchOption, is_err, ⊤, length};
 ghost use Rattle.bplist_octets.specs.Meaning.{OnlyReads};
 ghost use Rattle.bplist_objects.specs.Framed.{frame_in, HonestlyIn};
-ghost use Rattle.bplist_objects.specs.Frame.{off};
 ghost use Rattle.bplist_objects.specs.Safe.{IsSafeHead};
 ghost use Rattle.bplist_objects.specs.Announced.{HasHead};
 ghost use Rattle.bplist_objects.specs.Rules.{KeepsAll};
@@ -12,7 +11,6 @@ ghost use Rattle.bplist_objects.specs.declared.head.Head.{Head as head};
 ghost use Rattle.bplist_objects.specs.declared.kind.Kind.TheVariants.{Dict};
 ghost use Rattle.bplist_keys.specs.Classes.{AreClassed, IsStamped, IsNew};
 ghost use Rattle.bplist_keys.specs.Ranks.{AreClasses};
-ghost use Rattle.bplist_keys.specs.Texts.{AreOffsets};
 ghost use Rattle.bplist_keys.specs.Failures.{failed_to_read};
 ghost use Rattle.bplist_cert.specs.Heights.{ref};
 ghost use Rattle.bplist_cert.specs.Lists.{lists};
@@ -29,7 +27,9 @@ use crate::keys::{check_texts, keyless};
 use crate::low_bytes::LowBytes;
 use crate::refusal::Refusal;
 use crate::seen::Seen;
-use bplist_keys::{ClassTable, Failure, NamedKeys, Ranks, Wrong, classes_of, places_of, ranks_of};
+use bplist_keys::{
+    ClassTable, Failure, NamedKeys, Placed, Ranks, Table, Wrong, classes_of, places_of, ranks_of,
+};
 use bplist_objects::{Fault, Framed, Head, Kind, ObjectNo, Rule, ref_place, shape_in};
 use bplist_octets::ReadFault;
 use std::alloc::Global;
@@ -43,24 +43,22 @@ struct ClassLook {
 
 /// The classes of the keys. Where not all vouched objects were seen the texts may lie in one another: then they are not read
 /// one by one, but compared.
-fn key_classes<P: Framed>(
+fn key_classes<P: Placed>(
     alloc: Global,
     src: &mut P,
     seen: &Seen,
-    places: &[u32],
     named: NamedKeys,
 ) -> Result<Ranks, Failure>
-    requires places { length places.now ≡ (frame_in (P.means src.old)).objects }
-    requires named { length named.table.items ≡ (frame_in (P.means src.old)).objects }
+    requires { length named.table.items ≡ (frame_in (P.means src.old)).objects }
     ensures reads { OnlyReads (failed_to_read result) (P.means src.old) (P.means src.new) }
-    ensures exact { HonestlyIn (P.means src.old) (λ f F. AreOffsets f F places.now
-        → IfOk result (λ ranks. AreClasses f F named.table.items ranks.table.items)) }
+    ensures exact { HonestlyIn (P.means src.old) (λ f F.
+        IfOk result (λ ranks. AreClasses f F named.table.items ranks.table.items)) }
 {
-    let frame = src.frame();
+    let _frame = src.frame();
     if seen.is_whole() {
-        return classes_of(alloc, src, &frame, places, named);
+        return classes_of(alloc, src, named);
     }
-    ranks_of(alloc, src, &frame, places, named)
+    ranks_of(alloc, src, named)
 }
 
 /// What the classes of its keys show of dictionary `n`: the first key that is no text by its marker and count, or else the
@@ -132,11 +130,10 @@ fn check_classes<P: Framed>(
     }
 }
 
-/// Looks at the keys of vouched object `n`, which stands at `place`, where it is a dictionary.
-fn check_object<P: Framed>(
+/// Looks at the keys of vouched object `n`, where it is a dictionary.
+fn check_object<P: Placed>(
     src: &mut P,
     seen: &Seen,
-    place: u64,
     n: u32,
     look: &mut ClassLook,
 ) -> Result<(), Refusal>
@@ -147,19 +144,42 @@ fn check_object<P: Framed>(
     ensures low { IsTrue (P.means src.old).honest → AreLow (P.means src.old).octets look.old.low.rows
         → AreLow (P.means src.old).octets look.new.low.rows }
     ensures stamped { IsStamped n look.old.table.seen.items look.new.table.seen.items }
-    ensures exact { HonestlyIn (P.means src.old) (λ f F. place ≡ off f F n
-        → KeepsAll (KeepsByObject f F n) object_rules → IsNew look.old.table.seen.items n
+    ensures exact { HonestlyIn (P.means src.old) (λ f F. KeepsAll (KeepsByObject f F n) object_rules → IsNew look.old.table.seen.items n
         → AreLow f look.old.low.rows
         → ((head : head) → HasHead f F n head → head.kind ≡ Dict
         → AreClassed f F look.old.table.classes.table.items head × (seen.now.bound ≡ F.objects → KeysAreSound f F head))
         → Judges (λ _. HasGoodKeys f F None n) (BreaksKeys f F F.objects None n) result) }
 {
     let _frame = src.frame();
+    let place = src.place(n);
     let head = shape_in(src, ObjectNo(n), place)?;
     match head.kind {
         Kind::Dict => check_classes(src, seen, ObjectNo(n), &head, look),
         _ => Ok(()),
     }
+}
+
+/// Looks at the keys of the vouched dictionaries that were seen, where the places are given.
+fn check_seen<P: Placed>(alloc: Global, src: &mut P, seen: &Seen) -> Result<(), Refusal>
+    requires { length seen.now.heights.now ≡ (frame_in (P.means src.old)).objects }
+    ensures reads { OnlyReads (refused_read result) (P.means src.old) (P.means src.new) }
+    ensures exact { HonestlyIn (P.means src.old) (λ f F. AreSeen f F seen.now.heights.now seen.now.bound
+        → Judges (λ _. (n : ℕ) → n < seen.now.bound → IsVouchedBy seen.now.heights.now n → HasGoodKeys f F None n)
+        (IsFirstKeysFault f F (lists seen.now.heights.now None) seen.now.bound) result) }
+{
+    let _frame = src.frame();
+    let named = seen_keys(alloc, src, seen)?;
+    let classes = key_classes(alloc, src, seen, named)?;
+    let mut look = ClassLook {
+        table: ClassTable::new(alloc, classes)?,
+        low: LowBytes::new(src.len()),
+    };
+    for n in 0..seen.bound {
+        if seen.heights[n as usize] > 1 {
+            check_object(src, seen, n, &mut look)?;
+        }
+    }
+    Ok(())
 }
 
 /// Looks at the keys of the vouched dictionaries that were seen: they are texts that differ. With all vouched objects seen
@@ -173,16 +193,5 @@ pub(crate) fn check_keys<P: Framed>(alloc: Global, src: &mut P, seen: &Seen) -> 
 {
     let frame = src.frame();
     let places = places_of(alloc, src, &frame)?;
-    let named = seen_keys(alloc, src, seen, &places)?;
-    let classes = key_classes(alloc, src, seen, &places, named)?;
-    let mut look = ClassLook {
-        table: ClassTable::new(alloc, classes)?,
-        low: LowBytes::new(src.len()),
-    };
-    for n in 0..seen.bound {
-        if seen.heights[n as usize] > 1 {
-            check_object(src, seen, places[n as usize] as u64, n, &mut look)?;
-        }
-    }
-    Ok(())
+    check_seen(alloc, &mut Table::new(src, frame, &places), seen)
 }

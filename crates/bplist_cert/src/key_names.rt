@@ -1,40 +1,33 @@
 //! The objects that the vouched dictionaries name as keys.
 
-ghost use Rattle.std.specs.Prelude.{◌≡◌, ◌≤◌, ◌<◌, ℕ, IfOk, length, slice_index};
+ghost use Rattle.std.specs.Prelude.{◌≡◌, ◌<◌, ℕ, IfOk, length, slice_index};
 ghost use Rattle.bplist_octets.specs.Meaning.{OnlyReads};
 ghost use Rattle.bplist_objects.specs.Answers.{Never};
 ghost use Rattle.bplist_objects.specs.Framed.{frame_in, HonestlyIn};
-ghost use Rattle.bplist_objects.specs.Frame.{off};
 ghost use Rattle.bplist_objects.specs.Rules.{KeepsAll};
 ghost use Rattle.bplist_objects.specs.ObjectRules.{KeepsByObject, object_rules};
 ghost use Rattle.bplist_keys.specs.Classes.{HasNamedKeys};
-ghost use Rattle.bplist_keys.specs.Texts.{AreOffsets};
 ghost use Rattle.bplist_cert.specs.Valid.{IsVouchedBy};
 ghost use Rattle.bplist_cert.specs.Looks.{AreSeen};
 ghost use Rattle.bplist_cert.specs.Refusals.{Judges, refused_read};
 
 use crate::refusal::Refusal;
 use crate::seen::Seen;
-use bplist_keys::{NamedKeys, name_keys};
+use bplist_keys::{NamedKeys, Placed, name_keys};
 use bplist_objects::{Framed, Kind, ObjectNo, shape_in};
 use std::alloc::Global;
 
-/// Names the keys of object `n`, which stands at `place`, where it is a dictionary.
-fn name_object<P: Framed>(
-    src: &mut P,
-    place: u64,
-    n: u32,
-    named: &mut NamedKeys,
-) -> Result<(), Refusal>
+/// Names the keys of object `n`, where it is a dictionary.
+fn name_object<P: Placed>(src: &mut P, n: u32, named: &mut NamedKeys) -> Result<(), Refusal>
     requires within { n < (frame_in (P.means src.old)).objects }
     requires all { length named.old.table.items ≡ (frame_in (P.means src.old)).objects }
     ensures reads { OnlyReads (refused_read result) (P.means src.old) (P.means src.new) }
     ensures all { length named.new.table.items ≡ (frame_in (P.means src.old)).objects }
     ensures keeps { (m : ℕ) → 0 < slice_index named.old.table.items m → 0 < slice_index named.new.table.items m }
-    ensures exact { HonestlyIn (P.means src.old) (λ f F. place ≡ off f F n
-        → KeepsAll (KeepsByObject f F n) object_rules
+    ensures exact { HonestlyIn (P.means src.old) (λ f F. KeepsAll (KeepsByObject f F n) object_rules
         → Judges (λ _. HasNamedKeys f F named.new.table.items n) Never result) }
 {
+    let place = src.place(n);
     let head = shape_in(src, ObjectNo(n), place)?;
     match head.kind {
         Kind::Dict => Ok(name_keys(src, &head, named)?),
@@ -43,18 +36,15 @@ fn name_object<P: Framed>(
 }
 
 /// The objects that the vouched dictionaries which were seen name as keys. An object of height 1 has no references.
-pub(crate) fn seen_keys<P: Framed>(
+pub(crate) fn seen_keys<P: Placed>(
     alloc: Global,
     src: &mut P,
     seen: &Seen,
-    places: &[u32],
 ) -> Result<NamedKeys, Refusal>
-    requires places { length places.now ≡ (frame_in (P.means src.old)).objects }
-    requires heights { length seen.now.heights.now ≡ (frame_in (P.means src.old)).objects }
+    requires { length seen.now.heights.now ≡ (frame_in (P.means src.old)).objects }
     ensures reads { OnlyReads (refused_read result) (P.means src.old) (P.means src.new) }
     ensures all { IfOk result (λ named. length named.table.items ≡ (frame_in (P.means src.old)).objects) }
-    ensures exact { HonestlyIn (P.means src.old) (λ f F. AreOffsets f F places.now
-        → AreSeen f F seen.now.heights.now seen.now.bound
+    ensures exact { HonestlyIn (P.means src.old) (λ f F. AreSeen f F seen.now.heights.now seen.now.bound
         → Judges (λ named. (n : ℕ) → n < seen.now.bound → IsVouchedBy seen.now.heights.now n
         → HasNamedKeys f F named.table.items n) Never result) }
 {
@@ -62,30 +52,27 @@ pub(crate) fn seen_keys<P: Framed>(
     let mut named = NamedKeys::new(alloc, objects)?;
     for n in 0..seen.bound {
         if seen.heights[n as usize] > 1 {
-            name_object(src, places[n as usize] as u64, n, &mut named)?;
+            name_object(src, n, &mut named)?;
         }
     }
     Ok(named)
 }
 
 /// The objects that the vouched dictionaries name as keys.
-pub fn vouched_keys<P: Framed>(
+pub fn vouched_keys<P: Placed>(
     alloc: Global,
     src: &mut P,
-    places: &[u32],
     heights: &[u32],
 ) -> Result<NamedKeys, Refusal>
-    requires places { length places.now ≡ (frame_in (P.means src.old)).objects }
-    requires heights { length heights.now ≡ (frame_in (P.means src.old)).objects }
+    requires { length heights.now ≡ (frame_in (P.means src.old)).objects }
     ensures reads { OnlyReads (refused_read result) (P.means src.old) (P.means src.new) }
     ensures all { IfOk result (λ named. length named.table.items ≡ (frame_in (P.means src.old)).objects) }
-    ensures exact { HonestlyIn (P.means src.old) (λ f F. AreOffsets f F places.now
-        → AreSeen f F heights.now F.objects
+    ensures exact { HonestlyIn (P.means src.old) (λ f F. AreSeen f F heights.now F.objects
         → Judges (λ named. (n : ℕ) → IsVouchedBy heights.now n → HasNamedKeys f F named.table.items n) Never result) }
 {
     let seen = Seen {
         heights,
         bound: src.frame().objects,
     };
-    seen_keys(alloc, src, &seen, places)
+    seen_keys(alloc, src, &seen)
 }

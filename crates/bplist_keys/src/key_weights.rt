@@ -1,17 +1,14 @@
 //! The weights of the objects that are named as keys.
 
-ghost use Rattle.std.specs.Prelude.{◌≡◌, ◌<◌, ◌≤◌, ◌++◌, ◌∷◌, [], ℕ, All, Contains, false, IsTrue, OnOk, length, set, slice_index};
+ghost use Rattle.std.specs.Prelude.{◌≡◌, ◌<◌, ◌≤◌, ◌++◌, ◌∷◌, [], ℕ, All, Contains, false, OnOk, length, set, slice_index};
 ghost use Rattle.bplist_octets.specs.Meaning.{OnlyReads};
-ghost use Rattle.bplist_objects.specs.Frame.{IsFrame};
-ghost use Rattle.bplist_objects.specs.Safe.{IsSafe};
-ghost use Rattle.bplist_keys.specs.Texts.{AreOffsets};
+ghost use Rattle.bplist_objects.specs.Framed.{frame_in, HonestlyIn};
 ghost use Rattle.bplist_keys.specs.Weights.{AreWeighed};
 ghost use Rattle.bplist_keys.specs.Failures.{failed_to_read};
 
 use crate::failure::Failure;
+use crate::places::Placed;
 use crate::weight::{Weight, weigh};
-use bplist_objects::Frame;
-use bplist_octets::Source;
 
 /// Objects that are named as keys, and those among them that are known to be texts.
 #[derive(Drop)]
@@ -43,29 +40,22 @@ impl Weighing {
 }
 
 /// Weighs the objects that are named, and lists those that are texts by marker and count.
-pub(crate) fn weigh_keys<S: Source>(
-    src: &mut S,
-    frame: &Frame,
-    places: &[u32],
-    keys: &mut Weighing,
-) -> Result<(), Failure>
-    requires safe { IsSafe (length (S.means src.old).octets) frame.now }
-    requires places { length places.now ≡ frame.now.objects }
-    requires named { length keys.old.weights.items ≡ frame.now.objects }
+pub(crate) fn weigh_keys<P: Placed>(src: &mut P, keys: &mut Weighing) -> Result<(), Failure>
+    requires named { length keys.old.weights.items ≡ (frame_in (P.means src.old)).objects }
     requires none { length keys.old.texts.items ≡ 0 }
-    ensures reads { OnlyReads (failed_to_read result) (S.means src.old) (S.means src.new) }
+    ensures reads { OnlyReads (failed_to_read result) (P.means src.old) (P.means src.new) }
     ensures by { keys.new.by ≡ keys.old.by }
-    ensures all { length keys.new.weights.items ≡ frame.now.objects }
+    ensures all { length keys.new.weights.items ≡ (frame_in (P.means src.old)).objects }
     ensures texts { OnOk result (All (λ m. 0 < slice_index keys.new.weights.items m) keys.new.texts.items) }
     ensures listed { OnOk result ((m : ℕ) → 0 < slice_index keys.new.weights.items m → Contains keys.new.texts.items m) }
-    ensures few { OnOk result (length keys.new.texts.items ≤ frame.now.objects) }
-    ensures exact { OnOk result (IsTrue (S.means src.old).honest → IsFrame (S.means src.old).octets frame.now
-        → AreOffsets (S.means src.old).octets frame.now places.now
-        → AreWeighed (S.means src.old).octets frame.now keys.old.by keys.old.weights.items keys.new.weights.items) }
+    ensures few { OnOk result (length keys.new.texts.items ≤ (frame_in (P.means src.old)).objects) }
+    ensures exact { OnOk result (HonestlyIn (P.means src.old) (λ f F.
+        AreWeighed f F keys.old.by keys.old.weights.items keys.new.weights.items)) }
 {
+    let frame = src.frame();
     for m in 0..frame.objects {
         if keys.weights[m as usize] != 0 {
-            let weight = weigh(src, frame, m, places[m as usize] as u64, keys.by)?;
+            let weight = weigh(src, m, keys.by)?;
             keys.put(m, weight)?;
         }
     }

@@ -3,13 +3,15 @@
 //! ```
 //! let mut named = NamedKeys::new(alloc, frame.objects)?;
 //! named.insert(key);                                       // each object that is named as a key
-//! let classes = classes_of(alloc, &mut source, &frame, &places, named)?;
+//! let places = places_of(alloc, &mut source, &frame)?;
+//! let classes = classes_of(alloc, &mut Table::new(&mut source, frame, &places), named)?;
 //! let same = classes.table[a] == classes.table[b];         // exactly where the units are the same
 //! ```
 //!
 //! | what | calls |
 //! |---|---|
 //! | the objects that are named as keys | [`NamedKeys::new`], `insert` |
+//! | a source with its frame and the places of its objects | [`places_of`], [`Table`], [`Placed`] |
 //! | a class for each: equal exactly where the units are equal | [`classes_of`], [`Ranks`] |
 //! | a rank for each: ordered as the units are | [`ranks_of`], [`Ranks`] |
 //! | a failed read or refused memory | [`Failure`] |
@@ -36,7 +38,7 @@ mod weighted;
 pub use class_table::{ClassTable, Wrong};
 pub use failure::Failure;
 pub use named_keys::{NamedKeys, name_keys};
-pub use places::places_of;
+pub use places::{Placed, Table, places_of};
 pub use ranks::{Ranks, classes_of, ranks_of};
 pub use runs::Runs;
 pub use text::{text_head, text_order};

@@ -1,13 +1,17 @@
-//! The places of all objects, from the offset table.
+//! The places of all objects, from the offset table, and sources that hold them.
 
 ghost use Rattle.std.specs.Prelude.{◌≡◌, ℕ, ◌+◌, ◌≤◌, ◌<◌, IsTrue, IfOk, is_err, length, slice_index, vec_len};
 ghost use Rattle.bplist_octets.specs.Meaning.{OnlyReads};
-ghost use Rattle.bplist_objects.specs.Safe.{IsSafe};
+ghost use Rattle.bplist_octets.specs.Windows.{borrowed};
+ghost use Rattle.bplist_objects.specs.Frame.{off, IsFrame};
+ghost use Rattle.bplist_objects.specs.Framed.{frame_in, with_frame, HonestlyIn};
+ghost use Rattle.bplist_objects.specs.Safe.{IsSafe, IsSafeFrame};
 ghost use Rattle.bplist_keys.specs.Failures.{failed_to_read};
 ghost use Rattle.bplist_keys.specs.Places.{IsKept, AreKept};
+ghost use Rattle.bplist_keys.specs.Texts.{AreOffsets};
 
 use crate::failure::Failure;
-use bplist_objects::{Frame, read_offsets};
+use bplist_objects::{Frame, Framed, read_offsets};
 use bplist_octets::{ReadFault, Source};
 use std::alloc::Global;
 
@@ -68,4 +72,67 @@ pub fn places_of<S: Source>(alloc: Global, src: &mut S, frame: &Frame) -> Result
         next = read_places(src, frame, next, &mut places)?;
     }
     Ok(places)
+}
+
+/// A source that knows its frame and the places of its objects.
+pub trait Placed: Framed {
+    /// The place of object `n`.
+    fn place(&self, n: u32) -> u64
+        requires { n < (frame_in (Self.means self.now)).objects }
+        ensures { HonestlyIn (Self.means self.now) (λ f F. result ≡ off f F n) };
+}
+
+/// A source that is lent, with its frame and its offset table as numbers, so that no entry is read twice.
+#[derive(Drop)]
+pub struct Table<'a, S: Source> {
+    source: &'a mut S,
+    frame: Frame,
+    places: &'a [u32],
+    pub ghost safe: { IsSafeFrame (length (S.means source.now).octets) frame },
+    pub ghost all: { length places.now ≡ frame.objects },
+    pub ghost framed: { IsTrue (S.means source.now).honest → IsFrame (S.means source.now).octets frame },
+    pub ghost placed: { IsTrue (S.means source.now).honest → AreOffsets (S.means source.now).octets frame places.now },
+}
+
+impl<'a, S: Source> Table<'a, S> {
+    /// A source with its frame, as `frame_of` answers it, and the places of all objects, as `places_of` does.
+    pub fn new(source: &'a mut S, frame: Frame, places: &'a [u32]) -> Table<'a, S>
+        requires safe { IsSafeFrame (length (S.means source.old).octets) frame }
+        requires all { length places.now ≡ frame.objects }
+        requires framed { IsTrue (S.means source.old).honest → IsFrame (S.means source.old).octets frame }
+        requires placed { IsTrue (S.means source.old).honest → AreOffsets (S.means source.old).octets frame places.now }
+        ensures same_source { result.source.ghost_name ≡ source.entry.ghost_name }
+        ensures means { S.means result.source.now ≡ S.means source.old }
+        ensures frame { result.frame ≡ frame }
+    {
+        Table {
+            source,
+            frame,
+            places,
+        }
+    }
+}
+
+impl<S: Source> Source for Table<'_, S> {
+    ghost means = { λ t. with_frame t.frame (borrowed t.source.ghost_name (S.means t.source.now)) };
+
+    fn len(&self) -> u64 {
+        self.source.len()
+    }
+
+    fn read_at(&mut self, at: u64, into: &mut [u8]) -> Result<(), ReadFault> {
+        self.source.read_at(at, into)
+    }
+}
+
+impl<S: Source> Framed for Table<'_, S> {
+    fn frame(&self) -> Frame {
+        self.frame
+    }
+}
+
+impl<S: Source> Placed for Table<'_, S> {
+    fn place(&self, n: u32) -> u64 {
+        self.places[n as usize] as u64
+    }
 }

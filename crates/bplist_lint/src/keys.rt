@@ -25,9 +25,8 @@ ghost use Rattle.bplist_keys.specs.Classes.{AreClassed, IsStamped, IsNew, wrong_
 ghost use Rattle.bplist_lint.specs.KeyClasses.{IsWrongFault};
 ghost use Rattle.bplist_objects.specs.declared.head.Head.{Head as head_record};
 
-use crate::places::Placed;
 use bplist_cert::Refusal;
-use bplist_keys::{ClassTable, Failure, NamedKeys, Ranks, Wrong};
+use bplist_keys::{ClassTable, Failure, NamedKeys, Placed, Ranks, Wrong, classes_of};
 use bplist_objects::{Fault, Framed, Head, Kind, ObjectNo, Rule, ref_place, shape_in};
 use std::alloc::Global;
 
@@ -38,7 +37,7 @@ fn key_classes<P: Placed>(alloc: Global, src: &mut P, named: NamedKeys) -> Resul
     ensures exact { HonestlyIn (P.means src.old) (λ f F.
         Judges (λ ranks. AreClasses f F named.table.items ranks.table.items) Never result) }
 {
-    match src.classes(alloc, named) {
+    match classes_of(alloc, src, named) {
         Ok(classes) => Ok(classes),
         Err(Failure::Read(fault)) => Err(Refusal::Read(fault)),
         Err(Failure::Memory) => Err(Refusal::Memory),

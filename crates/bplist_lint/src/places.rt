@@ -1,22 +1,16 @@
-//! The places of all objects: rule 13 of them, and sources that hold them.
+//! The places of all objects: rule 13 of them, and the heads that stand there.
 
-ghost use Rattle.std.specs.Prelude.{◌≡◌, ◌<◌, MatchResult, MatchOption, IfOk, IfSome, IsTrue, is_err, length};
+ghost use Rattle.std.specs.Prelude.{◌≡◌, ◌<◌, MatchResult, MatchOption, IfOk, IfSome, is_err, length};
 ghost use Rattle.bplist_octets.specs.Meaning.{OnlyReads};
-ghost use Rattle.bplist_octets.specs.Windows.{borrowed};
-ghost use Rattle.bplist_objects.specs.Frame.{off, IsFrame};
-ghost use Rattle.bplist_objects.specs.Framed.{frame_in, with_frame, HonestlyIn};
+ghost use Rattle.bplist_objects.specs.Framed.{frame_in, HonestlyIn};
 ghost use Rattle.bplist_objects.specs.Heads.{HasShape};
-ghost use Rattle.bplist_objects.specs.Safe.{IsSafe, IsSafeFrame, IsSafeHead};
+ghost use Rattle.bplist_objects.specs.Safe.{IsSafe, IsSafeHead};
 ghost use Rattle.bplist_objects.specs.declared.head.Head.{Head as head};
-ghost use Rattle.bplist_keys.specs.Failures.{failed_to_read};
-ghost use Rattle.bplist_keys.specs.Ranks.{AreClasses};
-ghost use Rattle.bplist_keys.specs.Texts.{AreOffsets};
 ghost use Rattle.bplist_lint.specs.Places.{AreBelowTable, IsPlaceFault};
 
-use bplist_keys::{Failure, NamedKeys, Ranks, classes_of};
-use bplist_objects::{Fault, Frame, Framed, Head, ObjectFault, ObjectNo, high_entry, shape_in};
-use bplist_octets::{ReadFault, Source};
-use std::alloc::Global;
+use bplist_keys::Placed;
+use bplist_objects::{Fault, Frame, Head, ObjectFault, ObjectNo, high_entry, shape_in};
+use bplist_octets::ReadFault;
 
 /// Looks at the places of all objects by rule 13 OffsetHigh, in a file of `len` bytes.
 pub fn check_places(frame: &Frame, places: &[u32], len: u64) -> Result<(), Fault>
@@ -30,80 +24,6 @@ pub fn check_places(frame: &Frame, places: &[u32], len: u64) -> Result<(), Fault
         }
     }
     Ok(())
-}
-
-/// A source that knows its frame and the places of its objects.
-pub trait Placed: Framed {
-    /// The place of object `n`.
-    fn place(&self, n: u32) -> u64
-        requires { n < (frame_in (Self.means self.now)).objects }
-        ensures { HonestlyIn (Self.means self.now) (λ f F. result ≡ off f F n) };
-
-    /// The classes of the texts that are named as keys, as `classes_of` answers them.
-    fn classes(&mut self, alloc: Global, named: NamedKeys) -> Result<Ranks, Failure>
-        requires { length named.table.items ≡ (frame_in (Self.means self.old)).objects }
-        ensures reads { OnlyReads (failed_to_read result) (Self.means self.old) (Self.means self.new) }
-        ensures exact { HonestlyIn (Self.means self.old) (λ f F.
-            IfOk result (λ ranks. AreClasses f F named.table.items ranks.table.items)) };
-}
-
-/// A source that is lent, with its frame and its offset table as numbers, so that no entry is read twice.
-#[derive(Drop)]
-pub struct Table<'a, S: Source> {
-    source: &'a mut S,
-    frame: Frame,
-    places: &'a [u32],
-    pub ghost safe: { IsSafeFrame (length (S.means source.now).octets) frame },
-    pub ghost all: { length places.now ≡ frame.objects },
-    pub ghost framed: { IsTrue (S.means source.now).honest → IsFrame (S.means source.now).octets frame },
-    pub ghost placed: { IsTrue (S.means source.now).honest → AreOffsets (S.means source.now).octets frame places.now },
-}
-
-impl<'a, S: Source> Table<'a, S> {
-    /// A source with its frame, as `frame_of` answers it, and the places of all objects, as `places_of` does.
-    pub fn new(source: &'a mut S, frame: Frame, places: &'a [u32]) -> Table<'a, S>
-        requires safe { IsSafeFrame (length (S.means source.old).octets) frame }
-        requires all { length places.now ≡ frame.objects }
-        requires framed { IsTrue (S.means source.old).honest → IsFrame (S.means source.old).octets frame }
-        requires placed { IsTrue (S.means source.old).honest → AreOffsets (S.means source.old).octets frame places.now }
-        ensures same_source { result.source.ghost_name ≡ source.entry.ghost_name }
-        ensures means { S.means result.source.now ≡ S.means source.old }
-        ensures frame { result.frame ≡ frame }
-    {
-        Table {
-            source,
-            frame,
-            places,
-        }
-    }
-}
-
-impl<S: Source> Source for Table<'_, S> {
-    ghost means = { λ t. with_frame t.frame (borrowed t.source.ghost_name (S.means t.source.now)) };
-
-    fn len(&self) -> u64 {
-        self.source.len()
-    }
-
-    fn read_at(&mut self, at: u64, into: &mut [u8]) -> Result<(), ReadFault> {
-        self.source.read_at(at, into)
-    }
-}
-
-impl<S: Source> Framed for Table<'_, S> {
-    fn frame(&self) -> Frame {
-        self.frame
-    }
-}
-
-impl<S: Source> Placed for Table<'_, S> {
-    fn place(&self, n: u32) -> u64 {
-        self.places[n as usize] as u64
-    }
-
-    fn classes(&mut self, alloc: Global, named: NamedKeys) -> Result<Ranks, Failure> {
-        classes_of(alloc, self.source, &self.frame, self.places, named)
-    }
 }
 
 /// The head of object `n`, where it keeps rules 14 to 17.

@@ -13,8 +13,8 @@ ghost use Rattle.bplist_lint.specs.Reaching.{IsMarked, HasMarks, number_at, set_
 
 use crate::object_graph::object_in;
 use crate::place_set::PlaceSet;
-use crate::places::{Placed, shape_there};
-use bplist_keys::{Failure, NamedKeys};
+use crate::places::shape_there;
+use bplist_keys::{Failure, NamedKeys, Placed};
 use bplist_objects::{Framed, Head, ref_at, refs_of};
 use bplist_octets::ReadFault;
 use std::alloc::{AllocError, Global};

@@ -9,8 +9,8 @@ ghost use Rattle.bplist_lint.specs.Reaching.{IsMarked};
 ghost use Rattle.bplist_lint.specs.ReachRules.{IsReachFault, Tallied};
 ghost use Rattle.bplist_lint.specs.Tallies.{IsRoomy};
 
-use crate::places::Placed;
 use crate::tally::Tally;
+use bplist_keys::Placed;
 use bplist_objects::{Fault, ObjectFault, ObjectNo, Rule, head_in};
 
 /// Looks at reached object `n`, and adds it to the tally of those before it.

@@ -10,10 +10,9 @@ ghost use Rattle.bplist_lint.specs.Upgraded.{Listed, IsUpgraded};
 ghost use Rattle.bplist_lint.specs.Upgrades.{Upgrades, upgrade_failed};
 
 use crate::key_lists::KeySorting;
-use crate::places::{Placed, Table};
 use crate::upgrade_fault::UpgradeFault;
 use bplist_cert::{Certificate, Checked, KeyLists, vouched_keys};
-use bplist_keys::{Ranks, places_of, ranks_of};
+use bplist_keys::{Placed, Ranks, Table, places_of, ranks_of};
 use bplist_objects::{Framed, Kind, ObjectNo, shape_in};
 use bplist_octets::Source;
 use std::alloc::Global;
@@ -75,6 +74,23 @@ fn list_all<P: Placed>(
     Ok(KeyLists { starts, positions })
 }
 
+/// The key lists of the vouched dictionaries of a file, where the heights and the places are given.
+fn list_vouched<P: Placed>(
+    alloc: Global,
+    src: &mut P,
+    heights: &[u32],
+) -> Result<KeyLists, UpgradeFault>
+    requires { length heights.now ≡ (frame_in (P.means src.old)).objects }
+    ensures reads { OnlyReads (upgrade_failed result) (P.means src.old) (P.means src.new) }
+    ensures starts { IfOk result (λ keys. length keys.starts ≡ (frame_in (P.means src.old)).objects) }
+    ensures exact { HonestlyIn (P.means src.old) (λ f F. IsValid f F heights.now
+        → Upgrades (λ keys. Listed f F heights.now F.objects keys.starts keys.positions) result) }
+{
+    let named = vouched_keys(alloc, src, heights)?;
+    let ranks = ranks_of(alloc, src, named)?;
+    list_all(alloc, src, heights, ranks)
+}
+
 /// The key lists of the vouched dictionaries of a file, where the heights are given.
 fn list_keys_of<P: Framed>(
     alloc: Global,
@@ -89,9 +105,7 @@ fn list_keys_of<P: Framed>(
 {
     let frame = src.frame();
     let places = places_of(alloc, src, &frame)?;
-    let named = vouched_keys(alloc, src, &places, heights)?;
-    let ranks = ranks_of(alloc, src, &frame, &places, named)?;
-    list_all(alloc, &mut Table::new(src, frame, &places), heights, ranks)
+    list_vouched(alloc, &mut Table::new(src, frame, &places), heights)
 }
 
 /// The certificate of version 2 of a checked file: its heights, and the key lists of the vouched dictionaries one behind

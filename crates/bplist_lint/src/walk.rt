@@ -15,9 +15,8 @@ ghost use Rattle.bplist_lint.specs.Tallies.{IsRoomy};
 ghost use Rattle.bplist_lint.specs.Walks.{IsSteady, IsSteadyWalk, Noted, Walking, Fits, IsWalked, AreNamed, of_object, stop_failed};
 ghost use Rattle.bplist_lint.specs.declared.walk.Stop.TheVariants.{Read as is_read, Memory as is_memory};
 
-use crate::places::Placed;
 use crate::tally::Tally;
-use bplist_keys::{Failure, NamedKeys};
+use bplist_keys::{Failure, NamedKeys, Placed};
 use bplist_objects::{
     Framed, Head, Kind, ObjectFault, ObjectNo, check_body, read_refs_in, refs_of, shape_in,
 };

@@ -10,11 +10,11 @@ use Rattle.bplist_cert.proofs.key_names.seen_keys.Goals as goal
 use Rattle.bplist_cert.proofs.key_names.seen_keys.Goals.{then-seen-n-gt1+in_ok-name_object, else-seen-n-gt1}
 
 pub returns-in_err-name_object-clause-exact : goal.returns-in_err-name_object-clause-exact
-returns-in_err-name_object-clause-exact g c = λ honest placed seen.
+returns-in_err-name_object-clause-exact g c = λ honest seen.
     let n = c.loop-n.n in
     let p = err_from_is_err_and c.from_residual-in_err-name_object.result c.from_residual-in_err-name_object.ensures.1 in
     let v : IsVouchedBy c.args.seen.now.heights.now n = omega (arith, c.if-seen-n-gt1.true) in
-    rw (p.1, p.2) ((rw c.loop-n.invariant.same at c.in_err-name_object.ensures.exact) honest (placed n (omega (arith, c.loop-n-test.true, c.args.seen.now.within, c.requires.heights))) (seen n c.loop-n-test.true v).own)
+    rw (p.1, p.2) ((rw c.loop-n.invariant.same at c.in_err-name_object.ensures.exact) honest (seen n c.loop-n-test.true v).own)
 
 pub loop-n-preserved : goal.loop-n-preserved
 loop-n-preserved g c =
@@ -27,21 +27,21 @@ loop-n-preserved g c =
       | then-seen-n-gt1+in_ok-name_object w ↦ record {
         same = rw w.src-is (w.in_ok-name_object.ensures.reads ∙ v.same);
         all = rw w.named-is (rw v.same at w.in_ok-name_object.ensures.all);
-        named = λ honest placed seen m low vouched. rw w.named-is (elim (cases_eq m n) [
-          | inl e ↦ subst (HasNamedKeys f F w.name_object.new.named.table.items) (sym e) ((rw v.same at w.in_ok-name_object.ensures.exact) honest (placed n (omega (arith, c.loop-n-test.true, c.args.seen.now.within, c.requires.heights))) (seen n c.loop-n-test.true (subst (IsVouchedBy heights) e vouched)).own)
-          | inr d ↦ λ head has dict k l. w.in_ok-name_object.ensures.keeps _ (v.named honest placed seen m (omega (arith, low, d)) vouched head has dict k l)
+        named = λ honest seen m low vouched. rw w.named-is (elim (cases_eq m n) [
+          | inl e ↦ subst (HasNamedKeys f F w.name_object.new.named.table.items) (sym e) ((rw v.same at w.in_ok-name_object.ensures.exact) honest (seen n c.loop-n-test.true (subst (IsVouchedBy heights) e vouched)).own)
+          | inr d ↦ λ head has dict k l. w.in_ok-name_object.ensures.keeps _ (v.named honest seen m (omega (arith, low, d)) vouched head has dict k l)
         ]);
       }
       | else-seen-n-gt1 w ↦ record {
         same = rw w.src-is v.same;
         all = rw w.named-is v.all;
-        named = λ honest placed seen m low vouched. rw w.named-is (elim (cases_eq m n) [
+        named = λ honest seen m low vouched. rw w.named-is (elim (cases_eq m n) [
           | inl e ↦ named_low f F heights c.loop-n.named.table.items m (seen m (omega (arith, e, c.loop-n-test.true)) vouched) (rw e (omega (arith, w.if-seen-n-gt1.false)))
-          | inr d ↦ v.named honest placed seen m (omega (arith, low, d)) vouched
+          | inr d ↦ v.named honest seen m (omega (arith, low, d)) vouched
         ]);
       }
     ]
 
 pub returns-clause-exact : goal.returns-clause-exact
-returns-clause-exact g c = λ honest placed seen n low vouched.
-    c.loop-n.invariant.named honest placed seen n (omega (arith, low, c.loop-n-test.false)) vouched
+returns-clause-exact g c = λ honest seen n low vouched.
+    c.loop-n.invariant.named honest seen n (omega (arith, low, c.loop-n-test.false)) vouched

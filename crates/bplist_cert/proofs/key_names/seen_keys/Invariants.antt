@@ -1,7 +1,6 @@
 use Rattle.std.proofs.Common.{◌≡◌, ℕ, ◌<◌, length}
 use Rattle.bplist_objects.specs.Framed.{frame_in, HonestlyIn}
 use Rattle.bplist_keys.specs.Classes.{HasNamedKeys}
-use Rattle.bplist_keys.specs.Texts.{AreOffsets}
 use Rattle.bplist_cert.specs.Valid.{IsVouchedBy}
 use Rattle.bplist_cert.specs.Looks.{AreSeen}
 use Rattle.bplist_cert.proofs.key_names.seen_keys.Given as goal
@@ -13,6 +12,6 @@ invariant-loop-n g l =
     record {
       same : means l.src ≡ means l.fn.src;
       all : length l.named.table.items ≡ (frame_in (means l.fn.src)).objects;
-      named : HonestlyIn (means l.fn.src) (λ f F. AreOffsets f F l.places → AreSeen f F l.seen.heights.now l.seen.bound
+      named : HonestlyIn (means l.fn.src) (λ f F. AreSeen f F l.seen.heights.now l.seen.bound
           → (m : ℕ) → m < l.n → IsVouchedBy l.seen.heights.now m → HasNamedKeys f F l.named.table.items m);
     }

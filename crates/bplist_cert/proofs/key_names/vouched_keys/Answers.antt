@@ -18,8 +18,8 @@ all_named f F heights inside (Ok named) h = λ n vouched. h n (inside n vouched)
 all_named f F heights inside (Err e) h = h
 
 pub returns-clause-exact : goal.returns-clause-exact
-returns-clause-exact g c = λ honest placed seen.
+returns-clause-exact g c = λ honest seen.
     let m = g.P.Source.means c.args.src.now in
     let F : Frame = frame_in m in
-    all_named m.octets F c.args.heights.now (λ n vouched. vouched_inside c.args.heights.now F.objects n c.requires.heights vouched)
-    c.seen_keys.result ((rw c.frame.ensures.frame at c.seen_keys.ensures.exact) honest placed seen)
+    all_named m.octets F c.args.heights.now (λ n vouched. vouched_inside c.args.heights.now F.objects n c.requires vouched)
+    c.seen_keys.result ((rw c.frame.ensures.frame at c.seen_keys.ensures.exact) honest seen)

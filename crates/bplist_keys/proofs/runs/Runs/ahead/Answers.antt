@@ -1,4 +1,4 @@
-use Rattle.std.proofs.Common.{◌≡◌, ◌≤◌, ◌+◌, inl, inr, sym, ◌∙◌, arith}
+use Rattle.std.proofs.Common.{◌≤◌, inl, inr, ◌∙◌, arith}
 use Rattle.std.proofs.lemmas.Bool.{cases_lt}
 use Rattle.bplist_keys.specs.Runs.{run_at}
 use Rattle.bplist_keys.proofs.RunSteps.{run_agrees, agree_none}

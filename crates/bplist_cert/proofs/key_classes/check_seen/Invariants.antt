@@ -4,7 +4,7 @@ use Rattle.bplist_cert.specs.Valid.{IsVouchedBy}
 use Rattle.bplist_cert.specs.Looks.{AreSeen}
 use Rattle.bplist_cert.specs.LowBytes.{AreLow}
 use Rattle.bplist_cert.specs.KeyClasses.{HasGoodKeys}
-use Rattle.bplist_cert.proofs.key_classes.check_keys.Given as goal
+use Rattle.bplist_cert.proofs.key_classes.check_seen.Given as goal
 
 -- the keys of the vouched dictionaries so far are good
 abbrev pub invariant-loop-n : goal.invariant-loop-n
