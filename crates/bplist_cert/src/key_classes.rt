@@ -85,8 +85,8 @@ fn class_fault<P: Framed>(
         → AreClassed f F table.old.classes.table.items head.now → HaveTexts f F head.now head.now.count
         → IfOk result (λ found. MatchOption found (KeysDiffer f F head.now head.now.count) (IsTwiceFault f F n.0 head.now))) }
 {
-    let frame = src.frame();
-    match table.first_wrong(src, &frame, n.0, head)? {
+    let _frame = src.frame();
+    match table.first_wrong(src, n.0, head)? {
         None => Ok(None),
         Some(Wrong::NoText(i)) => Ok(Some(keyless(src, n, head, i))),
         Some(Wrong::Again(i)) => Ok(Some(Fault {

@@ -16,7 +16,7 @@ ghost use Rattle.bplist_cert.specs.Refusals.{Judges, refused_read};
 use crate::refusal::Refusal;
 use crate::seen::Seen;
 use bplist_keys::{NamedKeys, name_keys};
-use bplist_objects::{Framed, Kind, ObjectNo, shape_at};
+use bplist_objects::{Framed, Kind, ObjectNo, shape_in};
 use std::alloc::Global;
 
 /// Names the keys of object `n`, which stands at `place`, where it is a dictionary.
@@ -35,10 +35,9 @@ fn name_object<P: Framed>(
         → KeepsAll (KeepsByObject f F n) object_rules
         → Judges (λ _. HasNamedKeys f F named.new.table.items n) Never result) }
 {
-    let frame = src.frame();
-    let head = shape_at(src, &frame, ObjectNo(n), place)?;
+    let head = shape_in(src, ObjectNo(n), place)?;
     match head.kind {
-        Kind::Dict => Ok(name_keys(src, &frame, &head, named)?),
+        Kind::Dict => Ok(name_keys(src, &head, named)?),
         _ => Ok(()),
     }
 }

@@ -1,15 +1,16 @@
 //! The classes of the texts that are named as keys, and in which dictionary each was seen last.
 
-ghost use Rattle.std.specs.Prelude.{◌≡◌, ◌+◌, ◌-◌, ◌<◌, ◌^◌, ℕ, IsTrue, IfOk, IfSome, MatchOption, is_err, length, slice_index};
+ghost use Rattle.std.specs.Prelude.{◌≡◌, ◌+◌, ◌-◌, ◌<◌, ◌^◌, ℕ, IfOk, IfSome, MatchOption, is_err, length, slice_index};
 ghost use Rattle.bplist_octets.specs.Meaning.{OnlyReads};
-ghost use Rattle.bplist_objects.specs.Safe.{IsSafe, IsSafeHead};
+ghost use Rattle.bplist_objects.specs.Framed.{frame_in, HonestlyIn};
+ghost use Rattle.bplist_objects.specs.Safe.{IsSafeHead};
 ghost use Rattle.bplist_objects.specs.declared.kind.Kind.TheVariants.{Dict};
 ghost use Rattle.bplist_keys.specs.Classes.{key_ref};
 
 use crate::named_keys::BLOCK;
 use crate::ranks::Ranks;
-use bplist_objects::{Frame, Head, read_refs};
-use bplist_octets::{ReadFault, Source};
+use bplist_objects::{Framed, Head, read_refs_in};
+use bplist_octets::ReadFault;
 use std::alloc::{AllocError, Global};
 
 /// What is found of a key of a dictionary.
@@ -116,26 +117,24 @@ impl ClassTable {
     }
 
     /// What is wrong with the keys of dictionary `n` first.
-    pub fn first_wrong<S: Source>(
+    pub fn first_wrong<P: Framed>(
         &mut self,
-        src: &mut S,
-        frame: &Frame,
+        src: &mut P,
         n: u32,
         head: &Head,
     ) -> Result<Option<Wrong>, ReadFault>
-        requires safe { IsSafe (length (S.means src.old).octets) frame.now }
-        requires head { IsSafeHead frame.now head.now }
+        requires head { IsSafeHead (frame_in (P.means src.old)) head.now }
         requires dict { head.now.kind ≡ Dict }
         requires few { n < 2 ^ 32 - 1 }
-        ensures reads { OnlyReads (is_err result) (S.means src.old) (S.means src.new) }
+        ensures reads { OnlyReads (is_err result) (P.means src.old) (P.means src.new) }
         ensures same { self.new.classes.table.items ≡ self.old.classes.table.items }
         ensures stamped { IsStamped n self.old.seen.items self.new.seen.items }
         ensures inside { IfOk result (λ found. IfSome found (λ wrong. wrong_key wrong < head.now.count)) }
-        ensures exact { IsTrue (S.means src.old).honest → IsNew self.old.seen.items n
+        ensures exact { HonestlyIn (P.means src.old) (λ f F. IsNew self.old.seen.items n
             → IfOk result (λ found. MatchOption found
-            (HaveClasses (key_ref (S.means src.old).octets frame.now head.now) self.old.classes.table.items head.now.count
-            × AreApart (key_ref (S.means src.old).octets frame.now head.now) self.old.classes.table.items head.now.count)
-            (IsWrong (key_ref (S.means src.old).octets frame.now head.now) self.old.classes.table.items head.now.count)) }
+            (HaveClasses (key_ref f F head.now) self.old.classes.table.items head.now.count
+            × AreApart (key_ref f F head.now) self.old.classes.table.items head.now.count)
+            (IsWrong (key_ref f F head.now) self.old.classes.table.items head.now.count))) }
     {
         let count = head.count;
         let mut buffer = [0u64; BLOCK];
@@ -144,7 +143,7 @@ impl ClassTable {
         while done < count {
             let now = (count - done).min(BLOCK as u64) as usize;
             let numbers = &mut buffer[..now];
-            read_refs(src, frame, head, done, numbers)?;
+            read_refs_in(src, head, done, numbers)?;
             if let Some(i) = self.look_up_block(n, numbers, done, &mut again) {
                 return Ok(Some(Wrong::NoText(i)));
             }

@@ -1,13 +1,14 @@
 //! The objects that are named as keys.
 
-ghost use Rattle.std.specs.Prelude.{◌≡◌, ◌⊎◌, Contains, ◌≤◌, ◌<◌, ◌^◌, ℕ, IsTrue, IfOk, OnOk, is_err, length, set, replicate, slice_index};
+ghost use Rattle.std.specs.Prelude.{◌≡◌, ◌⊎◌, Contains, ◌≤◌, ◌<◌, ◌^◌, ℕ, IfOk, OnOk, is_err, length, set, replicate, slice_index};
 ghost use Rattle.bplist_octets.specs.Meaning.{OnlyReads};
-ghost use Rattle.bplist_objects.specs.Safe.{IsSafe, IsSafeHead};
+ghost use Rattle.bplist_objects.specs.Framed.{frame_in, HonestlyIn};
+ghost use Rattle.bplist_objects.specs.Safe.{IsSafeHead};
 ghost use Rattle.bplist_objects.specs.declared.kind.Kind.TheVariants.{Dict};
 ghost use Rattle.bplist_keys.specs.Classes.{key_ref};
 
-use bplist_objects::{Frame, Head, read_refs};
-use bplist_octets::{ReadFault, Source};
+use bplist_objects::{Framed, Head, read_refs_in};
+use bplist_octets::ReadFault;
 use std::alloc::{AllocError, Global};
 
 /// How many references are read at once at most. They are few, since most dictionaries are small, and the block
@@ -58,56 +59,50 @@ impl NamedKeys {
 }
 
 /// Names a block of the keys of a dictionary, from number `from` on. The number of the key after it.
-fn name_block<S: Source>(
-    src: &mut S,
-    frame: &Frame,
+fn name_block<P: Framed>(
+    src: &mut P,
     head: &Head,
     from: u64,
     named: &mut NamedKeys,
 ) -> Result<u64, ReadFault>
-    requires safe { IsSafe (length (S.means src.old).octets) frame.now }
-    requires head { IsSafeHead frame.now head.now }
+    requires head { IsSafeHead (frame_in (P.means src.old)) head.now }
     requires dict { head.now.kind ≡ Dict }
     requires more { from < head.now.count }
-    requires all { length named.old.table.items ≡ frame.now.objects }
-    ensures reads { OnlyReads (is_err result) (S.means src.old) (S.means src.new) }
-    ensures all { length named.new.table.items ≡ frame.now.objects }
+    requires all { length named.old.table.items ≡ (frame_in (P.means src.old)).objects }
+    ensures reads { OnlyReads (is_err result) (P.means src.old) (P.means src.new) }
+    ensures all { length named.new.table.items ≡ (frame_in (P.means src.old)).objects }
     ensures next { IfOk result (λ next. (from < next) × (next ≤ head.now.count)) }
     ensures keeps { (m : ℕ) → 0 < slice_index named.old.table.items m → 0 < slice_index named.new.table.items m }
-    ensures named { IfOk result (λ next. IsTrue (S.means src.old).honest → (k : ℕ) → from ≤ k → k < next
-        → key_ref (S.means src.old).octets frame.now head.now k < frame.now.objects
-        → 0 < slice_index named.new.table.items (key_ref (S.means src.old).octets frame.now head.now k)) }
+    ensures named { HonestlyIn (P.means src.old) (λ f F. IfOk result (λ next. (k : ℕ) → from ≤ k → k < next
+        → key_ref f F head.now k < F.objects → 0 < slice_index named.new.table.items (key_ref f F head.now k))) }
 {
     let count = (head.count - from).min(BLOCK as u64);
-    let _objects = frame.objects;
+    let _objects = src.frame().objects;
     let mut buffer = [0u64; BLOCK];
     let numbers = &mut buffer[..count as usize];
-    read_refs(src, frame, head, from, numbers)?;
+    read_refs_in(src, head, from, numbers)?;
     named.insert_all(numbers);
     Ok(from + count)
 }
 
 /// Names the keys of a dictionary.
-pub fn name_keys<S: Source>(
-    src: &mut S,
-    frame: &Frame,
+pub fn name_keys<P: Framed>(
+    src: &mut P,
     head: &Head,
     named: &mut NamedKeys,
 ) -> Result<(), ReadFault>
-    requires safe { IsSafe (length (S.means src.old).octets) frame.now }
-    requires head { IsSafeHead frame.now head.now }
+    requires head { IsSafeHead (frame_in (P.means src.old)) head.now }
     requires dict { head.now.kind ≡ Dict }
-    requires all { length named.old.table.items ≡ frame.now.objects }
-    ensures reads { OnlyReads (is_err result) (S.means src.old) (S.means src.new) }
-    ensures all { length named.new.table.items ≡ frame.now.objects }
+    requires all { length named.old.table.items ≡ (frame_in (P.means src.old)).objects }
+    ensures reads { OnlyReads (is_err result) (P.means src.old) (P.means src.new) }
+    ensures all { length named.new.table.items ≡ (frame_in (P.means src.old)).objects }
     ensures keeps { (m : ℕ) → 0 < slice_index named.old.table.items m → 0 < slice_index named.new.table.items m }
-    ensures named { OnOk result (IsTrue (S.means src.old).honest → (k : ℕ) → k < head.now.count
-        → key_ref (S.means src.old).octets frame.now head.now k < frame.now.objects
-        → 0 < slice_index named.new.table.items (key_ref (S.means src.old).octets frame.now head.now k)) }
+    ensures named { HonestlyIn (P.means src.old) (λ f F. OnOk result ((k : ℕ) → k < head.now.count
+        → key_ref f F head.now k < F.objects → 0 < slice_index named.new.table.items (key_ref f F head.now k))) }
 {
     let mut done = 0u64;
     while done < head.count {
-        done = name_block(src, frame, head, done, named)?;
+        done = name_block(src, head, done, named)?;
     }
     Ok(())
 }

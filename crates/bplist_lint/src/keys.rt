@@ -79,12 +79,12 @@ fn check_object<P: Placed>(src: &mut P, n: u32, table: &mut ClassTable) -> Resul
         → Judges (λ _. KeepsAll (KeepsByKeys f F n) key_rules)
         (IsFirstFault (KeepsByKeys f F n) (BreaksAtKeys f F n) key_rules) result) }
 {
-    let frame = src.frame();
+    let _frame = src.frame();
     let place = src.place(n);
     let n = ObjectNo(n);
     let head = shape_in(src, n, place)?;
     match head.kind {
-        Kind::Dict => match table.first_wrong(src, &frame, n.0, &head)? {
+        Kind::Dict => match table.first_wrong(src, n.0, &head)? {
             None => Ok(()),
             Some(wrong) => Err(Refusal::Fault(key_fault(src, n, &head, wrong))),
         },

@@ -6,19 +6,19 @@ use Rattle.bplist_cert.proofs.key_classes.class_fault.Goals as goal
 pub returns-in-None-clause-texts : goal.returns-in-None-clause-texts
 returns-in-None-clause-texts g c = λ honest low classed inside sound.
     let m = g.P.Source.means c.args.src.now in
-    let found = (rw (c.in-None.is, c.frame-frame.ensures.frame) at c.in_ok-first_wrong.ensures.exact) honest low in
+    let found = (rw c.in-None.is at c.in_ok-first_wrong.ensures.exact) honest low in
     classed_texts m.octets (frame_in m) c.args.head.now c.args.table.now.classes.table.items classed (c.frame-frame.ensures.framed.framed honest) sound inside c.args.head.now.count (omega arith) found.0
 
 pub returns-in-None-clause-exact : goal.returns-in-None-clause-exact
 returns-in-None-clause-exact g c = λ honest low classed texts.
     let m = g.P.Source.means c.args.src.now in
-    let found = (rw (c.in-None.is, c.frame-frame.ensures.frame) at c.in_ok-first_wrong.ensures.exact) honest low in
+    let found = (rw c.in-None.is at c.in_ok-first_wrong.ensures.exact) honest low in
     apart_differ m.octets (frame_in m) c.args.head.now c.args.table.now.classes.table.items classed c.args.head.now.count (omega arith) found.1
 
 pub returns-in-Some-NoText-clause-exact : goal.returns-in-Some-NoText-clause-exact
 returns-in-Some-NoText-clause-exact g c = λ honest low classed texts.
     let m = g.P.Source.means c.args.src.now in
-    let found = (rw (c.in-Some-NoText.is, c.in-Some-NoText.field-0-is, c.frame-frame.ensures.frame) at c.in_ok-first_wrong.ensures.exact) honest low in
+    let found = (rw (c.in-Some-NoText.is, c.in-Some-NoText.field-0-is) at c.in_ok-first_wrong.ensures.exact) honest low in
     let text = texts c.in-Some-NoText.i found.0 in
     let some = class_at m.octets (frame_in m) c.args.head.now c.args.table.now.classes.table.items classed c.in-Some-NoText.i found.0 text.0 text.1 in
     absurd (omega (arith, some, found.1))
@@ -26,5 +26,5 @@ returns-in-Some-NoText-clause-exact g c = λ honest low classed texts.
 pub returns-in-Some-Again-clause-exact : goal.returns-in-Some-Again-clause-exact
 returns-in-Some-Again-clause-exact g c = λ honest low classed texts.
     let m = g.P.Source.means c.args.src.now in
-    let found = (rw (c.in-Some-Again.is, c.in-Some-Again.field-0-is, c.frame-frame.ensures.frame) at c.in_ok-first_wrong.ensures.exact) honest low in
+    let found = (rw (c.in-Some-Again.is, c.in-Some-Again.field-0-is) at c.in_ok-first_wrong.ensures.exact) honest low in
     (refl, refl, (c.in-Some-Again.i, again_twice m.octets (frame_in m) c.args.head.now c.args.table.now.classes.table.items classed texts c.in-Some-Again.i found.0 found.2, rw c.in_ok-first_wrong.ensures.reads at c.ref_place.ensures))

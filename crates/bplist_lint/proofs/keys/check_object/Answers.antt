@@ -26,7 +26,7 @@ returns-in-None-clause-exact g c = λ honest kept keys low.
     let has = (c.in_ok-head.ensures.rules honest (c.place-place.ensures honest)).0 in
     let known = keys head has c.in-Dict.is in
     let inside = keys_inside f F n kept head has c.in-Dict.is in
-    let good = (rw (c.frame-frame.ensures.frame, c.in_ok-head.ensures.reads, c.in-None.is) at c.in_ok-first_wrong-in-Dict.ensures.exact) honest low in
+    let good = (rw (c.in_ok-head.ensures.reads, c.in-None.is) at c.in_ok-first_wrong-in-Dict.ensures.exact) honest low in
     kept_keys f F n head has (classed_texts f F head classes known.0 framed known.1 inside head.count (omega arith) good.0) (apart_differ f F head classes known.0 head.count (omega arith) good.1)
 
 pub returns-in-Some-clause-exact : goal.returns-in-Some-clause-exact
@@ -40,5 +40,5 @@ returns-in-Some-clause-exact g c = λ honest kept keys low.
     let has = (c.in_ok-head.ensures.rules honest (c.place-place.ensures honest)).0 in
     let known = keys head has c.in-Dict.is in
     let inside = keys_inside f F n kept head has c.in-Dict.is in
-    let wrong = (rw (c.frame-frame.ensures.frame, c.in_ok-head.ensures.reads, c.in-Some.is) at c.in_ok-first_wrong-in-Dict.ensures.exact) honest low in
+    let wrong = (rw (c.in_ok-head.ensures.reads, c.in-Some.is) at c.in_ok-first_wrong-in-Dict.ensures.exact) honest low in
     wrong_fault f F framed head classes known.0 known.1 inside (record { 0 = n }) has c.in-Dict.is c.in-Some.wrong c.key_fault.result wrong (rw (c.in_ok-first_wrong-in-Dict.ensures.reads, c.in_ok-head.ensures.reads) at c.key_fault.ensures)

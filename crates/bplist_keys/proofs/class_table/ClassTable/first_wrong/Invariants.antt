@@ -1,12 +1,12 @@
-use Rattle.std.proofs.Common.{◌≡◌, ◌<◌, ◌≤◌, ◌-◌, IfSome, IsTrue}
+use Rattle.std.proofs.Common.{◌≡◌, ◌<◌, ◌≤◌, ◌-◌, IfSome}
+use Rattle.bplist_objects.specs.Framed.{HonestlyIn}
 use Rattle.bplist_keys.specs.Classes.{key_ref}
 use Rattle.bplist_keys.specs.Classes.{IsStamped, IsNew, AreSeen}
 use Rattle.bplist_keys.proofs.class_table.ClassTable.first_wrong.Given as goal
 
 abbrev pub invariant-loop-done : goal.invariant-loop-done
 invariant-loop-done g l =
-    let means = g.S.Source.means in
-    let f = (means l.fn.src).octets in
+    let means = g.P.Source.means in
     let classes = l.fn.self.classes.table.items in
     record {
       reads : means l.src ≡ means l.fn.src;
@@ -14,8 +14,8 @@ invariant-loop-done g l =
       stamped : IsStamped l.n l.fn.self.seen.items l.self.seen.items;
       reached : l.done ≤ l.count;
       again : IfSome l.again (λ j. j < l.done);
-      seen : IsTrue (means l.fn.src).honest → IsNew l.fn.self.seen.items l.n
-          → AreSeen (key_ref f l.frame l.head) classes l.n l.self.seen.items l.done l.again;
+      seen : HonestlyIn (means l.fn.src) (λ f F. IsNew l.fn.self.seen.items l.n
+          → AreSeen (key_ref f F l.head) classes l.n l.self.seen.items l.done l.again);
     }
 
 abbrev pub decreases-loop-done : goal.decreases-loop-done
