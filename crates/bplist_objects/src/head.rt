@@ -83,6 +83,8 @@ fn shape_by_rules<S: Source>(
 /// place, a head is answered exactly where the object has one. A place at or behind the table, which no such
 /// file has, is answered as OffsetHigh. Over any source and with any place the head lies before the table,
 /// and its body behind `place`.
+// Inlined, so that `shape_in` takes out of the frame what it needs and copies nothing.
+#[inline(always)]
 pub fn shape_at<S: Source>(
     src: &mut S,
     frame: &Frame,
