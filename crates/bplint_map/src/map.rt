@@ -1,7 +1,7 @@
 //! The answer of `map`.
 ghost use Rattle.std.specs.Prelude.{◌≡◌, ℕ, List, ◌*◌, ◌^◌, ◌<◌, All, IfOk, IsTrue, length, string_bytes, map as map_of};
 ghost use Rattle.bplist_octets.specs.Meaning.{OnlyReads};
-ghost use Rattle.bplist_objects.specs.Framed.{HonestlyBy};
+ghost use Rattle.bplist_objects.specs.Framed.{HonestlyIn, frame_in};
 ghost use Rattle.bplist_objects.specs.Safe.{IsSafe};
 ghost use Rattle.bplint_lines.specs.Answers.{read_failed};
 ghost use Rattle.bplint_map.specs.Map.{LeavesMap, Puts, back_text, front_text, map_text, most_looked, rows_text};
@@ -14,7 +14,7 @@ use crate::rows::row_of;
 use crate::verdict::{Verdict, verdict_of};
 use bplint_lines::{RunFault, Said};
 use bplist_ascii::Sink;
-use bplist_objects::{Frame, ObjectFault, frame_of};
+use bplist_objects::{Frame, Framed, ObjectFault, Plist, frame_of};
 use bplist_octets::Source;
 use std::alloc::{AllocError, Global};
 use std::io::Write;
@@ -56,34 +56,33 @@ pub fn map_on<S: Source, W: Write>(
         Err(ObjectFault::Read(fault)) => return Err(RunFault::Read(fault)),
     };
     let verdict = verdict_of(alloc, src)?;
-    let objects = placed_objects(alloc, src, &frame)?;
+    let mut plist = Plist::new(src, frame);
+    let objects = placed_objects(alloc, &mut plist)?;
     let map = Map { verdict, objects };
     let mut sink = Sink::new();
-    put_map(alloc, src, &frame, &map, &mut sink, out)?;
+    put_map(alloc, &mut plist, &map, &mut sink, out)?;
     sink.flush(out)?;
     Ok(Said::All)
 }
 
 /// Puts all lines of a map in.
-fn put_map<S: Source, W: Write>(
+fn put_map<P: Framed, W: Write>(
     alloc: Global,
-    src: &mut S,
-    frame: &Frame,
+    src: &mut P,
     map: &Map,
     sink: &mut Sink,
     out: &mut W,
 ) -> Result<(), RunFault>
-    requires safe { IsSafe (length (S.means src.old).octets) frame.now }
-    requires within { All (λ object. object.number < frame.now.objects) map.now.objects.items }
-    ensures reads { OnlyReads (read_failed result) (S.means src.old) (S.means src.new) }
-    ensures exact { HonestlyBy (S.means src.old) frame.now (λ f F. (order : List ℕ)
+    requires { All (λ object. object.number < (frame_in (P.means src.old)).objects) map.now.objects.items }
+    ensures reads { OnlyReads (read_failed result) (P.means src.old) (P.means src.new) }
+    ensures exact { HonestlyIn (P.means src.old) (λ f F. (order : List ℕ)
         → map.now.objects.items ≡ map_of (placed f F) order → (findings : ℕ → Finding) → AreFindings f F findings
         → Puts (W.contents out.old) (W.contents out.new) sink.old sink.new (map_text f F map.now.verdict findings order) result) }
 {
     let front = front_lines(alloc)?;
-    let back = back_lines(alloc, frame, src.len())?;
+    let back = back_lines(alloc, &src.frame(), src.len())?;
     sink.put(out, front.as_bytes())?;
-    put_rows(alloc, src, frame, map, sink, out)?;
+    put_rows(alloc, src, map, sink, out)?;
     sink.put(out, back.as_bytes())?;
     Ok(())
 }
@@ -110,26 +109,25 @@ fn back_lines(alloc: Global, frame: &Frame, length: u64) -> Result<String, Alloc
 }
 
 /// Puts the lines of the objects in, and of what lies between them.
-fn put_rows<S: Source, W: Write>(
+fn put_rows<P: Framed, W: Write>(
     alloc: Global,
-    src: &mut S,
-    frame: &Frame,
+    src: &mut P,
     map: &Map,
     sink: &mut Sink,
     out: &mut W,
 ) -> Result<(), RunFault>
-    requires safe { IsSafe (length (S.means src.old).octets) frame.now }
-    requires within { All (λ object. object.number < frame.now.objects) map.now.objects.items }
-    ensures reads { OnlyReads (read_failed result) (S.means src.old) (S.means src.new) }
-    ensures exact { HonestlyBy (S.means src.old) frame.now (λ f F. (order : List ℕ)
+    requires { All (λ object. object.number < (frame_in (P.means src.old)).objects) map.now.objects.items }
+    ensures reads { OnlyReads (read_failed result) (P.means src.old) (P.means src.new) }
+    ensures exact { HonestlyIn (P.means src.old) (λ f F. (order : List ℕ)
         → map.now.objects.items ≡ map_of (placed f F) order → (findings : ℕ → Finding) → AreFindings f F findings
         → Puts (W.contents out.old) (W.contents out.new) sink.old sink.new (rows_text f F map.now.verdict findings order) result) }
 {
     let mut line = String::new(alloc);
-    let mut left = looked_at_most(frame);
+    let frame = src.frame();
+    let mut left = looked_at_most(&frame);
     let mut reached = 8;
     for object in &map.objects {
-        let row = row_of(src, frame, *object, &mut left)?;
+        let row = row_of(src, *object, &mut left)?;
         line.clear();
         add_row(&mut line, reached, &row, &map.verdict)?;
         sink.put(out, line.as_bytes())?;

@@ -1,15 +1,14 @@
 //! The objects of a file in byte order.
-ghost use Rattle.std.specs.Prelude.{◌≡◌, ℕ, List, ◌<◌, All, IfOk, IsTrue, length, map};
+ghost use Rattle.std.specs.Prelude.{◌≡◌, ℕ, List, ◌<◌, All, IfOk, map};
 ghost use Rattle.std.specs.List.{range_with_len};
 ghost use Rattle.bplist_octets.specs.Meaning.{OnlyReads};
-ghost use Rattle.bplist_objects.specs.Safe.{IsSafe};
+ghost use Rattle.bplist_objects.specs.Framed.{HonestlyIn, frame_in};
 ghost use Rattle.bplint_lines.specs.Answers.{read_failed};
 ghost use Rattle.bplint_lines.specs.Faults.{Gives};
 ghost use Rattle.bplint_map.specs.Rows.{IsByPlace, placed};
 
 use bplint_lines::RunFault;
-use bplist_objects::{Frame, ObjectNo, offset_of};
-use bplist_octets::Source;
+use bplist_objects::{Framed, ObjectNo, offset_in};
 use std::alloc::Global;
 
 /// An object and its place.
@@ -22,38 +21,30 @@ pub(crate) struct Placed {
 }
 
 /// The objects of a file by their places, those of one place by their numbers.
-pub(crate) fn placed_objects<S: Source>(
-    alloc: Global,
-    src: &mut S,
-    frame: &Frame,
-) -> Result<Vec<Placed>, RunFault>
-    requires { IsSafe (length (S.means src.old).octets) frame.now }
-    ensures reads { OnlyReads (read_failed result) (S.means src.old) (S.means src.new) }
-    ensures within { IfOk result (λ objects. All (λ object. object.number < frame.now.objects) objects.items) }
-    ensures exact { IsTrue (S.means src.old).honest → Gives (λ objects. (order : List ℕ)
-        × IsByPlace (S.means src.old).octets frame.now order
-        × (objects.items ≡ map (placed (S.means src.old).octets frame.now) order)) result }
+pub(crate) fn placed_objects<P: Framed>(alloc: Global, src: &mut P) -> Result<Vec<Placed>, RunFault>
+    ensures reads { OnlyReads (read_failed result) (P.means src.old) (P.means src.new) }
+    ensures within { IfOk result (λ objects.
+        All (λ object. object.number < (frame_in (P.means src.old)).objects) objects.items) }
+    ensures exact { HonestlyIn (P.means src.old) (λ f F. Gives (λ objects. (order : List ℕ) × IsByPlace f F order
+        × (objects.items ≡ map (placed f F) order)) result) }
 {
-    let mut objects = read_places(alloc, src, frame)?;
+    let mut objects = read_places(alloc, src)?;
     objects.sort_unstable();
     Ok(objects)
 }
 
 /// The objects of a file by their numbers.
-fn read_places<S: Source>(
-    alloc: Global,
-    src: &mut S,
-    frame: &Frame,
-) -> Result<Vec<Placed>, RunFault>
-    requires { IsSafe (length (S.means src.old).octets) frame.now }
-    ensures reads { OnlyReads (read_failed result) (S.means src.old) (S.means src.new) }
-    ensures within { IfOk result (λ objects. All (λ object. object.number < frame.now.objects) objects.items) }
-    ensures exact { IsTrue (S.means src.old).honest → Gives (λ objects.
-        objects.items ≡ map (placed (S.means src.old).octets frame.now) (range_with_len 0 frame.now.objects)) result }
+fn read_places<P: Framed>(alloc: Global, src: &mut P) -> Result<Vec<Placed>, RunFault>
+    ensures reads { OnlyReads (read_failed result) (P.means src.old) (P.means src.new) }
+    ensures within { IfOk result (λ objects.
+        All (λ object. object.number < (frame_in (P.means src.old)).objects) objects.items) }
+    ensures exact { HonestlyIn (P.means src.old) (λ f F.
+        Gives (λ objects. objects.items ≡ map (placed f F) (range_with_len 0 F.objects)) result) }
 {
-    let mut objects = Vec::with_capacity(alloc, frame.objects as usize)?;
-    for number in 0..frame.objects {
-        let place = offset_of(src, frame, ObjectNo(number))?;
+    let count = src.frame().objects;
+    let mut objects = Vec::with_capacity(alloc, count as usize)?;
+    for number in 0..count {
+        let place = offset_in(src, ObjectNo(number))?;
         objects.push(Placed { place, number })?;
     }
     Ok(objects)

@@ -1,15 +1,14 @@
 //! What is found of each object by itself.
-ghost use Rattle.std.specs.Prelude.{◌≡◌, ℕ, ◌<◌, IfOk, is_err, length};
+ghost use Rattle.std.specs.Prelude.{◌≡◌, ℕ, ◌<◌, IfOk, is_err};
 ghost use Rattle.bplist_octets.specs.Meaning.{OnlyReads};
 ghost use Rattle.bplist_objects.specs.Frame.{off};
-ghost use Rattle.bplist_objects.specs.Framed.{HonestlyBy};
+ghost use Rattle.bplist_objects.specs.Framed.{HonestlyIn, frame_in};
 ghost use Rattle.bplist_objects.specs.Heads.{HasShape};
-ghost use Rattle.bplist_objects.specs.Safe.{IsSafe};
 ghost use Rattle.bplint_map.specs.Rows.{AreFindings, IsFinding, left_behind, placed, row};
 
 use crate::placed::Placed;
-use bplist_objects::{Frame, Head, ObjectFault, ObjectNo, Rule, head_at, shape_at};
-use bplist_octets::{ReadFault, Source};
+use bplist_objects::{Framed, Head, ObjectFault, ObjectNo, Rule, head_in, shape_in};
+use bplist_octets::ReadFault;
 
 /// What rules 14 to 20 say of an object by itself.
 #[derive(Clone, Copy, Debug, Drop)]
@@ -34,27 +33,25 @@ pub(crate) struct Row {
 }
 
 /// The row of an object. Its body is looked at where it has no more than the bytes that are left, and takes from them.
-pub(crate) fn row_of<S: Source>(
-    src: &mut S,
-    frame: &Frame,
+pub(crate) fn row_of<P: Framed>(
+    src: &mut P,
     object: Placed,
     left: &mut u64,
 ) -> Result<Row, ReadFault>
-    requires safe { IsSafe (length (S.means src.old).octets) frame.now }
-    requires within { object.number < frame.now.objects }
-    ensures reads { OnlyReads (is_err result) (S.means src.old) (S.means src.new) }
-    ensures exact { HonestlyBy (S.means src.old) frame.now (λ f F. object ≡ placed f F object.number
+    requires { object.number < (frame_in (P.means src.old)).objects }
+    ensures reads { OnlyReads (is_err result) (P.means src.old) (P.means src.new) }
+    ensures exact { HonestlyIn (P.means src.old) (λ f F. object ≡ placed f F object.number
         → (findings : ℕ → Finding) → AreFindings f F findings → IfOk result (λ found.
         (found ≡ row f F findings left.old object.number)
         × (left.new ≡ left_behind left.old object.place (findings object.number)))) }
 {
     let n = ObjectNo(object.number);
-    let finding = match shape_at(src, frame, n, object.place) {
+    let finding = match shape_in(src, n, object.place) {
         Ok(head) => {
             let taken = head.end - object.place;
             if taken <= *left {
                 *left -= taken;
-                finding_of(src, frame, object, head)?
+                finding_of(src, object, head)?
             } else {
                 Finding::Whole(head)
             }
@@ -70,19 +67,13 @@ pub(crate) fn row_of<S: Source>(
 }
 
 /// What the body of an object with this head says.
-fn finding_of<S: Source>(
-    src: &mut S,
-    frame: &Frame,
-    object: Placed,
-    head: Head,
-) -> Result<Finding, ReadFault>
-    requires safe { IsSafe (length (S.means src.old).octets) frame.now }
-    requires within { object.number < frame.now.objects }
-    ensures reads { OnlyReads (is_err result) (S.means src.old) (S.means src.new) }
-    ensures exact { HonestlyBy (S.means src.old) frame.now (λ f F. object.place ≡ off f F object.number
+fn finding_of<P: Framed>(src: &mut P, object: Placed, head: Head) -> Result<Finding, ReadFault>
+    requires { object.number < (frame_in (P.means src.old)).objects }
+    ensures reads { OnlyReads (is_err result) (P.means src.old) (P.means src.new) }
+    ensures exact { HonestlyIn (P.means src.old) (λ f F. object.place ≡ off f F object.number
         → HasShape f F object.number head → IfOk result (IsFinding f F object.number)) }
 {
-    match head_at(src, frame, ObjectNo(object.number), object.place) {
+    match head_in(src, ObjectNo(object.number), object.place) {
         Ok(_) => Ok(Finding::Whole(head)),
         Err(ObjectFault::Fault(fault)) => Ok(Finding::Wrong(head, fault.rule)),
         Err(ObjectFault::Read(fault)) => Err(fault),

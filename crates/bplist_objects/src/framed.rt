@@ -47,6 +47,8 @@ impl<S: Source> Source for Plist<'_, S> {
         self.source.len()
     }
 
+    // Inlined, so that a read costs what it costs the source.
+    #[inline(always)]
     fn read_at(&mut self, at: u64, into: &mut [u8]) -> Result<(), ReadFault> {
         self.source.read_at(at, into)
     }

@@ -43,6 +43,7 @@ pub fn read_offsets_in<P: Framed>(src: &mut P, from: u32, into: &mut [u64]) -> R
 }
 
 /// The head of object `n`, which stands at `place`, by marker and count alone, as `shape_at` answers it.
+#[inline(always)]
 pub fn shape_in<P: Framed>(src: &mut P, n: ObjectNo, place: u64) -> Result<Head, ObjectFault>
     requires { n.0 < (frame_in (P.means src.old)).objects }
     ensures reads { OnlyReads (read_failed result) (P.means src.old) (P.means src.new) }

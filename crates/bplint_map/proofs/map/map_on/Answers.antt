@@ -1,4 +1,7 @@
+use Rattle.std.proofs.Common.{ap}
 use Rattle.std.proofs.lemmas.Result.{err_from_is_err_and}
+use Rattle.bplist_octets.specs.Meaning.{Meaning}
+use Rattle.bplist_objects.specs.Framed.{frame_in}
 use Rattle.bplint_map.proofs.Findings.{findings_of}
 use Rattle.bplint_map.proofs.Texts.{all_out, end_cut, map_cut}
 use Rattle.bplint_map.proofs.map.map_on.Goals as goal
@@ -10,11 +13,12 @@ returns-in_err-put_map-clause-exact g c = λ honest.
     let F = c.in-Ok.frame in
     let frame = c.in-Ok.ensures.exact honest in
     let linted = rw c.in-Ok.ensures.reads at c.in_ok-verdict.ensures.exact in
-    let objects = rw (c.in_ok-verdict.ensures.reads, c.in-Ok.ensures.reads) at c.in_ok-objects.ensures.exact in
+    let objects = rw (c.new-plist.ensures.means, c.new-plist.ensures.frame, c.in_ok-verdict.ensures.reads, c.in-Ok.ensures.reads) at c.in_ok-objects.ensures.exact in
     let o = objects honest in
-    let puts = rw (c.in_ok-objects.ensures.reads, c.in_ok-verdict.ensures.reads, c.in-Ok.ensures.reads) at c.in_err-put_map.ensures.exact in
+    let same = c.in_ok-objects.ensures.reads in
+    let puts = rw (ap (λ (m : Meaning). m.octets) same, ap (λ (m : Meaning). m.honest) same, ap (λ (m : Meaning). frame_in m) same, c.new-plist.ensures.means, c.new-plist.ensures.frame, c.in_ok-verdict.ensures.reads, c.in-Ok.ensures.reads) at c.in_err-put_map.ensures.exact in
     let findings = findings_of f F frame in
-    rw (p.1, p.2) (map_cut f F frame c.in_ok-verdict.verdict (linted honest) o.0 o.1 _ _ c.new-sink.result _ c.new-sink.ensures (puts honest frame o.0 o.2 findings.0 findings.1))
+    rw (p.1, p.2) (map_cut f F frame c.in_ok-verdict.verdict (linted honest) o.0 o.1 _ _ c.new-sink.result _ c.new-sink.ensures (puts honest o.0 o.2 findings.0 findings.1))
 
 pub returns-in_err-flush-clause-exact : goal.returns-in_err-flush-clause-exact
 returns-in_err-flush-clause-exact g c = λ honest.
@@ -23,11 +27,12 @@ returns-in_err-flush-clause-exact g c = λ honest.
     let F = c.in-Ok.frame in
     let frame = c.in-Ok.ensures.exact honest in
     let linted = rw c.in-Ok.ensures.reads at c.in_ok-verdict.ensures.exact in
-    let objects = rw (c.in_ok-verdict.ensures.reads, c.in-Ok.ensures.reads) at c.in_ok-objects.ensures.exact in
+    let objects = rw (c.new-plist.ensures.means, c.new-plist.ensures.frame, c.in_ok-verdict.ensures.reads, c.in-Ok.ensures.reads) at c.in_ok-objects.ensures.exact in
     let o = objects honest in
-    let puts = rw (c.in_ok-objects.ensures.reads, c.in_ok-verdict.ensures.reads, c.in-Ok.ensures.reads) at c.in_ok-put_map.ensures.exact in
+    let same = c.in_ok-objects.ensures.reads in
+    let puts = rw (ap (λ (m : Meaning). m.octets) same, ap (λ (m : Meaning). m.honest) same, ap (λ (m : Meaning). frame_in m) same, c.new-plist.ensures.means, c.new-plist.ensures.frame, c.in_ok-verdict.ensures.reads, c.in-Ok.ensures.reads) at c.in_ok-put_map.ensures.exact in
     let findings = findings_of f F frame in
-    rw (p.1, p.2) (end_cut f F frame c.in_ok-verdict.verdict (linted honest) o.0 o.1 _ _ _ c.new-sink.result c.put_map.new.sink c.flush.new.self c.new-sink.ensures (puts honest frame o.0 o.2 findings.0 findings.1) _ c.in_err-flush.ensures.part)
+    rw (p.1, p.2) (end_cut f F frame c.in_ok-verdict.verdict (linted honest) o.0 o.1 _ _ _ c.new-sink.result c.put_map.new.sink c.flush.new.self c.new-sink.ensures (puts honest o.0 o.2 findings.0 findings.1) _ c.in_err-flush.ensures.part)
 
 pub returns-clause-exact : goal.returns-clause-exact
 returns-clause-exact g c = λ honest.
@@ -35,8 +40,9 @@ returns-clause-exact g c = λ honest.
     let F = c.in-Ok.frame in
     let frame = c.in-Ok.ensures.exact honest in
     let linted = rw c.in-Ok.ensures.reads at c.in_ok-verdict.ensures.exact in
-    let objects = rw (c.in_ok-verdict.ensures.reads, c.in-Ok.ensures.reads) at c.in_ok-objects.ensures.exact in
+    let objects = rw (c.new-plist.ensures.means, c.new-plist.ensures.frame, c.in_ok-verdict.ensures.reads, c.in-Ok.ensures.reads) at c.in_ok-objects.ensures.exact in
     let o = objects honest in
-    let puts = rw (c.in_ok-objects.ensures.reads, c.in_ok-verdict.ensures.reads, c.in-Ok.ensures.reads) at c.in_ok-put_map.ensures.exact in
+    let same = c.in_ok-objects.ensures.reads in
+    let puts = rw (ap (λ (m : Meaning). m.octets) same, ap (λ (m : Meaning). m.honest) same, ap (λ (m : Meaning). frame_in m) same, c.new-plist.ensures.means, c.new-plist.ensures.frame, c.in_ok-verdict.ensures.reads, c.in-Ok.ensures.reads) at c.in_ok-put_map.ensures.exact in
     let findings = findings_of f F frame in
-    all_out f F frame c.in_ok-verdict.verdict (linted honest) o.0 o.1 _ _ _ c.new-sink.result c.put_map.new.sink c.flush.new.self c.new-sink.ensures (puts honest frame o.0 o.2 findings.0 findings.1) c.in_ok-flush.ensures.taken c.in_ok-flush.ensures.empty
+    all_out f F frame c.in_ok-verdict.verdict (linted honest) o.0 o.1 _ _ _ c.new-sink.result c.put_map.new.sink c.flush.new.self c.new-sink.ensures (puts honest o.0 o.2 findings.0 findings.1) c.in_ok-flush.ensures.taken c.in_ok-flush.ensures.empty

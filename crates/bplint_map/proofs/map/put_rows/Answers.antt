@@ -1,5 +1,7 @@
 use Rattle.std.proofs.Common.{◌≡◌, ◌∙◌, ◌+◌, ◌++◌, ◌∷◌, [], ap, append_assoc, arith, codes, drop, max, refl, sym}
 use Rattle.std.proofs.lemmas.Result.{err_from_is_err_and}
+use Rattle.bplist_objects.specs.Framed.{frame_in}
+use Rattle.bplist_objects.specs.declared.frame.Frame.{Frame}
 use Rattle.bplist_ascii.proofs.SinkSteps.{some_of_takes, takes_more}
 use Rattle.bplint_lines.specs.declared.fault.RunFault.TheVariants as faults
 use Rattle.bplint_map.specs.Layout.{before, object, parts, row_end}
@@ -9,30 +11,30 @@ use Rattle.bplint_map.proofs.Texts.{no_more_lines, some_of_more, stepped, then_s
 use Rattle.bplint_map.proofs.map.put_rows.Goals as goal
 
 pub returns-in_err-row-clause-exact : goal.returns-in_err-row-clause-exact
-returns-in_err-row-clause-exact g c = λ honest frame order all findings are.
+returns-in_err-row-clause-exact g c = λ honest order all findings are.
     let p = err_from_is_err_and c.from_residual.result c.from_residual.ensures.1 in
-    let w = c.loop-object.invariant.written honest frame order all findings are in
+    let w = c.loop-object.invariant.written honest order all findings are in
     rw (p.1, p.2) (rw w.2 (some_of_takes _ w.1))
 
 pub returns-in_err-add_row-clause-exact : goal.returns-in_err-add_row-clause-exact
-returns-in_err-add_row-clause-exact g c = λ honest frame order all findings are.
+returns-in_err-add_row-clause-exact g c = λ honest order all findings are.
     let p = err_from_is_err_and c.from_residual-in_err-add_row.result c.from_residual-in_err-add_row.ensures.1 in
-    let w = c.loop-object.invariant.written honest frame order all findings are in
+    let w = c.loop-object.invariant.written honest order all findings are in
     rw (p.1, p.2) (rw w.2 (some_of_takes _ w.1))
 
 pub returns-in_err-put-clause-exact : goal.returns-in_err-put-clause-exact
-returns-in_err-put-clause-exact g c = λ honest frame order all findings are.
+returns-in_err-put-clause-exact g c = λ honest order all findings are.
     let p = err_from_is_err_and c.from_residual-in_err-put.result c.from_residual-in_err-put.ensures.1 in
-    let w = c.loop-object.invariant.written honest frame order all findings are in
-    let means = g.S.Source.means c.args.src.now in
+    let w = c.loop-object.invariant.written honest order all findings are in
+    let means = g.P.Source.means c.args.src.now in
     let reads = rw c.loop-object.invariant.same at c.in_ok-row.ensures.exact in
     let verdict = c.args.map.now.verdict in
     let lines = part_lines verdict (before c.loop-object.reached c.in_ok-row.row ++ object c.in_ok-row.row ∷ []) in
-    let rest = part_lines verdict (parts c.args.frame.now.table (max c.loop-object.reached (row_end c.in_ok-row.row))
-    (rows means.octets c.args.frame.now findings c.row_of.new.left (drop (c.loop-object.object-index + 1) order))) in
+    let rest = part_lines verdict (parts (frame_in (g.P.Source.means c.args.src.now)).table (max c.loop-object.reached (row_end c.in_ok-row.row))
+    (rows means.octets (frame_in (g.P.Source.means c.args.src.now)) findings c.row_of.new.left (drop (c.loop-object.object-index + 1) order))) in
     let line : c.as_bytes.result.now ≡ lines = c.as_bytes.ensures.value ∙ c.in_ok-add_row.ensures ∙ ap (λ l. l ++ lines) c.clear.ensures.bytes in
-    let text = stepped verdict c.args.frame.now.table means.octets c.args.frame.now findings are _ w.0 c.loop-object.reached c.loop-object.left _ c.loop-object.object-index order
-    c.deref-object-items.result.now c.in_ok-row.row (record { place = 0; number = 0 }) (c.deref-object-items.ensures.value ∙ all) (omega arith) w.2 (reads honest frame) in
+    let text = stepped verdict (frame_in (g.P.Source.means c.args.src.now)).table means.octets (frame_in (g.P.Source.means c.args.src.now)) findings are _ w.0 c.loop-object.reached c.loop-object.left _ c.loop-object.object-index order
+    c.deref-object-items.result.now c.in_ok-row.row (record { place = 0; number = 0 }) (c.deref-object-items.ensures.value ∙ all) (omega arith) w.2 (reads honest) in
     let part = rw line at c.in_err-put.ensures.part in
     rw (p.1, p.2) (then_some _ _ _ _ _ _ w.0 (lines ++ rest) (faults.Write _) w.1
     (some_of_more (g.W.Write.contents c.loop-object.out) (g.W.Write.contents c.put.new.out) c.loop-object.sink (lines ++ rest) lines rest (faults.Write _) part refl) text)
@@ -40,47 +42,47 @@ returns-in_err-put-clause-exact g c = λ honest frame order all findings are.
 pub loop-object-preserved : goal.loop-object-preserved
 loop-object-preserved g c = record {
   same = c.in_ok-row.ensures.reads ∙ c.loop-object.invariant.same;
-  written = λ honest frame order all findings are.
-      let w = c.loop-object.invariant.written honest frame order all findings are in
-      let means = g.S.Source.means c.args.src.now in
+  written = λ honest order all findings are.
+      let w = c.loop-object.invariant.written honest order all findings are in
+      let means = g.P.Source.means c.args.src.now in
       let reads = rw c.loop-object.invariant.same at c.in_ok-row.ensures.exact in
       let verdict = c.args.map.now.verdict in
       let lines = part_lines verdict (before c.loop-object.reached c.in_ok-row.row ++ object c.in_ok-row.row ∷ []) in
       let line : c.as_bytes.result.now ≡ lines =
       c.as_bytes.ensures.value ∙ c.in_ok-add_row.ensures ∙ ap (λ l. l ++ lines) c.clear.ensures.bytes in
-      let text = stepped verdict c.args.frame.now.table means.octets c.args.frame.now findings are _ w.0 c.loop-object.reached c.loop-object.left _ c.loop-object.object-index order
-      c.deref-object-items.result.now c.in_ok-row.row (record { place = 0; number = 0 }) (c.deref-object-items.ensures.value ∙ all) (omega arith) w.2 (reads honest frame) in
+      let text = stepped verdict (frame_in (g.P.Source.means c.args.src.now)).table means.octets (frame_in (g.P.Source.means c.args.src.now)) findings are _ w.0 c.loop-object.reached c.loop-object.left _ c.loop-object.object-index order
+      c.deref-object-items.result.now c.in_ok-row.row (record { place = 0; number = 0 }) (c.deref-object-items.ensures.value ∙ all) (omega arith) w.2 (reads honest) in
       let taken = rw line at c.in_ok-put.ensures.taken in
       (w.0 ++ lines, takes_more w.1 taken, rw (c.max-reached.ensures, c.end_of.ensures) (text ∙ sym (append_assoc w.0 lines _)));
 }
 
 pub returns-in_err-add_any-clause-exact : goal.returns-in_err-add_any-clause-exact
-returns-in_err-add_any-clause-exact g c = λ honest frame order all findings are.
+returns-in_err-add_any-clause-exact g c = λ honest order all findings are.
     let p = err_from_is_err_and c.from_residual-in_err-add_any.result c.from_residual-in_err-add_any.ensures.1 in
-    let w = c.loop-object.invariant.written honest frame order all findings are in
+    let w = c.loop-object.invariant.written honest order all findings are in
     rw (p.1, p.2) (rw w.2 (some_of_takes _ w.1))
 
 pub returns-in_err-put-2-clause-exact : goal.returns-in_err-put-2-clause-exact
-returns-in_err-put-2-clause-exact g c = λ honest frame order all findings are.
+returns-in_err-put-2-clause-exact g c = λ honest order all findings are.
     let p = err_from_is_err_and c.from_residual-in_err-put-2.result c.from_residual-in_err-put-2.ensures.1 in
-    let w = c.loop-object.invariant.written honest frame order all findings are in
-    let means = g.S.Source.means c.args.src.now in
+    let w = c.loop-object.invariant.written honest order all findings are in
+    let means = g.P.Source.means c.args.src.now in
     let verdict = c.args.map.now.verdict in
-    let lines = bare_lines c.loop-object.reached c.args.frame.now.table (codes "gap") in
-    let line : c.as_bytes-2.result.now ≡ lines = c.as_bytes-2.ensures.value ∙ c.in_ok-add_any.ensures ∙ ap (λ l. l ++ lines) c.clear-2.ensures.bytes in
-    let last = no_more_lines verdict c.args.frame.now.table means.octets c.args.frame.now findings c.loop-object.reached c.loop-object.left c.loop-object.object-index order
+    let lines = bare_lines c.loop-object.reached (frame_in (g.P.Source.means c.args.src.now)).table (codes "gap") in
+    let line : c.as_bytes-2.result.now ≡ lines = c.as_bytes-2.ensures.value ∙ c.in_ok-add_any.ensures ∙ ap (λ l. l ++ bare_lines c.loop-object.reached c.frame-frame.result.table (codes "gap")) c.clear-2.ensures.bytes ∙ ap (λ (G : Frame). bare_lines c.loop-object.reached G.table (codes "gap")) c.frame-frame.ensures.frame in
+    let last = no_more_lines verdict (frame_in (g.P.Source.means c.args.src.now)).table means.octets (frame_in (g.P.Source.means c.args.src.now)) findings c.loop-object.reached c.loop-object.left c.loop-object.object-index order
     c.deref-object-items.result.now (c.deref-object-items.ensures.value ∙ all) (omega arith) in
     let part = rw line at c.in_err-put-2.ensures.part in
     rw (p.1, p.2) (then_some _ _ _ _ _ _ w.0 lines (faults.Write _) w.1 part (w.2 ∙ ap (λ l. w.0 ++ l) last))
 
 pub returns-clause-exact : goal.returns-clause-exact
-returns-clause-exact g c = λ honest frame order all findings are.
-    let w = c.loop-object.invariant.written honest frame order all findings are in
-    let means = g.S.Source.means c.args.src.now in
+returns-clause-exact g c = λ honest order all findings are.
+    let w = c.loop-object.invariant.written honest order all findings are in
+    let means = g.P.Source.means c.args.src.now in
     let verdict = c.args.map.now.verdict in
-    let lines = bare_lines c.loop-object.reached c.args.frame.now.table (codes "gap") in
-    let line : c.as_bytes-2.result.now ≡ lines = c.as_bytes-2.ensures.value ∙ c.in_ok-add_any.ensures ∙ ap (λ l. l ++ lines) c.clear-2.ensures.bytes in
-    let last = no_more_lines verdict c.args.frame.now.table means.octets c.args.frame.now findings c.loop-object.reached c.loop-object.left c.loop-object.object-index order
+    let lines = bare_lines c.loop-object.reached (frame_in (g.P.Source.means c.args.src.now)).table (codes "gap") in
+    let line : c.as_bytes-2.result.now ≡ lines = c.as_bytes-2.ensures.value ∙ c.in_ok-add_any.ensures ∙ ap (λ l. l ++ bare_lines c.loop-object.reached c.frame-frame.result.table (codes "gap")) c.clear-2.ensures.bytes ∙ ap (λ (G : Frame). bare_lines c.loop-object.reached G.table (codes "gap")) c.frame-frame.ensures.frame in
+    let last = no_more_lines verdict (frame_in (g.P.Source.means c.args.src.now)).table means.octets (frame_in (g.P.Source.means c.args.src.now)) findings c.loop-object.reached c.loop-object.left c.loop-object.object-index order
     c.deref-object-items.result.now (c.deref-object-items.ensures.value ∙ all) (omega arith) in
     let taken = rw line at c.in_ok-put-2.ensures.taken in
     rw (w.2 ∙ ap (λ l. w.0 ++ l) last) (takes_more w.1 taken)

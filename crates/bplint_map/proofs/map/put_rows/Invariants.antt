@@ -1,5 +1,5 @@
 use Rattle.std.proofs.Common.{◌≡◌, ℕ, List, ◌++◌, drop, map as map_of}
-use Rattle.bplist_objects.specs.Framed.{HonestlyBy}
+use Rattle.bplist_objects.specs.Framed.{HonestlyIn}
 use Rattle.bplist_ascii.specs.Sending.{Takes}
 use Rattle.bplint_map.specs.declared.rows.Finding.{Finding}
 use Rattle.bplint_map.specs.Layout.{parts}
@@ -11,10 +11,10 @@ use Rattle.bplint_map.proofs.map.put_rows.Given as goal
 -- the source is as it was, and the lines so far were put in
 abbrev pub invariant-loop-object : goal.invariant-loop-object
 invariant-loop-object g l =
-    let means = g.S.Source.means in
+    let means = g.P.Source.means in
     record {
       same : means l.src ≡ means l.fn.src;
-      written : HonestlyBy (means l.fn.src) l.frame (λ f F. (order : List ℕ) → l.map.objects.items ≡ map_of (placed f F) order
+      written : HonestlyIn (means l.fn.src) (λ f F. (order : List ℕ) → l.map.objects.items ≡ map_of (placed f F) order
           → (findings : ℕ → Finding) → AreFindings f F findings → (done : List ℕ)
           × Takes (g.W.Write.contents l.fn.out) (g.W.Write.contents l.out) l.fn.sink l.sink done
           × (rows_text f F l.map.verdict findings order
