@@ -29,4 +29,3 @@ pub mod ReachedObjects
 pub mod HeadAnswers
 pub mod KeptOrBroken
 pub mod BlockSteps
-pub mod ReferenceLists

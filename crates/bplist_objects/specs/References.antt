@@ -1,4 +1,4 @@
--- The references of an object as they are read, block by block, and handed to a step. Source: profile.
+-- The references of an object as they are read, block by block. Source: profile.
 use Rattle.std.specs.Prelude.{◌≡◌, ℕ, ◌+◌, ◌<◌, ◌≤◌, Bool, true, false, List, length, slice_index}
 use Rattle.bplist_objects.specs.declared.frame.Frame.{Frame}
 use Rattle.bplist_objects.specs.declared.head.Head.{Head}
@@ -32,13 +32,3 @@ pub record IsNext (old new : Block) (more : Bool) : Type 0 where
 abbrev pub AreRefs : List ℕ → Frame → Block → Type 0
 AreRefs f F block = (k : ℕ) → k < length block.numbers
     → slice_index block.numbers k ≡ nth_number f block.head.body F.ref_size (block.first + k)
-
--- the first so many of these numbers are those of objects
-abbrev pub AreLow : List ℕ → ℕ → ℕ → Type 0
-AreLow refs objects count = (k : ℕ) → k < count → slice_index refs k < objects
-
--- number i of them is the first that is not
-pub record IsFirstHigh (refs : List ℕ) (objects i : ℕ) : Type 0 where
-  pub within : i < length refs
-  pub high : objects ≤ slice_index refs i
-  pub before : AreLow refs objects i

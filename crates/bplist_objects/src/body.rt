@@ -26,11 +26,7 @@ use crate::table::offset_of;
 use bplist_octets::Source;
 
 /// Looks for a byte of 128 or more in a text of one byte a unit.
-pub(crate) fn check_ascii<S: Source>(
-    src: &mut S,
-    n: ObjectNo,
-    head: &Head,
-) -> Result<(), ObjectFault>
+fn check_ascii<S: Source>(src: &mut S, n: ObjectNo, head: &Head) -> Result<(), ObjectFault>
     requires { head.now.body + head.now.count ≤ length (S.means src.old).octets }
     ensures reads { OnlyReads (read_failed result) (S.means src.old) (S.means src.new) }
     ensures exact { Honestly (S.means src.old) (λ f. Gives
@@ -44,7 +40,7 @@ pub(crate) fn check_ascii<S: Source>(
 }
 
 /// Looks at the number of a UID that stands at `place`.
-pub(crate) fn check_uid<S: Source>(
+fn check_uid<S: Source>(
     src: &mut S,
     n: ObjectNo,
     place: u64,

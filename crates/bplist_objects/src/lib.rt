@@ -19,7 +19,6 @@
 //! | the order of a text and given units | [`key_cmp`] |
 //! | a source with its frame | [`Framed`], [`Plist`] |
 //! | the same calls over that | [`shape_in`], [`head_in`], [`offset_in`], [`read_offsets_in`], [`read_refs_in`], [`ref_place`] |
-//! | one visit of an object: head, body and references | [`visit`], [`Step`] |
 //! | broken rules, their words and numbers | [`Rule`], [`rule_name`], [`rule_number`], [`rule_of_number`], [`Fault`], [`ObjectFault`] |
 //!
 //! The laws tie the definitions: an object has at most one head and one value (`one_head`, `one_value`), rules are kept exactly
@@ -44,7 +43,6 @@ mod rule;
 mod scan;
 mod table;
 mod text;
-mod visits;
 
 pub use body::{check_body, head_at, head_of};
 pub use fault::{Fault, ObjectFault};
@@ -66,4 +64,3 @@ pub use rule::{Rule, rule_name, rule_number, rule_of_number};
 pub use scan::first_high_in;
 pub use table::{high_entry, offset_of, read_offsets};
 pub use text::{key_cmp, read_units, unit_at};
-pub use visits::{Step, visit};

@@ -72,13 +72,6 @@ impl RefBlocks {
         }
     }
 
-    /// The number of the first reference of the block.
-    pub fn first(&self) -> u64
-        ensures { result ≡ self.now.first }
-    {
-        self.first
-    }
-
     /// The numbers of the references of the block.
     pub fn block(&self) -> &[u64]
         ensures { result.now ≡ self.now.numbers }
