@@ -30,6 +30,7 @@ impl Tally {
     }
 
     /// The tally with one object more, which stands at `place` and has this head, where there is room for it.
+    #[inline(always)]
     pub fn with(self, frame: &Frame, place: u64, head: &Head) -> Option<Tally>
         requires low { 1 ≤ frame.now.ref_size }
         requires head { IsSafeHead frame.now head.now }

@@ -187,6 +187,7 @@ fn mark_body<P: Framed>(
 }
 
 /// Looks at reached object `n`, marks its references and names its keys.
+#[inline(always)]
 fn visit<P: Placed>(src: &mut P, n: u32, progress: &mut Progress) -> Result<(), Stop>
     requires within { n < (frame_in (P.means src.old)).objects }
     requires steady { IsSteadyWalk (frame_in (P.means src.old)) progress.old }

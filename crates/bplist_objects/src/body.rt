@@ -61,6 +61,7 @@ fn check_uid<S: Source>(
 }
 
 /// Looks for a reference that names no object.
+#[inline(always)]
 fn check_refs<S: Source>(
     src: &mut S,
     frame: &Frame,

@@ -60,6 +60,7 @@ fn long_count<S: Source>(
 }
 
 /// The count of an object of a kind whose marker says all.
+#[inline(always)]
 fn fixed_count(kind: Kind, marker: u8) -> u8
     requires marks { Marks marker kind }
     requires fixed { is_counted (form_of kind) ≡ false }
@@ -76,6 +77,7 @@ fn fixed_count(kind: Kind, marker: u8) -> u8
 }
 
 /// The count of an object, and the first place after marker and count.
+#[inline(always)]
 pub(crate) fn count_of<S: Source>(
     src: &mut S,
     table: u64,

@@ -36,6 +36,7 @@ pub struct Head {
 }
 
 /// The head of object `n`, whose place is known, by the rules of marker and count.
+#[inline(always)]
 fn shape_by_rules<S: Source>(
     src: &mut S,
     frame: &Frame,
@@ -83,6 +84,7 @@ fn shape_by_rules<S: Source>(
 /// place, a head is answered exactly where the object has one. A place at or behind the table, which no such
 /// file has, is answered as OffsetHigh. Over any source and with any place the head lies before the table,
 /// and its body behind `place`.
+#[inline(always)]
 pub fn shape_at<S: Source>(
     src: &mut S,
     frame: &Frame,

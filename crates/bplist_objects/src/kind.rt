@@ -58,6 +58,7 @@ pub(crate) fn kind_of(marker: u8) -> Option<Kind>
 }
 
 /// How many bytes of the body one of the count takes.
+#[inline(always)]
 pub(crate) fn unit_of(kind: Kind, ref_size: u8) -> u8
     requires { ref_size ≤ 8 }
     ensures { result ≡ unit ref_size kind }

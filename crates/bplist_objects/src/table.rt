@@ -16,6 +16,7 @@ use crate::scan::first_not_below;
 use bplist_octets::{ReadFault, Source};
 
 /// The place of an entry of the offset table, in a file of so many bytes.
+#[inline(always)]
 pub(crate) fn entry_place(frame: &Frame, n: u32, len: u64) -> u64
     requires safe { IsSafe len frame.now }
     requires within { n < frame.now.objects }
@@ -60,6 +61,7 @@ pub fn read_offsets<S: Source>(
 
 /// The fault of object `n` by rule 13 OffsetHigh, in a file of `len` bytes: it stands where the entry does. The
 /// frame must fit the file, and `n` must be an object; whether its entry is too high is the caller's to know.
+#[inline(always)]
 pub fn high_entry(frame: &Frame, n: ObjectNo, len: u64) -> Fault
     requires safe { IsSafe len frame.now }
     requires within { n.0 < frame.now.objects }
