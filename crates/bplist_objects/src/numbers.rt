@@ -22,6 +22,7 @@ pub(crate) const FEW: u64 = 32;
 pub(crate) const FEW_BYTES: usize = 256;
 
 /// The number that the `size` bytes from `place` on spell.
+#[inline(always)]
 pub(crate) fn number_in<S: Source>(src: &mut S, place: u64, size: u8) -> Result<u64, ReadFault>
     requires low { 1 ≤ size }
     requires high { size ≤ 8 }
