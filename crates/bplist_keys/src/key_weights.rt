@@ -7,8 +7,9 @@ ghost use Rattle.bplist_keys.specs.Weights.{AreWeighed};
 ghost use Rattle.bplist_keys.specs.Failures.{failed_to_read};
 
 use crate::failure::Failure;
-use crate::places::Placed;
+use crate::place_block::PlaceBlock;
 use crate::weight::{Weight, weigh};
+use bplist_objects::Framed;
 
 /// Objects that are named as keys, and those among them that are known to be texts.
 #[derive(Drop)]
@@ -40,7 +41,7 @@ impl Weighing {
 }
 
 /// Weighs the objects that are named, and lists those that are texts by marker and count.
-pub(crate) fn weigh_keys<P: Placed>(src: &mut P, keys: &mut Weighing) -> Result<(), Failure>
+pub(crate) fn weigh_keys<P: Framed>(src: &mut P, keys: &mut Weighing) -> Result<(), Failure>
     requires named { length keys.old.weights.items ≡ (frame_in (P.means src.old)).objects }
     requires none { length keys.old.texts.items ≡ 0 }
     ensures reads { OnlyReads (failed_to_read result) (P.means src.old) (P.means src.new) }
@@ -52,10 +53,12 @@ pub(crate) fn weigh_keys<P: Placed>(src: &mut P, keys: &mut Weighing) -> Result<
     ensures exact { OnOk result (HonestlyIn (P.means src.old) (λ f F.
         AreWeighed f F keys.old.by keys.old.weights.items keys.new.weights.items)) }
 {
-    let frame = src.frame();
-    for m in 0..frame.objects {
+    let objects = src.frame().objects;
+    let mut places = PlaceBlock::new();
+    for m in 0..objects {
         if keys.weights[m as usize] != 0 {
-            let weight = weigh(src, m, keys.by)?;
+            let place = places.place(src, m)?;
+            let weight = weigh(src, m, place, keys.by)?;
             keys.put(m, weight)?;
         }
     }

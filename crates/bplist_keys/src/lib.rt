@@ -28,6 +28,7 @@ mod named_keys;
 mod notes;
 mod numbers;
 mod ordered;
+mod place_block;
 mod places;
 mod ranks;
 mod runs;

@@ -1,6 +1,6 @@
 //! The objects that are named as keys.
 
-ghost use Rattle.std.specs.Prelude.{◌≡◌, ◌⊎◌, Contains, ◌≤◌, ◌<◌, ◌^◌, ℕ, IfOk, OnOk, is_err, length, set, replicate, slice_index};
+ghost use Rattle.std.specs.Prelude.{◌≡◌, ◌⊎◌, Contains, ◌≤◌, ◌<◌, ◌^◌, ℕ, IfOk, OnOk, is_err, count_by, nat_lt, length, set, replicate, slice_index};
 ghost use Rattle.bplist_octets.specs.Meaning.{OnlyReads};
 ghost use Rattle.bplist_objects.specs.Framed.{frame_in, HonestlyIn};
 ghost use Rattle.bplist_objects.specs.Safe.{IsSafeHead};
@@ -29,6 +29,13 @@ impl NamedKeys {
         Ok(NamedKeys {
             table: vec![in alloc; 0; objects as usize]?,
         })
+    }
+
+    /// How many objects are named.
+    pub fn count(&self) -> usize
+        ensures { result ≡ count_by (nat_lt 0) self.now.table.items }
+    {
+        self.table.iter().filter(|named| **named > 0).count()
     }
 
     /// Object `m` is named as a key.

@@ -11,7 +11,7 @@ ghost use Rattle.bplist_keys.specs.Places.{IsKept, AreKept};
 ghost use Rattle.bplist_keys.specs.Texts.{AreOffsets};
 
 use crate::failure::Failure;
-use bplist_objects::{Frame, Framed, read_offsets};
+use bplist_objects::{Frame, Framed, ObjectNo, Plist, offset_in, read_offsets};
 use bplist_octets::{ReadFault, Source};
 use std::alloc::Global;
 
@@ -74,12 +74,22 @@ pub fn places_of<S: Source>(alloc: Global, src: &mut S, frame: &Frame) -> Result
     Ok(places)
 }
 
-/// A source that knows its frame and the places of its objects.
+/// A source that knows its frame and tells the places of its objects.
+///
+/// What walks over the objects in any order keeps their places, 4 bytes an object (`Table`). Where memory is short the
+/// entries are read again instead (`Plist`).
 pub trait Placed: Framed {
     /// The place of object `n`.
-    fn place(&self, n: u32) -> u64
-        requires { n < (frame_in (Self.means self.now)).objects }
-        ensures { HonestlyIn (Self.means self.now) (λ f F. result ≡ off f F n) };
+    fn place(&mut self, n: u32) -> Result<u64, ReadFault>
+        requires { n < (frame_in (Self.means self.old)).objects }
+        ensures reads { OnlyReads (is_err result) (Self.means self.old) (Self.means self.new) }
+        ensures value { HonestlyIn (Self.means self.old) (λ f F. IfOk result (λ place. place ≡ off f F n)) };
+}
+
+impl<S: Source> Placed for Plist<'_, S> {
+    fn place(&mut self, n: u32) -> Result<u64, ReadFault> {
+        offset_in(self, ObjectNo(n))
+    }
 }
 
 /// A source that is lent, with its frame and its offset table as numbers, so that no entry is read twice.
@@ -134,7 +144,8 @@ impl<S: Source> Framed for Table<'_, S> {
 }
 
 impl<S: Source> Placed for Table<'_, S> {
-    fn place(&self, n: u32) -> u64 {
-        self.places[n as usize] as u64
+    #[inline(always)]
+    fn place(&mut self, n: u32) -> Result<u64, ReadFault> {
+        Ok(self.places[n as usize] as u64)
     }
 }

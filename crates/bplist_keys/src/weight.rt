@@ -4,14 +4,14 @@
 
 ghost use Rattle.std.specs.Prelude.{◌≡◌, ◌<◌, IsTrue, IfOk, is_err, length, fold, slice_index};
 ghost use Rattle.bplist_octets.specs.Meaning.{OnlyReads};
+ghost use Rattle.bplist_objects.specs.Frame.{off};
 ghost use Rattle.bplist_objects.specs.Framed.{frame_in, HonestlyIn};
 ghost use Rattle.bplist_objects.specs.Safe.{IsSafeBody};
 ghost use Rattle.bplist_objects.specs.Units.{IsTextKind, units_of};
 ghost use Rattle.bplist_keys.specs.Weights.{mix, fingerprint, prefix, Weighs};
 
-use crate::places::Placed;
 use crate::text::{BLOCK, text_head};
-use bplist_objects::{Head, read_units};
+use bplist_objects::{Framed, Head, read_units};
 use bplist_octets::{ReadFault, Source};
 
 /// The odd factor by which a fingerprint is spread before a unit is added.
@@ -73,13 +73,17 @@ fn prefix_of<S: Source>(src: &mut S, key: &Head) -> Result<u32, ReadFault>
     Ok(units[0] as u32 * 0x1_0000 + units[1] as u32)
 }
 
-/// The weight of object `m`: 0 where its marker and count are not those of a text.
-pub(crate) fn weigh<P: Placed>(src: &mut P, m: u32, by: Weight) -> Result<u32, ReadFault>
+/// The weight of object `m`, which stands at `place`: 0 where its marker and count are not those of a text.
+pub(crate) fn weigh<P: Framed>(
+    src: &mut P,
+    m: u32,
+    place: u64,
+    by: Weight,
+) -> Result<u32, ReadFault>
     requires { m < (frame_in (P.means src.old)).objects }
     ensures reads { OnlyReads (is_err result) (P.means src.old) (P.means src.new) }
-    ensures exact { HonestlyIn (P.means src.old) (λ f F. IfOk result (Weighs f F by m)) }
+    ensures exact { HonestlyIn (P.means src.old) (λ f F. place ≡ off f F m → IfOk result (Weighs f F by m)) }
 {
-    let place = src.place(m);
     let Some(key) = text_head(src, m, place)? else {
         return Ok(0);
     };
