@@ -1,6 +1,6 @@
 -- A vouched object keeps all rules or there is a first one that it breaks, and so a file and a certificate have a yes or a first fault.
 use Rattle.std.proofs.Common.{◌≡◌, ℕ, zero, suc, ◌+◌, ◌-◌, ◌*◌, ◌<◌, ◌≤◌, ◌⊎◌, inl, inr, List, length}
-use Rattle.std.proofs.Common.{slice_index, Option, Some, None, Ok, Err, refl, arith}
+use Rattle.std.proofs.Common.{slice_index, Option, Some, None, refl, arith}
 use Rattle.std.proofs.lemmas.Bool.{cases_lt, cases_eq}
 use Rattle.bplist_objects.specs.declared.rule.Rule.{Rule}
 use Rattle.bplist_objects.specs.declared.rule.Rule.TheVariants as rules
@@ -21,7 +21,6 @@ use Rattle.bplist_objects.proofs.HeadTies.{kept_announces}
 use Rattle.bplist_cert.specs.declared.heights.Wanted.{Wanted}
 use Rattle.bplist_cert.specs.declared.heights.Wanted.TheVariants.{Vouched, Below, VouchedBelow}
 use Rattle.bplist_cert.specs.declared.checker.Look.TheVariants.{Exact}
-use Rattle.bplist_cert.specs.declared.refusal.Refusal.TheVariants as refusals
 use Rattle.bplist_cert.specs.Lists.{Keyed, Lists, lists}
 use Rattle.bplist_cert.specs.Valid.{IsVouchedBy}
 use Rattle.bplist_cert.specs.Heights.{ref, Meets, AreMet, IsFirstUnmet, IsHeightFault}

@@ -5,20 +5,16 @@ use Rattle.std.proofs.lemmas.List.{get_or-replicate, length-replicate, get_or_pa
 use Rattle.std.specs.declared.cmp.Ordering.TheVariants.{Less}
 use Rattle.bplist_objects.specs.declared.frame.Frame.{Frame}
 use Rattle.bplist_objects.specs.declared.head.Head.{Head}
-use Rattle.bplist_objects.specs.declared.kind.Kind.TheVariants.{Dict}
-use Rattle.bplist_objects.specs.Announced.{HasHead}
 use Rattle.bplist_objects.specs.Frame.{IsFrame}
 use Rattle.bplist_objects.specs.Units.{compare_units}
-use Rattle.bplist_objects.proofs.BodyLaws.{HasHead-unique}
 use Rattle.bplist_objects.proofs.HeadTies.{shape_announced}
 use Rattle.bplist_objects.proofs.UnitOrder.{compare_units-self, compare_units-less_less}
 use Rattle.bplist_keys.specs.Texts.{HasTextShape, text_units}
 use Rattle.bplist_keys.proofs.WeightSteps.{text_units-head}
 use Rattle.bplist_cert.specs.Heights.{ref}
 use Rattle.bplist_cert.specs.Lists.{Keyed}
-use Rattle.bplist_cert.specs.Valid.{IsVouchedBy}
 use Rattle.bplist_cert.specs.Looks.{IsSeen}
-use Rattle.bplist_cert.specs.CheckRules.{IsWhole, list_of, HasOrder}
+use Rattle.bplist_cert.specs.CheckRules.{IsWhole}
 use Rattle.bplist_cert.specs.Keys.{HaveTexts, AreInOrder}
 use Rattle.bplist_cert.specs.KeyClasses.{KeysAreSound, HasGoodKeys}
 use Rattle.bplist_cert.specs.declared.key_lists.ReadKey.{ReadKey}

@@ -1,15 +1,12 @@
 -- Objects that are texts, and keys.
-use Rattle.std.proofs.Common.{ℕ, ◌<◌, List, Result, Ok, Err, subst}
+use Rattle.std.proofs.Common.{ℕ, ◌<◌, List, subst}
 use Rattle.bplist_objects.specs.declared.fault.Fault.{Fault}
-use Rattle.bplist_objects.specs.declared.fault.ObjectFault.{ObjectFault}
-use Rattle.bplist_objects.specs.declared.fault.ObjectFault.TheVariants as object_faults
 use Rattle.bplist_objects.specs.declared.frame.Frame.{Frame}
 use Rattle.bplist_objects.specs.declared.head.Head.{Head}
 use Rattle.bplist_objects.specs.Frame.{IsFrame}
 use Rattle.bplist_objects.specs.Heads.{content_at}
 use Rattle.bplist_objects.specs.Units.{IsTextKind}
 use Rattle.bplist_objects.specs.Announced.{HasHead}
-use Rattle.bplist_objects.specs.Answers.{Gives}
 use Rattle.bplist_objects.specs.Rules.{KeepsAll}
 use Rattle.bplist_objects.specs.ObjectRules.{KeepsByObject, IsObjectFault, shape_rules, object_rules}
 use Rattle.bplist_objects.proofs.BodyLaws.{HasHead-unique}

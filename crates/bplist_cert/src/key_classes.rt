@@ -28,9 +28,10 @@ use crate::low_bytes::LowBytes;
 use crate::refusal::Refusal;
 use crate::seen::Seen;
 use bplist_keys::{
-    ClassTable, Failure, NamedKeys, Placed, Ranks, Table, Wrong, classes_of, places_of, ranks_of,
+    ClassTable, Failure, NamedKeys, Placed, Ranks, Table, Wrong, classes_of, placed_shape,
+    places_of, ranks_of,
 };
-use bplist_objects::{Fault, Framed, Head, Kind, ObjectNo, Rule, ref_place, shape_in};
+use bplist_objects::{Fault, Framed, Head, Kind, ObjectNo, Rule, ref_place};
 use bplist_octets::ReadFault;
 use std::alloc::Global;
 
@@ -151,8 +152,7 @@ fn check_object<P: Placed>(
         → Judges (λ _. HasGoodKeys f F None n) (BreaksKeys f F F.objects None n) result) }
 {
     let _frame = src.frame();
-    let place = src.place(n);
-    let head = shape_in(src, ObjectNo(n), place)?;
+    let head = placed_shape(src, n)?;
     match head.kind {
         Kind::Dict => check_classes(src, seen, ObjectNo(n), &head, look),
         _ => Ok(()),

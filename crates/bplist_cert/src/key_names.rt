@@ -13,8 +13,8 @@ ghost use Rattle.bplist_cert.specs.Refusals.{Judges, refused_read};
 
 use crate::refusal::Refusal;
 use crate::seen::Seen;
-use bplist_keys::{NamedKeys, Placed, name_keys};
-use bplist_objects::{Framed, Kind, ObjectNo, shape_in};
+use bplist_keys::{NamedKeys, Placed, name_keys, placed_shape};
+use bplist_objects::{Framed, Kind};
 use std::alloc::Global;
 
 /// Names the keys of object `n`, where it is a dictionary.
@@ -27,8 +27,7 @@ fn name_object<P: Placed>(src: &mut P, n: u32, named: &mut NamedKeys) -> Result<
     ensures exact { HonestlyIn (P.means src.old) (λ f F. KeepsAll (KeepsByObject f F n) object_rules
         → Judges (λ _. HasNamedKeys f F named.new.table.items n) Never result) }
 {
-    let place = src.place(n);
-    let head = shape_in(src, ObjectNo(n), place)?;
+    let head = placed_shape(src, n)?;
     match head.kind {
         Kind::Dict => Ok(name_keys(src, &head, named)?),
         _ => Ok(()),

@@ -39,7 +39,7 @@ mod weighted;
 pub use class_table::{ClassTable, Wrong};
 pub use failure::Failure;
 pub use named_keys::{NamedKeys, name_keys};
-pub use places::{Placed, Table, places_of};
+pub use places::{Placed, Table, placed_shape, places_of};
 pub use ranks::{Ranks, classes_of, ranks_of};
 pub use runs::Runs;
 pub use text::{text_head, text_order};

@@ -5,13 +5,20 @@ ghost use Rattle.bplist_octets.specs.Meaning.{OnlyReads};
 ghost use Rattle.bplist_octets.specs.Windows.{borrowed};
 ghost use Rattle.bplist_objects.specs.Frame.{off, IsFrame};
 ghost use Rattle.bplist_objects.specs.Framed.{frame_in, with_frame, HonestlyIn};
-ghost use Rattle.bplist_objects.specs.Safe.{IsSafe, IsSafeFrame};
+ghost use Rattle.bplist_objects.specs.Safe.{IsSafe, IsSafeFrame, IsSafeHead};
+ghost use Rattle.bplist_objects.specs.Answers.{Gives, read_failed};
+ghost use Rattle.bplist_objects.specs.Announced.{HasHead};
+ghost use Rattle.bplist_objects.specs.Heads.{HasShape};
+ghost use Rattle.bplist_objects.specs.Rules.{KeepsAll};
+ghost use Rattle.bplist_objects.specs.ObjectRules.{KeepsByObject, IsObjectFault, shape_rules};
 ghost use Rattle.bplist_keys.specs.Failures.{failed_to_read};
 ghost use Rattle.bplist_keys.specs.Places.{IsKept, AreKept};
 ghost use Rattle.bplist_keys.specs.Texts.{AreOffsets};
 
 use crate::failure::Failure;
-use bplist_objects::{Frame, Framed, ObjectNo, Plist, offset_in, read_offsets};
+use bplist_objects::{
+    Frame, Framed, Head, ObjectFault, ObjectNo, Plist, offset_in, read_offsets, shape_in,
+};
 use bplist_octets::{ReadFault, Source};
 use std::alloc::Global;
 
@@ -84,6 +91,22 @@ pub trait Placed: Framed {
         requires { n < (frame_in (Self.means self.old)).objects }
         ensures reads { OnlyReads (is_err result) (Self.means self.old) (Self.means self.new) }
         ensures value { HonestlyIn (Self.means self.old) (λ f F. IfOk result (λ place. place ≡ off f F n)) };
+}
+
+/// The head of object `n` by marker and count alone, as `shape_in` answers it.
+#[inline(always)]
+pub fn placed_shape<P: Placed>(src: &mut P, n: u32) -> Result<Head, ObjectFault>
+    requires { n < (frame_in (P.means src.old)).objects }
+    ensures reads { OnlyReads (read_failed result) (P.means src.old) (P.means src.new) }
+    ensures rules { HonestlyIn (P.means src.old) (λ f F.
+        Gives (λ head. HasHead f F n head × KeepsAll (KeepsByObject f F n) shape_rules)
+        (IsObjectFault f F n shape_rules) result) }
+    ensures exact { HonestlyIn (P.means src.old) (λ f F.
+        Gives (HasShape f F n) (IsObjectFault f F n shape_rules) result) }
+    ensures safe { IfOk result (IsSafeHead (frame_in (P.means src.old))) }
+{
+    let place = src.place(n)?;
+    shape_in(src, ObjectNo(n), place)
 }
 
 impl<S: Source> Placed for Plist<'_, S> {

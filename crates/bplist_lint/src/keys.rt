@@ -26,8 +26,8 @@ ghost use Rattle.bplist_lint.specs.KeyClasses.{IsWrongFault};
 ghost use Rattle.bplist_objects.specs.declared.head.Head.{Head as head_record};
 
 use bplist_cert::Refusal;
-use bplist_keys::{ClassTable, Failure, NamedKeys, Placed, Ranks, Wrong, classes_of};
-use bplist_objects::{Fault, Framed, Head, Kind, ObjectNo, Rule, ref_place, shape_in};
+use bplist_keys::{ClassTable, Failure, NamedKeys, Placed, Ranks, Wrong, classes_of, placed_shape};
+use bplist_objects::{Fault, Framed, Head, Kind, ObjectNo, Rule, ref_place};
 use std::alloc::Global;
 
 /// The classes of the texts that are named as keys.
@@ -79,13 +79,11 @@ fn check_object<P: Placed>(src: &mut P, n: u32, table: &mut ClassTable) -> Resul
         (IsFirstFault (KeepsByKeys f F n) (BreaksAtKeys f F n) key_rules) result) }
 {
     let _frame = src.frame();
-    let place = src.place(n);
-    let n = ObjectNo(n);
-    let head = shape_in(src, n, place)?;
+    let head = placed_shape(src, n)?;
     match head.kind {
-        Kind::Dict => match table.first_wrong(src, n.0, &head)? {
+        Kind::Dict => match table.first_wrong(src, n, &head)? {
             None => Ok(()),
-            Some(wrong) => Err(Refusal::Fault(key_fault(src, n, &head, wrong))),
+            Some(wrong) => Err(Refusal::Fault(key_fault(src, ObjectNo(n), &head, wrong))),
         },
         _ => Ok(()),
     }

@@ -1,9 +1,12 @@
 //! The linter.
 
-ghost use Rattle.std.specs.Prelude.{◌≡◌, ◌↔◌, ℕ, ◌+◌, ◌≤◌, ◌<◌, IsTrue, IfOk, length, map, slice_index, vec_len, ⊤};
+ghost use Rattle.std.specs.Prelude.{◌≡◌, ◌↔◌, ℕ, ◌+◌, ◌≤◌, ◌<◌, IsTrue, IfOk, IfSome, MatchOption, length, map, slice_index, vec_len, ⊤};
 ghost use Rattle.bplist_octets.specs.Meaning.{OnlyReads};
 ghost use Rattle.bplist_objects.specs.Framed.{frame_in, HonestlyIn};
+ghost use Rattle.bplist_objects.specs.Frame.{IsFrame};
+ghost use Rattle.bplist_objects.specs.Safe.{IsSafeFrame};
 ghost use Rattle.bplist_objects.specs.Reach.{Reach};
+ghost use Rattle.bplist_keys.specs.Texts.{AreOffsets};
 ghost use Rattle.bplist_objects.specs.Spelled.{refs_at};
 ghost use Rattle.bplist_objects.specs.Value.{Value};
 ghost use Rattle.bplist_objects.specs.File.{FileHolds};
@@ -16,7 +19,8 @@ ghost use Rattle.bplist_lint.specs.Reaching.{IsMarked};
 ghost use Rattle.bplist_lint.specs.Referring.{AreBare};
 ghost use Rattle.bplist_lint.specs.Trail.{number};
 ghost use Rattle.bplist_lint.specs.ReachRules.{IsReachFault, KeepReachBelow};
-ghost use Rattle.bplist_lint.specs.KeyRules.{KeepKeysBelow};
+ghost use Rattle.bplist_cert.specs.Refusals.{Judges, refused_read};
+ghost use Rattle.bplist_lint.specs.KeyRules.{KeepKeysBelow, IsKeysFault};
 ghost use Rattle.bplist_lint.specs.Walks.{Fits, IsWalked, AreNamed};
 ghost use Rattle.bplist_lint.specs.FileFault.{IsObjectsFault, IsFileFault, IsFileCircle, IsFramedCircle};
 ghost use Rattle.bplist_lint.specs.Refusals.{Lints, lint_failed, no_circle};
@@ -33,9 +37,11 @@ use crate::reach::{Marked, mark_reached};
 use crate::reach_rules::check_reached;
 use crate::refusal::LintRefusal;
 use crate::walk::{Reached, walk};
-use bplist_cert::Certificate;
+use bplist_cert::{Certificate, Refusal};
 use bplist_keys::{Failure, NamedKeys, Placed, Table, places_of};
-use bplist_objects::{Fault, Framed, Kind, ObjectFault, ObjectNo, Rule, shape_at, trailer_of};
+use bplist_objects::{
+    Fault, Frame, Framed, Kind, ObjectFault, ObjectNo, Plist, Rule, shape_at, trailer_of,
+};
 use bplist_octets::Source;
 use std::alloc::Global;
 
@@ -120,25 +126,104 @@ fn find_reached<P: Placed>(alloc: Global, src: &mut P) -> Result<(Reached, Named
     }
 }
 
-/// Looks at the reached objects by rules 14 to 22 and 31, first each by itself and then at the keys of each.
-fn sift<P: Placed>(alloc: Global, src: &mut P) -> Result<Reached, LintRefusal>
-    ensures reads { OnlyReads (lint_failed result) (P.means src.old) (P.means src.new) }
-    ensures fits { IfOk result (Fits (frame_in (P.means src.old))) }
-    ensures exact { HonestlyIn (P.means src.old) (λ f F. Lints (IsSifted f F) (IsObjectsFault f F) no_circle result) }
+/// Looks at the reached objects by rules 14 to 20 and 31, and where no more than a third of all objects are named as keys,
+/// at the keys too. The objects that are named where there are more.
+fn sift_few<S: Source>(
+    alloc: Global,
+    src: &mut S,
+    frame: Frame,
+    places: &[u32],
+) -> Result<(Reached, Option<NamedKeys>), LintRefusal>
+    requires safe { IsSafeFrame (length (S.means src.old).octets) frame }
+    requires all { length places.now ≡ frame.objects }
+    requires framed { IsTrue (S.means src.old).honest → IsFrame (S.means src.old).octets frame }
+    requires placed { IsTrue (S.means src.old).honest → AreOffsets (S.means src.old).octets frame places.now }
+    ensures reads { OnlyReads (lint_failed result) (S.means src.old) (S.means src.new) }
+    ensures fits { IfOk result (λ known. Fits frame known.0) }
+    ensures all_named { IfOk result (λ known. IfSome known.1 (λ named. length named.table.items ≡ frame.objects)) }
+    ensures exact { IsTrue (S.means src.old).honest
+        → Lints (λ known. IsWalked (S.means src.old).octets frame known.0
+        × MatchOption known.1 (KeepKeysBelow (S.means src.old).octets frame frame.objects)
+        (λ named. AreNamed (S.means src.old).octets frame named.table.items))
+        (IsObjectsFault (S.means src.old).octets frame) no_circle result }
 {
-    let (reached, named) = find_reached(alloc, src)?;
-    check_keys(alloc, src, &reached.marks, &reached.bare, named)?;
-    Ok(reached)
+    let mut table = Table::new(src, frame, places);
+    let (reached, named) = find_reached(alloc, &mut table)?;
+    if named.count() > places.len() / 3 {
+        return Ok((reached, Some(named)));
+    }
+    check_keys(alloc, &mut table, &reached.marks, &reached.bare, named)?;
+    Ok((reached, None))
 }
 
-/// What the linter says of a file whose frame and places keep rules 1 to 13.
-fn lint_objects<P: Placed>(alloc: Global, src: &mut P) -> Result<Lint, LintRefusal>
+/// Looks at the keys of the reached dictionaries, where no places are kept.
+fn check_many_keys<S: Source>(
+    alloc: Global,
+    src: &mut S,
+    frame: Frame,
+    reached: &Reached,
+    named: NamedKeys,
+) -> Result<(), Refusal>
+    requires safe { IsSafeFrame (length (S.means src.old).octets) frame }
+    requires framed { IsTrue (S.means src.old).honest → IsFrame (S.means src.old).octets frame }
+    requires fits { Fits frame reached.now }
+    requires all_named { length named.table.items ≡ frame.objects }
+    ensures reads { OnlyReads (refused_read result) (S.means src.old) (S.means src.new) }
+    ensures exact { IsTrue (S.means src.old).honest → IsWalked (S.means src.old).octets frame reached.now
+        → AreNamed (S.means src.old).octets frame named.table.items
+        → Judges (λ _. KeepKeysBelow (S.means src.old).octets frame frame.objects)
+        (IsKeysFault (S.means src.old).octets frame) result }
+{
+    let mut plist = Plist::new(src, frame);
+    check_keys(alloc, &mut plist, &reached.marks, &reached.bare, named)
+}
+
+/// Looks at the reached objects by rules 14 to 22 and 31, first each by itself and then at the keys of each, where the
+/// places of all objects are given. They are answered again.
+///
+/// What many keys take and the places would come to more than 12 bytes an object together. So the places are given up while
+/// many keys are looked at, and then read again.
+fn sift<S: Source>(
+    alloc: Global,
+    src: &mut S,
+    frame: Frame,
+    places: Vec<u32>,
+) -> Result<(Reached, Vec<u32>), LintRefusal>
+    requires safe { IsSafeFrame (length (S.means src.old).octets) frame }
+    requires all { length places.items ≡ frame.objects }
+    requires framed { IsTrue (S.means src.old).honest → IsFrame (S.means src.old).octets frame }
+    requires placed { IsTrue (S.means src.old).honest → AreOffsets (S.means src.old).octets frame places.items }
+    ensures reads { OnlyReads (lint_failed result) (S.means src.old) (S.means src.new) }
+    ensures fits { IfOk result (λ known. Fits frame known.0) }
+    ensures all { IfOk result (λ known. length known.1.items ≡ frame.objects) }
+    ensures placed { IsTrue (S.means src.old).honest
+        → IfOk result (λ known. AreOffsets (S.means src.old).octets frame known.1.items) }
+    ensures exact { IsTrue (S.means src.old).honest
+        → Lints (λ known. IsSifted (S.means src.old).octets frame known.0) (IsObjectsFault (S.means src.old).octets frame)
+        no_circle result }
+{
+    let (reached, many) = sift_few(alloc, src, frame, &places)?;
+    match many {
+        None => Ok((reached, places)),
+        Some(named) => {
+            drop(places);
+            check_many_keys(alloc, src, frame, &reached, named)?;
+            let places = places_of(alloc, src, &frame)?;
+            Ok((reached, places))
+        }
+    }
+}
+
+/// What the linter says of a file whose reached objects keep rules 14 to 22 and 31.
+fn lint_sifted<P: Placed>(alloc: Global, src: &mut P, reached: Reached) -> Result<Lint, LintRefusal>
+    requires fits { Fits (frame_in (P.means src.old)) reached }
+    requires sifted { HonestlyIn (P.means src.old) (λ f F. IsSifted f F reached) }
     ensures reads { OnlyReads (lint_failed result) (P.means src.old) (P.means src.new) }
     ensures exact { HonestlyIn (P.means src.old) (λ f F.
-        Lints (IsLintedBy f F) (IsObjectsFault f F) (IsFramedCircle f F) result) }
+        Lints (IsLintedBy f F) Never (IsFramedCircle f F) result) }
 {
     let frame = src.frame();
-    let Reached { marks, bare, tally } = sift(alloc, src)?;
+    let Reached { marks, bare, tally } = reached;
     let heights = find_heights(alloc, src, &marks, bare)?;
     let height = heights[frame.top.0 as usize];
     if height == 0 {
@@ -163,7 +248,7 @@ fn top_kind<P: Placed>(src: &mut P) -> Result<Kind, ObjectFault>
         → Gives (λ kind. kind ≡ x.kind) Never result) }
 {
     let frame = src.frame();
-    let place = src.place(frame.top.0);
+    let place = src.place(frame.top.0)?;
     let head = shape_at(src, &frame, frame.top, place)?;
     Ok(head.kind)
 }
@@ -178,8 +263,9 @@ pub fn lint_with_kind<S: Source>(alloc: Global, src: &mut S) -> Result<(Lint, Ki
     let frame = trailer_of(src)?;
     let places = places_of(alloc, src, &frame)?;
     check_places(&frame, &places, src.len())?;
+    let (reached, places) = sift(alloc, src, frame, places)?;
     let mut table = Table::new(src, frame, &places);
-    let lint = lint_objects(alloc, &mut table)?;
+    let lint = lint_sifted(alloc, &mut table, reached)?;
     let kind = top_kind(&mut table)?;
     Ok((lint, kind))
 }

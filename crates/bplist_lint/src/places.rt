@@ -8,8 +8,8 @@ ghost use Rattle.bplist_objects.specs.Safe.{IsSafe, IsSafeHead};
 ghost use Rattle.bplist_objects.specs.declared.head.Head.{Head as head};
 ghost use Rattle.bplist_lint.specs.Places.{AreBelowTable, IsPlaceFault};
 
-use bplist_keys::Placed;
-use bplist_objects::{Fault, Frame, Head, ObjectFault, ObjectNo, high_entry, shape_in};
+use bplist_keys::{Placed, placed_shape};
+use bplist_objects::{Fault, Frame, Head, ObjectFault, ObjectNo, high_entry};
 use bplist_octets::ReadFault;
 
 /// Looks at the places of all objects by rule 13 OffsetHigh, in a file of `len` bytes.
@@ -34,8 +34,7 @@ pub fn shape_there<P: Placed>(src: &mut P, n: u32) -> Result<Option<Head>, ReadF
     ensures shape { HonestlyIn (P.means src.old) (λ f F. IfOk result (λ found. MatchOption found
         ((h : head) → HasShape f F n h → ⊥) (HasShape f F n))) }
 {
-    let place = src.place(n);
-    match shape_in(src, ObjectNo(n), place) {
+    match placed_shape(src, n) {
         Ok(head) => Ok(Some(head)),
         Err(ObjectFault::Fault(_)) => Ok(None),
         Err(ObjectFault::Read(error)) => Err(error),

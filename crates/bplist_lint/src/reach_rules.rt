@@ -23,7 +23,7 @@ fn check_object<P: Placed>(src: &mut P, n: u32, tally: Tally) -> Result<Tally, O
         → Tallied f F marks n tally → Gives (Tallied f F marks (n + 1)) (IsReachFault f F) result) }
 {
     let frame = src.frame();
-    let place = src.place(n);
+    let place = src.place(n)?;
     let head = head_in(src, ObjectNo(n), place)?;
     match tally.with(&frame, place, &head) {
         Some(now) => Ok(now),

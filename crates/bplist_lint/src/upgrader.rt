@@ -12,8 +12,8 @@ ghost use Rattle.bplist_lint.specs.Upgrades.{Upgrades, upgrade_failed};
 use crate::key_lists::KeySorting;
 use crate::upgrade_fault::UpgradeFault;
 use bplist_cert::{Certificate, Checked, KeyLists, vouched_keys};
-use bplist_keys::{Placed, Ranks, Table, places_of, ranks_of};
-use bplist_objects::{Framed, Kind, ObjectNo, shape_in};
+use bplist_keys::{Placed, Ranks, Table, placed_shape, places_of, ranks_of};
+use bplist_objects::{Framed, Kind};
 use bplist_octets::Source;
 use std::alloc::Global;
 
@@ -31,8 +31,7 @@ fn list_object<P: Placed>(src: &mut P, n: u32, lists: &mut KeySorting) -> Result
         → Listed f F heights n starts lists.old.positions.items
         → Upgrades (λ start. Listed f F heights (n + 1) (set starts n start) lists.new.positions.items) result) }
 {
-    let place = src.place(n);
-    let head = shape_in(src, ObjectNo(n), place)?;
+    let head = placed_shape(src, n)?;
     match head.kind {
         Kind::Dict => {
             let start = lists.positions.len() as u32;

@@ -201,7 +201,7 @@ fn visit<P: Placed>(src: &mut P, n: u32, progress: &mut Progress) -> Result<(), 
         → Walking f F (progress.old.worklist.current + 1) progress.new.worklist.stack.items progress.new)) }
 {
     let frame = src.frame();
-    let place = src.place(n);
+    let place = src.place(n)?;
     let head = shape_in(src, ObjectNo(n), place)?;
     let Some(tally) = progress.tally.with(&frame, place, &head) else {
         return Err(Stop::Trouble);

@@ -1,4 +1,3 @@
-use Rattle.bplist_keys.proofs.PlaceSteps.{framed_offsets}
 use Rattle.bplist_cert.proofs.key_classes.check_keys.Goals as goal
 
 pub returns-clause-exact : goal.returns-clause-exact

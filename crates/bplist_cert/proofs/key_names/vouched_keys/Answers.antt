@@ -1,4 +1,4 @@
-use Rattle.std.proofs.Common.{ℕ, ◌<◌, List, Result, Ok, Err, length, slice_index}
+use Rattle.std.proofs.Common.{ℕ, ◌<◌, List, Result, Ok, Err}
 use Rattle.bplist_objects.specs.declared.frame.Frame.{Frame}
 use Rattle.bplist_objects.specs.Answers.{Never}
 use Rattle.bplist_objects.specs.Framed.{frame_in}

@@ -1,4 +1,4 @@
-use Rattle.std.proofs.Common.{ℕ, List, Result, Ok, Err, Option, Some, None, MatchOption, IfOk, arith, subst, ◌∙◌, sym}
+use Rattle.std.proofs.Common.{ℕ, List, Result, Ok, Err, Option, Some, None, MatchOption, IfOk, arith, subst}
 use Rattle.bplist_octets.specs.declared.source.ReadFault.{ReadFault}
 use Rattle.bplist_objects.specs.declared.frame.Frame.{Frame}
 use Rattle.bplist_objects.specs.declared.head.Head.{Head}

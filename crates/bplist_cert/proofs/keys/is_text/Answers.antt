@@ -1,4 +1,4 @@
-use Rattle.std.proofs.Common.{◌≡◌, ◌+◌, ◌*◌, ◌≤◌, length, inl, inr, arith, ap, ◌∙◌, refl}
+use Rattle.std.proofs.Common.{◌≡◌, ◌+◌, ◌*◌, ◌≤◌, length, inl, inr, arith, ap, refl}
 use Rattle.std.proofs.lemmas.Bool.{false≢true}
 use Rattle.std.proofs.lemmas.Result.{IfOk-weaker}
 use Rattle.bplist_objects.specs.declared.frame.Frame.{Frame}
@@ -7,7 +7,7 @@ use Rattle.bplist_objects.specs.Heads.{unit}
 use Rattle.bplist_objects.specs.ObjectRules.{KeepsByObject, BreaksAt, shape_rules, body_rules}
 use Rattle.bplist_objects.proofs.RuleLaws.{first_fault_among}
 use Rattle.bplist_objects.proofs.Units.{text_kind}
-use Rattle.bplist_cert.proofs.Texts.{text_there, no_text, other_kind}
+use Rattle.bplist_cert.proofs.Texts.{text_there, no_text}
 use Rattle.bplist_cert.proofs.LowSteps.{low_kept, wide_kept, text_is_low}
 use Rattle.bplist_cert.proofs.keys.is_text.Goals as goal
 

@@ -1,4 +1,4 @@
-use Rattle.std.proofs.Common.{refl, false, true, ◌≡◌}
+use Rattle.std.proofs.Common.{refl}
 use Rattle.std.proofs.lemmas.Bool.{false≢true}
 use Rattle.bplist_cert.proofs.LowSteps.{below_low, high_there}
 use Rattle.bplist_cert.proofs.low_bytes.is_low.Goals as goal

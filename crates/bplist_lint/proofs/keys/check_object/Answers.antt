@@ -13,7 +13,7 @@ pub returns-in_err-head-clause-exact : goal.returns-in_err-head-clause-exact
 returns-in_err-head-clause-exact g c = λ honest kept keys low.
     let p = err_from_is_err_and c.from_residual.result c.from_residual.ensures.1 in
     let F : Frame = frame_in (g.P.Source.means c.args.src.now) in
-    rw (p.1, p.2) (object_refused _ _ c.in_err-head.field-0.0 (λ fault h. absurd (shape_kept (g.P.Source.means c.args.src.now).octets F c.args.n fault kept h)) (c.in_err-head.ensures.rules honest (c.place-place.ensures honest)))
+    rw (p.1, p.2) (object_refused _ _ c.in_err-head.field-0.0 (λ fault h. absurd (shape_kept (g.P.Source.means c.args.src.now).octets F c.args.n fault kept h)) (c.in_err-head.ensures.rules honest))
 
 pub returns-in-None-clause-exact : goal.returns-in-None-clause-exact
 returns-in-None-clause-exact g c = λ honest kept keys low.
@@ -23,7 +23,7 @@ returns-in-None-clause-exact g c = λ honest kept keys low.
     let n = c.args.n in
     let head = c.in_ok-head.head in
     let classes = c.args.table.now.classes.table.items in
-    let has = (c.in_ok-head.ensures.rules honest (c.place-place.ensures honest)).0 in
+    let has = (c.in_ok-head.ensures.rules honest).0 in
     let known = keys head has c.in-Dict.is in
     let inside = keys_inside f F n kept head has c.in-Dict.is in
     let good = (rw (c.in_ok-head.ensures.reads, c.in-None.is) at c.in_ok-first_wrong-in-Dict.ensures.exact) honest low in
@@ -37,7 +37,7 @@ returns-in-Some-clause-exact g c = λ honest kept keys low.
     let n = c.args.n in
     let head = c.in_ok-head.head in
     let classes = c.args.table.now.classes.table.items in
-    let has = (c.in_ok-head.ensures.rules honest (c.place-place.ensures honest)).0 in
+    let has = (c.in_ok-head.ensures.rules honest).0 in
     let known = keys head has c.in-Dict.is in
     let inside = keys_inside f F n kept head has c.in-Dict.is in
     let wrong = (rw (c.in_ok-head.ensures.reads, c.in-Some.is) at c.in_ok-first_wrong-in-Dict.ensures.exact) honest low in

@@ -1,6 +1,3 @@
-use Rattle.bplist_objects.specs.declared.frame.Frame.{Frame}
-use Rattle.bplist_objects.specs.Framed.{frame_in}
-use Rattle.bplist_keys.proofs.PlaceSteps.{framed_offsets}
 use Rattle.bplist_lint.proofs.upgrader.list_keys_of.Goals as goal
 
 pub returns-clause-exact : goal.returns-clause-exact

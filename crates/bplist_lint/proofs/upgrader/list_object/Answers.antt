@@ -15,7 +15,7 @@ returns-in_err-head-clause-exact g c = λ honest named heights starts ranked giv
     let F : Frame = frame_in (g.P.Source.means c.args.src.now) in
     let p = err_from_is_err_and c.from_residual.result c.from_residual.ensures.1 in
     let s = (valid.vouched c.args.n v).spells in
-    rw (p.1, p.2) (object_no_change _ c.in_err-head.field-0.0 (λ fault h. no_shape f F c.args.n fault s.shape h s.has) (c.in_err-head.ensures.rules honest (c.place-place.ensures honest)))
+    rw (p.1, p.2) (object_no_change _ c.in_err-head.field-0.0 (λ fault h. no_shape f F c.args.n fault s.shape h s.has) (c.in_err-head.ensures.rules honest))
 
 pub returns-then-head-start-clause-exact : goal.returns-then-head-start-clause-exact
 returns-then-head-start-clause-exact g c = λ honest named heights starts ranked given valid v room l.
@@ -23,7 +23,7 @@ returns-then-head-start-clause-exact g c = λ honest named heights starts ranked
     let F : Frame = frame_in (g.P.Source.means c.args.src.now) in
     let n = c.args.n in
     let head = c.in_ok-head.head in
-    let has = (c.in_ok-head.ensures.rules honest (c.place-place.ensures honest)).0 in
+    let has = (c.in_ok-head.ensures.rules honest).0 in
     let shape = vouched_shape f F heights valid n v head has in
     let o = valid.vouched n v in
     let begin : c.len-start.result ≡ length c.args.lists.now.positions.items = omega (arith, c.args.lists.now.positions.ok.0, c.len-start.ensures) in
@@ -36,7 +36,7 @@ returns-in_err-list-in-Dict-clause-exact g c = λ honest named heights starts ra
     let F : Frame = frame_in (g.P.Source.means c.args.src.now) in
     let n = c.args.n in
     let head = c.in_ok-head.head in
-    let has = (c.in_ok-head.ensures.rules honest (c.place-place.ensures honest)).0 in
+    let has = (c.in_ok-head.ensures.rules honest).0 in
     let keys = vouched_keys f F heights valid n v head has c.in-Dict.is in
     let have = have_ranks f F named c.args.lists.now.ranks.table.items ranked n given head has c.in-Dict.is keys.0 keys.1 in
     let p = err_from_is_err_and c.from_residual-in_err-list-in-Dict.result c.from_residual-in_err-list-in-Dict.ensures.1 in
@@ -48,7 +48,7 @@ returns-in_ok-list-in-Dict-clause-exact g c = λ honest named heights starts ran
     let F : Frame = frame_in (g.P.Source.means c.args.src.now) in
     let n = c.args.n in
     let head = c.in_ok-head.head in
-    let has = (c.in_ok-head.ensures.rules honest (c.place-place.ensures honest)).0 in
+    let has = (c.in_ok-head.ensures.rules honest).0 in
     let keys = vouched_keys f F heights valid n v head has c.in-Dict.is in
     let have = have_ranks f F named c.args.lists.now.ranks.table.items ranked n given head has c.in-Dict.is keys.0 keys.1 in
     let shape = vouched_shape f F heights valid n v head has in
@@ -67,7 +67,7 @@ returns-in_default g c = record {
       let F : Frame = frame_in (g.P.Source.means c.args.src.now) in
       let n = c.args.n in
       let head = c.in_ok-head.head in
-      let has = (c.in_ok-head.ensures.rules honest (c.place-place.ensures honest)).0 in
+      let has = (c.in_ok-head.ensures.rules honest).0 in
       let shape = vouched_shape f F heights valid n v head has in
       let o = valid.vouched n v in
       listed_other f F heights n starts c.args.lists.now.positions.items l v room head shape o.content o.spells c.in_default.not-Dict;

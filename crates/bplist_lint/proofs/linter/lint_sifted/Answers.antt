@@ -4,15 +4,15 @@ use Rattle.std.proofs.lemmas.List.{get_or_read}
 use Rattle.bplist_objects.specs.declared.frame.Frame.{Frame}
 use Rattle.bplist_objects.specs.Framed.{frame_in}
 use Rattle.bplist_lint.proofs.Passes.{linted, circled}
-use Rattle.bplist_lint.proofs.linter.lint_objects.Goals as goal
+use Rattle.bplist_lint.proofs.linter.lint_sifted.Goals as goal
 
 pub returns-then-height-eq0-clause-exact : goal.returns-then-height-eq0-clause-exact
 returns-then-height-eq0-clause-exact g c = λ honest.
     let f = (g.P.Source.means c.args.src.now).octets in
     let F : Frame = frame_in (g.P.Source.means c.args.src.now) in
     let framed = c.frame-frame.ensures.framed.framed honest in
-    let s = c.in_ok-marks.ensures.exact honest in
-    rw c.new.ensures (circled f F framed _ s _ ((rw (c.in_ok-heights.ensures.reads, c.in_ok-marks.ensures.reads) at c.in_ok-circle.ensures.circle) honest s.walked.tallied.kept))
+    let s = c.requires.sifted honest in
+    rw c.new.ensures (circled f F framed _ s _ ((rw c.in_ok-heights.ensures.reads at c.in_ok-circle.ensures.circle) honest s.walked.tallied.kept))
 
 pub returns-clause-exact : goal.returns-clause-exact
 returns-clause-exact g c = λ honest.
@@ -20,13 +20,13 @@ returns-clause-exact g c = λ honest.
     let f = (g.P.Source.means c.args.src.now).octets in
     let F : Frame = frame_in (g.P.Source.means c.args.src.now) in
     let framed = c.frame-frame.ensures.framed.framed honest in
-    let s = c.in_ok-marks.ensures.exact honest in
-    let walked = (rw (c.deref.ensures.value, c.in_ok-marks.ensures.reads) at c.in_ok-heights.ensures.exact) honest s.walked.tallied.kept s.keys s.walked.marked in
+    let s = c.requires.sifted honest in
+    let walked = (rw c.deref.ensures.value at c.in_ok-heights.ensures.exact) honest s.walked.tallied.kept s.keys s.walked.marked in
     let count : length c.in_ok-heights.heights.items ≡ F.objects = grind (arith, common_steps) in
     let height = get_or_read c.in_ok-heights.heights.items F.top.0 c.index-height.result.now (rw count c.frame-frame.ensures.framed.safe.top) (rw c.frame-frame.ensures.frame at c.index-height.ensures) 0 in
-    linted f F framed _ s (let roomy = c.in_ok-marks.ensures.fits.roomy in omega (arith, roomy.room, roomy.references)) _ refl count walked height some refl refl
+    linted f F framed _ s (let roomy = c.requires.fits.roomy in omega (arith, roomy.room, roomy.references)) _ refl count walked height some refl refl
 
 pub find_circle-requires-clause-heights : goal.find_circle-requires-clause-heights
-find_circle-requires-clause-heights g c = rw (c.in_ok-heights.ensures.reads, c.in_ok-marks.ensures.reads, c.deref-then-height-eq0.ensures.value) (λ honest.
-    let s = c.in_ok-marks.ensures.exact honest in
-    (rw (c.deref.ensures.value, c.in_ok-marks.ensures.reads) at c.in_ok-heights.ensures.exact) honest s.walked.tallied.kept s.keys s.walked.marked)
+find_circle-requires-clause-heights g c = rw (c.in_ok-heights.ensures.reads, c.deref-then-height-eq0.ensures.value) (λ honest.
+    let s = c.requires.sifted honest in
+    (rw c.deref.ensures.value at c.in_ok-heights.ensures.exact) honest s.walked.tallied.kept s.keys s.walked.marked)
