@@ -11,7 +11,7 @@
 //! | what | calls |
 //! |---|---|
 //! | the objects that are named as keys | [`NamedKeys::new`], `insert` |
-//! | a source with its frame and the places of its objects | [`places_of`], [`Table`], [`Placed`] |
+//! | a source with its frame that tells the places of its objects, and what stands there | [`places_of`], [`Table`], [`Placed`], [`placed_shape`] |
 //! | a class for each: equal exactly where the units are equal | [`classes_of`], [`Ranks`] |
 //! | a rank for each: ordered as the units are | [`ranks_of`], [`Ranks`] |
 //! | a failed read or refused memory | [`Failure`] |
