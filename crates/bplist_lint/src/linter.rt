@@ -3,8 +3,6 @@
 ghost use Rattle.std.specs.Prelude.{◌≡◌, ◌↔◌, ℕ, ◌+◌, ◌≤◌, ◌<◌, IsTrue, IfOk, IfSome, MatchOption, length, map, slice_index, vec_len, ⊤};
 ghost use Rattle.bplist_octets.specs.Meaning.{OnlyReads};
 ghost use Rattle.bplist_objects.specs.Framed.{frame_in, HonestlyIn};
-ghost use Rattle.bplist_objects.specs.Frame.{IsFrame};
-ghost use Rattle.bplist_objects.specs.Safe.{IsSafeFrame};
 ghost use Rattle.bplist_objects.specs.Reach.{Reach};
 ghost use Rattle.bplist_keys.specs.Texts.{AreOffsets};
 ghost use Rattle.bplist_objects.specs.Spelled.{refs_at};
@@ -19,8 +17,7 @@ ghost use Rattle.bplist_lint.specs.Reaching.{IsMarked};
 ghost use Rattle.bplist_lint.specs.Referring.{AreBare};
 ghost use Rattle.bplist_lint.specs.Trail.{number};
 ghost use Rattle.bplist_lint.specs.ReachRules.{IsReachFault, KeepReachBelow};
-ghost use Rattle.bplist_cert.specs.Refusals.{Judges, refused_read};
-ghost use Rattle.bplist_lint.specs.KeyRules.{KeepKeysBelow, IsKeysFault};
+ghost use Rattle.bplist_lint.specs.KeyRules.{KeepKeysBelow};
 ghost use Rattle.bplist_lint.specs.Walks.{Fits, IsWalked, AreNamed};
 ghost use Rattle.bplist_lint.specs.FileFault.{IsObjectsFault, IsFileFault, IsFileCircle, IsFramedCircle};
 ghost use Rattle.bplist_lint.specs.Refusals.{Lints, lint_failed, no_circle};
@@ -37,10 +34,10 @@ use crate::reach::{Marked, mark_reached};
 use crate::reach_rules::check_reached;
 use crate::refusal::LintRefusal;
 use crate::walk::{Reached, walk};
-use bplist_cert::{Certificate, Refusal};
+use bplist_cert::Certificate;
 use bplist_keys::{Failure, NamedKeys, Placed, Table, places_of};
 use bplist_objects::{
-    Fault, Frame, Framed, Kind, ObjectFault, ObjectNo, Plist, Rule, shape_at, trailer_of,
+    Fault, Framed, Kind, ObjectFault, ObjectNo, Plist, Rule, shape_at, trailer_of,
 };
 use bplist_octets::Source;
 use std::alloc::Global;
@@ -128,25 +125,22 @@ fn find_reached<P: Placed>(alloc: Global, src: &mut P) -> Result<(Reached, Named
 
 /// Looks at the reached objects by rules 14 to 20 and 31, and where no more than a third of all objects are named as keys,
 /// at the keys too. The objects that are named where there are more.
-fn sift_few<S: Source>(
+fn sift_few<P: Placed>(
     alloc: Global,
-    src: &mut S,
-    frame: Frame,
+    src: &mut P,
     places: &[u32],
 ) -> Result<(Reached, Option<NamedKeys>), LintRefusal>
-    requires safe { IsSafeFrame (length (S.means src.old).octets) frame }
-    requires all { length places.now ≡ frame.objects }
-    requires framed { IsTrue (S.means src.old).honest → IsFrame (S.means src.old).octets frame }
-    requires placed { IsTrue (S.means src.old).honest → AreOffsets (S.means src.old).octets frame places.now }
-    ensures reads { OnlyReads (lint_failed result) (S.means src.old) (S.means src.new) }
-    ensures fits { IfOk result (λ known. Fits frame known.0) }
-    ensures all_named { IfOk result (λ known. IfSome known.1 (λ named. length named.table.items ≡ frame.objects)) }
-    ensures exact { IsTrue (S.means src.old).honest
-        → Lints (λ known. IsWalked (S.means src.old).octets frame known.0
-        × MatchOption known.1 (KeepKeysBelow (S.means src.old).octets frame frame.objects)
-        (λ named. AreNamed (S.means src.old).octets frame named.table.items))
-        (IsObjectsFault (S.means src.old).octets frame) no_circle result }
+    requires all { length places.now ≡ (frame_in (P.means src.old)).objects }
+    requires placed { HonestlyIn (P.means src.old) (λ f F. AreOffsets f F places.now) }
+    ensures reads { OnlyReads (lint_failed result) (P.means src.old) (P.means src.new) }
+    ensures fits { IfOk result (λ known. Fits (frame_in (P.means src.old)) known.0) }
+    ensures all_named { IfOk result (λ known. IfSome known.1
+        (λ named. length named.table.items ≡ (frame_in (P.means src.old)).objects)) }
+    ensures exact { HonestlyIn (P.means src.old) (λ f F. Lints (λ known. IsWalked f F known.0
+        × MatchOption known.1 (KeepKeysBelow f F F.objects) (λ named. AreNamed f F named.table.items))
+        (IsObjectsFault f F) no_circle result) }
 {
+    let frame = src.frame();
     let mut table = Table::new(src, frame, places);
     let (reached, named) = find_reached(alloc, &mut table)?;
     if named.count() > places.len() / 3 {
@@ -156,58 +150,32 @@ fn sift_few<S: Source>(
     Ok((reached, None))
 }
 
-/// Looks at the keys of the reached dictionaries, where no places are kept.
-fn check_many_keys<S: Source>(
-    alloc: Global,
-    src: &mut S,
-    frame: Frame,
-    reached: &Reached,
-    named: NamedKeys,
-) -> Result<(), Refusal>
-    requires safe { IsSafeFrame (length (S.means src.old).octets) frame }
-    requires framed { IsTrue (S.means src.old).honest → IsFrame (S.means src.old).octets frame }
-    requires fits { Fits frame reached.now }
-    requires all_named { length named.table.items ≡ frame.objects }
-    ensures reads { OnlyReads (refused_read result) (S.means src.old) (S.means src.new) }
-    ensures exact { IsTrue (S.means src.old).honest → IsWalked (S.means src.old).octets frame reached.now
-        → AreNamed (S.means src.old).octets frame named.table.items
-        → Judges (λ _. KeepKeysBelow (S.means src.old).octets frame frame.objects)
-        (IsKeysFault (S.means src.old).octets frame) result }
-{
-    let mut plist = Plist::new(src, frame);
-    check_keys(alloc, &mut plist, &reached.marks, &reached.bare, named)
-}
-
 /// Looks at the reached objects by rules 14 to 22 and 31, first each by itself and then at the keys of each, where the
 /// places of all objects are given. They are answered again.
 ///
 /// What many keys take and the places would come to more than 12 bytes an object together. So the places are given up while
 /// many keys are looked at, and then read again.
-fn sift<S: Source>(
+fn sift<P: Placed>(
     alloc: Global,
-    src: &mut S,
-    frame: Frame,
+    src: &mut P,
     places: Vec<u32>,
 ) -> Result<(Reached, Vec<u32>), LintRefusal>
-    requires safe { IsSafeFrame (length (S.means src.old).octets) frame }
-    requires all { length places.items ≡ frame.objects }
-    requires framed { IsTrue (S.means src.old).honest → IsFrame (S.means src.old).octets frame }
-    requires placed { IsTrue (S.means src.old).honest → AreOffsets (S.means src.old).octets frame places.items }
-    ensures reads { OnlyReads (lint_failed result) (S.means src.old) (S.means src.new) }
-    ensures fits { IfOk result (λ known. Fits frame known.0) }
-    ensures all { IfOk result (λ known. length known.1.items ≡ frame.objects) }
-    ensures placed { IsTrue (S.means src.old).honest
-        → IfOk result (λ known. AreOffsets (S.means src.old).octets frame known.1.items) }
-    ensures exact { IsTrue (S.means src.old).honest
-        → Lints (λ known. IsSifted (S.means src.old).octets frame known.0) (IsObjectsFault (S.means src.old).octets frame)
-        no_circle result }
+    requires all { length places.items ≡ (frame_in (P.means src.old)).objects }
+    requires placed { HonestlyIn (P.means src.old) (λ f F. AreOffsets f F places.items) }
+    ensures reads { OnlyReads (lint_failed result) (P.means src.old) (P.means src.new) }
+    ensures fits { IfOk result (λ known. Fits (frame_in (P.means src.old)) known.0) }
+    ensures all { IfOk result (λ known. length known.1.items ≡ (frame_in (P.means src.old)).objects) }
+    ensures placed { HonestlyIn (P.means src.old) (λ f F. IfOk result (λ known. AreOffsets f F known.1.items)) }
+    ensures exact { HonestlyIn (P.means src.old) (λ f F.
+        Lints (λ known. IsSifted f F known.0) (IsObjectsFault f F) no_circle result) }
 {
-    let (reached, many) = sift_few(alloc, src, frame, &places)?;
+    let (reached, many) = sift_few(alloc, src, &places)?;
     match many {
         None => Ok((reached, places)),
         Some(named) => {
             drop(places);
-            check_many_keys(alloc, src, frame, &reached, named)?;
+            check_keys(alloc, src, &reached.marks, &reached.bare, named)?;
+            let frame = src.frame();
             let places = places_of(alloc, src, &frame)?;
             Ok((reached, places))
         }
@@ -253,6 +221,27 @@ fn top_kind<P: Placed>(src: &mut P) -> Result<Kind, ObjectFault>
     Ok(head.kind)
 }
 
+/// What the linter says of a file whose frame and places keep rules 1 to 13, and beside a yes the kind of the top.
+fn lint_objects<P: Placed>(
+    alloc: Global,
+    src: &mut P,
+    places: Vec<u32>,
+) -> Result<(Lint, Kind), LintRefusal>
+    requires all { length places.items ≡ (frame_in (P.means src.old)).objects }
+    requires placed { HonestlyIn (P.means src.old) (λ f F. AreOffsets f F places.items) }
+    ensures reads { OnlyReads (lint_failed result) (P.means src.old) (P.means src.new) }
+    ensures exact { HonestlyIn (P.means src.old) (λ f F.
+        Lints (λ answer. IsLintedBy f F answer.0 × ((x : head) → HasShape f F F.top.0 x → answer.1 ≡ x.kind))
+        (IsObjectsFault f F) (IsFramedCircle f F) result) }
+{
+    let frame = src.frame();
+    let (reached, places) = sift(alloc, src, places)?;
+    let mut table = Table::new(src, frame, &places);
+    let lint = lint_sifted(alloc, &mut table, reached)?;
+    let kind = top_kind(&mut table)?;
+    Ok((lint, kind))
+}
+
 /// What `lint` says, and beside a yes the kind of the top, which no caller has to read again.
 pub fn lint_with_kind<S: Source>(alloc: Global, src: &mut S) -> Result<(Lint, Kind), LintRefusal>
     ensures reads { OnlyReads (lint_failed result) (S.means src.old) (S.means src.new) }
@@ -263,11 +252,9 @@ pub fn lint_with_kind<S: Source>(alloc: Global, src: &mut S) -> Result<(Lint, Ki
     let frame = trailer_of(src)?;
     let places = places_of(alloc, src, &frame)?;
     check_places(&frame, &places, src.len())?;
-    let (reached, places) = sift(alloc, src, frame, places)?;
-    let mut table = Table::new(src, frame, &places);
-    let lint = lint_sifted(alloc, &mut table, reached)?;
-    let kind = top_kind(&mut table)?;
-    Ok((lint, kind))
+    let mut plist = Plist::new(src, frame);
+    let answer = lint_objects(alloc, &mut plist, places)?;
+    Ok(answer)
 }
 
 /// Says whether the file holds a value: the least certificate for it, or the first fault of the file, and then no
