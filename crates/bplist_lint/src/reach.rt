@@ -178,7 +178,7 @@ fn begin<P: Framed>(alloc: Global, src: &P) -> Result<Search, AllocError>
     let frame = src.frame();
     let mut marks = vec![in alloc; false; frame.objects as usize]?;
     marks[frame.top.0 as usize] = true;
-    let mut stack = Vec::new(alloc);
+    let mut stack = Vec::with_capacity(alloc, frame.objects as usize)?;
     stack.push(frame.top.0)?;
     let size = frame.ref_size as u64;
     let numbers = (frame.table / size + 1) * size;
@@ -204,15 +204,16 @@ pub fn mark_reached<P: Placed>(alloc: Global, src: &mut P) -> Result<Marked, Fai
     ensures named { IfOk result (λ marked. marked.named.table.items ≡ replicate (frame_in (P.means src.old)).objects 1) }
 {
     let objects = src.frame().objects as usize;
-    let bare = vec![in alloc; false; objects]?;
-    let table = vec![in alloc; 1; objects]?;
     let mut search = begin(alloc, src)?;
     while let Some(n) = search.stack.pop() {
         look_at(src, n, &mut search)?;
     }
+    let Search { marks, .. } = search;
     Ok(Marked {
-        marks: search.marks,
-        bare,
-        named: NamedKeys { table },
+        marks,
+        bare: vec![in alloc; false; objects]?,
+        named: NamedKeys {
+            table: vec![in alloc; 1; objects]?,
+        },
     })
 }
