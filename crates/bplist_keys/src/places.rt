@@ -115,7 +115,7 @@ impl<S: Source> Placed for Plist<'_, S> {
     }
 }
 
-/// A source that is lent, with its frame and its offset table as numbers, so that no entry is read twice.
+/// A source that is lent, with its frame and its offset table as numbers, so that a place costs no read.
 #[derive(Drop)]
 pub struct Table<'a, S: Source> {
     source: &'a mut S,
