@@ -1,16 +1,183 @@
--- Steps of the walk that finds the least heights, of what it knows of the references.
-use Rattle.std.proofs.Common.{◌≡◌, ℕ, suc, ◌+◌, ◌<◌, ◌≤◌, max, ◌⊎◌, inl, inr, Bool, true, false, List, [], ◌∷◌, ◌++◌, length, get_or, map, set, Contains, refl, sym, ◌∙◌, ap, arith, below_more, add-one}
-use Rattle.std.proofs.lemmas.Bool.{cases_eq, cases_lt, false≢true}
-use Rattle.std.proofs.lemmas.List.{get_or-set_same, get_or_append_left, get_or_push, length_push}
-use Rattle.std.proofs.lemmas.List.Elements.{Contains-get_or}
+-- Steps of the walk that finds the least heights.
+use Rattle.std.proofs.Common.{◌≡◌, ◌≢◌, ℕ, zero, suc, ◌+◌, ◌<◌, ◌≤◌, max, ◌⊎◌, inl, inr, Bool, true, false, cond, List, [], ◌∷◌, ◌++◌, length, get_or, map, set, take, slice_index, count_by, Contains, refl, sym, ◌∙◌, ap, arith, below_more, add-one}
+use Rattle.std.proofs.Math.ListN.{get_or-eq_default}
+use Rattle.std.proofs.Math.Seq.{take-length}
+use Rattle.std.proofs.lemmas.Bool.{cases_eq, cases_lt}
+use Rattle.std.proofs.lemmas.List.{get_or-set_same, get_or-set_other, get_or_append_left, get_or_push, get_or_default, get_or-map, length-set, length-map, length_push, map-append, take_more}
+use Rattle.std.proofs.lemmas.List.Sums.{count_by-le-length}
+use Rattle.std.proofs.lemmas.List.Elements.{Contains-get_or, Contains-append_left, Contains-push, Contains-push_cases}
 use Rattle.bplist_lint.specs.Graph.{Ends, Least, greatest}
 use Rattle.bplist_lint.specs.Graph.Ends.{ends}
 use Rattle.bplist_lint.specs.Graph.Least.{above}
 use Rattle.bplist_lint.specs.Reaching.{IsMarked, HasMarks}
-use Rattle.bplist_lint.specs.Visits.{first_height, no_visit, visit_at, Measured, IsRead, IsOnStack, Walking, AreLeastOf}
-use Rattle.bplist_lint.specs.declared.heights.Visit.{Visit}
-use Rattle.bplist_lint.proofs.VisitSteps.{push_cases, each_push, each_front, each_last, at_set, first_seen, first_one}
+use Rattle.bplist_lint.specs.Visits.{state_at, is_new, is_founded, first_state, first_height, work, Standing, Walking, AreLeastOf}
+use Rattle.bplist_lint.specs.declared.heights.State.{State}
+use Rattle.bplist_lint.specs.declared.heights.State.TheVariants.{New, Open, Founded, Circular}
+use Rattle.bplist_lint.proofs.MarkSteps.{apart_none, apart_push, apart_front, apart_last}
+use Rattle.bplist_lint.proofs.VisitSteps.{count-set, push_cases, at_set}
 
+-- ---- states
+-- an object of which something is known is one of those that have a state
+state_within : (states : List State) (n : ℕ) → state_at states n ≢ New → n < length states
+state_within states n known = elim (cases_lt n (length states)) [
+  | inl low ↦ low
+  | inr high ↦ absurd (known (get_or-eq_default states New high))
+]
+
+-- the states and heights before the first look
+pub first_is : (bare : List Bool) (n : ℕ) → (IsMarked bare n × (state_at (map first_state bare) n ≡ Founded) × (get_or (map first_height bare) n 0 ≡ 1)) ⊎ ((state_at (map first_state bare) n ≡ New) × (get_or (map first_height bare) n 0 ≡ 0))
+first_is [] n = inr (refl, refl)
+first_is (true ∷ bs) zero = inl (refl, refl, refl)
+first_is (true ∷ bs) (suc n) = first_is bs n
+first_is (false ∷ bs) zero = inr (refl, refl)
+first_is (false ∷ bs) (suc n) = first_is bs n
+
+-- a founded object is counted
+counted : (states : List State) (n : ℕ) → state_at states n ≡ Founded → 0 < count_by is_founded states
+counted states n is =
+    let within = state_within states n (λ e. absurd (cc (sym is ∙ e))) in
+    omega (arith, rw is at (count-set is_founded states n New New within))
+
+pub standing_first : (size : ℕ) (bare : List Bool) → length bare ≡ size → Standing size (map first_state bare) (map first_height bare) []
+standing_first size bare long = record {
+  all_states = length-map bare first_state ∙ long;
+  all_heights = length-map bare first_height ∙ long;
+  are_open = λ k h. absurd (omega arith);
+  apart = apart_none;
+  on_stack = λ n is. elim (first_is bare n) [
+    | inl c ↦ absurd (cc (sym c.1 ∙ is))
+    | inr c ↦ absurd (cc (sym c.0 ∙ is))
+  ];
+  low = λ n is. elim (first_is bare n) [
+    | inl c ↦ let some = counted (map first_state bare) n c.1 in omega (arith, c.2, some)
+    | inr c ↦ absurd (cc (sym c.0 ∙ is))
+  ];
+  known = λ n h. elim (first_is bare n) [
+    | inl c ↦ inl c.1
+    | inr c ↦ absurd (omega (arith, c.1, h))
+  ];
+}
+
+module _ (size : ℕ) (states : List State) (heights stack : List ℕ) where
+  -- what lies on the stack is open
+  open_on : Standing size states heights stack → (n : ℕ) → Contains stack n → state_at states n ≡ Open
+  open_on s n c = rw (sym (get_or_default stack c.0 n 0 c.1) ∙ c.2) at (s.are_open c.0 c.1)
+
+  -- a new object is opened, on top of the stack
+  pub standing_open : (m : ℕ) → Standing size states heights stack → m < size → state_at states m ≡ New → Standing size (set states m Open) heights (stack ++ m ∷ [])
+  standing_open m s in' new =
+      let within : m < length states = omega (arith, s.all_states) in
+      let same = count-set is_founded states m Open New within in
+      let opened : (n : ℕ) → state_at states n ≡ Open → state_at (set states m Open) n ≡ Open = λ n is. elim (at_set states m Open New n within) [
+        | inl c ↦ c.1
+        | inr c ↦ c.1 ∙ is
+      ] in
+      record {
+        all_states = length-set states m Open ∙ s.all_states;
+        all_heights = s.all_heights;
+        are_open = λ k h. elim (push_cases stack m 0 k h) [
+          | inl c ↦ rw c.1 (opened _ (s.are_open k c.0))
+          | inr c ↦ rw c.1 (get_or-set_same states m Open New within)
+        ];
+        apart = apart_push stack m s.apart (λ c. absurd (cc (sym new ∙ open_on s m c)));
+        on_stack = λ n is. elim (at_set states m Open New n within) [
+          | inl c ↦ rw c.0 (Contains-push stack m)
+          | inr c ↦ Contains-append_left stack (m ∷ []) n (s.on_stack n (sym c.1 ∙ is))
+        ];
+        low = λ n is. elim (at_set states m Open New n within) [
+          | inl c ↦ absurd (cc (sym c.1 ∙ is))
+          | inr c ↦ let l = s.low n (sym c.1 ∙ is) in omega (arith, l, rw new at same)
+        ];
+        known = λ n h. elim (s.known n h) [
+          | inl is ↦ elim (at_set states m Open New n within) [
+            | inl c ↦ inr c.1
+            | inr c ↦ inl (c.1 ∙ is)
+          ]
+          | inr is ↦ inr (opened n is)
+        ];
+      }
+
+-- the object on top waits again, and one more is open
+pub work_open : (states : List State) (stack : List ℕ) (n m : ℕ) → m < length states → state_at states m ≡ New → work (set states m Open) ((stack ++ n ∷ []) ++ m ∷ []) < work states (stack ++ n ∷ [])
+work_open states stack n m within new =
+    let long = length_push (stack ++ n ∷ []) m in
+    omega (arith, long, rw new at (count-set is_new states m Open New within))
+
+-- ---- the object on top of the stack
+module _ (size : ℕ) (states : List State) (heights stack : List ℕ) (n : ℕ) (s : Standing size states heights (stack ++ n ∷ [])) where
+  pub top_open : state_at states n ≡ Open
+  top_open = rw (get_or_push stack n 0 (length stack) refl) at (s.are_open (length stack) (let l = length_push stack n in omega arith))
+
+  pub top_within : n < size
+  top_within = let l = state_within states n (λ e. absurd (cc (sym top_open ∙ e))) in omega (arith, l, s.all_states)
+
+  -- it has no height yet, so that there is room for one more
+  pub top_room : count_by is_founded states < size
+  top_room =
+      let within : n < length states = omega (arith, top_within, s.all_states) in
+      let more = rw top_open at (count-set is_founded states n Founded New within) in
+      let most = count_by-le-length is_founded (set states n Founded) in
+      omega (arith, more, most, length-set states n Founded, s.all_states)
+
+  front_other : (k : ℕ) → k < length stack → slice_index stack k ≢ n
+  front_other k h = apart_last stack n (slice_index stack k) s.apart (Contains-get_or stack k 0 h)
+
+  -- it waits again, and where to look on is noted in place of its height
+  pub standing_back : (heights' : List ℕ) → length heights' ≡ length heights → ((m : ℕ) → m ≢ n → get_or heights' m 0 ≡ get_or heights m 0) → Standing size states heights' (stack ++ n ∷ [])
+  standing_back heights' long same = record {
+    all_states = s.all_states;
+    all_heights = long ∙ s.all_heights;
+    are_open = s.are_open;
+    apart = s.apart;
+    on_stack = s.on_stack;
+    low = λ m is. rw (same m (λ e. let o : state_at states m ≡ Open = rw e top_open in absurd (cc (sym is ∙ o)))) (s.low m is);
+    known = λ m h. elim (cases_eq m n) [
+      | inl e ↦ inr (rw e top_open)
+      | inr ne ↦ s.known m (rw (same m ne) at h)
+    ];
+  }
+
+  -- it is settled
+  pub standing_settle : (state : State) (h : ℕ) → state ≢ Open → is_new state ≡ false → (state ≡ Founded → h ≤ count_by is_founded states + 1) → (0 < h → state ≡ Founded) → Standing size (set states n state) (set heights n h) stack
+  standing_settle state h closed old low high =
+      let within : n < length states = omega (arith, top_within, s.all_states) in
+      let within' : n < length heights = omega (arith, top_within, s.all_heights) in
+      let more = rw top_open at (count-set is_founded states n state New within) in
+      record {
+        all_states = length-set states n state ∙ s.all_states;
+        all_heights = length-set heights n h ∙ s.all_heights;
+        are_open = λ k l.
+            let was = s.are_open k (let long = length_push stack n in omega arith) in
+            get_or-set_other states n (slice_index stack k) state New (front_other k l) ∙ rw (get_or_append_left stack (n ∷ []) 0 k l) at was;
+        apart = apart_front stack n s.apart;
+        on_stack = λ m is. elim (at_set states n state New m within) [
+          | inl c ↦ absurd (closed (sym c.1 ∙ is))
+          | inr c ↦ elim (Contains-push_cases stack n m (s.on_stack m (sym c.1 ∙ is))) [
+            | inl on ↦ on
+            | inr e ↦ absurd (c.0 (sym e))
+          ]
+        ];
+        low = λ m is. elim (at_set states n state New m within) [
+          | inl c ↦
+              let founded : state ≡ Founded = sym c.1 ∙ is in
+              let counts : State → ℕ = λ x. cond (is_founded x) 1 0 in
+              let one : counts state ≡ counts Founded = ap counts founded in
+              rw (c.0, get_or-set_same heights n h 0 within') (let l = low founded in omega (arith, l, one, more))
+          | inr c ↦ rw (get_or-set_other heights n m h 0 c.0) (let l = s.low m (sym c.1 ∙ is) in omega (arith, l, more))
+        ];
+        known = λ m l. elim (at_set heights n h 0 m within') [
+          | inl c ↦ inl (rw c.0 (get_or-set_same states n state New within ∙ high (rw c.1 at l)))
+          | inr c ↦ rw (get_or-set_other states n m state New c.0) (s.known m (rw c.1 at l))
+        ];
+      }
+
+  pub work_settle : (state : State) → is_new state ≡ false → work (set states n state) stack < work states (stack ++ n ∷ [])
+  work_settle state old =
+      let within : n < length states = omega (arith, top_within, s.all_states) in
+      let long = length_push stack n in
+      omega (arith, long, rw (top_open, old) at (count-set is_new states n state New within))
+
+-- ---- circles
 -- nothing on a circle is founded: objects j from k to last, each with the next one among its references, and the last with that at k
 pub no_circle : (refs : ℕ → List ℕ) (at : ℕ → ℕ) (k last : ℕ) → ((j : ℕ) → k ≤ j → j < last → Contains (refs (at j)) (at (suc j))) → Contains (refs (at last)) (at k) → (x : ℕ) → Ends refs x → (j : ℕ) → k ≤ j → j ≤ last → x ≡ at j → ⊥
 no_circle refs at k last next back _ (ends x f) j low high is =
@@ -20,218 +187,148 @@ no_circle refs at k last next back _ (ends x f) j low high is =
           no_circle refs at k last next back (at (suc j)) (f (at (suc j)) (rw is (next j low below))) (suc j) (omega arith) (omega arith) refl
     ]
 
--- one more height
+-- an object with a reference that is not founded is not founded
+ends_reference : (refs : ℕ → List ℕ) (n m : ℕ) → Ends refs n → Contains (refs n) m → Ends refs m
+ends_reference refs _ m (ends n f) among = f m among
+
+-- ---- heights
 pub greatest-push : (hs : List ℕ) (h : ℕ) → greatest (hs ++ h ∷ []) ≡ max (greatest hs) h
 greatest-push [] h = omega arith
 greatest-push (x ∷ xs) h = omega (arith, greatest-push xs h)
 
-pub measured_more : (refs : ℕ → List ℕ) (n i best h : ℕ) → Measured refs n i best → Least refs (get_or (refs n) i 0) h → Measured refs n (i + 1) (max best h)
-measured_more refs n i best h m least = record {
-  heights = m.heights ++ h ∷ [];
-  long = length_push m.heights h ∙ ap (λ k. k + 1) m.long;
-  each = below_more _ _
-      (λ k low. rw (get_or_append_left m.heights (h ∷ []) 0 k (omega (arith, m.long))) (m.each k low))
-      (rw (get_or_push m.heights h 0 i m.long) least);
-  best_is = rw m.best_is (sym (greatest-push m.heights h));
-}
-
--- a place on the stack, after a push and without the last
-on_more : (stack : List Visit) (v : Visit) (n : ℕ) → IsOnStack stack n → IsOnStack (stack ++ v ∷ []) n
-on_more stack v n p = let long = length_push stack v in (p.0, (let low = p.1 in omega arith), ap (λ (x : Visit). x.object) (get_or_append_left stack (v ∷ []) no_visit p.0 p.1) ∙ p.2)
-
-on_last : (stack : List Visit) (v : Visit) → IsOnStack (stack ++ v ∷ []) v.object
-on_last stack v = let long = length_push stack v in (length stack, omega arith, ap (λ (x : Visit). x.object) (get_or_push stack v no_visit (length stack) refl))
-
-none_on : (n : ℕ) → IsOnStack [] n → ⊥
-none_on n p = let low = p.1 in omega arith
-
-on_cases : (stack : List Visit) (v : Visit) (n : ℕ) → IsOnStack (stack ++ v ∷ []) n → IsOnStack stack n ⊎ (n ≡ v.object)
-on_cases stack v n p = elim (push_cases stack v no_visit p.0 p.1) [
-  | inl c ↦ inl (p.0, c.0, ap (λ (x : Visit). x.object) (sym c.1) ∙ p.2)
-  | inr c ↦ inr (sym p.2 ∙ ap (λ (x : Visit). x.object) c.1)
-]
-
--- the visit on top looked at one more reference
-pub walking_advance : (refs : ℕ → List ℕ) (marks seen : List Bool) (heights : List ℕ) (rest : List Visit) (v v' : Visit) → Walking refs marks seen heights (rest ++ v ∷ []) → v'.object ≡ v.object → IsRead refs v' → Walking refs marks seen heights (rest ++ v' ∷ [])
-walking_advance refs marks seen heights rest v v' w same read =
-    let long = length_push rest v in
-    let long' = length_push rest v' in
-    let same_at : (k : ℕ) → k < length (rest ++ v' ∷ []) → (visit_at (rest ++ v' ∷ []) k).object ≡ (visit_at (rest ++ v ∷ []) k).object =
-    λ k h. elim (push_cases rest v' no_visit k h) [
-      | inl c ↦ ap (λ (x : Visit). x.object) (c.1 ∙ sym (get_or_append_left rest (v ∷ []) no_visit k c.0))
-      | inr c ↦ ap (λ (x : Visit). x.object) c.1 ∙ same ∙ sym (ap (λ (x : Visit). x.object) (get_or_push rest v no_visit k (sym c.0)))
-    ] in
-    record {
-      marked = w.marked;
-      linked = λ k h. let low : suc k < length (rest ++ v ∷ []) = omega arith in rw (same_at k (omega arith), same_at (suc k) h) (w.linked k low);
-      visits = each_push (λ _ g. IsRead refs g) rest v' (each_front (λ _ g. IsRead refs g) rest v w.visits) read;
-      measured = w.measured;
-      settled = λ n h. elim (w.settled n h) [
-        | inl on ↦ inl (elim (on_cases rest v n on) [ inl p ↦ on_more rest v' n p | inr e ↦ rw (e, ← same) (on_last rest v') ])
-        | inr is ↦ inr is
-      ];
-    }
-
--- what holds of the visit on top, by its number
-pub on_top : (P : Visit → Type 0) (rest : List Visit) (v : Visit) → P v → (k : ℕ) → suc k ≡ length (rest ++ v ∷ []) → P (visit_at (rest ++ v ∷ []) k)
-on_top P rest v here k last = let long = length_push rest v in rw (get_or_push rest v no_visit k (omega arith)) here
-
--- an object that was not seen is opened, a reference of the visit on top, if there is one
-pub walking_open : (refs : ℕ → List ℕ) (marks seen : List Bool) (heights : List ℕ) (stack : List Visit) (m count : ℕ) → Walking refs marks seen heights stack → IsMarked marks m → m < length seen
-    → ((k : ℕ) → suc k ≡ length stack → Contains (refs (visit_at stack k).object) m) → count ≡ length (refs m)
-    → Walking refs marks (set seen m true) heights (stack ++ record { object = m; next = 0; count = count; best = 0; sound = true } ∷ [])
-walking_open refs marks seen heights stack m count w marked within among counted =
-    let g : Visit = record { object = m; next = 0; count = count; best = 0; sound = true } in
-    record {
-      marked = λ n h. elim (at_set seen m true false n within) [
-        | inl c ↦ rw c.0 marked
-        | inr c ↦ w.marked n (sym c.1 ∙ h)
-      ];
-      linked = λ k h. elim (push_cases stack g no_visit (suc k) h) [
-        | inl c ↦ let low : k < length stack = omega arith in
-            rw (c.1, get_or_append_left stack (g ∷ []) no_visit k low) (w.linked k c.0)
-        | inr c ↦ let low : k < length stack = omega arith in
-            rw (c.1, get_or_append_left stack (g ∷ []) no_visit k low) (among k c.0)
-      ];
-      visits = each_push (λ _ x. IsRead refs x) stack g w.visits
-          (record {
-            counted = counted;
-            measured = λ _. record { heights = []; long = refl; each = λ k h. absurd (omega arith); best_is = refl };
-            circular = λ e. absurd (false≢true (sym e));
-          });
-      measured = w.measured;
-      settled = λ n h. elim (at_set seen m true false n within) [
-        | inl c ↦ inl (rw c.0 (on_last stack g))
-        | inr c ↦ elim (w.settled n (sym c.1 ∙ h)) [
-          | inl on ↦ inl (on_more stack g n on)
-          | inr is ↦ inr is
-        ]
-      ];
-    }
-
--- the visit on top is done, and no height is lost
-walking_done : (refs : ℕ → List ℕ) (marks seen : List Bool) (heights heights' : List ℕ) (rest : List Visit) (v : Visit) → Walking refs marks seen heights (rest ++ v ∷ []) → ((n : ℕ) → 0 < get_or heights' n 0 → Least refs n (get_or heights' n 0))
-    → ((n : ℕ) → get_or heights' n 0 ≡ 0 → get_or heights n 0 ≡ 0) → (get_or heights' v.object 0 ≡ 0 → Ends refs v.object → ⊥) → Walking refs marks seen heights' rest
-walking_done refs marks seen heights heights' rest v w measured kept circular =
-    let long = length_push rest v in
-    record {
-      marked = w.marked;
-      linked = λ k h. let low : k < length rest = omega arith in
-          rw (get_or_append_left rest (v ∷ []) no_visit k low, get_or_append_left rest (v ∷ []) no_visit (suc k) h) at (w.linked k (omega arith));
-      visits = each_front (λ _ g. IsRead refs g) rest v w.visits;
-      measured = measured;
-      settled = λ n h. elim (w.settled n h) [
-        | inl on ↦ elim (on_cases rest v n on) [ inl p ↦ inl p | inr e ↦ inr (rw e circular) ]
-        | inr is ↦ inr (λ z. is (kept n z))
-      ];
-    }
-
--- its object is not founded
-pub walking_leave : (refs : ℕ → List ℕ) (marks seen : List Bool) (heights : List ℕ) (rest : List Visit) (v : Visit) → Walking refs marks seen heights (rest ++ v ∷ []) → v.sound ≡ false → Walking refs marks seen heights rest
-walking_leave refs marks seen heights rest v w unsound =
-    walking_done refs marks seen heights heights rest v w w.measured (λ n z. z) (λ z. (each_last (λ _ g. IsRead refs g) rest v w.visits).circular unsound)
-
--- its object gets its height
-pub walking_finish : (refs : ℕ → List ℕ) (marks seen : List Bool) (heights : List ℕ) (rest : List Visit) (v : Visit) (h : ℕ) → Walking refs marks seen heights (rest ++ v ∷ []) → v.object < length heights → 0 < h → Least refs v.object h → Walking refs marks seen (set heights v.object h) rest
-walking_finish refs marks seen heights rest v h w within high least =
-    walking_done refs marks seen heights (set heights v.object h) rest v w
-    (λ n l. elim (at_set heights v.object h 0 n within) [
-      | inl c ↦ rw (c.1, c.0) least
-      | inr c ↦ rw c.1 (w.measured n (rw c.1 at l))
-    ])
-    (λ n z. elim (at_set heights v.object h 0 n within) [
-      | inl c ↦ absurd (let a = c.1 in omega arith)
-      | inr c ↦ sym c.1 ∙ z
-    ])
-    (λ z. absurd (let a = get_or-set_same heights v.object h 0 within in omega arith))
-
--- what is known to have no references is seen
-pub walking_first : (refs : ℕ → List ℕ) (marks bare : List Bool) → ((n : ℕ) → IsMarked bare n → IsMarked marks n × (refs n ≡ [])) → Walking refs marks bare (map first_height bare) []
-walking_first refs marks bare are = record {
-  marked = λ n h. (are n h).0;
-  linked = λ k h. absurd (omega arith);
-  visits = λ k h. absurd (omega arith);
-  measured = λ n h.
-      let one = first_seen bare n h in
-      let empty : length (refs n) ≡ 0 = ap length (are n one.0).1 in
-      rw one.1 (above n [] (sym empty) (λ i low. absurd (omega (arith, low, empty))));
-  settled = λ n h. inr (λ z. absurd (let one = first_one bare n h in omega (arith, one, z)));
-}
-
--- the visit on top looked at a reference that has a height
-pub read_height : (refs : ℕ → List ℕ) (v : Visit) (m h : ℕ) → IsRead refs v → m ≡ get_or (refs v.object) v.next 0 → Least refs m h → IsRead refs (record { object = v.object; next = v.next + 1; count = v.count; best = max v.best h; sound = v.sound })
-read_height refs v m h r is least = record {
-  counted = r.counted;
-  measured = λ e. measured_more refs v.object v.next v.best h (r.measured e) (rw is at least);
-  circular = r.circular;
-}
-
--- the visit on top looked at a reference that shows that its object isn't founded
-pub read_circle : (refs : ℕ → List ℕ) (v : Visit) → IsRead refs v → (Ends refs v.object → ⊥) → IsRead refs (record { object = v.object; next = v.next + 1; count = v.count; best = v.best; sound = false })
-read_circle refs v r circle = record {
-  counted = r.counted;
-  measured = λ e. absurd (false≢true e);
-  circular = λ _. circle;
-}
-
--- an object with a reference that isn't founded isn't founded
-pub ends_reference : (refs : ℕ → List ℕ) (n m : ℕ) → Ends refs n → Contains (refs n) m → Ends refs m
-ends_reference refs _ m (ends n f) among = f m among
-
--- a reference to an object that is seen and has no height closes a circle, or leads to one
-pub not_founded : (refs : ℕ → List ℕ) (marks seen : List Bool) (heights : List ℕ) (rest : List Visit) (v : Visit) (m : ℕ) → Walking refs marks seen heights (rest ++ v ∷ []) → IsMarked seen m → get_or heights m 0 ≡ 0 → Contains (refs v.object) m → Ends refs v.object → ⊥
-not_founded refs marks seen heights rest v m w known none among is =
-    let stack : List Visit = rest ++ v ∷ [] in
-    let long = length_push rest v in
-    let last : (visit_at stack (length rest)).object ≡ v.object = ap (λ (x : Visit). x.object) (get_or_push rest v no_visit (length rest) refl) in
-    elim (w.settled m known) [
-      | inl on ↦ let low = on.1 in
-          no_circle refs (λ j. (visit_at stack j).object) on.0 (length rest)
-          (λ j from to. w.linked j (omega arith))
-          (rw (last, on.2) among)
-          v.object is (length rest) (omega arith) (omega arith) (sym last)
-      | inr done ↦ done none (ends_reference refs v.object m is among)
-    ]
+height_over : (refs : ℕ → List ℕ) (n h : ℕ) → Least refs n h → 0 < h
+height_over refs _ _ (above n heights long each) = omega arith
 
 pub among_at : (xs : List ℕ) (i m : ℕ) → i < length xs → m ≡ get_or xs i 0 → Contains xs m
 among_at xs i m in' is = rw is (Contains-get_or xs i 0 in')
 
--- the visit on top looked at one more reference, to an object with this height, or without one where it is 0
-pub walking_after : (refs : ℕ → List ℕ) (marks seen : List Bool) (heights : List ℕ) (rest : List Visit) (v v' : Visit) (m h : ℕ) → Walking refs marks seen heights (rest ++ v ∷ []) → v.next < length (refs v.object) → m ≡ get_or (refs v.object) v.next 0 → IsMarked seen m → h ≡ get_or heights m 0
-    → (0 < h → v' ≡ record { object = v.object; next = v.next + 1; count = v.count; best = max v.best h; sound = v.sound }) → (h ≡ 0 → v' ≡ record { object = v.object; next = v.next + 1; count = v.count; best = v.best; sound = false })
-    → Walking refs marks seen heights (rest ++ v' ∷ [])
-walking_after refs marks seen heights rest v v' m h w within is known at_m found circular =
-    let r = each_last (λ _ g. IsRead refs g) rest v w.visits in
-    elim (cases_lt 0 h) [
-      | inl has ↦ rw (found has) (walking_advance refs marks seen heights rest v _ w refl (read_height refs v m h r is (rw (← at_m) at (w.measured m (omega arith)))))
-      | inr none ↦ rw (circular (omega arith)) (walking_advance refs marks seen heights rest v _ w refl (read_circle refs v r (not_founded refs marks seen heights rest v m w known (omega arith) (among_at (refs v.object) v.next m within is))))
-    ]
+-- the greatest height of the first references, with one more
+pub greatest_more : (heights references : List ℕ) (i best m : ℕ) → i < length references → m ≡ get_or references i 0 → best ≡ greatest (map (λ x. slice_index heights x) (take i references)) → max best (slice_index heights m) ≡ greatest (map (λ x. slice_index heights x) (take (i + 1) references))
+greatest_more heights references i best m in' is so =
+    let h : ℕ → ℕ = λ x. slice_index heights x in
+    rw (take_more references i 0 in', map-append h (take i references) (get_or references i 0 ∷ []), ← is, so) (sym (greatest-push (map h (take i references)) (h m)))
 
--- a visit that is done and sound gives the least height
-pub least_finish : (refs : ℕ → List ℕ) (v : Visit) → IsRead refs v → v.sound ≡ true → v.next ≡ v.count → Least refs v.object (v.best + 1)
-least_finish refs v r sound all =
-    let m = r.measured sound in
-    let whole : v.next ≡ length (refs v.object) = all ∙ r.counted in
-    let least = above v.object m.heights (m.long ∙ whole) (λ i in'. m.each i (rw whole in')) in
-    rw (add-one, m.best_is) least
-
--- the stack is empty, and all that is marked is seen
-pub are_least : (refs : ℕ → List ℕ) (marks seen : List Bool) (heights : List ℕ) → Walking refs marks seen heights [] → ((n : ℕ) → IsMarked marks n → IsMarked seen n) → ((n : ℕ) → 0 < get_or heights n 0 → IsMarked seen n) → AreLeastOf refs marks heights
-are_least refs marks seen heights w all known = record {
-  vouched = λ n h. (w.marked n (known n h), w.measured n h);
-  all = λ n marked is. elim (w.settled n (all n marked)) [
-    | inl on ↦ absurd (none_on n on)
-    | inr done ↦ elim (cases_lt 0 (get_or heights n 0)) [
-      | inl has ↦ has
-      | inr none ↦ absurd (done (omega arith) is)
-    ]
+-- ---- what is known of the references
+pub walking_first : (refs : ℕ → List ℕ) (marks bare : List Bool) → ((n : ℕ) → IsMarked bare n → IsMarked marks n × (refs n ≡ [])) → Walking refs marks (map first_state bare) (map first_height bare) []
+walking_first refs marks bare are = record {
+  marked = λ n known. elim (first_is bare n) [
+    | inl c ↦ (are n c.0).0
+    | inr c ↦ absurd (known c.0)
+  ];
+  linked = λ k h. absurd (omega arith);
+  measured = λ n is. elim (first_is bare n) [
+    | inl c ↦
+        let empty : length (refs n) ≡ 0 = ap length (are n c.0).1 in
+        rw c.2 (above n [] (sym empty) (λ i low. absurd (omega (arith, low, empty))))
+    | inr c ↦ absurd (cc (sym c.0 ∙ is))
+  ];
+  circular = λ n is. elim (first_is bare n) [
+    | inl c ↦ absurd (cc (sym c.1 ∙ is))
+    | inr c ↦ absurd (cc (sym c.0 ∙ is))
   ];
 }
 
--- what the visit on top knows
-pub top_read : (refs : ℕ → List ℕ) (marks seen : List Bool) (heights : List ℕ) (rest : List Visit) (v : Visit) → Walking refs marks seen heights (rest ++ v ∷ []) → IsRead refs v
-top_read refs marks seen heights rest v w = each_last (λ _ g. IsRead refs g) rest v w.visits
+module _ (refs : ℕ → List ℕ) (marks : List Bool) (states : List State) (heights stack : List ℕ) where
+  -- a new object is opened, a reference of the one on top of the stack, if there is one
+  pub walking_open : (m : ℕ) → Walking refs marks states heights stack → IsMarked marks m → m < length states → ((k : ℕ) → suc k ≡ length stack → Contains (refs (slice_index stack k)) m) → Walking refs marks (set states m Open) heights (stack ++ m ∷ [])
+  walking_open m w marked within among = record {
+    marked = λ n h. elim (at_set states m Open New n within) [
+      | inl c ↦ rw c.0 marked
+      | inr c ↦ w.marked n (rw c.1 at h)
+    ];
+    linked = λ k h. elim (push_cases stack m 0 (suc k) h) [
+      | inl c ↦ let low : k < length stack = omega arith in
+          rw (c.1, get_or_append_left stack (m ∷ []) 0 k low) (w.linked k c.0)
+      | inr c ↦ let low : k < length stack = omega arith in
+          rw (c.1, get_or_append_left stack (m ∷ []) 0 k low) (among k c.0)
+    ];
+    measured = λ n is. elim (at_set states m Open New n within) [
+      | inl c ↦ absurd (cc (sym c.1 ∙ is))
+      | inr c ↦ w.measured n (sym c.1 ∙ is)
+    ];
+    circular = λ n is. elim (at_set states m Open New n within) [
+      | inl c ↦ absurd (cc (sym c.1 ∙ is))
+      | inr c ↦ w.circular n (sym c.1 ∙ is)
+    ];
+  }
 
--- its next reference leads to a marked object
-pub next_marked : (refs : ℕ → List ℕ) (marks seen : List Bool) (heights : List ℕ) (rest : List Visit) (v : Visit) (m : ℕ) → ((n : ℕ) → IsMarked marks n → HasMarks marks (refs n)) → Walking refs marks seen heights (rest ++ v ∷ []) → IsMarked seen v.object → v.next < length (refs v.object) → m ≡ get_or (refs v.object) v.next 0 → IsMarked marks m
-next_marked refs marks seen heights rest v m closed w known within is = rw is (closed v.object (w.marked v.object known) v.next within)
+module _ (refs : ℕ → List ℕ) (marks : List Bool) (size : ℕ) (states : List State) (heights stack : List ℕ) (n : ℕ) (s : Standing size states heights (stack ++ n ∷ [])) (w : Walking refs marks states heights (stack ++ n ∷ [])) where
+  is_open : state_at states n ≡ Open
+  is_open = top_open size states heights stack n s
+
+  pub top_marked : IsMarked marks n
+  top_marked = w.marked n (λ e. absurd (cc (sym is_open ∙ e)))
+
+  -- what stands for an open object in place of its height says nothing of the references
+  pub walking_back : (heights' : List ℕ) → ((m : ℕ) → m ≢ n → get_or heights' m 0 ≡ get_or heights m 0) → Walking refs marks states heights' (stack ++ n ∷ [])
+  walking_back heights' same = record {
+    marked = w.marked;
+    linked = w.linked;
+    measured = λ m is. rw (same m (λ e. let o : state_at states m ≡ Open = rw e is_open in absurd (cc (sym is ∙ o)))) (w.measured m is);
+    circular = w.circular;
+  }
+
+  -- the object on top is settled
+  pub walking_settle : (state : State) (h : ℕ) → (state ≡ Founded → Least refs n h) → (state ≡ Circular → Ends refs n → ⊥) → Walking refs marks (set states n state) (set heights n h) stack
+  walking_settle state h least circular =
+      let within : n < length states = let l = top_within size states heights stack n s in omega (arith, l, s.all_states) in
+      let within' : n < length heights = let l = top_within size states heights stack n s in omega (arith, l, s.all_heights) in
+      let long = length_push stack n in
+      record {
+        marked = λ m known. elim (at_set states n state New m within) [
+          | inl c ↦ rw c.0 top_marked
+          | inr c ↦ w.marked m (rw c.1 at known)
+        ];
+        linked = λ k h. let low : k < length stack = omega arith in
+            rw (get_or_append_left stack (n ∷ []) 0 k low, get_or_append_left stack (n ∷ []) 0 (suc k) h) at (w.linked k (omega arith));
+        measured = λ m is. elim (at_set states n state New m within) [
+          | inl c ↦ rw (c.0, get_or-set_same heights n h 0 within') (least (sym c.1 ∙ is))
+          | inr c ↦ rw (get_or-set_other heights n m h 0 c.0) (w.measured m (sym c.1 ∙ is))
+        ];
+        circular = λ m is. elim (at_set states n state New m within) [
+          | inl c ↦ rw c.0 (circular (sym c.1 ∙ is))
+          | inr c ↦ w.circular m (sym c.1 ∙ is)
+        ];
+      }
+
+  -- a reference to an open object closes a circle, and one to a circular object leads to one
+  pub not_founded : (m : ℕ) → Contains (refs n) m → (state_at states m ≡ Open) ⊎ (state_at states m ≡ Circular) → Ends refs n → ⊥
+  not_founded m among is ends_n = elim is [
+    | inl opened ↦
+        let long = length_push stack n in
+        let last : slice_index (stack ++ n ∷ []) (length stack) ≡ n = get_or_push stack n 0 (length stack) refl in
+        let on = s.on_stack m opened in
+        let low = on.1 in
+        let is_at : slice_index (stack ++ n ∷ []) on.0 ≡ m = sym (get_or_default (stack ++ n ∷ []) on.0 m 0 on.1) ∙ on.2 in
+        no_circle refs (λ j. slice_index (stack ++ n ∷ []) j) on.0 (length stack)
+        (λ j from to. w.linked j (omega arith))
+        (rw (last, is_at) among)
+        n ends_n (length stack) (omega arith) (omega arith) (sym last)
+    | inr circular ↦ w.circular m circular (ends_reference refs n m ends_n among)
+  ]
+
+  -- where all references lead to founded objects
+  pub least_height : (best : ℕ) → ((k : ℕ) → k < length (refs n) → state_at states (slice_index (refs n) k) ≡ Founded) → best ≡ greatest (map (λ m. slice_index heights m) (refs n)) → Least refs n (best + 1)
+  least_height best founded is =
+      let h : ℕ → ℕ = λ m. slice_index heights m in
+      let least : Least refs n (suc (greatest (map h (refs n)))) = above n (map h (refs n)) (length-map (refs n) h) (λ i low. rw (get_or-map h (refs n) i 0 0 low) (w.measured _ (founded i low))) in
+      rw (add-one, is) least
+
+-- the stack is empty, and something is known of all that is marked
+pub are_least : (refs : ℕ → List ℕ) (marks : List Bool) (size : ℕ) (states : List State) (heights : List ℕ) → Standing size states heights [] → Walking refs marks states heights [] → ((n : ℕ) → IsMarked marks n → state_at states n ≢ New) → AreLeastOf refs marks heights
+are_least refs marks size states heights s w all = record {
+  vouched = λ n h. elim (s.known n h) [
+    | inl is ↦ (w.marked n (λ e. absurd (cc (sym is ∙ e))), w.measured n is)
+    | inr is ↦ absurd (none_on n (s.on_stack n is))
+  ];
+  all = λ n marked is. go n is (state_at states n) refl (all n marked);
+}
+  where
+    none_on : (n : ℕ) → Contains {X = ℕ} [] n → ⊥
+    none_on n c = let low = c.1 in omega arith
+
+    go : (n : ℕ) → Ends refs n → (state : State) → state_at states n ≡ state → state_at states n ≢ New → 0 < get_or heights n 0
+    go n is New e known = absurd (known e)
+    go n is Open e known = absurd (none_on n (s.on_stack n e))
+    go n is Founded e known = height_over refs n _ (w.measured n e)
+    go n is Circular e known = absurd (w.circular n e is)

@@ -1,6 +1,6 @@
 -- Objects with references, whatever they are read from: what is reached, what is founded, and with which least height.
 -- Source: the reader of CFBinaryPList.c, which refuses circles; heights and circles as lists are profile.
-use Rattle.std.specs.Prelude.{◌≡◌, ℕ, suc, ◌+◌, ◌<◌, max, List, [], ◌∷◌, length, slice_index, Contains}
+use Rattle.std.specs.Prelude.{◌≡◌, ℕ, suc, ◌+◌, ◌<◌, ◌≤◌, max, List, [], ◌∷◌, length, slice_index, Contains, Option, Some, None}
 
 -- how many objects there are, the references of each in written order, and how many of them it announces. Where they are
 -- read through a borrow, through is its ghost name
@@ -13,6 +13,11 @@ pub record Graph : Type 0 where
 -- object n has as many references as it announces
 abbrev pub IsWhole : Graph → ℕ → Type 0
 IsWhole graph n = graph.announced n ≡ length (graph.refs n)
+
+-- this is item i, or there are no more than i
+abbrev pub IsNth : List ℕ → ℕ → Option ℕ → Type 0
+IsNth references i None = length references ≤ i
+IsNth references i (Some m) = (i < length references) × (m ≡ slice_index references i)
 
 -- top, and what reached objects refer to
 pub data Reaches (refs : ℕ → List ℕ) (top : ℕ) : ℕ → Type 0 where

@@ -1,79 +1,74 @@
--- The marks, the heights and the stack of the walk that finds the least heights, and what it keeps true of them. Source: profile.
-use Rattle.std.specs.Prelude.{◌≡◌, ◌≢◌, ◌⊎◌, ℕ, suc, ◌+◌, ◌*◌, ◌-◌, ◌^◌, ◌<◌, ◌≤◌, Bool, true, false, not, nat_lt, List, length, slice_index_or, slice_index, count_by, sum_by, Contains}
+-- The states, the heights and the stack of the walk that finds the least heights, and what it keeps true of them. Source: profile.
+use Rattle.std.specs.Prelude.{◌≡◌, ◌≢◌, ◌⊎◌, ℕ, suc, ◌+◌, ◌*◌, ◌<◌, ◌≤◌, Bool, true, false, List, length, map, slice_index_or, slice_index, count_by, Contains, ⊤}
 use Rattle.bplist_lint.specs.Graph.{Graph, IsWhole, Ends, Least, greatest}
 use Rattle.bplist_lint.specs.Reaching.{IsMarked, HasMarks}
-use Rattle.bplist_lint.specs.declared.heights.Visit.{Visit}
+use Rattle.bplist_lint.specs.Walks.{AreApart}
+use Rattle.bplist_lint.specs.declared.heights.State.{State}
+use Rattle.bplist_lint.specs.declared.heights.State.TheVariants.{New, Open, Founded, Circular}
+use Rattle.bplist_lint.specs.declared.heights.Look.{Look}
+use Rattle.bplist_lint.specs.declared.heights.Look.TheVariants as looks
 
--- the height is one
-abbrev pub is_height : ℕ → Bool
-is_height h = nat_lt 0 h
+-- the state of object n
+abbrev pub state_at : List State → ℕ → State
+state_at states n = slice_index_or states n New
 
--- the height of an object before the first look: 1 where it is known to have no references
+-- nothing is known of the object yet
+abbrev pub is_new : State → Bool
+is_new New = true
+is_new _ = false
+
+-- the object is known to be founded
+abbrev pub is_founded : State → Bool
+is_founded Founded = true
+is_founded _ = false
+
+-- the state of an object before the first look: founded where it is known to have no references
+abbrev pub first_state : Bool → State
+first_state true = Founded
+first_state false = New
+
+-- its height before the first look: 1 where it is known to have no references
 abbrev pub first_height : Bool → ℕ
 first_height true = 1
 first_height false = 0
 
--- what stands for a visit outside the stack
-abbrev pub no_visit : Visit
-no_visit = record { object = 0; next = 0; count = 0; best = 0; sound = true }
+-- what is left to do: each object on the stack, and twice each object of which nothing is known
+abbrev pub work : List State → List ℕ → ℕ
+work states stack = 2 * count_by is_new states + length stack
 
--- visit number k of the stack
-abbrev pub visit_at : List Visit → ℕ → Visit
-visit_at stack k = slice_index_or stack k no_visit
-
--- P holds of each visit on the stack, by its number
-abbrev pub EachVisit : (ℕ → Visit → Type 0) → List Visit → Type 0
-EachVisit P stack = (k : ℕ) → k < length stack → P k (visit_at stack k)
-
--- what is left to do: each object that is not seen, and each reference on the stack that was not looked at
-abbrev pub work : List Bool → List Visit → ℕ
-work seen stack = 2 ^ 65 * count_by not seen + sum_by (λ v. (v.count - v.next) + 1) stack
-
--- a visit whose heights are at most done
-pub record IsVisit (size done : ℕ) (v : Visit) : Type 0 where
-  pub inside : v.object < size
-  pub within : v.next ≤ v.count
-  pub low : v.best ≤ done
-
--- the object is seen and has no height yet
-pub record IsOpen (marks : List Bool) (heights : List ℕ) (n : ℕ) : Type 0 where
-  pub seen : IsMarked marks n
-  pub low : slice_index heights n ≡ 0
-
--- the marks, the heights and the stack agree, whatever the references are
-pub record Standing (size : ℕ) (seen : List Bool) (heights : List ℕ) (stack : List Visit) : Type 0 where
-  pub all_seen : length seen ≡ size
+-- the states, the heights and the stack agree, whatever the references are
+pub record Standing (size : ℕ) (states : List State) (heights stack : List ℕ) : Type 0 where
+  pub all_states : length states ≡ size
   pub all_heights : length heights ≡ size
-  pub visits : EachVisit (λ _ v. IsVisit size (count_by is_height heights) v) stack
-  pub unfinished : EachVisit (λ _ v. IsOpen seen heights v.object) stack
-  pub differ : (j k : ℕ) → j < k → k < length stack → (visit_at stack j).object ≢ (visit_at stack k).object
-  pub low : (n : ℕ) → slice_index heights n ≤ count_by is_height heights
-  pub known : (n : ℕ) → 0 < slice_index heights n → IsMarked seen n
+  pub are_open : (k : ℕ) → k < length stack → state_at states (slice_index stack k) ≡ Open
+  pub apart : AreApart stack
+  pub on_stack : (n : ℕ) → state_at states n ≡ Open → Contains stack n
+  pub low : (n : ℕ) → state_at states n ≡ Founded → slice_index heights n ≤ count_by is_founded states
+  pub known : (n : ℕ) → 0 < slice_index heights n → (state_at states n ≡ Founded) ⊎ (state_at states n ≡ Open)
 
--- the first i references of n have least heights, and best is the greatest of them
-pub record Measured (refs : ℕ → List ℕ) (n i best : ℕ) : Type 0 where
-  pub heights : List ℕ
-  pub long : length heights ≡ i
-  pub each : (k : ℕ) → k < i → Least refs (slice_index (refs n) k) (slice_index heights k)
-  pub best_is : best ≡ greatest heights
+-- what the states, the heights and the stack say of the references
+pub record Walking (refs : ℕ → List ℕ) (marks : List Bool) (states : List State) (heights stack : List ℕ) : Type 0 where
+  pub marked : (n : ℕ) → state_at states n ≢ New → IsMarked marks n
+  pub linked : (k : ℕ) → suc k < length stack → Contains (refs (slice_index stack k)) (slice_index stack (suc k))
+  pub measured : (n : ℕ) → state_at states n ≡ Founded → Least refs n (slice_index heights n)
+  pub circular : (n : ℕ) → state_at states n ≡ Circular → Ends refs n → ⊥
 
--- what a visit knows of the references that were looked at
-pub record IsRead (refs : ℕ → List ℕ) (v : Visit) : Type 0 where
-  pub counted : v.count ≡ length (refs v.object)
-  pub measured : v.sound ≡ true → Measured refs v.object v.next v.best
-  pub circular : v.sound ≡ false → Ends refs v.object → ⊥
+-- what a look finds, whatever the references are: an object of which nothing is known, or a height that is not above all
+-- heights of founded objects
+abbrev pub Finds : ℕ → List State → List ℕ → Look → Type 0
+Finds size states heights (looks.New i m) = (m < size) × (state_at states m ≡ New)
+Finds size states heights looks.Circular = ⊤
+Finds size states heights (looks.Founded best) =
+    (bound : ℕ) → ((n : ℕ) → state_at states n ≡ Founded → slice_index heights n ≤ bound) → best ≤ bound
 
--- the object lies on the stack
-abbrev pub IsOnStack : List Visit → ℕ → Type 0
-IsOnStack stack n = (k : ℕ) × (k < length stack) × ((visit_at stack k).object ≡ n)
-
--- what the marks, the heights and the stack say of the references
-pub record Walking (refs : ℕ → List ℕ) (marks seen : List Bool) (heights : List ℕ) (stack : List Visit) : Type 0 where
-  pub marked : (n : ℕ) → IsMarked seen n → IsMarked marks n
-  pub linked : (k : ℕ) → suc k < length stack → Contains (refs (visit_at stack k).object) (visit_at stack (suc k)).object
-  pub visits : EachVisit (λ _ v. IsRead refs v) stack
-  pub measured : (n : ℕ) → 0 < slice_index heights n → Least refs n (slice_index heights n)
-  pub settled : (n : ℕ) → IsMarked seen n → IsOnStack stack n ⊎ (slice_index heights n ≡ 0 → Ends refs n → ⊥)
+-- what it shows of the references it looked at, from number from on: the height is the greatest of all where it began at 0
+abbrev pub Shows : List ℕ → List State → List ℕ → ℕ → Look → Type 0
+Shows references states heights from (looks.New i m) = (i < length references) × (m ≡ slice_index references i)
+Shows references states heights from looks.Circular =
+    (m : ℕ) × Contains references m × ((state_at states m ≡ Open) ⊎ (state_at states m ≡ Circular))
+Shows references states heights from (looks.Founded best) = from ≡ 0
+    → ((k : ℕ) → k < length references → state_at states (slice_index references k) ≡ Founded)
+    × (best ≡ greatest (map (λ m. slice_index heights m) references))
 
 -- each marked object has all references that it announces, and these are marked
 abbrev pub AreClosed : Graph → List Bool → Type 0

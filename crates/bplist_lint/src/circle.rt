@@ -28,12 +28,12 @@ fn first_without<R: References>(
         (AllHave heights.now references (length references))
         (λ m. IsFirstWithout heights.now references m)) }
 {
-    let count = graph.count(n)?;
-    for i in 0..count {
-        let m = graph.reference(n, i)?;
+    let mut i = 0u64;
+    while let Some(m) = graph.reference(n, i)? {
         if heights[m as usize] == 0 {
             return Ok(Some(m));
         }
+        i += 1;
     }
     Ok(None)
 }

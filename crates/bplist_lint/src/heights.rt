@@ -1,175 +1,65 @@
 //! Which objects are founded, and their least heights.
 
-ghost use Rattle.std.specs.Prelude.{◌≡◌, ℕ, ◌+◌, ◌^◌, ◌<◌, ◌≤◌, max, Bool, List, [], ◌∷◌, ◌++◌, true, false, not, IsTrue, length, map, slice_index, slice_index_or, vec_len, IfOk, IfSome, MatchOption, OnOk};
+ghost use Rattle.std.specs.Prelude.{◌≡◌, ◌≢◌, ℕ, ◌+◌, ◌^◌, ◌<◌, ◌≤◌, Bool, List, [], ◌∷◌, ◌++◌, IsTrue, length, map, set, slice_index, vec_len, IfOk, OnOk};
 ghost use Rattle.bplist_octets.specs.Meaning.{OnlyReads};
 ghost use Rattle.bplist_keys.specs.Failures.{failed_to_read};
+ghost use Rattle.bplist_lint.specs.Graph.{IsWhole};
 ghost use Rattle.bplist_lint.specs.Reaching.{IsMarked};
-ghost use Rattle.bplist_lint.specs.Visits.{Standing, Walking, AreClosed, AreLeastOf, first_height, work};
-ghost use Rattle.bplist_lint.specs.declared.heights.Visit.{Visit as a_visit};
+ghost use Rattle.bplist_lint.specs.Visits.{Finds, Shows, Standing, Walking, AreClosed, AreLeastOf, state_at, first_state, first_height, work};
+ghost use Rattle.bplist_lint.specs.declared.heights.State.TheVariants as states;
 
 use crate::references::References;
 use bplist_keys::Failure;
 use std::alloc::{AllocError, Global};
 
-/// An object on the stack, whose references are looked at.
+/// What is known of an object.
 #[derive(Clone, Copy, Debug)]
-struct Visit {
-    object: u32,
-    /// The number of the reference that is looked at next.
-    next: u64,
-    /// How many references there are.
-    count: u64,
-    /// The greatest height of the references before `next`, where all of them are founded.
-    best: u32,
-    /// That all of them are founded.
-    sound: bool,
+enum State {
+    /// Nothing yet.
+    New,
+    /// It is on the stack: one of its references has to be settled first.
+    Open,
+    /// It is founded.
+    Founded,
+    /// It is not: it leads to a circle.
+    Circular,
 }
 
-impl Visit {
-    /// The visit one reference later, which has this height, or is not founded where it is 0.
-    fn after(self, height: u32) -> Visit
-        requires { self.next < self.count }
-        ensures found { 0 < height → result ≡ record { object = self.object; next = self.next + 1; count = self.count; best = max self.best height; sound = self.sound } }
-        ensures circular { height ≡ 0 → result ≡ record { object = self.object; next = self.next + 1; count = self.count; best = self.best; sound = false } }
-    {
-        let next = self.next + 1;
-        if height == 0 {
-            Visit {
-                next,
-                sound: false,
-                ..self
-            }
-        } else {
-            Visit {
-                next,
-                best: self.best.max(height),
-                ..self
-            }
-        }
-    }
+/// What a look at the references of an object finds.
+#[derive(Clone, Copy, Debug)]
+enum Look {
+    /// The first that leads to an object of which nothing is known yet: its number, and that object.
+    New(u64, u32),
+    /// One that leads to an object that is not founded.
+    Circular,
+    /// They lead to founded objects, the highest of which has this height. It is 0 where there are none.
+    Founded(u32),
 }
 
-/// Goes on at `visit`, which is on top of the stack: looks at its references up to the first that has to be visited by
-/// itself before, and answers that one.
-#[inline(always)]
-fn advance<R: References>(
-    graph: &mut R,
-    seen: &[bool],
-    heights: &[u32],
-    visit: &mut Visit,
-) -> Result<Option<u32>, Failure>
-    requires inside { visit.old.object < (R.graph graph.old).size }
-    requires within { visit.old.next ≤ visit.old.count }
-    requires all_seen { length seen.now ≡ (R.graph graph.old).size }
-    requires all_heights { length heights.now ≡ (R.graph graph.old).size }
-    ensures same { R.graph graph.new ≡ R.graph graph.old }
-    ensures reads { OnlyReads (failed_to_read result) (R.means graph.old) (R.means graph.new) }
-    ensures object { visit.new.object ≡ visit.old.object }
-    ensures counted { visit.new.count ≡ visit.old.count }
-    ensures onward { visit.old.next ≤ visit.new.next }
-    ensures found { IfOk result (λ found. MatchOption found (visit.new.next ≡ visit.new.count)
-        (λ m. (visit.new.next < visit.new.count) × (m < (R.graph graph.old).size)
-        × (slice_index_or seen.now m false ≡ false))) }
-    ensures reference { IsTrue (R.means graph.old).honest
-        → visit.new.next < length ((R.graph graph.old).refs visit.new.object)
-        → IfOk result (λ found. IfSome found (λ m. m ≡ slice_index ((R.graph graph.old).refs visit.new.object) visit.new.next)) }
-    ensures standing { (rest : List a_visit) → Standing (R.graph graph.old).size seen.now heights.now (rest ++ visit.old ∷ [])
-        → Standing (R.graph graph.old).size seen.now heights.now (rest ++ visit.new ∷ []) }
-    ensures walking { IsTrue (R.means graph.old).honest → (marks : List Bool) (rest : List a_visit)
-        → Walking (R.graph graph.old).refs marks seen.now heights.now (rest ++ visit.old ∷ [])
-        → Walking (R.graph graph.old).refs marks seen.now heights.now (rest ++ visit.new ∷ []) }
+/// A walk that settles objects after those that they refer to.
+#[derive(Drop)]
+struct HeightWalk {
+    states: Vec<State>,
+    /// The height of each founded object. Of an open one the number of the reference at which the next look at it begins, by
+    /// `stride`. Of the others 0.
+    heights: Vec<u32>,
+    /// The open objects, each a reference of the one before it.
+    stack: Vec<u32>,
+    /// How far apart the references are at which a look may begin again: 1, but where a file is so long that the number of a
+    /// reference may not fit.
+    stride: u64,
+    ghost apart: { 0 < stride },
+}
+
+/// The states that are known before the first look: objects that are known to have no references are founded.
+fn first_states(alloc: Global, bare: &[bool]) -> Result<Vec<State>, AllocError>
+    ensures { IfOk result (λ states. states.items ≡ map first_state bare.now) }
 {
-    while visit.next < visit.count {
-        let m = graph.reference(visit.object, visit.next)?;
-        if !seen[m as usize] {
-            return Ok(Some(m));
-        }
-        *visit = visit.after(heights[m as usize]);
+    let mut states = Vec::with_capacity(alloc, bare.len())?;
+    for known in bare {
+        states.push(if *known { State::Founded } else { State::New })?;
     }
-    Ok(None)
-}
-
-/// Goes on at `visit`, which was on top of the stack: opens a reference that has to be visited before, or gives the
-/// object its height.
-#[inline(always)]
-fn step<R: References>(
-    graph: &mut R,
-    seen: &mut Vec<bool>,
-    heights: &mut Vec<u32>,
-    stack: &mut Vec<Visit>,
-    mut visit: Visit,
-) -> Result<(), Failure>
-    requires fits { (R.graph graph.old).size < 2 ^ 32 }
-    requires standing { Standing (R.graph graph.old).size seen.old.items heights.old.items (stack.old.items ++ visit ∷ []) }
-    ensures same { R.graph graph.new ≡ R.graph graph.old }
-    ensures reads { OnlyReads (failed_to_read result) (R.means graph.old) (R.means graph.new) }
-    ensures standing { OnOk result (Standing (R.graph graph.old).size seen.new.items heights.new.items stack.new.items) }
-    ensures less { OnOk result (work seen.new.items stack.new.items
-        < work seen.old.items (stack.old.items ++ visit ∷ [])) }
-    ensures keeps { OnOk result ((m : ℕ) → IsMarked seen.old.items m → IsMarked seen.new.items m) }
-    ensures walking { OnOk result (IsTrue (R.means graph.old).honest → (marks : List Bool) → AreClosed (R.graph graph.old) marks
-        → Walking (R.graph graph.old).refs marks seen.old.items heights.old.items (stack.old.items ++ visit ∷ [])
-        → Walking (R.graph graph.old).refs marks seen.new.items heights.new.items stack.new.items) }
-{
-    let Some(m) = advance(graph, seen, heights, &mut visit)? else {
-        if visit.sound {
-            heights[visit.object as usize] = visit.best + 1;
-        }
-        return Ok(());
-    };
-    let count = graph.count(m)?;
-    stack.push(visit)?;
-    seen[m as usize] = true;
-    stack.push(Visit {
-        object: m,
-        next: 0,
-        count,
-        best: 0,
-        sound: true,
-    })?;
-    Ok(())
-}
-
-/// Walks from object `n`, where it is not seen yet: sees what it leads to, and gives each object there that is founded
-/// its least height. The stack is empty before and after.
-fn walk_from<R: References>(
-    graph: &mut R,
-    seen: &mut Vec<bool>,
-    heights: &mut Vec<u32>,
-    stack: &mut Vec<Visit>,
-    n: u32,
-) -> Result<(), Failure>
-    requires fits { (R.graph graph.old).size < 2 ^ 32 }
-    requires n_in { n < (R.graph graph.old).size }
-    requires empty { vec_len stack.old ≡ 0 }
-    requires standing { Standing (R.graph graph.old).size seen.old.items heights.old.items [] }
-    ensures same { R.graph graph.new ≡ R.graph graph.old }
-    ensures reads { OnlyReads (failed_to_read result) (R.means graph.old) (R.means graph.new) }
-    ensures empty { OnOk result (vec_len stack.new ≡ 0) }
-    ensures standing { OnOk result (Standing (R.graph graph.old).size seen.new.items heights.new.items []) }
-    ensures sees { OnOk result (IsMarked seen.new.items n) }
-    ensures keeps { OnOk result ((m : ℕ) → IsMarked seen.old.items m → IsMarked seen.new.items m) }
-    ensures walking { OnOk result (IsTrue (R.means graph.old).honest → (marks : List Bool) → AreClosed (R.graph graph.old) marks
-        → IsMarked marks n
-        → Walking (R.graph graph.old).refs marks seen.old.items heights.old.items []
-        → Walking (R.graph graph.old).refs marks seen.new.items heights.new.items []) }
-{
-    if seen[n as usize] {
-        return Ok(());
-    }
-    let count = graph.count(n)?;
-    seen[n as usize] = true;
-    stack.push(Visit {
-        object: n,
-        next: 0,
-        count,
-        best: 0,
-        sound: true,
-    })?;
-    while let Some(visit) = stack.pop() {
-        step(graph, seen, heights, stack, visit)?;
-    }
-    Ok(())
+    Ok(states)
 }
 
 /// The heights that are known before the first look: 1 of each object that is known to have no references, 0 of the others.
@@ -183,34 +73,193 @@ fn first_heights(alloc: Global, bare: &[bool]) -> Result<Vec<u32>, AllocError>
     Ok(heights)
 }
 
+impl HeightWalk {
+    /// Before the first look. Objects with a mark in `bare` have no references, and the file has this length.
+    fn new(alloc: Global, bare: &[bool], len: u64) -> Result<HeightWalk, AllocError>
+        ensures states { IfOk result (λ walk. walk.states.items ≡ map first_state bare.now) }
+        ensures heights { IfOk result (λ walk. walk.heights.items ≡ map first_height bare.now) }
+        ensures empty { IfOk result (λ walk. vec_len walk.stack ≡ 0) }
+    {
+        Ok(HeightWalk {
+            states: first_states(alloc, bare)?,
+            heights: first_heights(alloc, bare)?,
+            stack: Vec::with_capacity(alloc, bare.len())?,
+            stride: len / u32::MAX as u64 + 1,
+        })
+    }
+
+    /// Puts object `m`, of which nothing is known, on the stack.
+    fn open(&mut self, m: u32) -> Result<(), AllocError>
+        requires { m < vec_len self.old.states }
+        ensures states { self.new.states.items ≡ set self.old.states.items m states.Open }
+        ensures heights { self.new.heights.items ≡ self.old.heights.items }
+        ensures stack { OnOk result (self.new.stack.items ≡ self.old.stack.items ++ m ∷ []) }
+    {
+        self.states[m as usize] = State::Open;
+        self.stack.push(m)?;
+        Ok(())
+    }
+
+    /// Puts object `n` on the stack again. The next look at it begins at reference `i`, or before.
+    fn put_back(&mut self, n: u32, i: u64) -> Result<(), AllocError>
+        requires { n < vec_len self.old.heights }
+        ensures states { self.new.states.items ≡ self.old.states.items }
+        ensures heights { (m : ℕ) → m ≢ n → slice_index self.new.heights.items m ≡ slice_index self.old.heights.items m }
+        ensures all { vec_len self.new.heights ≡ vec_len self.old.heights }
+        ensures stack { OnOk result (self.new.stack.items ≡ self.old.stack.items ++ n ∷ []) }
+    {
+        self.heights[n as usize] = (i / self.stride).min(u32::MAX as u64) as u32;
+        self.stack.push(n)?;
+        Ok(())
+    }
+
+    /// Object `n` has this state from now on, and this height, which is 0 where it is not founded.
+    fn settle(&mut self, n: u32, state: State, height: u32)
+        requires within { n < vec_len self.old.heights }
+        requires all { vec_len self.old.states ≡ vec_len self.old.heights }
+        ensures states { self.new.states.items ≡ set self.old.states.items n state }
+        ensures heights { self.new.heights.items ≡ set self.old.heights.items n height }
+        ensures stack { self.new.stack.items ≡ self.old.stack.items }
+    {
+        self.states[n as usize] = state;
+        self.heights[n as usize] = height;
+    }
+
+    /// Looks at the references of object `n`, from number `from` on.
+    #[inline(always)]
+    fn look<R: References>(&self, graph: &mut R, n: u32, from: u64) -> Result<Look, Failure>
+        requires n_in { n < (R.graph graph.old).size }
+        requires all_states { vec_len self.now.states ≡ (R.graph graph.old).size }
+        requires all_heights { vec_len self.now.heights ≡ (R.graph graph.old).size }
+        ensures same { R.graph graph.new ≡ R.graph graph.old }
+        ensures reads { OnlyReads (failed_to_read result) (R.means graph.old) (R.means graph.new) }
+        ensures finds { IfOk result (Finds (R.graph graph.old).size self.now.states.items self.now.heights.items) }
+        ensures shows { IsTrue (R.means graph.old).honest → IsWhole (R.graph graph.old) n
+            → IfOk result (Shows ((R.graph graph.old).refs n) self.now.states.items self.now.heights.items from) }
+    {
+        let mut best = 0;
+        let mut i = from;
+        while let Some(m) = graph.reference(n, i)? {
+            match self.states[m as usize] {
+                State::New => return Ok(Look::New(i, m)),
+                State::Open | State::Circular => return Ok(Look::Circular),
+                State::Founded => best = best.max(self.heights[m as usize]),
+            }
+            i += 1;
+        }
+        Ok(Look::Founded(best))
+    }
+
+    /// Looks at the references of open object `n`, from where the last look at it ended. Where these are founded it looks at
+    /// all, since the height needs the greatest.
+    #[inline(always)]
+    fn look_on<R: References>(&self, graph: &mut R, n: u32) -> Result<Look, Failure>
+        requires n_in { n < (R.graph graph.old).size }
+        requires all_states { vec_len self.now.states ≡ (R.graph graph.old).size }
+        requires all_heights { vec_len self.now.heights ≡ (R.graph graph.old).size }
+        ensures same { R.graph graph.new ≡ R.graph graph.old }
+        ensures reads { OnlyReads (failed_to_read result) (R.means graph.old) (R.means graph.new) }
+        ensures finds { IfOk result (Finds (R.graph graph.old).size self.now.states.items self.now.heights.items) }
+        ensures shows { IsTrue (R.means graph.old).honest → IsWhole (R.graph graph.old) n
+            → IfOk result (Shows ((R.graph graph.old).refs n) self.now.states.items self.now.heights.items 0) }
+    {
+        let from = (self.heights[n as usize] as u64).saturating_mul(self.stride);
+        if from > 0 {
+            match self.look(graph, n, from)? {
+                Look::Founded(_) => {}
+                found => return Ok(found),
+            }
+        }
+        self.look(graph, n, 0)
+    }
+
+    /// Goes on at object `n`, which was on top of the stack: settles it, or opens an object that has to be settled before.
+    #[inline(always)]
+    fn step<R: References>(&mut self, graph: &mut R, n: u32) -> Result<(), Failure>
+        requires fits { (R.graph graph.old).size < 2 ^ 32 }
+        requires standing { Standing (R.graph graph.old).size self.old.states.items self.old.heights.items (self.old.stack.items ++ n ∷ []) }
+        ensures same { R.graph graph.new ≡ R.graph graph.old }
+        ensures reads { OnlyReads (failed_to_read result) (R.means graph.old) (R.means graph.new) }
+        ensures standing { OnOk result (Standing (R.graph graph.old).size self.new.states.items self.new.heights.items self.new.stack.items) }
+        ensures less { OnOk result (work self.new.states.items self.new.stack.items
+            < work self.old.states.items (self.old.stack.items ++ n ∷ [])) }
+        ensures keeps { OnOk result ((m : ℕ) → state_at self.old.states.items m ≢ states.New → state_at self.new.states.items m ≢ states.New) }
+        ensures walking { OnOk result (IsTrue (R.means graph.old).honest → (marks : List Bool) → AreClosed (R.graph graph.old) marks
+            → Walking (R.graph graph.old).refs marks self.old.states.items self.old.heights.items (self.old.stack.items ++ n ∷ [])
+            → Walking (R.graph graph.old).refs marks self.new.states.items self.new.heights.items self.new.stack.items) }
+    {
+        match self.look_on(graph, n)? {
+            Look::New(i, m) => {
+                self.put_back(n, i)?;
+                self.open(m)?;
+            }
+            Look::Circular => self.settle(n, State::Circular, 0),
+            Look::Founded(best) => self.settle(n, State::Founded, best + 1),
+        }
+        Ok(())
+    }
+
+    /// Walks from object `n`, where nothing is known of it: settles it, and what it leads to. The stack is empty before and
+    /// after.
+    fn settle_from<R: References>(&mut self, graph: &mut R, n: u32) -> Result<(), Failure>
+        requires fits { (R.graph graph.old).size < 2 ^ 32 }
+        requires n_in { n < (R.graph graph.old).size }
+        requires empty { vec_len self.old.stack ≡ 0 }
+        requires standing { Standing (R.graph graph.old).size self.old.states.items self.old.heights.items [] }
+        ensures same { R.graph graph.new ≡ R.graph graph.old }
+        ensures reads { OnlyReads (failed_to_read result) (R.means graph.old) (R.means graph.new) }
+        ensures empty { OnOk result (vec_len self.new.stack ≡ 0) }
+        ensures standing { OnOk result (Standing (R.graph graph.old).size self.new.states.items self.new.heights.items []) }
+        ensures sees { OnOk result (state_at self.new.states.items n ≢ states.New) }
+        ensures keeps { OnOk result ((m : ℕ) → state_at self.old.states.items m ≢ states.New → state_at self.new.states.items m ≢ states.New) }
+        ensures walking { OnOk result (IsTrue (R.means graph.old).honest → (marks : List Bool) → AreClosed (R.graph graph.old) marks
+            → IsMarked marks n
+            → Walking (R.graph graph.old).refs marks self.old.states.items self.old.heights.items []
+            → Walking (R.graph graph.old).refs marks self.new.states.items self.new.heights.items []) }
+    {
+        match self.states[n as usize] {
+            State::New => {}
+            _ => return Ok(()),
+        }
+        self.open(n)?;
+        while let Some(m) = self.stack.pop() {
+            self.step(graph, m)?;
+        }
+        Ok(())
+    }
+}
+
 /// The least height of each founded object among the marked ones, which refer to marked ones alone, and 0 for each other.
-/// Objects with a mark in `bare` have no references, and so their height at once. A walk begins at each of the others that is
-/// not seen, the last first: where each reference leads to a greater number, the references of each object are looked at in
-/// one go, and the stack takes none but the first.
+/// Objects with a mark in `bare` have no references, and so their height at once. No object has more references than `len`,
+/// the file's length.
+///
+/// A walk begins at each of the others that is not settled, the last first: where each reference leads to a greater number,
+/// the references of each object are looked at in one go, and the stack takes none but the first. Memory is taken by object:
+/// 9 bytes.
 pub fn least_heights<R: References>(
     alloc: Global,
     graph: &mut R,
-    size: u32,
     marks: &[bool],
-    bare: Vec<bool>,
+    bare: &[bool],
+    len: u64,
 ) -> Result<Vec<u32>, Failure>
-    requires size { size ≡ (R.graph graph.old).size }
-    requires all_marks { length marks.now ≡ size }
-    requires all_bare { vec_len bare ≡ size }
+    requires fits { (R.graph graph.old).size < 2 ^ 32 }
+    requires all_marks { length marks.now ≡ (R.graph graph.old).size }
+    requires all_bare { length bare.now ≡ (R.graph graph.old).size }
     ensures same { R.graph graph.new ≡ R.graph graph.old }
     ensures reads { OnlyReads (failed_to_read result) (R.means graph.old) (R.means graph.new) }
-    ensures all_heights { IfOk result (λ heights. vec_len heights ≡ size) }
+    ensures all_heights { IfOk result (λ heights. vec_len heights ≡ (R.graph graph.old).size) }
     ensures exact { IsTrue (R.means graph.old).honest → AreClosed (R.graph graph.old) marks.now
-        → ((n : ℕ) → IsMarked bare.items n → IsMarked marks.now n × ((R.graph graph.old).refs n ≡ []))
+        → ((n : ℕ) → IsMarked bare.now n → IsMarked marks.now n × ((R.graph graph.old).refs n ≡ []))
         → IfOk result (λ heights. AreLeastOf (R.graph graph.old).refs marks.now heights.items) }
 {
-    let mut heights = first_heights(alloc, &bare)?;
-    let mut seen = bare;
-    let mut stack = Vec::new(alloc);
+    let mut walk = HeightWalk::new(alloc, bare, len)?;
+    let size = marks.len() as u32;
     for n in (0..size).rev() {
         if marks[n as usize] {
-            walk_from(graph, &mut seen, &mut heights, &mut stack, n)?;
+            walk.settle_from(graph, n)?;
         }
     }
+    let HeightWalk { heights, .. } = walk;
     Ok(heights)
 }

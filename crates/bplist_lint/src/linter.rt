@@ -49,20 +49,21 @@ fn find_heights<P: Placed>(
     alloc: Global,
     src: &mut P,
     marks: &[bool],
-    bare: Vec<bool>,
+    bare: &[bool],
 ) -> Result<Vec<u32>, Failure>
     requires marks { length marks.now ≡ (frame_in (P.means src.old)).objects }
-    requires all_bare { vec_len bare ≡ (frame_in (P.means src.old)).objects }
-    requires bare { HonestlyIn (P.means src.old) (λ f F. AreBare f F bare.items) }
+    requires all_bare { length bare.now ≡ (frame_in (P.means src.old)).objects }
+    requires bare { HonestlyIn (P.means src.old) (λ f F. AreBare f F bare.now) }
     ensures reads { OnlyReads (failed_to_read result) (P.means src.old) (P.means src.new) }
     ensures all { IfOk result (λ heights. vec_len heights ≡ (frame_in (P.means src.old)).objects) }
     ensures exact { HonestlyIn (P.means src.old) (λ f F. KeepReachBelow f F F.objects → KeepKeysBelow f F F.objects
         → ((n : ℕ) → IsMarked marks.now n ↔ Reach f F n)
         → IfOk result (λ heights. AreLeast (refs_at f F) F.top.0 heights.items)) }
 {
-    let size = src.frame().objects;
+    let _frame = src.frame();
+    let len = src.len();
     let mut objects = Objects::new(src, View::Values);
-    least_heights(alloc, &mut objects, size, marks, bare)
+    least_heights(alloc, &mut objects, marks, bare, len)
 }
 
 /// The circle that first references without a height lead to from the top, where the reached objects keep rules 14 to 20.
@@ -192,7 +193,7 @@ fn lint_sifted<P: Placed>(alloc: Global, src: &mut P, reached: Reached) -> Resul
 {
     let frame = src.frame();
     let Reached { marks, bare, tally } = reached;
-    let heights = find_heights(alloc, src, &marks, bare)?;
+    let heights = find_heights(alloc, src, &marks, &bare)?;
     let height = heights[frame.top.0 as usize];
     if height == 0 {
         let circle = find_circle(alloc, src, &heights)?;

@@ -1,27 +1,26 @@
-use Rattle.std.proofs.Common.{◌-◌, arith, ◌∙◌, inl, inr}
+use Rattle.std.proofs.Common.{◌≡◌, ◌-◌, length, arith, ◌∙◌, inl, inr}
 use Rattle.std.proofs.lemmas.Grind.{common_steps}
 use Rattle.std.proofs.lemmas.Bool.{cases_eq}
 use Rattle.bplist_lint.proofs.ReachSteps.{marked_within}
-use Rattle.bplist_lint.proofs.VisitSteps.{standing_start}
-use Rattle.bplist_lint.proofs.WalkSteps.{walking_first, are_least}
+use Rattle.bplist_lint.proofs.WalkSteps.{standing_first, walking_first, are_least}
 use Rattle.bplist_lint.proofs.heights.least_heights.Goals as goal
 
 pub loop-n-init : goal.loop-n-init
 loop-n-init g c = record {
   same = cc;
   reads = cc;
-  empty = grind (arith, common_steps);
-  standing = rw (← c.requires.size, c.in_ok-heights.ensures, c.deref.ensures.value) (standing_start _ _ (grind (arith, common_steps)));
-  sees = λ m h is. absurd (let low = marked_within c.args.marks.now m is in omega (arith, low, h, c.requires.all_marks));
-  walking = λ honest closed known. rw (c.in_ok-heights.ensures, c.deref.ensures.value) (walking_first _ _ _ known);
+  empty = c.in_ok-walk.ensures.empty;
+  standing = rw (c.in_ok-walk.ensures.states, c.in_ok-walk.ensures.heights) (standing_first _ _ c.requires.all_bare);
+  sees = λ m h is. absurd (let low = marked_within c.args.marks.now m is in grind (arith, common_steps));
+  walking = λ honest closed known. rw (c.in_ok-walk.ensures.states, c.in_ok-walk.ensures.heights) (walking_first _ _ _ known);
 }
 
 pub loop-n-preserved-in-Continue-branch-2 : goal.loop-n-preserved-in-Continue-branch-2
 loop-n-preserved-in-Continue-branch-2 g c =
     let i = c.loop-n.invariant in
-    let walked = c.in_ok-walk_from.ensures in
+    let walked = c.in_ok-settle_from.ensures in
     record {
-      same = c.walk_from.ensures.same ∙ i.same;
+      same = c.settle_from.ensures.same ∙ i.same;
       reads = walked.reads ∙ i.reads;
       empty = walked.empty;
       standing = rw i.same at walked.standing;
@@ -35,4 +34,4 @@ loop-n-preserved-in-Continue-branch-2 g c =
 pub returns-clause-exact : goal.returns-clause-exact
 returns-clause-exact g c = λ honest closed known.
     let i = c.loop-n.invariant in
-    are_least _ _ _ _ (i.walking honest closed known) (λ m. i.sees m (omega arith)) i.standing.known
+    are_least _ _ _ _ _ i.standing (i.walking honest closed known) (λ m. i.sees m (omega arith))

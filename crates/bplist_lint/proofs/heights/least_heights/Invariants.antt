@@ -1,14 +1,15 @@
-use Rattle.std.proofs.Common.{◌≡◌, ◌≤◌, ℕ, [], IsTrue, vec_len}
+use Rattle.std.proofs.Common.{◌≡◌, ◌≢◌, ◌≤◌, ℕ, [], IsTrue, vec_len}
 use Rattle.bplist_lint.specs.Reaching.{IsMarked}
-use Rattle.bplist_lint.specs.Visits.{Standing, Walking, AreClosed}
+use Rattle.bplist_lint.specs.Visits.{state_at, Standing, Walking, AreClosed}
+use Rattle.bplist_lint.specs.declared.heights.State.TheVariants.{New}
 use Rattle.bplist_lint.proofs.heights.least_heights.Given as goal
 
 abbrev pub invariant-loop-n : goal.invariant-loop-n
 invariant-loop-n g l = record {
   same : g.R.References.graph l.graph ≡ g.R.References.graph l.fn.graph;
   reads : g.R.References.means l.graph ≡ g.R.References.means l.fn.graph;
-  empty : vec_len l.stack ≡ 0;
-  standing : Standing (g.R.References.graph l.fn.graph).size l.seen.items l.heights.items [];
-  sees : (m : ℕ) → l.n ≤ m → IsMarked l.marks m → IsMarked l.seen.items m;
-  walking : IsTrue (g.R.References.means l.fn.graph).honest → AreClosed (g.R.References.graph l.fn.graph) l.marks → ((m : ℕ) → IsMarked l.fn.bare.items m → IsMarked l.marks m × ((g.R.References.graph l.fn.graph).refs m ≡ [])) → Walking (g.R.References.graph l.fn.graph).refs l.marks l.seen.items l.heights.items [];
+  empty : vec_len l.walk.stack ≡ 0;
+  standing : Standing (g.R.References.graph l.fn.graph).size l.walk.states.items l.walk.heights.items [];
+  sees : (m : ℕ) → l.n ≤ m → IsMarked l.marks m → state_at l.walk.states.items m ≢ New;
+  walking : IsTrue (g.R.References.means l.fn.graph).honest → AreClosed (g.R.References.graph l.fn.graph) l.marks → ((m : ℕ) → IsMarked l.bare m → IsMarked l.marks m × ((g.R.References.graph l.fn.graph).refs m ≡ [])) → Walking (g.R.References.graph l.fn.graph).refs l.marks l.walk.states.items l.walk.heights.items [];
 }
