@@ -152,35 +152,25 @@ fn sift_few<P: Placed>(
 }
 
 /// Looks at the reached objects by rules 14 to 22 and 31, first each by itself and then at the keys of each, where the
-/// places of all objects are given. They are answered again.
+/// places of all objects are given.
 ///
-/// What many keys take and the places would come to more than 12 bytes an object together. So the places are given up while
-/// many keys are looked at, and then read again.
-fn sift<P: Placed>(
-    alloc: Global,
-    src: &mut P,
-    places: Vec<u32>,
-) -> Result<(Reached, Vec<u32>), LintRefusal>
+/// What many keys take and the places would come to more than 12 bytes an object together. So the places are given up before
+/// many keys are looked at.
+fn sift<P: Placed>(alloc: Global, src: &mut P, places: Vec<u32>) -> Result<Reached, LintRefusal>
     requires all { length places.items ≡ (frame_in (P.means src.old)).objects }
     requires placed { HonestlyIn (P.means src.old) (λ f F. AreOffsets f F places.items) }
     ensures reads { OnlyReads (lint_failed result) (P.means src.old) (P.means src.new) }
-    ensures fits { IfOk result (λ known. Fits (frame_in (P.means src.old)) known.0) }
-    ensures all { IfOk result (λ known. length known.1.items ≡ (frame_in (P.means src.old)).objects) }
-    ensures placed { HonestlyIn (P.means src.old) (λ f F. IfOk result (λ known. AreOffsets f F known.1.items)) }
+    ensures fits { IfOk result (Fits (frame_in (P.means src.old))) }
     ensures exact { HonestlyIn (P.means src.old) (λ f F.
-        Lints (λ known. IsSifted f F known.0) (IsObjectsFault f F) no_circle result) }
+        Lints (IsSifted f F) (IsObjectsFault f F) no_circle result) }
 {
     let (reached, many) = sift_few(alloc, src, &places)?;
-    match many {
-        None => Ok((reached, places)),
-        Some(named) => {
-            drop(places);
-            check_keys(alloc, src, &reached.marks, &reached.bare, named)?;
-            let frame = src.frame();
-            let places = places_of(alloc, src, &frame)?;
-            Ok((reached, places))
-        }
-    }
+    drop(places);
+    let Some(named) = many else {
+        return Ok(reached);
+    };
+    check_keys(alloc, src, &reached.marks, &reached.bare, named)?;
+    Ok(reached)
 }
 
 /// What the linter says of a file whose reached objects keep rules 14 to 22 and 31.
@@ -235,11 +225,9 @@ fn lint_objects<P: Placed>(
         Lints (λ answer. IsLintedBy f F answer.0 × ((x : head) → HasShape f F F.top.0 x → answer.1 ≡ x.kind))
         (IsObjectsFault f F) (IsFramedCircle f F) result) }
 {
-    let frame = src.frame();
-    let (reached, places) = sift(alloc, src, places)?;
-    let mut table = Table::new(src, frame, &places);
-    let lint = lint_sifted(alloc, &mut table, reached)?;
-    let kind = top_kind(&mut table)?;
+    let reached = sift(alloc, src, places)?;
+    let lint = lint_sifted(alloc, src, reached)?;
+    let kind = top_kind(src)?;
     Ok((lint, kind))
 }
 

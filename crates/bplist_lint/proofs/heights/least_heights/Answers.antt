@@ -1,4 +1,4 @@
-use Rattle.std.proofs.Common.{◌≡◌, ◌-◌, length, arith, ◌∙◌, inl, inr}
+use Rattle.std.proofs.Common.{◌-◌, arith, ◌∙◌, inl, inr}
 use Rattle.std.proofs.lemmas.Grind.{common_steps}
 use Rattle.std.proofs.lemmas.Bool.{cases_eq}
 use Rattle.bplist_lint.proofs.ReachSteps.{marked_within}
