@@ -94,7 +94,7 @@ pub fn circle<R: References>(
         IsCircleOf (R.graph graph.old).refs top (map number circle.items)) }
 {
     let mut met = vec![in alloc; false; heights.len()]?;
-    let mut trail = Vec::new(alloc);
+    let mut trail = Vec::with_capacity(alloc, heights.len())?;
     let mut x = top;
     'walk: while !met[x as usize] {
         met[x as usize] = true;
@@ -105,5 +105,6 @@ pub fn circle<R: References>(
             None => break,
         }
     }
+    drop(met);
     Ok(trail_from(alloc, &trail, x)?)
 }

@@ -184,6 +184,7 @@ fn lint_sifted<P: Placed>(alloc: Global, src: &mut P, reached: Reached) -> Resul
     let frame = src.frame();
     let Reached { marks, bare, tally } = reached;
     let heights = find_heights(alloc, src, &marks, &bare)?;
+    drop((marks, bare));
     let height = heights[frame.top.0 as usize];
     if height == 0 {
         let circle = find_circle(alloc, src, &heights)?;

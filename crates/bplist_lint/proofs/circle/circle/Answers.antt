@@ -11,8 +11,8 @@ walk-init g c =
       same = cc;
       reads = cc;
       inside = c.requires.top;
-      placed = rw (all_new, c.new-trail.ensures.items, ← c.requires.all_heights) (placed_none _);
-      leading = λ honest whole. rw c.new-trail.ensures.items (leading_start _ _ _ (c.requires.heights honest) c.requires.circular);
+      placed = rw (all_new, c.in_ok-trail.ensures.items, ← c.requires.all_heights) (placed_none _);
+      leading = λ honest whole. rw c.in_ok-trail.ensures.items (leading_start _ _ _ (c.requires.heights honest) c.requires.circular);
     }
 
 pub walk-preserved : goal.walk-preserved
