@@ -20,6 +20,7 @@ pub mod ValueHeights
 pub mod OneCircle
 pub mod FirstFaults
 pub mod LintAnswers
+pub mod Parts
 pub mod Passes
 pub mod FiniteGraphs
 pub mod ValueOrFault

@@ -1,5 +1,5 @@
 -- What an object's references are, by what was read of it.
-use Rattle.std.proofs.Common.{◌≡◌, ℕ, ◌<◌, ◌+◌, ◌-◌, List, [], drop, length, slice_index, Option, Some, None, inl, inr, refl, sym, ap, ◌∙◌, subst, arith}
+use Rattle.std.proofs.Common.{◌≡◌, ℕ, ◌<◌, ◌+◌, ◌-◌, min, List, [], drop, length, slice_index, Option, Some, None, inl, inr, refl, sym, ap, ◌∙◌, subst, arith}
 use Rattle.std.specs.List.{AllByRecursion}
 use Rattle.std.proofs.lemmas.Bool.{cases_lt}
 use Rattle.std.proofs.lemmas.List.{nil_from_length, length-drop, get_or-drop, drop_all}
@@ -19,7 +19,8 @@ use Rattle.bplist_objects.proofs.References.{nth-refs, each_ref, all_refs}
 use Rattle.bplist_objects.proofs.ReachedObjects.{refs_spelled}
 use Rattle.bplist_objects.proofs.HeadTies.{shape_announced, spells_body}
 use Rattle.bplist_lint.specs.declared.object_graph.View.{View}
-use Rattle.bplist_lint.specs.Referring.{IsBlock, refs_announced, hidden, refs_in}
+use Rattle.bplist_lint.specs.Graph.{IsPart}
+use Rattle.bplist_lint.specs.Referring.{refs_announced, hidden, refs_in}
 
 module _ (f : List ℕ) (F : Frame) (n : ℕ) where
   -- an object that spells nothing refers to nothing
@@ -97,27 +98,25 @@ module _ (f : List ℕ) (F : Frame) (n : ℕ) where
         let all : refs_announced (head_found f F n) ≡ length (refs_at f F n) = ap refs_announced (found_as s.shape s.has) ∙ sym count in
         omega (arith, all, length-drop (hidden view (head_found f F n)) (refs_at f F n))
 
-    -- there is a reference number i only where the shape says so
-    pub some_left : (h : Head) → HasShape f F n h → (i : ℕ) → i < length (refs_in view f F n) → hidden view (Some h) + i < ref_count h.kind h.count
-    some_left h has i within =
-        let l = in_view i within in
-        let a = as_shape h has _ l in
-        omega (arith, a.count, l, ap (hidden view) (found_as h has))
-
-    -- a block of them
-    pub block_is : (h : Head) → HasShape f F n h → (first count : ℕ) (block : List ℕ)
-        → ((k : ℕ) → k < count → nth_number f h.body F.ref_size (hidden view (Some h) + first + k) < F.objects → slice_index block k ≡ nth_number f h.body F.ref_size (hidden view (Some h) + first + k))
-        → IsBlock (refs_in view f F n) first count block
-    block_is h has first count block same k low within =
-        let a = as_shape h has _ (in_view (first + k) within) in
-        let i : ℕ = hidden view (Some h) + first + k in
-        let l : i < ref_count h.kind h.count = omega (arith, some_left h has (first + k) within) in
-        let at : hidden view (head_found f F n) + (first + k) ≡ i = omega (arith, ap (hidden view) (found_as h has)) in
-        same k low (a.low i l) ∙ sym (get_or-drop (hidden view (head_found f F n)) (refs_at f F n) (first + k) 0 ∙ ap (slice_index (refs_at f F n)) at ∙ a.each i l)
+    -- a part of them that was read by the shape
+    pub part_is : (h : Head) → HasShape f F n h → refs_announced (head_found f F n) - hidden view (head_found f F n) ≡ length (refs_in view f F n) → (i count : ℕ) (block : List ℕ)
+        → count ≡ min (length block) (ref_count h.kind h.count - hidden view (Some h) - i)
+        → ((k : ℕ) → k < count → nth_number f h.body F.ref_size (hidden view (Some h) + i + k) < F.objects → slice_index block k ≡ nth_number f h.body F.ref_size (hidden view (Some h) + i + k))
+        → IsPart (refs_in view f F n) i block count
+    part_is h has whole i count block many same =
+        let all : ref_count h.kind h.count - hidden view (Some h) ≡ length (refs_in view f F n) = sym (announced_as h has) ∙ whole in
+        (omega (arith, many, all),
+        λ k low.
+            let within : i + k < length (refs_in view f F n) = omega (arith, many, all, low) in
+            let a = as_shape h has _ (in_view (i + k) within) in
+            let j : ℕ = hidden view (Some h) + i + k in
+            let l : j < ref_count h.kind h.count = omega (arith, all, within) in
+            let at : hidden view (head_found f F n) + (i + k) ≡ j = omega (arith, ap (hidden view) (found_as h has)) in
+            same k low (a.low j l) ∙ sym (get_or-drop (hidden view (head_found f F n)) (refs_at f F n) (i + k) 0 ∙ ap (slice_index (refs_at f F n)) at ∙ a.each j l))
 
     -- no reference where there is no shape
-    pub none_left : ((h : Head) → HasShape f F n h → ⊥) → (i : ℕ) → i < length (refs_in view f F n) → ⊥
-    none_left never i within = let z = ap length (none_in_view (no_refs_shape never)) in omega arith
+    pub part_none : ((h : Head) → HasShape f F n h → ⊥) → (i : ℕ) (block : List ℕ) → IsPart (refs_in view f F n) i block 0
+    part_none never i block = let none = ap length (none_in_view (no_refs_shape never)) in (omega (arith, none), λ k low. absurd (omega (arith, low)))
 
   -- what has references is no text and no UID
   proper_container : (kind : Kind) (count body : ℕ) → 0 < ref_count kind count → IsProperLeaf f F kind count body

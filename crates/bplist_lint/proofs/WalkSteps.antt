@@ -5,7 +5,7 @@ use Rattle.std.proofs.lemmas.Bool.{cases_eq, cases_lt}
 use Rattle.std.proofs.lemmas.List.{get_or-set_same, get_or-set_other, get_or_append_left, get_or_push, get_or_default, get_or-map, length-set, length-map, length_push, map-append, take_more}
 use Rattle.std.proofs.lemmas.List.Sums.{count_by-le-length}
 use Rattle.std.proofs.lemmas.List.Elements.{Contains-get_or, Contains-append_left, Contains-push, Contains-push_cases}
-use Rattle.bplist_lint.specs.Graph.{Ends, Least, greatest}
+use Rattle.bplist_lint.specs.Graph.{Ends, Least, greatest, IsPart}
 use Rattle.bplist_lint.specs.Graph.Ends.{ends}
 use Rattle.bplist_lint.specs.Graph.Least.{above}
 use Rattle.bplist_lint.specs.Reaching.{IsMarked}
@@ -13,6 +13,7 @@ use Rattle.bplist_lint.specs.Visits.{state_at, is_new, is_founded, first_state, 
 use Rattle.bplist_lint.specs.declared.heights.State.{State}
 use Rattle.bplist_lint.specs.declared.heights.State.TheVariants.{New, Open, Founded, Circular}
 use Rattle.bplist_lint.proofs.MarkSteps.{apart_none, apart_push, apart_front, apart_last}
+use Rattle.bplist_lint.proofs.Parts.{take_part}
 use Rattle.bplist_lint.proofs.VisitSteps.{count-set, push_cases, at_set}
 
 -- ---- states
@@ -201,11 +202,21 @@ height_over refs _ _ (above n heights long each) = omega arith
 pub among_at : (xs : List ℕ) (i m : ℕ) → i < length xs → m ≡ get_or xs i 0 → Contains xs m
 among_at xs i m in' is = rw is (Contains-get_or xs i 0 in')
 
--- the greatest height of the first references, with one more
-pub greatest_more : (heights references : List ℕ) (i best m : ℕ) → i < length references → m ≡ get_or references i 0 → best ≡ greatest (map (λ x. slice_index heights x) (take i references)) → max best (slice_index heights m) ≡ greatest (map (λ x. slice_index heights x) (take (i + 1) references))
-greatest_more heights references i best m in' is so =
+-- the greatest height of the first of these objects, with one more
+pub greatest_more : (heights objects : List ℕ) (i best m : ℕ) → i < length objects → m ≡ get_or objects i 0 → best ≡ greatest (map (λ x. slice_index heights x) (take i objects)) → max best (slice_index heights m) ≡ greatest (map (λ x. slice_index heights x) (take (i + 1) objects))
+greatest_more heights objects i best m in' is so =
     let h : ℕ → ℕ = λ x. slice_index heights x in
-    rw (take_more references i 0 in', map-append h (take i references) (get_or references i 0 ∷ []), ← is, so) (sym (greatest-push (map h (take i references)) (h m)))
+    rw (take_more objects i 0 in', map-append h (take i objects) (get_or objects i 0 ∷ []), ← is, so) (sym (greatest-push (map h (take i objects)) (h m)))
+
+greatest-append : (xs ys : List ℕ) → greatest (xs ++ ys) ≡ max (greatest xs) (greatest ys)
+greatest-append [] ys = omega arith
+greatest-append (x ∷ xs) ys = omega (arith, greatest-append xs ys)
+
+-- the greatest height of the references before a block, and of those in it
+pub greatest_part : (heights references block : List ℕ) (i count best height : ℕ) → i ≤ length references → IsPart references i block count → best ≡ greatest (map (λ x. slice_index heights x) (take i references)) → height ≡ greatest (map (λ x. slice_index heights x) (take count block)) → max best height ≡ greatest (map (λ x. slice_index heights x) (take (i + count) references))
+greatest_part heights references block i count best height low part is here =
+    let h : ℕ → ℕ = λ x. slice_index heights x in
+    rw (take_part references block i count part low, map-append h (take i references) (take count block), is, here) (sym (greatest-append (map h (take i references)) (map h (take count block))))
 
 -- ---- what is known of the references
 pub walking_first : (refs : ℕ → List ℕ) (marks bare : List Bool) → ((n : ℕ) → IsMarked bare n → IsMarked marks n × (refs n ≡ [])) → Walking refs marks (map first_state bare) (map first_height bare) []

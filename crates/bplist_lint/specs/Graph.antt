@@ -1,6 +1,6 @@
 -- Objects with references, whatever they are read from: what is reached, what is founded, and with which least height.
 -- Source: the reader of CFBinaryPList.c, which refuses circles; heights and circles as lists are profile.
-use Rattle.std.specs.Prelude.{◌≡◌, ℕ, suc, ◌+◌, ◌<◌, ◌≤◌, max, List, [], ◌∷◌, length, slice_index, Contains, Option, Some, None}
+use Rattle.std.specs.Prelude.{◌≡◌, ℕ, suc, ◌+◌, ◌-◌, ◌<◌, min, max, List, [], ◌∷◌, length, slice_index, Contains}
 
 -- how many objects there are, the references of each in written order, and how many of them it announces. Where they are
 -- read through a borrow, through is its ghost name
@@ -14,10 +14,14 @@ pub record Graph : Type 0 where
 abbrev pub IsWhole : Graph → ℕ → Type 0
 IsWhole graph n = graph.announced n ≡ length (graph.refs n)
 
--- this is item i, or there are no more than i
-abbrev pub IsNth : List ℕ → ℕ → Option ℕ → Type 0
-IsNth references i None = length references ≤ i
-IsNth references i (Some m) = (i < length references) × (m ≡ slice_index references i)
+-- the first so many of these are numbers of objects
+abbrev pub AreObjects : ℕ → ℕ → List ℕ → Type 0
+AreObjects size count block = (k : ℕ) → k < count → slice_index block k < size
+
+-- the first so many of the block are the references from number i on: all that there are, or as many as there is room for
+abbrev pub IsPart : List ℕ → ℕ → List ℕ → ℕ → Type 0
+IsPart references i block count =
+    (count ≡ min (length block) (length references - i)) × ((k : ℕ) → k < count → slice_index block k ≡ slice_index references (i + k))
 
 -- top, and what reached objects refer to
 pub data Reaches (refs : ℕ → List ℕ) (top : ℕ) : ℕ → Type 0 where

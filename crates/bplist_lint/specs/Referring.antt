@@ -1,5 +1,5 @@
 -- The references of a file's objects as a graph, and the parts of it that are in memory. Source: profile.
-use Rattle.std.specs.Prelude.{◌≡◌, ℕ, ◌+◌, ◌-◌, ◌<◌, Bool, List, [], drop, length, slice_index, Option, Some, None}
+use Rattle.std.specs.Prelude.{◌≡◌, ℕ, ◌-◌, Bool, List, [], drop, Option, Some, None}
 use Rattle.bplist_objects.specs.declared.frame.Frame.{Frame}
 use Rattle.bplist_objects.specs.declared.head.Head.{Head}
 use Rattle.bplist_objects.specs.declared.kind.Kind.{Kind}
@@ -44,12 +44,3 @@ graph_of through view f F = record {
 -- each object with a mark is reached and has no references
 abbrev pub AreBare : List ℕ → Frame → List Bool → Type 0
 AreBare f F bare = (n : ℕ) → IsMarked bare n → Reach f F n × (refs_at f F n ≡ [])
-
--- the first so many of these are numbers of objects
-abbrev pub AreObjects : ℕ → ℕ → List ℕ → Type 0
-AreObjects size count block = (k : ℕ) → k < count → slice_index block k < size
-
--- the first so many of these are the references from number first on, as far as there are any
-abbrev pub IsBlock : List ℕ → ℕ → ℕ → List ℕ → Type 0
-IsBlock references first count block =
-    (k : ℕ) → k < count → first + k < length references → slice_index block k ≡ slice_index references (first + k)

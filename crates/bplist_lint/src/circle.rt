@@ -3,14 +3,30 @@
 ghost use Rattle.std.specs.Prelude.{◌≡◌, ℕ, ◌^◌, ◌<◌, ◌≤◌, IsTrue, drop, map, length, slice_index, Contains, IfOk, IfSome, MatchOption, is_err};
 ghost use Rattle.bplist_octets.specs.Meaning.{OnlyReads};
 ghost use Rattle.bplist_keys.specs.Failures.{failed_to_read};
-ghost use Rattle.bplist_lint.specs.Graph.{IsWhole, AreWhole, AreLeast, IsCircleOf};
+ghost use Rattle.bplist_lint.specs.Graph.{IsWhole, AreWhole, AreObjects, AreLeast, IsCircleOf};
 ghost use Rattle.bplist_lint.specs.Trail.{number, object, AllHave, IsFirstWithout, IsPlaceOf};
 
-use crate::references::References;
+use crate::references::{BLOCK, References};
 use bplist_keys::Failure;
 use bplist_objects::ObjectNo;
 use bplist_octets::ReadFault;
 use std::alloc::{AllocError, Global};
+
+/// The first of these objects that has no height.
+fn without(heights: &[u32], objects: &[u32]) -> Option<u32>
+    requires { AreObjects (length heights.now) (length objects.now) objects.now }
+    ensures inside { IfSome result (λ m. m < length heights.now) }
+    ensures first { MatchOption result
+        (AllHave heights.now objects.now (length objects.now))
+        (λ m. IsFirstWithout heights.now objects.now m) }
+{
+    for m in objects {
+        if heights[*m as usize] == 0 {
+            return Some(*m);
+        }
+    }
+    None
+}
 
 /// The first reference of `n` that has no height.
 fn first_without<R: References>(
@@ -28,12 +44,16 @@ fn first_without<R: References>(
         (AllHave heights.now references (length references))
         (λ m. IsFirstWithout heights.now references m)) }
 {
-    let mut i = 0u64;
-    while let Some(m) = graph.reference(n, i)? {
-        if heights[m as usize] == 0 {
+    let mut block = [0; BLOCK];
+    let mut done = 0u64;
+    let mut more = true;
+    while more {
+        let count = graph.read(n, done, &mut block)?;
+        if let Some(m) = without(heights, &block[..count]) {
             return Ok(Some(m));
         }
-        i += 1;
+        done += count as u64;
+        more = count == BLOCK;
     }
     Ok(None)
 }

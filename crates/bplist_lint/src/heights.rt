@@ -3,14 +3,17 @@
 ghost use Rattle.std.specs.Prelude.{◌≡◌, ◌≢◌, ℕ, ◌+◌, ◌^◌, ◌<◌, ◌≤◌, Bool, List, [], ◌∷◌, ◌++◌, IsTrue, length, map, set, slice_index, vec_len, IfOk, OnOk};
 ghost use Rattle.bplist_octets.specs.Meaning.{OnlyReads};
 ghost use Rattle.bplist_keys.specs.Failures.{failed_to_read};
-ghost use Rattle.bplist_lint.specs.Graph.{IsWhole};
+ghost use Rattle.bplist_lint.specs.Graph.{IsWhole, AreObjects};
 ghost use Rattle.bplist_lint.specs.Reaching.{IsMarked};
 ghost use Rattle.bplist_lint.specs.Visits.{Finds, Shows, Standing, Walking, AreClosed, AreLeastOf, state_at, first_state, first_height, work};
 ghost use Rattle.bplist_lint.specs.declared.heights.State.TheVariants as states;
 
-use crate::references::References;
+use crate::references::{BLOCK, References};
 use bplist_keys::Failure;
 use std::alloc::{AllocError, Global};
+
+/// How many references are read at first where a look at an object goes on.
+const FEW: usize = 4;
 
 /// What is known of an object.
 #[derive(Clone, Copy, Debug)]
@@ -125,8 +128,26 @@ impl HeightWalk {
         self.heights[n as usize] = height;
     }
 
-    /// Looks at the references of object `n`, from number `from` on.
-    #[inline(always)]
+    /// Looks at these objects. Where nothing is known of one its number among them is given.
+    fn look_at(&self, objects: &[u32]) -> Look
+        requires inside { AreObjects (vec_len self.now.states) (length objects.now) objects.now }
+        requires all { vec_len self.now.heights ≡ vec_len self.now.states }
+        ensures finds { Finds (vec_len self.now.states) self.now.states.items self.now.heights.items result }
+        ensures shows { Shows objects.now self.now.states.items self.now.heights.items 0 result }
+    {
+        let mut best = 0;
+        for (k, m) in objects.iter().enumerate() {
+            match self.states[*m as usize] {
+                State::New => return Look::New(k as u64, *m),
+                State::Open | State::Circular => return Look::Circular,
+                State::Founded => best = best.max(self.heights[*m as usize]),
+            }
+        }
+        Look::Founded(best)
+    }
+
+    /// Looks at the references of object `n`, from number `from` on. Behind the first a few are read, and then twice as many
+    /// each time: a walk that comes back to an object again and again reads none of its references often.
     fn look<R: References>(&self, graph: &mut R, n: u32, from: u64) -> Result<Look, Failure>
         requires n_in { n < (R.graph graph.old).size }
         requires all_states { vec_len self.now.states ≡ (R.graph graph.old).size }
@@ -137,22 +158,28 @@ impl HeightWalk {
         ensures shows { IsTrue (R.means graph.old).honest → IsWhole (R.graph graph.old) n
             → IfOk result (Shows ((R.graph graph.old).refs n) self.now.states.items self.now.heights.items from) }
     {
+        let mut buffer = [0; BLOCK];
+        let mut portion = if from == 0 { BLOCK } else { FEW };
         let mut best = 0;
-        let mut i = from;
-        while let Some(m) = graph.reference(n, i)? {
-            match self.states[m as usize] {
-                State::New => return Ok(Look::New(i, m)),
-                State::Open | State::Circular => return Ok(Look::Circular),
-                State::Founded => best = best.max(self.heights[m as usize]),
+        let mut done = from;
+        let mut more = true;
+        while more {
+            let block = &mut buffer[..portion];
+            let count = graph.read(n, done, block)?;
+            match self.look_at(&block[..count]) {
+                Look::New(k, m) => return Ok(Look::New(done + k, m)),
+                Look::Circular => return Ok(Look::Circular),
+                Look::Founded(height) => best = best.max(height),
             }
-            i += 1;
+            done += count as u64;
+            more = count == portion;
+            portion = (2 * portion).min(BLOCK);
         }
         Ok(Look::Founded(best))
     }
 
     /// Looks at the references of open object `n`, from where the last look at it ended. Where these are founded it looks at
     /// all, since the height needs the greatest.
-    #[inline(always)]
     fn look_on<R: References>(&self, graph: &mut R, n: u32) -> Result<Look, Failure>
         requires n_in { n < (R.graph graph.old).size }
         requires all_states { vec_len self.now.states ≡ (R.graph graph.old).size }
@@ -174,7 +201,6 @@ impl HeightWalk {
     }
 
     /// Goes on at object `n`, which was on top of the stack: settles it, or opens an object that has to be settled before.
-    #[inline(always)]
     fn step<R: References>(&mut self, graph: &mut R, n: u32) -> Result<(), Failure>
         requires fits { (R.graph graph.old).size < 2 ^ 32 }
         requires standing { Standing (R.graph graph.old).size self.old.states.items self.old.heights.items (self.old.stack.items ++ n ∷ []) }

@@ -1,10 +1,13 @@
 //! References between objects, as the walks read them.
 
-ghost use Rattle.std.specs.Prelude.{◌≡◌, ◌+◌, ◌^◌, ◌<◌, IsTrue, IfOk, IfSome, is_err};
+ghost use Rattle.std.specs.Prelude.{◌≡◌, ◌+◌, ◌^◌, ◌<◌, ◌≤◌, IsTrue, IfOk, is_err, length};
 ghost use Rattle.bplist_octets.specs.Meaning.{Meaning, OnlyReads};
-ghost use Rattle.bplist_lint.specs.Graph.{Graph, IsWhole, IsNth};
+ghost use Rattle.bplist_lint.specs.Graph.{Graph, IsWhole, AreObjects, IsPart};
 
 use bplist_octets::ReadFault;
+
+/// How many references are read at once at most.
+pub(crate) const BLOCK: usize = 32;
 
 /// Objects with numbers, each with a list of references to objects.
 pub trait References {
@@ -14,14 +17,16 @@ pub trait References {
     /// What the references are read from.
     ghost means: { Self → Meaning };
 
-    /// Reference `i` of object `n`, in written order, or none where it has no more than `i`. Over any source it is a number
-    /// of an object.
-    fn reference(&mut self, n: u32, i: u64) -> Result<Option<u32>, ReadFault>
-        requires { n < (graph self.old).size }
+    /// Reads references of object `n` in written order, from number `i` on: as many as there are, or as `block` has room for,
+    /// at most 32. How many they are. Over any source they are numbers of objects.
+    fn read(&mut self, n: u32, i: u64, block: &mut [u32]) -> Result<usize, ReadFault>
+        requires n_in { n < (graph self.old).size }
+        requires few { length block.old ≤ 32 }
         ensures same { graph self.new ≡ graph self.old }
         ensures reads { OnlyReads (is_err result) (means self.old) (means self.new) }
-        ensures inside { IfOk result (λ found. IfSome found (λ m. m < (graph self.old).size)) }
-        ensures bounded { IfOk result (λ found. IfSome found (λ _. i + 1 < 2 ^ 64)) }
+        ensures room { IfOk result (λ count. count ≤ length block.new) }
+        ensures bounded { IfOk result (λ count. i + count < 2 ^ 64) }
+        ensures inside { IfOk result (λ count. AreObjects (graph self.old).size count block.new) }
         ensures value { IsTrue (means self.old).honest → IsWhole (graph self.old) n
-            → IfOk result (λ found. IsNth ((graph self.old).refs n) i found) };
+            → IfOk result (λ count. IsPart ((graph self.old).refs n) i block.new count) };
 }

@@ -1,0 +1,66 @@
+-- References that are read part by part.
+use Rattle.std.proofs.Common.{◌≡◌, ℕ, ◌+◌, ◌-◌, ◌<◌, ◌≤◌, inl, inr, List, ◌++◌, length, take, slice_index, Contains, refl, sym, ◌∙◌, arith}
+use Rattle.std.proofs.lemmas.Bool.{cases_lt}
+use Rattle.std.proofs.lemmas.List.{length-append, length-take-le, get_or-take, get_or_append_left, get_or-append_right, get_or_default, ext_get_or}
+use Rattle.std.proofs.lemmas.List.Elements.{Contains-get_or}
+use Rattle.bplist_lint.specs.Graph.{IsPart}
+use Rattle.bplist_lint.specs.Trail.{AllHave, IsFirstWithout}
+
+module _ (references block : List ℕ) (i count : ℕ) (part : IsPart references i block count) where
+  long : length (take count block) ≡ count
+  long = length-take-le count block (omega (arith, part.0))
+
+  -- an item of the part
+  part_at : (k : ℕ) → k < count → slice_index (take count block) k ≡ slice_index references (i + k)
+  part_at k low = rw (get_or-take count block k 0 low) (part.1 k low)
+
+  -- what is in the part is a reference
+  pub contains_part : (m : ℕ) → Contains (take count block) m → Contains references m
+  contains_part m c =
+      let under : c.0 < count = let l = c.1 in omega (arith, l, long) in
+      let is : slice_index references (i + c.0) ≡ m = sym (part_at c.0 under) ∙ sym (get_or_default (take count block) c.0 m 0 c.1) ∙ c.2 in
+      rw is at (Contains-get_or references (i + c.0) 0 (omega (arith, part.0, under)))
+
+  -- the references up to one behind the part are those before it and the part
+  pub take_part : i ≤ length references → take (i + count) references ≡ take i references ++ take count block
+  take_part low =
+      let room : i + count ≤ length references = omega (arith, part.0, low) in
+      let before : length (take i references) ≡ i = length-take-le i references low in
+      let all : length (take (i + count) references) ≡ i + count = length-take-le (i + count) references room in
+      let both : length (take i references ++ take count block) ≡ i + count = omega (arith, length-append (take i references) (take count block), before, long) in
+      ext_get_or 0 _ _ (omega (arith, all, both)) (λ k within. elim (cases_lt k i) [
+        | inl first ↦ rw (get_or-take (i + count) references k 0 (omega arith), get_or_append_left (take i references) (take count block) 0 k (omega (arith, before)), get_or-take i references k 0 first) refl
+        | inr later ↦
+            let there : i + (k - i) ≡ k = omega (arith, later) in
+            let under : k - i < count = omega (arith, within, all, later) in
+            rw (get_or-take (i + count) references k 0 (omega (arith, within, all)), get_or-append_right (take i references) (take count block) i k 0 before later)
+            (rw there at (sym (part_at (k - i) under)))
+      ])
+
+  -- what holds of the references before the part and of those in it
+  pub part_all : (P : ℕ → Type 0) → ((k : ℕ) → k < i → P (slice_index references k)) → ((k : ℕ) → k < length (take count block) → P (slice_index (take count block) k)) → (k : ℕ) → k < i + count → P (slice_index references k)
+  part_all P before here k low = elim (cases_lt k i) [
+    | inl first ↦ before k first
+    | inr later ↦
+        let there : i + (k - i) ≡ k = omega (arith, later) in
+        let under : k - i < count = omega (arith, low, later) in
+        rw (part_at (k - i) under, there) at (here (k - i) (omega (arith, long, under)))
+  ]
+
+  -- the first without a height in the part, where all before it have one
+  pub first_in_part : (heights : List ℕ) (m : ℕ) → i ≤ length references → AllHave heights references i → IsFirstWithout heights (take count block) m → IsFirstWithout heights references m
+  first_in_part heights m low before first =
+      let under : first.place < count = let l = first.in_refs in omega (arith, l, long) in
+      record {
+        place = i + first.place;
+        in_refs = omega (arith, part.0, under);
+        at_place = rw (part_at first.place under) at first.at_place;
+        without = first.without;
+        before = λ k within. elim (cases_lt k i) [
+          | inl early ↦ before k early
+          | inr later ↦
+              let there : i + (k - i) ≡ k = omega (arith, later) in
+              let lower : k - i < first.place = omega (arith, within, later) in
+              rw (part_at (k - i) (omega (arith, lower, under)), there) at (first.before (k - i) lower)
+        ];
+      }
