@@ -1,6 +1,6 @@
 //! The objects that the vouched dictionaries name as keys.
 
-ghost use Rattle.std.specs.Prelude.{◌≡◌, ◌<◌, ℕ, IfOk, length, slice_index};
+ghost use Rattle.std.specs.Prelude.{◌≡◌, ◌<◌, ℕ, IfOk, length};
 ghost use Rattle.bplist_octets.specs.Meaning.{OnlyReads};
 ghost use Rattle.bplist_objects.specs.Answers.{Never};
 ghost use Rattle.bplist_objects.specs.Framed.{frame_in, HonestlyIn};

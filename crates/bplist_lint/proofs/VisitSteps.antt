@@ -3,7 +3,7 @@ use Rattle.std.proofs.Common.{◌≡◌, ◌≢◌, ℕ, zero, suc, ◌+◌, ◌
 use Rattle.std.proofs.lemmas.Bool.{cases_eq, cases_lt, false≢true}
 use Rattle.std.proofs.lemmas.List.{get_or-set_same, get_or-set_other, length-set, get_or_append_left, get_or_push, length_push, length-map}
 use Rattle.std.proofs.lemmas.List.Sums.{sum_by-set, sum_by-append, count_by-le-length}
-use Rattle.bplist_lint.specs.Reaching.{IsMarked}
+use Rattle.bplist_keys.specs.Marks.{IsMarked}
 use Rattle.bplist_lint.specs.Visits.{is_height, first_height, no_visit, EachVisit, IsVisit, IsOpen, Standing, work}
 use Rattle.bplist_lint.specs.declared.heights.Visit.{Visit}
 

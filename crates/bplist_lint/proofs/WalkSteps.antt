@@ -3,10 +3,11 @@ use Rattle.std.proofs.Common.{◌≡◌, ℕ, suc, ◌+◌, ◌<◌, ◌≤◌, 
 use Rattle.std.proofs.lemmas.Bool.{cases_eq, cases_lt, false≢true}
 use Rattle.std.proofs.lemmas.List.{get_or-set_same, get_or_append_left, get_or_push, length_push}
 use Rattle.std.proofs.lemmas.List.Elements.{Contains-get_or}
+use Rattle.bplist_keys.specs.Marks.{IsMarked}
 use Rattle.bplist_lint.specs.Graph.{Ends, Least, greatest}
 use Rattle.bplist_lint.specs.Graph.Ends.{ends}
 use Rattle.bplist_lint.specs.Graph.Least.{above}
-use Rattle.bplist_lint.specs.Reaching.{IsMarked, HasMarks}
+use Rattle.bplist_lint.specs.Reaching.{HasMarks}
 use Rattle.bplist_lint.specs.Visits.{first_height, no_visit, visit_at, Measured, IsRead, IsOnStack, Walking, AreLeastOf}
 use Rattle.bplist_lint.specs.declared.heights.Visit.{Visit}
 use Rattle.bplist_lint.proofs.VisitSteps.{push_cases, each_push, each_front, each_last, at_set, first_seen, first_one}

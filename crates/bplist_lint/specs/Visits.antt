@@ -1,7 +1,8 @@
 -- The marks, the heights and the stack of the walk that finds the least heights, and what it keeps true of them. Source: profile.
 use Rattle.std.specs.Prelude.{◌≡◌, ◌≢◌, ◌⊎◌, ℕ, suc, ◌+◌, ◌*◌, ◌-◌, ◌^◌, ◌<◌, ◌≤◌, Bool, true, false, not, nat_lt, List, length, slice_index_or, slice_index, count_by, sum_by, Contains}
+use Rattle.bplist_keys.specs.Marks.{IsMarked}
 use Rattle.bplist_lint.specs.Graph.{Graph, IsWhole, Ends, Least, greatest}
-use Rattle.bplist_lint.specs.Reaching.{IsMarked, HasMarks}
+use Rattle.bplist_lint.specs.Reaching.{HasMarks}
 use Rattle.bplist_lint.specs.declared.heights.Visit.{Visit}
 
 -- the height is one

@@ -3,7 +3,7 @@
 ghost use Rattle.std.specs.Prelude.{◌≡◌, ℕ, ◌+◌, ◌^◌, ◌<◌, ◌≤◌, max, Bool, List, [], ◌∷◌, ◌++◌, true, false, not, IsTrue, length, map, slice_index, slice_index_or, vec_len, IfOk, IfSome, MatchOption, OnOk};
 ghost use Rattle.bplist_octets.specs.Meaning.{OnlyReads};
 ghost use Rattle.bplist_keys.specs.Failures.{failed_to_read};
-ghost use Rattle.bplist_lint.specs.Reaching.{IsMarked};
+ghost use Rattle.bplist_keys.specs.Marks.{IsMarked};
 ghost use Rattle.bplist_lint.specs.Visits.{Standing, Walking, AreClosed, AreLeastOf, first_height, work};
 ghost use Rattle.bplist_lint.specs.declared.heights.Visit.{Visit as a_visit};
 
