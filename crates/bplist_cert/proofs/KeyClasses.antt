@@ -49,7 +49,7 @@ module _ (f : List ℕ) (F : Frame) where
       each k (omega (arith, low))
 
   -- the classes of the named are those of the keys
-  pub keys_classed : (named classes : List ℕ) (n : ℕ) → AreClasses f F named classes → HasNamedKeys f F named n → (head : Head) → HasHead f F n head → head.kind ≡ Dict → AreClassed f F classes head
+  pub keys_classed : (named : List Bool) (classes : List ℕ) (n : ℕ) → AreClasses f F named classes → HasNamedKeys f F named n → (head : Head) → HasHead f F n head → head.kind ≡ Dict → AreClassed f F classes head
   keys_classed named classes n are named_keys head has dict = record {
     only = λ k low some. (are.given.only (ref f F head k) some).1;
     all = λ k low shape. are.given.all (ref f F head k) (named_keys head has dict k low) shape;
@@ -96,7 +96,7 @@ module _ (f : List ℕ) (F : Frame) where
         let l = seen.lower head has k (omega (arith, low, two)) in
         omega (arith, least, v, l)
 
-  pub named_low : (heights named : List ℕ) (n : ℕ) → IsSeen f F heights n → slice_index heights n ≤ 1 → HasNamedKeys f F named n
+  pub named_low : (heights : List ℕ) (named : List Bool) (n : ℕ) → IsSeen f F heights n → slice_index heights n ≤ 1 → HasNamedKeys f F named n
   named_low heights named n seen least head has dict k low = absurd (no_keys heights n seen head has dict least k low)
 
   pub good_low : (heights : List ℕ) (n : ℕ) → IsSeen f F heights n → slice_index heights n ≤ 1 → HasGoodKeys f F None n

@@ -50,10 +50,10 @@ fn key_classes<P: Placed>(
     seen: &Seen,
     named: NamedKeys,
 ) -> Result<Ranks, Failure>
-    requires { length named.table.items ≡ (frame_in (P.means src.old)).objects }
+    requires { length named.marks.items ≡ (frame_in (P.means src.old)).objects }
     ensures reads { OnlyReads (failed_to_read result) (P.means src.old) (P.means src.new) }
     ensures exact { HonestlyIn (P.means src.old) (λ f F.
-        IfOk result (λ ranks. AreClasses f F named.table.items ranks.table.items)) }
+        IfOk result (λ ranks. AreClasses f F named.marks.items ranks.table.items)) }
 {
     let _frame = src.frame();
     if seen.is_whole() {

@@ -1,12 +1,13 @@
 //! The objects that the vouched dictionaries name as keys.
 
-ghost use Rattle.std.specs.Prelude.{◌≡◌, ◌<◌, ℕ, IfOk, length, slice_index};
+ghost use Rattle.std.specs.Prelude.{◌≡◌, ◌<◌, ℕ, IfOk, length};
 ghost use Rattle.bplist_octets.specs.Meaning.{OnlyReads};
 ghost use Rattle.bplist_objects.specs.Answers.{Never};
 ghost use Rattle.bplist_objects.specs.Framed.{frame_in, HonestlyIn};
 ghost use Rattle.bplist_objects.specs.Rules.{KeepsAll};
 ghost use Rattle.bplist_objects.specs.ObjectRules.{KeepsByObject, object_rules};
 ghost use Rattle.bplist_keys.specs.Classes.{HasNamedKeys};
+ghost use Rattle.bplist_keys.specs.Marks.{IsMarked};
 ghost use Rattle.bplist_cert.specs.Valid.{IsVouchedBy};
 ghost use Rattle.bplist_cert.specs.Looks.{AreSeen};
 ghost use Rattle.bplist_cert.specs.Refusals.{Judges, refused_read};
@@ -20,12 +21,12 @@ use std::alloc::Global;
 /// Names the keys of object `n`, where it is a dictionary.
 fn name_object<P: Placed>(src: &mut P, n: u32, named: &mut NamedKeys) -> Result<(), Refusal>
     requires within { n < (frame_in (P.means src.old)).objects }
-    requires all { length named.old.table.items ≡ (frame_in (P.means src.old)).objects }
+    requires all { length named.old.marks.items ≡ (frame_in (P.means src.old)).objects }
     ensures reads { OnlyReads (refused_read result) (P.means src.old) (P.means src.new) }
-    ensures all { length named.new.table.items ≡ (frame_in (P.means src.old)).objects }
-    ensures keeps { (m : ℕ) → 0 < slice_index named.old.table.items m → 0 < slice_index named.new.table.items m }
+    ensures all { length named.new.marks.items ≡ (frame_in (P.means src.old)).objects }
+    ensures keeps { (m : ℕ) → IsMarked named.old.marks.items m → IsMarked named.new.marks.items m }
     ensures exact { HonestlyIn (P.means src.old) (λ f F. KeepsAll (KeepsByObject f F n) object_rules
-        → Judges (λ _. HasNamedKeys f F named.new.table.items n) Never result) }
+        → Judges (λ _. HasNamedKeys f F named.new.marks.items n) Never result) }
 {
     let head = placed_shape(src, n)?;
     match head.kind {
@@ -42,10 +43,10 @@ pub(crate) fn seen_keys<P: Placed>(
 ) -> Result<NamedKeys, Refusal>
     requires { length seen.now.heights.now ≡ (frame_in (P.means src.old)).objects }
     ensures reads { OnlyReads (refused_read result) (P.means src.old) (P.means src.new) }
-    ensures all { IfOk result (λ named. length named.table.items ≡ (frame_in (P.means src.old)).objects) }
+    ensures all { IfOk result (λ named. length named.marks.items ≡ (frame_in (P.means src.old)).objects) }
     ensures exact { HonestlyIn (P.means src.old) (λ f F. AreSeen f F seen.now.heights.now seen.now.bound
         → Judges (λ named. (n : ℕ) → n < seen.now.bound → IsVouchedBy seen.now.heights.now n
-        → HasNamedKeys f F named.table.items n) Never result) }
+        → HasNamedKeys f F named.marks.items n) Never result) }
 {
     let objects = src.frame().objects;
     let mut named = NamedKeys::new(alloc, objects)?;
@@ -65,9 +66,9 @@ pub fn vouched_keys<P: Placed>(
 ) -> Result<NamedKeys, Refusal>
     requires { length heights.now ≡ (frame_in (P.means src.old)).objects }
     ensures reads { OnlyReads (refused_read result) (P.means src.old) (P.means src.new) }
-    ensures all { IfOk result (λ named. length named.table.items ≡ (frame_in (P.means src.old)).objects) }
+    ensures all { IfOk result (λ named. length named.marks.items ≡ (frame_in (P.means src.old)).objects) }
     ensures exact { HonestlyIn (P.means src.old) (λ f F. AreSeen f F heights.now F.objects
-        → Judges (λ named. (n : ℕ) → IsVouchedBy heights.now n → HasNamedKeys f F named.table.items n) Never result) }
+        → Judges (λ named. (n : ℕ) → IsVouchedBy heights.now n → HasNamedKeys f F named.marks.items n) Never result) }
 {
     let seen = Seen {
         heights,

@@ -1,10 +1,11 @@
 -- The keys of dictionaries by the classes of their texts. Source: profile.
-use Rattle.std.specs.Prelude.{◌≡◌, ◌≢◌, ◌↔◌, ◌⊎◌, ℕ, ◌+◌, ◌-◌, ◌<◌, List, length, set, slice_index, Option, MatchOption}
+use Rattle.std.specs.Prelude.{◌≡◌, ◌≢◌, ◌↔◌, ◌⊎◌, ℕ, ◌+◌, ◌-◌, ◌<◌, Bool, List, length, set, slice_index, Option, MatchOption}
 use Rattle.bplist_objects.specs.declared.frame.Frame.{Frame}
 use Rattle.bplist_objects.specs.declared.head.Head.{Head}
 use Rattle.bplist_objects.specs.declared.kind.Kind.TheVariants.{Dict}
 use Rattle.bplist_objects.specs.Announced.{HasHead}
 use Rattle.bplist_objects.specs.Scan.{nth_number}
+use Rattle.bplist_keys.specs.Marks.{IsMarked}
 use Rattle.bplist_keys.specs.Texts.{HasTextShape, text_units}
 use Rattle.bplist_keys.specs.declared.class_table.Found.{Found}
 use Rattle.bplist_keys.specs.declared.class_table.Found.TheVariants as founds
@@ -17,8 +18,8 @@ key_ref f F head i = nth_number f head.body F.ref_size i
 
 module _ (f : List ℕ) (F : Frame) where
   -- the keys of object n, if it is a dictionary, are named
-  abbrev pub HasNamedKeys : List ℕ → ℕ → Type 0
-  HasNamedKeys named n = (head : Head) → HasHead f F n head → head.kind ≡ Dict → (k : ℕ) → k < head.count → 0 < slice_index named (key_ref f F head k)
+  abbrev pub HasNamedKeys : List Bool → ℕ → Type 0
+  HasNamedKeys named n = (head : Head) → HasHead f F n head → head.kind ≡ Dict → (k : ℕ) → k < head.count → IsMarked named (key_ref f F head k)
 
   -- the keys of a dictionary with this head have these classes: those alone that are texts by marker and count, and two
   -- have the same one exactly where their units are the same

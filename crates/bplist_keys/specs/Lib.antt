@@ -1,3 +1,4 @@
+pub mod Marks
 pub mod Order
 pub mod Texts
 pub mod Weights

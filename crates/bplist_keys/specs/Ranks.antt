@@ -1,18 +1,20 @@
 -- Classes and ranks of the texts that are named as keys. Source: profile.
-use Rattle.std.specs.Prelude.{◌≡◌, ℕ, ◌<◌, ◌↔◌, List, slice_index}
+use Rattle.std.specs.Prelude.{◌≡◌, ℕ, ◌<◌, ◌↔◌, Bool, List, map, slice_index}
+use Rattle.std.specs.Int.{from_bool}
 use Rattle.std.specs.declared.cmp.Ordering.TheVariants.{Less}
 use Rattle.bplist_objects.specs.declared.frame.Frame.{Frame}
 use Rattle.bplist_objects.specs.Units.{compare_units}
 use Rattle.bplist_keys.specs.declared.weight.Weight.{Weight}
+use Rattle.bplist_keys.specs.Marks.{IsMarked}
 use Rattle.bplist_keys.specs.Texts.{HasTextShape, text_units}
 use Rattle.bplist_keys.specs.Weights.{AreWeighed}
 use Rattle.bplist_keys.specs.Weighted.{AreOrdered}
 
-module _ (f : List ℕ) (F : Frame) (named numbers : List ℕ) where
+module _ (f : List ℕ) (F : Frame) (named : List Bool) (numbers : List ℕ) where
   -- exactly the named objects with the head of a text have a number above 0
   pub record AreGiven : Type 0 where
-    pub only : (m : ℕ) → 0 < slice_index numbers m → (0 < slice_index named m) × HasTextShape f F m
-    pub all : (m : ℕ) → 0 < slice_index named m → HasTextShape f F m → 0 < slice_index numbers m
+    pub only : (m : ℕ) → 0 < slice_index numbers m → IsMarked named m × HasTextShape f F m
+    pub all : (m : ℕ) → IsMarked named m → HasTextShape f F m → 0 < slice_index numbers m
 
   -- besides, two numbers are equal exactly where the units are
   pub record AreClasses : Type 0 where
@@ -29,5 +31,5 @@ module _ (f : List ℕ) (F : Frame) (named numbers : List ℕ) where
   -- the numbers are in the order of weights of this kind and of units
   pub record AreRankedBy (by : Weight) : Type 0 where
     pub weights : List ℕ
-    pub weighed : AreWeighed f F by named weights
+    pub weighed : AreWeighed f F by (map from_bool named) weights
     pub ordered : AreOrdered f F weights numbers

@@ -6,11 +6,11 @@ use Rattle.std.proofs.lemmas.List.{length-set, length-replicate, get_or_default}
 use Rattle.std.proofs.lemmas.List.FromFn.{get_or-map-range_with_len, length-map-range_with_len}
 use Rattle.std.proofs.lemmas.List.Elements.{Contains-get_or}
 use Rattle.bplist_objects.proofs.Lists.{Either, all_or_first}
+use Rattle.bplist_keys.specs.Marks.{IsMarked}
 use Rattle.bplist_cert.proofs.AllNumbers.{onto}
 use Rattle.bplist_lint.specs.Graph.{Reaches, Ends, IsNext, IsCircleOf}
 use Rattle.bplist_lint.specs.Graph.Reaches.{start, onward}
 use Rattle.bplist_lint.specs.Graph.Ends.{ends}
-use Rattle.bplist_lint.specs.Reaching.{IsMarked}
 use Rattle.bplist_lint.proofs.VisitSteps.{at_set, count-set, unwritten}
 
 -- there is one below a bound, or there is none

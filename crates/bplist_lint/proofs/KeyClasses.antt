@@ -13,11 +13,11 @@ use Rattle.bplist_objects.specs.Rules.{IsFirstFault}
 use Rattle.bplist_objects.proofs.Lists.{all_from}
 use Rattle.bplist_objects.proofs.HeadTies.{head_tie}
 use Rattle.bplist_keys.specs.Ranks.{AreClasses}
+use Rattle.bplist_keys.specs.Marks.{IsMarked}
 use Rattle.bplist_cert.specs.Heights.{ref}
 use Rattle.bplist_cert.specs.Keys.{IsFirstKeyless, IsFirstTwice}
 use Rattle.bplist_cert.specs.KeyClasses.{KeysAreSound}
 use Rattle.bplist_cert.proofs.KeyClasses as keys
-use Rattle.bplist_lint.specs.Reaching.{IsMarked}
 use Rattle.bplist_lint.specs.ReachRules.{KeepReachBelow}
 use Rattle.bplist_lint.specs.KeyRules.{KeepsByKeys, BreaksAtKeys, key_rules}
 use Rattle.bplist_keys.specs.Classes.{HasNamedKeys, AreClassed, HaveClasses, IsFirstAgain, IsWrong}
@@ -49,7 +49,7 @@ module _ (f : List ℕ) (F : Frame) where
       sound.kept (ref f F head k) (sound.closed n (ref f F head k) marked (c, spells, among))
 
   -- what is known of the keys of a marked dictionary
-  pub keys_known : (marks : List Bool) (named classes : List ℕ) (n : ℕ) → AreSound f F marks → AreClasses f F named classes → HasNamedKeys f F named n → n < F.objects → IsMarked marks n
+  pub keys_known : (marks named : List Bool) (classes : List ℕ) (n : ℕ) → AreSound f F marks → AreClasses f F named classes → HasNamedKeys f F named n → n < F.objects → IsMarked marks n
       → (head : Head) → HasHead f F n head → head.kind ≡ Dict → AreClassed f F classes head × KeysAreSound f F head
   keys_known marks named classes n sound are named_keys within marked head has dict =
       (keys.keys_classed f F named classes n are named_keys head has dict, sound_keys marks sound n within marked head has dict)

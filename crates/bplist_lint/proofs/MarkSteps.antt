@@ -4,7 +4,7 @@ use Rattle.std.proofs.Common.{below_more}
 use Rattle.std.proofs.lemmas.Bool.{cases_eq, cases_lt, false≢true}
 use Rattle.std.proofs.lemmas.List.{get_or-set_same, get_or-set_other, get_or-take, length-take-le, get_or_default}
 use Rattle.std.proofs.lemmas.List.Elements.{Contains-append_left, Contains-push, Contains-push_cases, Contains-get_or}
-use Rattle.bplist_lint.specs.Reaching.{IsMarked}
+use Rattle.bplist_keys.specs.Marks.{IsMarked}
 use Rattle.bplist_lint.specs.Walks.{AreApart, Noted}
 use Rattle.bplist_lint.proofs.VisitSteps.{seen-set, differ_push, differ_front, differ_last}
 
@@ -139,8 +139,8 @@ module _ (references : List ℕ) (next : ℕ) (marks : List Bool) (stack : List 
         }
 
 -- what is named of the front of a block is named of the block
-pub named_front : (keys : ℕ) (block table : List ℕ) (j m : ℕ) → j < keys → keys ≤ length block → slice_index block j ≡ m → m < length table
-    → ((k : ℕ) → k < length (take keys block) → slice_index (take keys block) k < length table → 0 < slice_index table (slice_index (take keys block) k)) → 0 < slice_index table m
-named_front keys block table j m low few is inside named =
+pub named_front : (keys : ℕ) (block : List ℕ) (marks : List Bool) (j m : ℕ) → j < keys → keys ≤ length block → slice_index block j ≡ m → m < length marks
+    → ((k : ℕ) → k < length (take keys block) → slice_index (take keys block) k < length marks → IsMarked marks (slice_index (take keys block) k)) → IsMarked marks m
+named_front keys block marks j m low few is inside named =
     let here : slice_index (take keys block) j ≡ m = get_or-take keys block j 0 low ∙ is in
     rw here at (named j (rw (length-take-le keys block few) low) (rw here inside))

@@ -17,7 +17,8 @@ use Rattle.bplist_objects.proofs.Bounds.{place_fits}
 use Rattle.bplist_objects.proofs.Lists.{none_in}
 use Rattle.bplist_objects.proofs.ReachedObjects.{refs_iff}
 use Rattle.bplist_objects.proofs.References.{length-refs, nth-refs}
-use Rattle.bplist_lint.specs.Reaching.{IsMarked, HasMarks, row, number_at, set_size, reference_at, AreGood, AreFollowed, Looked, IsSearching}
+use Rattle.bplist_keys.specs.Marks.{IsMarked}
+use Rattle.bplist_lint.specs.Reaching.{HasMarks, row, number_at, set_size, reference_at, AreGood, AreFollowed, Looked, IsSearching}
 use Rattle.bplist_lint.specs.PlaceSets.{IsIn}
 use Rattle.bplist_lint.proofs.VisitSteps.{seen-set, unwritten}
 

@@ -1,5 +1,5 @@
 -- One visit of a reached object: the rules that it keeps, and its references.
-use Rattle.std.proofs.Common.{◌≡◌, ℕ, ◌<◌, ◌≤◌, inl, inr, Bool, true, List, [], ◌∷◌, ◌++◌, length, slice_index, set, ap, subst, arith, Result, Ok, Err, OnOk}
+use Rattle.std.proofs.Common.{◌≡◌, ℕ, ◌<◌, ◌≤◌, inl, inr, Bool, true, List, [], ◌∷◌, ◌++◌, length, set, ap, subst, arith, Result, Ok, Err, OnOk}
 use Rattle.std.proofs.lemmas.List.Elements.{Contains-push}
 use Rattle.bplist_objects.specs.declared.frame.Frame.{Frame}
 use Rattle.bplist_objects.specs.declared.head.Head.{Head}
@@ -20,6 +20,7 @@ use Rattle.bplist_objects.proofs.References.{length-refs}
 use Rattle.bplist_objects.proofs.RuleLaws.{kept_all_after}
 use Rattle.bplist_objects.proofs.HeadTies.{head_tie, shape_tie}
 use Rattle.bplist_keys.specs.Classes.{key_ref}
+use Rattle.bplist_keys.specs.Marks.{IsMarked}
 use Rattle.bplist_lint.specs.declared.tally.Tally.{Tally}
 use Rattle.bplist_lint.specs.Tallies.{IsTalliedWith}
 use Rattle.bplist_lint.specs.Walks.{Noted, IsWalkState}
@@ -66,7 +67,7 @@ module _ (f : List ℕ) (F : Frame) (n : ℕ) (head : Head) (has : HasHead f F n
       let no1 = none_of head.kind head.count some in
       body_kept (λ e. absurd (no1.0 e)) (λ e. absurd (no1.1 e)) below
 
-  module _ (frame : IsFrame f F) (within : n < F.objects) (next : ℕ) (stack : List ℕ) (marks bare : List Bool) (keys : List ℕ) (tally tally' : Tally) (w : IsWalkState f F next (stack ++ n ∷ []) marks bare keys tally) (t : IsTalliedWith tally (off f F n) head tally') where
+  module _ (frame : IsFrame f F) (within : n < F.objects) (next : ℕ) (stack : List ℕ) (marks bare keys : List Bool) (tally tally' : Tally) (w : IsWalkState f F next (stack ++ n ∷ []) marks bare keys tally) (t : IsTalliedWith tally (off f F n) head tally') where
     -- an object without references was visited
     pub walking_leaf : ref_count head.kind head.count ≡ 0 → KeepsAll (KeepsByObject f F n) object_rules → IsWalkState f F next stack marks (set bare n true) keys tally'
     walking_leaf none all =
@@ -78,13 +79,13 @@ module _ (f : List ℕ) (F : Frame) (n : ℕ) (head : Head) (has : HasHead f F n
         absurd (let zero = rw dict at has_none in omega (arith, zero, low))) t
 
     -- an object whose references are marked was visited
-    pub walking_container : 0 < ref_count head.kind head.count → AreBelow f head.body F.ref_size (ref_count head.kind head.count) F.objects → (stack' : List ℕ) (marks' : List Bool) (keys' : List ℕ)
+    pub walking_container : 0 < ref_count head.kind head.count → AreBelow f head.body F.ref_size (ref_count head.kind head.count) F.objects → (stack' : List ℕ) (marks' keys' : List Bool)
         → Noted (refs (content_at f F head)) next (ref_count head.kind head.count) marks stack marks' stack'
-        → ((m : ℕ) → 0 < slice_index keys m → 0 < slice_index keys' m) → (head.kind ≡ kinds.Dict → (k : ℕ) → k < head.count → 0 < slice_index keys' (key_ref f F head k)) → IsWalkState f F next stack' marks' bare keys' tally'
+        → ((m : ℕ) → IsMarked keys m → IsMarked keys' m) → (head.kind ≡ kinds.Dict → (k : ℕ) → k < head.count → IsMarked keys' (key_ref f F head k)) → IsWalkState f F next stack' marks' bare keys' tally'
     walking_container some below stack' marks' keys' noted more named =
         let all = container_kept some below in
         let spelled = (head_tie f F n frame within head).0 (has, all) in
         let same : refs_at f F n ≡ refs (content_at f F head) = refs_spelled f F n (content_at f F head) spelled.1 in
         walking_visit f F frame next n within stack marks bare keys tally w head has all stack' marks' bare keys' tally'
         (rw (same, length-refs f F head.kind head.count head.body) noted) w.bare_known more
-        (λ other h. subst (λ (x : Head). x.kind ≡ kinds.Dict → (k : ℕ) → k < x.count → 0 < slice_index keys' (key_ref f F x k)) (HasHead-unique f F n head other has h) named) t
+        (λ other h. subst (λ (x : Head). x.kind ≡ kinds.Dict → (k : ℕ) → k < x.count → IsMarked keys' (key_ref f F x k)) (HasHead-unique f F n head other has h) named) t

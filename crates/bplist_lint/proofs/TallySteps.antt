@@ -19,7 +19,7 @@ use Rattle.bplist_objects.proofs.RuleLaws.{first_fault_after, first_fault_among,
 use Rattle.bplist_objects.proofs.HeadTies.{head_tie}
 use Rattle.bplist_objects.proofs.References.{length-refs}
 use Rattle.bplist_objects.proofs.ReachedObjects.{refs_spelled}
-use Rattle.bplist_lint.specs.Reaching.{IsMarked}
+use Rattle.bplist_keys.specs.Marks.{IsMarked}
 use Rattle.bplist_lint.specs.ReachRules.{KeepsByReach, BreaksAtReach, IsReachFault, Sums, Tallied}
 use Rattle.bplist_lint.specs.declared.tally.Tally.{Tally}
 

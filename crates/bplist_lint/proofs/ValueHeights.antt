@@ -13,6 +13,7 @@ use Rattle.bplist_objects.specs.Spelled.{head_found, refs_at}
 use Rattle.bplist_objects.specs.Units.{IsTextKind}
 use Rattle.bplist_objects.proofs.HeadTies.{shape_announced}
 use Rattle.bplist_objects.proofs.ReachedObjects.{refs_iff, reach_within}
+use Rattle.bplist_keys.specs.Marks.{IsMarked}
 use Rattle.bplist_lint.specs.declared.object_graph.View.{View}
 use Rattle.bplist_lint.specs.declared.object_graph.View.TheVariants as views
 use Rattle.bplist_lint.specs.Graph.{IsWhole, Reaches, Ends, Least, greatest, AreLeast}
@@ -20,7 +21,6 @@ use Rattle.bplist_lint.specs.Graph.Reaches.{onward}
 use Rattle.bplist_lint.specs.Graph.Ends.{ends}
 use Rattle.bplist_lint.specs.Graph.Least.{above}
 use Rattle.bplist_lint.specs.KeyRules.{KeepKeysBelow}
-use Rattle.bplist_lint.specs.Reaching.{IsMarked}
 use Rattle.bplist_lint.specs.ReachRules.{KeepReachBelow}
 use Rattle.bplist_lint.specs.Referring.{key_count, hidden, refs_in, graph_of}
 use Rattle.bplist_lint.specs.Visits.{AreClosed, AreLeastOf}

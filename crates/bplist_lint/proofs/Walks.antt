@@ -1,5 +1,5 @@
 -- What the one walk over the reached objects knows between two visits, and at its end.
-use Rattle.std.proofs.Common.{◌≡◌, ◌≢◌, ◌↔◌, ℕ, zero, suc, ◌+◌, ◌-◌, ◌<◌, ◌≤◌, inl, inr, Bool, true, false, cond, List, [], ◌∷◌, ◌++◌, length, get_or, slice_index, set, replicate, refl, sym, ap, ◌∙◌, subst, arith}
+use Rattle.std.proofs.Common.{◌≡◌, ◌≢◌, ◌↔◌, ℕ, zero, suc, ◌+◌, ◌-◌, ◌<◌, ◌≤◌, inl, inr, Bool, true, false, cond, List, [], ◌∷◌, ◌++◌, length, get_or, set, replicate, refl, sym, ap, ◌∙◌, subst, arith}
 use Rattle.std.proofs.lemmas.Bool.{cases_eq, false≢true, false_from_ne_true}
 use Rattle.std.proofs.lemmas.List.{get_or-set_same, get_or-set_other, length-set, length-replicate, get_or_default}
 use Rattle.std.proofs.lemmas.List.Elements.{Contains-append_left, Contains-push, Contains-push_cases}
@@ -19,9 +19,9 @@ use Rattle.bplist_objects.proofs.References.{length-refs}
 use Rattle.bplist_objects.proofs.HeadLaws.{head_is_found}
 use Rattle.bplist_objects.proofs.HeadTies.{head_tie}
 use Rattle.bplist_keys.specs.Classes.{HasNamedKeys}
+use Rattle.bplist_keys.specs.Marks.{IsMarked}
 use Rattle.bplist_lint.specs.declared.tally.Tally.{Tally}
 use Rattle.bplist_lint.specs.declared.walk.Reached.{Reached}
-use Rattle.bplist_lint.specs.Reaching.{IsMarked}
 use Rattle.bplist_lint.specs.Referring.{AreBare}
 use Rattle.bplist_lint.specs.ReachRules.{sum_below, number_below, references_below, is_marked, Sums, Tallied}
 use Rattle.bplist_lint.specs.Tallies.{IsTalliedWith}
@@ -89,7 +89,7 @@ module _ (f : List ℕ) (F : Frame) where
   extent_is n head has = ap (extent_by (off f F n)) (head_is_found f F n head has)
 
   -- ---- the beginning
-  pub walking_start : F.top.0 < F.objects → (keys : List ℕ) → IsWalkState f F 0 [] (set (replicate F.objects false) F.top.0 true) (replicate F.objects false) keys (record { reached = 0; used = 0; references = 0 })
+  pub walking_start : F.top.0 < F.objects → (keys : List Bool) → IsWalkState f F 0 [] (set (replicate F.objects false) F.top.0 true) (replicate F.objects false) keys (record { reached = 0; used = 0; references = 0 })
   walking_start within keys =
       let none : (m : ℕ) → is_marked (replicate F.objects false) m ≡ false = λ m. unwritten F.objects m false in
       let no1 : (m : ℕ) → IsMarked (replicate F.objects false) m → ⊥ = λ m h. false≢true (sym (none m) ∙ h) in
@@ -115,10 +115,10 @@ module _ (f : List ℕ) (F : Frame) where
 
   -- ---- between visits
   -- later marks and names leave what was visited so
-  visited_more : (marks marks' : List Bool) (keys keys' : List ℕ) (n : ℕ) → ((m : ℕ) → IsMarked marks m → IsMarked marks' m) → ((m : ℕ) → 0 < slice_index keys m → 0 < slice_index keys' m) → IsVisited f F marks keys n → IsVisited f F marks' keys' n
+  visited_more : (marks marks' keys keys' : List Bool) (n : ℕ) → ((m : ℕ) → IsMarked marks m → IsMarked marks' m) → ((m : ℕ) → IsMarked keys m → IsMarked keys' m) → IsVisited f F marks keys n → IsVisited f F marks' keys' n
   visited_more marks marks' keys keys' n keeps more v = record { head = v.head; has = v.has; kept = v.kept; all = λ i low. keeps _ (v.all i low); named = λ head has dict k low. more _ (v.named head has dict k low) }
 
-  module _ (n : ℕ) (marks bare : List Bool) (keys : List ℕ) (tally : Tally) (w : IsWalkState f F n [] marks bare keys tally) where
+  module _ (n : ℕ) (marks bare keys : List Bool) (tally : Tally) (w : IsWalkState f F n [] marks bare keys tally) where
     -- object n, which is not marked, is passed over
     pub walking_over : get_or marks n false ≡ false → IsWalkState f F (n + 1) [] marks bare keys tally
     walking_over unmarked = record {
@@ -169,10 +169,10 @@ module _ (f : List ℕ) (F : Frame) where
     }
 
   -- object n of the stack is visited
-  module _ (frame : IsFrame f F) (next0 n : ℕ) (within : n < F.objects) (stack : List ℕ) (marks bare : List Bool) (keys : List ℕ) (tally : Tally) (w : IsWalkState f F next0 (stack ++ n ∷ []) marks bare keys tally) where
-    pub walking_visit : (head : Head) → HasHead f F n head → KeepsAll (KeepsByObject f F n) object_rules → (stack' : List ℕ) (marks' bare' : List Bool) (keys' : List ℕ) (tally' : Tally)
+  module _ (frame : IsFrame f F) (next0 n : ℕ) (within : n < F.objects) (stack : List ℕ) (marks bare keys : List Bool) (tally : Tally) (w : IsWalkState f F next0 (stack ++ n ∷ []) marks bare keys tally) where
+    pub walking_visit : (head : Head) → HasHead f F n head → KeepsAll (KeepsByObject f F n) object_rules → (stack' : List ℕ) (marks' bare' keys' : List Bool) (tally' : Tally)
         → Noted (refs_at f F n) next0 (length (refs_at f F n)) marks stack marks' stack'
-        → AreBare f F bare' → ((m : ℕ) → 0 < slice_index keys m → 0 < slice_index keys' m) → HasNamedKeys f F keys' n → IsTalliedWith tally (off f F n) head tally' → IsWalkState f F next0 stack' marks' bare' keys' tally'
+        → AreBare f F bare' → ((m : ℕ) → IsMarked keys m → IsMarked keys' m) → HasNamedKeys f F keys' n → IsTalliedWith tally (off f F n) head tally' → IsWalkState f F next0 stack' marks' bare' keys' tally'
     walking_visit head has kept stack' marks' bare' keys' tally' s known more named t =
         let here : n < length w.visited = omega (arith, w.all_visited) in
         let on = w.waiting n (Contains-push stack n) in
@@ -216,7 +216,7 @@ module _ (f : List ℕ) (F : Frame) where
         }
 
   -- ---- the end
-  module _ (frame : IsFrame f F) (reached : Reached) (all_marks : length reached.marks.items ≡ F.objects) (keys : List ℕ) (w : IsWalkState f F F.objects [] reached.marks.items reached.bare.items keys reached.tally) (room : reached.tally.used + 8 ≤ F.table) where
+  module _ (frame : IsFrame f F) (reached : Reached) (all_marks : length reached.marks.items ≡ F.objects) (keys : List Bool) (w : IsWalkState f F F.objects [] reached.marks.items reached.bare.items keys reached.tally) (room : reached.tally.used + 8 ≤ F.table) where
     visited_as : (m : ℕ) → IsMarked reached.marks.items m → IsMarked w.visited m
     visited_as m h = elim (w.closed m h) [
       | inl above ↦ absurd (let low = marked_within reached.marks.items m h in omega arith)

@@ -11,7 +11,7 @@ use Rattle.bplist_objects.specs.Rules.{KeepsAll}
 use Rattle.bplist_objects.specs.ObjectRules.{KeepsByObject, object_rules}
 use Rattle.bplist_keys.specs.declared.class_table.Wrong.{Wrong}
 use Rattle.bplist_keys.specs.declared.class_table.Wrong.TheVariants as wrongs
-use Rattle.bplist_lint.specs.Reaching.{IsMarked}
+use Rattle.bplist_keys.specs.Marks.{IsMarked}
 
 module _ (f : List ℕ) (F : Frame) where
   -- F is the frame of f, and the marked objects keep rules 14 to 20 and refer to marked ones alone

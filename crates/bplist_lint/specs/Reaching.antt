@@ -1,16 +1,13 @@
--- Marks on objects, and the search for the reached ones: places by numbers, and what is known of those that were looked at.
+-- Marks on references, and the search for the reached objects: places by numbers, and what is known of those that were looked at.
 -- Source: profile.
-use Rattle.std.specs.Prelude.{◌≡◌, ◌⊎◌, ℕ, ◌+◌, ◌*◌, ◌/◌, ◌%◌, ◌<◌, Bool, true, false, All, List, length, slice_index_or, slice_index, vec_len, Contains}
+use Rattle.std.specs.Prelude.{◌≡◌, ◌⊎◌, ℕ, ◌+◌, ◌*◌, ◌/◌, ◌%◌, ◌<◌, Bool, All, List, length, slice_index, vec_len, Contains}
 use Rattle.bplist_objects.specs.declared.frame.Frame.{Frame}
 use Rattle.bplist_objects.specs.Numbers.{num_at}
 use Rattle.bplist_objects.specs.Reach.{Reach}
 use Rattle.bplist_objects.specs.Spelled.{refs_at}
+use Rattle.bplist_keys.specs.Marks.{IsMarked}
 use Rattle.bplist_lint.specs.PlaceSets.{IsIn}
 use Rattle.bplist_lint.specs.declared.reach.Search.{Search}
-
--- object n is marked
-abbrev pub IsMarked : List Bool → ℕ → Type 0
-IsMarked marks n = slice_index_or marks n false ≡ true
 
 -- the references of an object are marked
 abbrev pub HasMarks : List Bool → List ℕ → Type 0

@@ -7,10 +7,10 @@ use Rattle.bplist_objects.specs.declared.kind.Kind.TheVariants as kinds
 use Rattle.bplist_objects.specs.Reach.{Reach}
 use Rattle.bplist_objects.specs.Safe.{ref_count}
 use Rattle.bplist_objects.specs.Spelled.{head_found, refs_at}
+use Rattle.bplist_keys.specs.Marks.{IsMarked}
 use Rattle.bplist_lint.specs.declared.object_graph.View.{View}
 use Rattle.bplist_lint.specs.declared.object_graph.View.TheVariants as views
 use Rattle.bplist_lint.specs.Graph.{Graph}
-use Rattle.bplist_lint.specs.Reaching.{IsMarked}
 
 -- how many references a head announces
 abbrev pub refs_announced : Option Head → ℕ

@@ -1,8 +1,8 @@
 -- The trail of the walk to the circle. Source: profile.
 use Rattle.std.specs.Prelude.{◌≡◌, ◌≢◌, ℕ, suc, ◌<◌, Bool, List, [], ◌∷◌, ◌++◌, length, slice_index, Contains}
 use Rattle.bplist_objects.specs.declared.frame.ObjectNo.{ObjectNo}
+use Rattle.bplist_keys.specs.Marks.{IsMarked}
 use Rattle.bplist_lint.specs.Graph.{Reaches, Ends, IsNext}
-use Rattle.bplist_lint.specs.Reaching.{IsMarked}
 
 -- the number of an object
 abbrev pub number : ObjectNo → ℕ

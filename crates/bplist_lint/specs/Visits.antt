@@ -1,7 +1,8 @@
 -- The states, the heights and the stack of the walk that finds the least heights, and what it keeps true of them. Source: profile.
 use Rattle.std.specs.Prelude.{◌≡◌, ◌≢◌, ◌⊎◌, ℕ, suc, ◌+◌, ◌*◌, ◌<◌, ◌≤◌, Bool, true, false, List, length, map, slice_index_or, slice_index, count_by, Contains, ⊤}
 use Rattle.bplist_lint.specs.Graph.{Graph, IsWhole, Ends, Least, greatest}
-use Rattle.bplist_lint.specs.Reaching.{IsMarked, HasMarks}
+use Rattle.bplist_keys.specs.Marks.{IsMarked}
+use Rattle.bplist_lint.specs.Reaching.{HasMarks}
 use Rattle.bplist_lint.specs.Walks.{AreApart}
 use Rattle.bplist_lint.specs.declared.heights.State.{State}
 use Rattle.bplist_lint.specs.declared.heights.State.TheVariants.{New, Open, Founded, Circular}

@@ -11,13 +11,14 @@ use Rattle.bplist_objects.specs.Reach.{Reach}
 use Rattle.bplist_objects.specs.Rules.{KeepsAll}
 use Rattle.bplist_objects.specs.Spelled.{head_found, refs_at}
 use Rattle.bplist_keys.specs.Classes.{HasNamedKeys}
+use Rattle.bplist_keys.specs.Marks.{IsMarked}
 use Rattle.bplist_lint.specs.declared.tally.Tally.{Tally}
 use Rattle.bplist_lint.specs.declared.walk.Stop.{Stop}
 use Rattle.bplist_lint.specs.declared.walk.Stop.TheVariants as stops
 use Rattle.bplist_lint.specs.declared.walk.Worklist.{Worklist}
 use Rattle.bplist_lint.specs.declared.walk.Progress.{Progress}
 use Rattle.bplist_lint.specs.declared.walk.Reached.{Reached}
-use Rattle.bplist_lint.specs.Reaching.{IsMarked, HasMarks}
+use Rattle.bplist_lint.specs.Reaching.{HasMarks}
 use Rattle.bplist_lint.specs.Referring.{AreBare}
 use Rattle.bplist_lint.specs.ReachRules.{sum_below, number_below, references_below, is_marked, Tallied}
 use Rattle.bplist_lint.specs.Tallies.{IsRoomy}
@@ -48,7 +49,7 @@ pub record IsSteady (size : ℕ) (w : Worklist) : Type 0 where
 pub record IsSteadyWalk (F : Frame) (p : Progress) : Type 0 where
   pub worklist : IsSteady F.objects p.worklist
   pub all_bare : vec_len p.bare ≡ F.objects
-  pub all_named : length p.named.table.items ≡ F.objects
+  pub all_named : length p.named.marks.items ≡ F.objects
   pub roomy : IsRoomy F p.tally
 
 -- there is a mark of either kind for each object, and there is room for the reached ones
@@ -86,7 +87,7 @@ module _ (f : List ℕ) (F : Frame) where
   extents_below p n = sum_below (λ m. cond (p m) (extent m) 0) n
 
   -- object n keeps rules 14 to 20, its references are marked, and its keys are named
-  pub record IsVisited (marks : List Bool) (keys : List ℕ) (n : ℕ) : Type 0 where
+  pub record IsVisited (marks keys : List Bool) (n : ℕ) : Type 0 where
     pub head : Head
     pub has : HasHead f F n head
     pub kept : KeepsAll (KeepsByObject f F n) object_rules
@@ -95,7 +96,7 @@ module _ (f : List ℕ) (F : Frame) where
 
   -- between two visits: what is marked is reached; it is from next on, on the stack, or was visited once; and the tally
   -- is that of what was visited
-  pub record IsWalkState (next : ℕ) (stack : List ℕ) (marks bare : List Bool) (keys : List ℕ) (tally : Tally) : Type 0 where
+  pub record IsWalkState (next : ℕ) (stack : List ℕ) (marks bare keys : List Bool) (tally : Tally) : Type 0 where
     pub visited : List Bool
     pub all_visited : length visited ≡ F.objects
     pub begun : IsMarked marks F.top.0
@@ -111,7 +112,7 @@ module _ (f : List ℕ) (F : Frame) where
 
   -- the same of the walk's progress, with this stack
   abbrev pub Walking : ℕ → List ℕ → Progress → Type 0
-  Walking next stack p = IsWalkState next stack p.worklist.marks.items p.bare.items p.named.table.items p.tally
+  Walking next stack p = IsWalkState next stack p.worklist.marks.items p.bare.items p.named.marks.items p.tally
 
   -- exactly the reached objects are marked, they keep rules 14 to 20 and 31, and this is their tally
   pub record IsWalked (reached : Reached) : Type 0 where
@@ -120,5 +121,5 @@ module _ (f : List ℕ) (F : Frame) where
     pub tallied : Tallied f F reached.marks.items F.objects reached.tally
 
   -- the keys of the reached dictionaries are named
-  abbrev pub AreNamed : List ℕ → Type 0
+  abbrev pub AreNamed : List Bool → Type 0
   AreNamed keys = (n : ℕ) → Reach f F n → HasNamedKeys f F keys n

@@ -4,7 +4,7 @@ ghost use Rattle.std.specs.Prelude.{◌≡◌, ◌≢◌, ℕ, ◌+◌, ◌^◌,
 ghost use Rattle.bplist_octets.specs.Meaning.{OnlyReads};
 ghost use Rattle.bplist_keys.specs.Failures.{failed_to_read};
 ghost use Rattle.bplist_lint.specs.Graph.{IsWhole, AreObjects};
-ghost use Rattle.bplist_lint.specs.Reaching.{IsMarked};
+ghost use Rattle.bplist_keys.specs.Marks.{IsMarked};
 ghost use Rattle.bplist_lint.specs.Visits.{Finds, Shows, Standing, Walking, AreClosed, AreLeastOf, state_at, first_state, first_height, work};
 ghost use Rattle.bplist_lint.specs.declared.heights.State.TheVariants as states;
 

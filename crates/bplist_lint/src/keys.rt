@@ -16,7 +16,7 @@ ghost use Rattle.bplist_objects.specs.declared.kind.Kind.TheVariants.{Dict};
 ghost use Rattle.bplist_cert.specs.KeyClasses.{KeysAreSound};
 ghost use Rattle.bplist_cert.specs.Refusals.{Judges, refused_read};
 ghost use Rattle.bplist_keys.specs.Ranks.{AreClasses};
-ghost use Rattle.bplist_lint.specs.Reaching.{IsMarked};
+ghost use Rattle.bplist_keys.specs.Marks.{IsMarked};
 ghost use Rattle.bplist_lint.specs.Referring.{AreBare};
 ghost use Rattle.bplist_lint.specs.ReachRules.{KeepReachBelow};
 ghost use Rattle.bplist_lint.specs.Walks.{AreNamed};
@@ -32,10 +32,10 @@ use std::alloc::Global;
 
 /// The classes of the texts that are named as keys.
 fn key_classes<P: Placed>(alloc: Global, src: &mut P, named: NamedKeys) -> Result<Ranks, Refusal>
-    requires { length named.table.items ≡ (frame_in (P.means src.old)).objects }
+    requires { length named.marks.items ≡ (frame_in (P.means src.old)).objects }
     ensures reads { OnlyReads (refused_read result) (P.means src.old) (P.means src.new) }
     ensures exact { HonestlyIn (P.means src.old) (λ f F.
-        Judges (λ ranks. AreClasses f F named.table.items ranks.table.items) Never result) }
+        Judges (λ ranks. AreClasses f F named.marks.items ranks.table.items) Never result) }
 {
     match classes_of(alloc, src, named) {
         Ok(classes) => Ok(classes),
@@ -101,10 +101,10 @@ pub fn check_keys<P: Placed>(
 ) -> Result<(), Refusal>
     requires marks { length marks.now ≡ (frame_in (P.means src.old)).objects }
     requires bare { length bare.now ≡ (frame_in (P.means src.old)).objects }
-    requires all_named { length named.table.items ≡ (frame_in (P.means src.old)).objects }
+    requires all_named { length named.marks.items ≡ (frame_in (P.means src.old)).objects }
     ensures reads { OnlyReads (refused_read result) (P.means src.old) (P.means src.new) }
     ensures exact { HonestlyIn (P.means src.old) (λ f F. ((n : ℕ) → IsMarked marks.now n ↔ Reach f F n)
-        → KeepReachBelow f F F.objects → AreBare f F bare.now → AreNamed f F named.table.items
+        → KeepReachBelow f F F.objects → AreBare f F bare.now → AreNamed f F named.marks.items
         → Judges (λ _. KeepKeysBelow f F F.objects) (IsKeysFault f F) result) }
 {
     let frame = src.frame();

@@ -12,8 +12,8 @@ ghost use Rattle.bplist_objects.specs.Answers.{Gives, Never, read_failed};
 ghost use Rattle.bplist_objects.specs.Heads.{HasShape};
 ghost use Rattle.bplist_objects.specs.declared.head.Head.{Head as head};
 ghost use Rattle.bplist_keys.specs.Failures.{failed_to_read};
+ghost use Rattle.bplist_keys.specs.Marks.{IsMarked};
 ghost use Rattle.bplist_lint.specs.Graph.{AreLeast, IsCircleOf};
-ghost use Rattle.bplist_lint.specs.Reaching.{IsMarked};
 ghost use Rattle.bplist_lint.specs.Referring.{AreBare};
 ghost use Rattle.bplist_lint.specs.Trail.{number};
 ghost use Rattle.bplist_lint.specs.ReachRules.{IsReachFault, KeepReachBelow};
@@ -92,9 +92,9 @@ fn find_reached_in_order<P: Placed>(
 ) -> Result<(Reached, NamedKeys), LintRefusal>
     ensures reads { OnlyReads (lint_failed result) (P.means src.old) (P.means src.new) }
     ensures fits { IfOk result (λ known. Fits (frame_in (P.means src.old)) known.0) }
-    ensures all_named { IfOk result (λ known. length known.1.table.items ≡ (frame_in (P.means src.old)).objects) }
+    ensures all_named { IfOk result (λ known. length known.1.marks.items ≡ (frame_in (P.means src.old)).objects) }
     ensures exact { HonestlyIn (P.means src.old) (λ f F. Lints
-        (λ known. IsWalked f F known.0 × AreNamed f F known.1.table.items) (IsReachFault f F) no_circle result) }
+        (λ known. IsWalked f F known.0 × AreNamed f F known.1.marks.items) (IsReachFault f F) no_circle result) }
 {
     let frame = src.frame();
     let len = src.len();
@@ -114,9 +114,9 @@ fn find_reached_in_order<P: Placed>(
 fn find_reached<P: Placed>(alloc: Global, src: &mut P) -> Result<(Reached, NamedKeys), LintRefusal>
     ensures reads { OnlyReads (lint_failed result) (P.means src.old) (P.means src.new) }
     ensures fits { IfOk result (λ known. Fits (frame_in (P.means src.old)) known.0) }
-    ensures all_named { IfOk result (λ known. length known.1.table.items ≡ (frame_in (P.means src.old)).objects) }
+    ensures all_named { IfOk result (λ known. length known.1.marks.items ≡ (frame_in (P.means src.old)).objects) }
     ensures exact { HonestlyIn (P.means src.old) (λ f F. Lints
-        (λ known. IsWalked f F known.0 × AreNamed f F known.1.table.items) (IsReachFault f F) no_circle result) }
+        (λ known. IsWalked f F known.0 × AreNamed f F known.1.marks.items) (IsReachFault f F) no_circle result) }
 {
     match walk(alloc, src)? {
         Some(known) => Ok(known),
@@ -136,9 +136,9 @@ fn sift_few<P: Placed>(
     ensures reads { OnlyReads (lint_failed result) (P.means src.old) (P.means src.new) }
     ensures fits { IfOk result (λ known. Fits (frame_in (P.means src.old)) known.0) }
     ensures all_named { IfOk result (λ known. IfSome known.1
-        (λ named. length named.table.items ≡ (frame_in (P.means src.old)).objects)) }
+        (λ named. length named.marks.items ≡ (frame_in (P.means src.old)).objects)) }
     ensures exact { HonestlyIn (P.means src.old) (λ f F. Lints (λ known. IsWalked f F known.0
-        × MatchOption known.1 (KeepKeysBelow f F F.objects) (λ named. AreNamed f F named.table.items))
+        × MatchOption known.1 (KeepKeysBelow f F F.objects) (λ named. AreNamed f F named.marks.items))
         (IsObjectsFault f F) no_circle result) }
 {
     let frame = src.frame();

@@ -1,7 +1,7 @@
 //! Which objects the top reaches, in a file whose arrays may lie in one another: each place of a reference is followed
 //! once, however many arrays it lies in.
 
-ghost use Rattle.std.specs.Prelude.{◌≡◌, ◌↔◌, ℕ, Bool, All, Contains, List, ◌+◌, ◌^◌, ◌≤◌, ◌<◌, [], ◌∷◌, ◌++◌, not, IsTrue, IfOk, OnOk, is_err, replicate, count_by, length, vec_len};
+ghost use Rattle.std.specs.Prelude.{◌≡◌, ◌↔◌, ℕ, Bool, All, Contains, List, ◌+◌, ◌^◌, ◌≤◌, ◌<◌, [], ◌∷◌, ◌++◌, true, not, IsTrue, IfOk, OnOk, is_err, replicate, count_by, length, vec_len};
 ghost use Rattle.bplist_octets.specs.Meaning.{OnlyReads};
 ghost use Rattle.bplist_objects.specs.Framed.{frame_in, HonestlyIn};
 ghost use Rattle.bplist_objects.specs.Heads.{content_at, refs};
@@ -9,7 +9,8 @@ ghost use Rattle.bplist_objects.specs.Reach.{Reach};
 ghost use Rattle.bplist_objects.specs.Safe.{IsSafeHead, ref_count};
 ghost use Rattle.bplist_objects.specs.Scan.{AreBelow};
 ghost use Rattle.bplist_keys.specs.Failures.{failed_to_read};
-ghost use Rattle.bplist_lint.specs.Reaching.{IsMarked, HasMarks, number_at, set_size, IsReady, AreGood, AreFollowed, Looked, Searching};
+ghost use Rattle.bplist_keys.specs.Marks.{IsMarked};
+ghost use Rattle.bplist_lint.specs.Reaching.{HasMarks, number_at, set_size, IsReady, AreGood, AreFollowed, Looked, Searching};
 
 use crate::object_graph::object_in;
 use crate::place_set::PlaceSet;
@@ -201,7 +202,7 @@ pub fn mark_reached<P: Placed>(alloc: Global, src: &mut P) -> Result<Marked, Fai
     ensures exact { HonestlyIn (P.means src.old) (λ f F. IfOk result (λ marked.
         (n : ℕ) → IsMarked marked.marks.items n ↔ Reach f F n)) }
     ensures bare { IfOk result (λ marked. (n : ℕ) → IsMarked marked.bare.items n → ⊥) }
-    ensures named { IfOk result (λ marked. marked.named.table.items ≡ replicate (frame_in (P.means src.old)).objects 1) }
+    ensures named { IfOk result (λ marked. marked.named.marks.items ≡ replicate (frame_in (P.means src.old)).objects true) }
 {
     let objects = src.frame().objects as usize;
     let mut search = begin(alloc, src)?;
@@ -213,7 +214,7 @@ pub fn mark_reached<P: Placed>(alloc: Global, src: &mut P) -> Result<Marked, Fai
         marks,
         bare: vec![in alloc; false; objects]?,
         named: NamedKeys {
-            table: vec![in alloc; 1; objects]?,
+            marks: vec![in alloc; true; objects]?,
         },
     })
 }

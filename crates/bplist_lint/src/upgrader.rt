@@ -1,6 +1,6 @@
 //! Certificates of version 2, from those of a checked file.
 
-ghost use Rattle.std.specs.Prelude.{◌≡◌, ◌+◌, ◌≤◌, ◌<◌, ℕ, List, set, length, IsTrue, IfOk, vec_len};
+ghost use Rattle.std.specs.Prelude.{◌≡◌, ◌+◌, ◌≤◌, ◌<◌, ℕ, Bool, List, set, length, IsTrue, IfOk, vec_len};
 ghost use Rattle.bplist_octets.specs.Meaning.{OnlyReads};
 ghost use Rattle.bplist_objects.specs.Framed.{frame_in, HonestlyIn};
 ghost use Rattle.bplist_keys.specs.Ranks.{AreRanks};
@@ -25,7 +25,7 @@ fn list_object<P: Placed>(src: &mut P, n: u32, lists: &mut KeySorting) -> Result
     ensures reads { OnlyReads (upgrade_failed result) (P.means src.old) (P.means src.new) }
     ensures same { lists.new.ranks.table.items ≡ lists.old.ranks.table.items }
     ensures few { IfOk result (λ _. vec_len lists.new.positions ≤ 4294967295) }
-    ensures exact { HonestlyIn (P.means src.old) (λ f F. (named heights starts : List ℕ)
+    ensures exact { HonestlyIn (P.means src.old) (λ f F. (named : List Bool) (heights starts : List ℕ)
         → AreRanks f F named lists.old.ranks.table.items → HasNamedKeys f F named n
         → IsValid f F heights → IsVouchedBy heights n → n < length starts
         → Listed f F heights n starts lists.old.positions.items
@@ -57,7 +57,7 @@ fn list_all<P: Placed>(
     ensures reads { OnlyReads (upgrade_failed result) (P.means src.old) (P.means src.new) }
     ensures starts { IfOk result (λ keys. length keys.starts ≡ (frame_in (P.means src.old)).objects) }
     ensures exact { HonestlyIn (P.means src.old) (λ f F. IsValid f F heights.now
-        → (named : List ℕ) → AreRanks f F named ranks.table.items
+        → (named : List Bool) → AreRanks f F named ranks.table.items
         → ((n : ℕ) → IsVouchedBy heights.now n → HasNamedKeys f F named n)
         → Upgrades (λ keys. Listed f F heights.now F.objects keys.starts keys.positions) result) }
 {

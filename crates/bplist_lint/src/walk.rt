@@ -10,7 +10,7 @@ ghost use Rattle.bplist_objects.specs.Scan.{AreBelow};
 ghost use Rattle.bplist_objects.specs.declared.kind.Kind.TheVariants.{Dict};
 ghost use Rattle.bplist_keys.specs.Classes.{key_ref};
 ghost use Rattle.bplist_keys.specs.Failures.{failed_to_read};
-ghost use Rattle.bplist_lint.specs.Reaching.{IsMarked};
+ghost use Rattle.bplist_keys.specs.Marks.{IsMarked};
 ghost use Rattle.bplist_lint.specs.Tallies.{IsRoomy};
 ghost use Rattle.bplist_lint.specs.Walks.{IsSteady, IsSteadyWalk, Noted, Walking, Fits, IsWalked, AreNamed, of_object, stop_failed};
 ghost use Rattle.bplist_lint.specs.declared.walk.Stop.TheVariants.{Read as is_read, Memory as is_memory};
@@ -155,7 +155,7 @@ fn mark_body<P: Framed>(
 ) -> Result<(), Stop>
     requires head { IsSafeHead (frame_in (P.means src.old)) head.now }
     requires steady { IsSteady (frame_in (P.means src.old)).objects worklist.old }
-    requires all_named { length named.old.table.items ≡ (frame_in (P.means src.old)).objects }
+    requires all_named { length named.old.marks.items ≡ (frame_in (P.means src.old)).objects }
     ensures reads { OnlyReads (stop_failed result) (P.means src.old) (P.means src.new) }
     ensures steady { OnOk result (IsSteady (frame_in (P.means src.old)).objects worklist.new) }
     ensures current { worklist.new.current ≡ worklist.old.current }
@@ -166,10 +166,10 @@ fn mark_body<P: Framed>(
     ensures noted { OnOk result (HonestlyIn (P.means src.old) (λ f F.
         Noted (refs (content_at f F head.now)) (worklist.old.current + 1) (ref_count head.now.kind head.now.count)
         worklist.old.marks.items worklist.old.stack.items worklist.new.marks.items worklist.new.stack.items)) }
-    ensures all_named { length named.new.table.items ≡ (frame_in (P.means src.old)).objects }
-    ensures keeps_named { (m : ℕ) → 0 < slice_index named.old.table.items m → 0 < slice_index named.new.table.items m }
+    ensures all_named { length named.new.marks.items ≡ (frame_in (P.means src.old)).objects }
+    ensures keeps_named { (m : ℕ) → IsMarked named.old.marks.items m → IsMarked named.new.marks.items m }
     ensures named { OnOk result (HonestlyIn (P.means src.old) (λ f F. head.now.kind ≡ Dict → (k : ℕ) → k < head.now.count
-        → 0 < slice_index named.new.table.items (key_ref f F head.now k))) }
+        → IsMarked named.new.marks.items (key_ref f F head.now k))) }
 {
     let objects = src.frame().objects;
     let count = refs_of(head);
@@ -266,7 +266,8 @@ fn begin<P: Framed>(alloc: Global, src: &P) -> Result<Progress, AllocError>
     Ok(Progress {
         worklist: Worklist {
             marks,
-            stack: Vec::new(alloc),
+            // A Vec that grows holds more than its items.
+            stack: Vec::with_capacity(alloc, frame.objects as usize)?,
             current: 0,
         },
         bare,
@@ -280,9 +281,9 @@ fn begin<P: Framed>(alloc: Global, src: &P) -> Result<Progress, AllocError>
 pub fn walk<P: Placed>(alloc: Global, src: &mut P) -> Result<Option<(Reached, NamedKeys)>, Failure>
     ensures reads { OnlyReads (failed_to_read result) (P.means src.old) (P.means src.new) }
     ensures fits { IfOk result (λ found. IfSome found (λ known. Fits (frame_in (P.means src.old)) known.0)) }
-    ensures all_named { IfOk result (λ found. IfSome found (λ known. length known.1.table.items ≡ (frame_in (P.means src.old)).objects)) }
+    ensures all_named { IfOk result (λ found. IfSome found (λ known. length known.1.marks.items ≡ (frame_in (P.means src.old)).objects)) }
     ensures exact { HonestlyIn (P.means src.old) (λ f F. IfOk result (λ found. IfSome found
-        (λ known. IsWalked f F known.0 × AreNamed f F known.1.table.items))) }
+        (λ known. IsWalked f F known.0 × AreNamed f F known.1.marks.items))) }
 {
     let _frame = src.frame();
     let mut progress = begin(alloc, src)?;

@@ -28,7 +28,7 @@ loop-n-preserved g c =
         same = rw w.src-is (w.in_ok-name_object.ensures.reads ∙ v.same);
         all = rw w.named-is (rw v.same at w.in_ok-name_object.ensures.all);
         named = λ honest seen m low vouched. rw w.named-is (elim (cases_eq m n) [
-          | inl e ↦ subst (HasNamedKeys f F w.name_object.new.named.table.items) (sym e) ((rw v.same at w.in_ok-name_object.ensures.exact) honest (seen n c.loop-n-test.true (subst (IsVouchedBy heights) e vouched)).own)
+          | inl e ↦ subst (HasNamedKeys f F w.name_object.new.named.marks.items) (sym e) ((rw v.same at w.in_ok-name_object.ensures.exact) honest (seen n c.loop-n-test.true (subst (IsVouchedBy heights) e vouched)).own)
           | inr d ↦ λ head has dict k l. w.in_ok-name_object.ensures.keeps _ (v.named honest seen m (omega (arith, low, d)) vouched head has dict k l)
         ]);
       }
@@ -36,7 +36,7 @@ loop-n-preserved g c =
         same = rw w.src-is v.same;
         all = rw w.named-is v.all;
         named = λ honest seen m low vouched. rw w.named-is (elim (cases_eq m n) [
-          | inl e ↦ named_low f F heights c.loop-n.named.table.items m (seen m (omega (arith, e, c.loop-n-test.true)) vouched) (rw e (omega (arith, w.if-seen-n-gt1.false)))
+          | inl e ↦ named_low f F heights c.loop-n.named.marks.items m (seen m (omega (arith, e, c.loop-n-test.true)) vouched) (rw e (omega (arith, w.if-seen-n-gt1.false)))
           | inr d ↦ v.named honest seen m (omega (arith, low, d)) vouched
         ]);
       }

@@ -11,7 +11,7 @@ invariant-loop-n g l =
     let means = g.P.Source.means in
     record {
       same : means l.src ≡ means l.fn.src;
-      all : length l.named.table.items ≡ (frame_in (means l.fn.src)).objects;
+      all : length l.named.marks.items ≡ (frame_in (means l.fn.src)).objects;
       named : HonestlyIn (means l.fn.src) (λ f F. AreSeen f F l.seen.heights.now l.seen.bound
-          → (m : ℕ) → m < l.n → IsVouchedBy l.seen.heights.now m → HasNamedKeys f F l.named.table.items m);
+          → (m : ℕ) → m < l.n → IsVouchedBy l.seen.heights.now m → HasNamedKeys f F l.named.marks.items m);
     }

@@ -12,8 +12,8 @@ use Rattle.bplist_cert.proofs.key_names.vouched_keys.Goals as goal
 
 -- what is vouched for is an object
 all_named : (f : List ℕ) (F : Frame) (heights : List ℕ) → ((n : ℕ) → IsVouchedBy heights n → n < F.objects) → (r : Result NamedKeys Refusal)
-    → Judges (λ named. (n : ℕ) → n < F.objects → IsVouchedBy heights n → HasNamedKeys f F named.table.items n) Never r
-    → Judges (λ named. (n : ℕ) → IsVouchedBy heights n → HasNamedKeys f F named.table.items n) Never r
+    → Judges (λ named. (n : ℕ) → n < F.objects → IsVouchedBy heights n → HasNamedKeys f F named.marks.items n) Never r
+    → Judges (λ named. (n : ℕ) → IsVouchedBy heights n → HasNamedKeys f F named.marks.items n) Never r
 all_named f F heights inside (Ok named) h = λ n vouched. h n (inside n vouched) vouched
 all_named f F heights inside (Err e) h = h
 

@@ -1,6 +1,7 @@
-use Rattle.std.proofs.Common.{◌≡◌, ℕ, ◌<◌, ◌≤◌, ◌-◌, length, slice_index}
+use Rattle.std.proofs.Common.{◌≡◌, ℕ, ◌<◌, ◌≤◌, ◌-◌, length}
 use Rattle.bplist_objects.specs.Framed.{frame_in, HonestlyIn}
 use Rattle.bplist_keys.specs.Classes.{key_ref}
+use Rattle.bplist_keys.specs.Marks.{IsMarked}
 use Rattle.bplist_keys.proofs.named_keys.name_keys.Given as goal
 
 abbrev pub invariant-loop-done : goal.invariant-loop-done
@@ -8,10 +9,10 @@ invariant-loop-done g l =
     let means = g.P.Source.means in
     record {
       same : means l.src ≡ means l.fn.src;
-      all : length l.named.table.items ≡ (frame_in (means l.fn.src)).objects;
+      all : length l.named.marks.items ≡ (frame_in (means l.fn.src)).objects;
       reached : l.done ≤ l.head.count;
-      keeps : (m : ℕ) → 0 < slice_index l.fn.named.table.items m → 0 < slice_index l.named.table.items m;
-      named : HonestlyIn (means l.fn.src) (λ f F. (k : ℕ) → k < l.done → key_ref f F l.head k < F.objects → 0 < slice_index l.named.table.items (key_ref f F l.head k));
+      keeps : (m : ℕ) → IsMarked l.fn.named.marks.items m → IsMarked l.named.marks.items m;
+      named : HonestlyIn (means l.fn.src) (λ f F. (k : ℕ) → k < l.done → key_ref f F l.head k < F.objects → IsMarked l.named.marks.items (key_ref f F l.head k));
     }
 
 abbrev pub decreases-loop-done : goal.decreases-loop-done

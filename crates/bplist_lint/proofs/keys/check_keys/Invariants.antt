@@ -1,7 +1,7 @@
 use Rattle.std.proofs.Common.{◌≡◌, ◌↔◌, ℕ, ◌≤◌, slice_index, IsTrue}
 use Rattle.bplist_objects.specs.Framed.{HonestlyIn}
 use Rattle.bplist_objects.specs.Reach.{Reach}
-use Rattle.bplist_lint.specs.Reaching.{IsMarked}
+use Rattle.bplist_keys.specs.Marks.{IsMarked}
 use Rattle.bplist_lint.specs.Referring.{AreBare}
 use Rattle.bplist_lint.specs.ReachRules.{KeepReachBelow}
 use Rattle.bplist_lint.specs.Walks.{AreNamed}
@@ -16,5 +16,5 @@ invariant-loop-n g l =
       same : l.table.classes.table.items ≡ l.initial.table.classes.table.items;
       low : IsTrue m.honest → (x : ℕ) → slice_index l.table.seen.items x ≤ l.n;
       exact : HonestlyIn m (λ f F. ((n : ℕ) → IsMarked l.marks n ↔ Reach f F n) → KeepReachBelow f F F.objects → AreBare f F l.bare
-          → AreNamed f F l.fn.named.table.items → KeepKeysBelow f F l.n);
+          → AreNamed f F l.fn.named.marks.items → KeepKeysBelow f F l.n);
     }

@@ -7,7 +7,8 @@ use Rattle.bplist_objects.specs.Safe.{ref_count}
 use Rattle.bplist_objects.specs.Scan.{nth_number}
 use Rattle.bplist_objects.proofs.BodyLaws.{refs_fit}
 use Rattle.bplist_objects.proofs.References.{length-refs, nth-refs}
-use Rattle.bplist_lint.specs.Reaching.{IsMarked, number_at, reference_at}
+use Rattle.bplist_keys.specs.Marks.{IsMarked}
+use Rattle.bplist_lint.specs.Reaching.{number_at, reference_at}
 use Rattle.bplist_lint.specs.declared.place_set.PlaceSet.{PlaceSet}
 use Rattle.bplist_lint.proofs.ReachSteps.{size_small, numbers_low, reference_at_k, all_marked}
 use Rattle.bplist_lint.proofs.WalkSteps.{among_at}

@@ -1,7 +1,7 @@
 use Rattle.std.proofs.Common.{◌≡◌, ◌↔◌, ℕ}
 use Rattle.bplist_objects.specs.Framed.{frame_in, HonestlyIn}
 use Rattle.bplist_objects.specs.Reach.{Reach}
-use Rattle.bplist_lint.specs.Reaching.{IsMarked}
+use Rattle.bplist_keys.specs.Marks.{IsMarked}
 use Rattle.bplist_lint.specs.ReachRules.{Tallied}
 use Rattle.bplist_lint.specs.Tallies.{IsRoomy}
 use Rattle.bplist_lint.proofs.reach_rules.check_reached.Given as goal

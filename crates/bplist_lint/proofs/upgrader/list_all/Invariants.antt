@@ -1,4 +1,4 @@
-use Rattle.std.proofs.Common.{◌≡◌, ◌≤◌, ℕ, List, vec_len}
+use Rattle.std.proofs.Common.{◌≡◌, ◌≤◌, ℕ, Bool, List, vec_len}
 use Rattle.bplist_objects.specs.Framed.{frame_in, HonestlyIn}
 use Rattle.bplist_keys.specs.Ranks.{AreRanks}
 use Rattle.bplist_cert.specs.Valid.{IsVouchedBy, IsValid}
@@ -14,6 +14,6 @@ invariant-loop-n g l =
       all : vec_len l.starts ≡ (frame_in (means l.fn.src)).objects;
       few : vec_len l.lists.positions ≤ 4294967295;
       same : l.lists.ranks.table.items ≡ l.fn.ranks.table.items;
-      exact : HonestlyIn (means l.fn.src) (λ f F. IsValid f F l.heights → (named : List ℕ) → AreRanks f F named l.fn.ranks.table.items
+      exact : HonestlyIn (means l.fn.src) (λ f F. IsValid f F l.heights → (named : List Bool) → AreRanks f F named l.fn.ranks.table.items
           → ((n : ℕ) → IsVouchedBy l.heights n → HasNamedKeys f F named n) → Listed f F l.heights l.n l.starts.items l.lists.positions.items);
     }

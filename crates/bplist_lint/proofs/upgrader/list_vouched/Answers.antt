@@ -18,4 +18,4 @@ returns-clause-exact g c = λ honest valid.
     let F : Frame = frame_in (g.P.Source.means c.args.src.now) in
     let given = c.in_ok-named.ensures.exact honest (valid_seen f F c.args.heights.now valid) in
     let ranked = (rw c.in_ok-named.ensures.reads at c.in_ok-ranks.ensures.exact) honest in
-    (rw (c.in_ok-ranks.ensures.reads, c.in_ok-named.ensures.reads) at c.list_all.ensures.exact) honest valid c.in_ok-named.named.table.items ranked given
+    (rw (c.in_ok-ranks.ensures.reads, c.in_ok-named.ensures.reads) at c.list_all.ensures.exact) honest valid c.in_ok-named.named.marks.items ranked given

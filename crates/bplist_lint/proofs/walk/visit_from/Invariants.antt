@@ -1,6 +1,6 @@
 use Rattle.std.proofs.Common.{◌≡◌, ◌+◌, not, [], count_by, vec_len}
 use Rattle.bplist_objects.specs.Framed.{frame_in, HonestlyIn}
-use Rattle.bplist_lint.specs.Reaching.{IsMarked}
+use Rattle.bplist_keys.specs.Marks.{IsMarked}
 use Rattle.bplist_lint.specs.Walks.{IsSteadyWalk, Walking}
 use Rattle.bplist_lint.proofs.walk.visit_from.Given as goal
 
