@@ -44,10 +44,11 @@ impl NamedKeys {
     pub(crate) fn into_numbers(self, alloc: Global) -> Result<Vec<u32>, AllocError>
         ensures { IfOk result (λ numbers. numbers.items ≡ map from_bool self.marks.items) }
     {
-        self.marks
-            .iter()
-            .map(|marked| u32::from(*marked))
-            .collect(alloc)
+        let mut numbers = Vec::with_capacity(alloc, self.marks.len())?;
+        for marked in &self.marks {
+            numbers.push(u32::from(*marked))?;
+        }
+        Ok(numbers)
     }
 
     /// Object `m` is named as a key.
