@@ -104,15 +104,16 @@ module _ (f : List ℕ) (F : Frame) (n : ℕ) where
         → ((k : ℕ) → k < count → nth_number f h.body F.ref_size (hidden view (Some h) + i + k) < F.objects → slice_index block k ≡ nth_number f h.body F.ref_size (hidden view (Some h) + i + k))
         → IsPart (refs_in view f F n) i block count
     part_is h has whole i count block many same =
-        let all : ref_count h.kind h.count - hidden view (Some h) ≡ length (refs_in view f F n) = sym (announced_as h has) ∙ whole in
-        (omega (arith, many, all),
-        λ k low.
-            let within : i + k < length (refs_in view f F n) = omega (arith, many, all, low) in
-            let a = as_shape h has _ (in_view (i + k) within) in
-            let j : ℕ = hidden view (Some h) + i + k in
-            let l : j < ref_count h.kind h.count = omega (arith, all, within) in
-            let at : hidden view (head_found f F n) + (i + k) ≡ j = omega (arith, ap (hidden view) (found_as h has)) in
-            same k low (a.low j l) ∙ sym (get_or-drop (hidden view (head_found f F n)) (refs_at f F n) (i + k) 0 ∙ ap (slice_index (refs_at f F n)) at ∙ a.each j l))
+        let all : ref_count h.kind h.count - hidden view (Some h) ≡ length (refs_in view f F n) = sym (announced_as h has) ∙ whole in (
+          omega (arith, many, all),
+          λ k low.
+              let within : i + k < length (refs_in view f F n) = omega (arith, many, all, low) in
+              let a = as_shape h has _ (in_view (i + k) within) in
+              let j : ℕ = hidden view (Some h) + i + k in
+              let l : j < ref_count h.kind h.count = omega (arith, all, within) in
+              let at : hidden view (head_found f F n) + (i + k) ≡ j = omega (arith, ap (hidden view) (found_as h has)) in
+              same k low (a.low j l) ∙ sym (get_or-drop (hidden view (head_found f F n)) (refs_at f F n) (i + k) 0 ∙ ap (slice_index (refs_at f F n)) at ∙ a.each j l),
+        )
 
     -- no reference where there is no shape
     pub part_none : ((h : Head) → HasShape f F n h → ⊥) → (i : ℕ) (block : List ℕ) → IsPart (refs_in view f F n) i block 0

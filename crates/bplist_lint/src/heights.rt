@@ -83,10 +83,11 @@ impl HeightWalk {
         ensures heights { IfOk result (λ walk. walk.heights.items ≡ map first_height bare.now) }
         ensures empty { IfOk result (λ walk. vec_len walk.stack ≡ 0) }
     {
+        let containers = bare.iter().filter(|known| !**known).count();
         Ok(HeightWalk {
             states: first_states(alloc, bare)?,
             heights: first_heights(alloc, bare)?,
-            stack: Vec::with_capacity(alloc, bare.len())?,
+            stack: Vec::with_capacity(alloc, containers)?,
             stride: len / u32::MAX as u64 + 1,
         })
     }

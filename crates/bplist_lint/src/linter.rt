@@ -152,25 +152,31 @@ fn sift_few<P: Placed>(
 }
 
 /// Looks at the reached objects by rules 14 to 22 and 31, first each by itself and then at the keys of each, where the
-/// places of all objects are given.
+/// places of all objects are given. They are answered again, but where many objects are keys.
 ///
 /// What many keys take and the places would come to more than 12 bytes an object together. So the places are given up before
 /// many keys are looked at.
-fn sift<P: Placed>(alloc: Global, src: &mut P, places: Vec<u32>) -> Result<Reached, LintRefusal>
+fn sift<P: Placed>(
+    alloc: Global,
+    src: &mut P,
+    places: Vec<u32>,
+) -> Result<(Reached, Option<Vec<u32>>), LintRefusal>
     requires all { length places.items ≡ (frame_in (P.means src.old)).objects }
     requires placed { HonestlyIn (P.means src.old) (λ f F. AreOffsets f F places.items) }
     ensures reads { OnlyReads (lint_failed result) (P.means src.old) (P.means src.new) }
-    ensures fits { IfOk result (Fits (frame_in (P.means src.old))) }
+    ensures fits { IfOk result (λ known. Fits (frame_in (P.means src.old)) known.0) }
+    ensures all { IfOk result (λ known. IfSome known.1 (λ places. length places.items ≡ (frame_in (P.means src.old)).objects)) }
+    ensures placed { HonestlyIn (P.means src.old) (λ f F. IfOk result (λ known. IfSome known.1 (λ places. AreOffsets f F places.items))) }
     ensures exact { HonestlyIn (P.means src.old) (λ f F.
-        Lints (IsSifted f F) (IsObjectsFault f F) no_circle result) }
+        Lints (λ known. IsSifted f F known.0) (IsObjectsFault f F) no_circle result) }
 {
     let (reached, many) = sift_few(alloc, src, &places)?;
-    drop(places);
     let Some(named) = many else {
-        return Ok(reached);
+        return Ok((reached, Some(places)));
     };
+    drop(places);
     check_keys(alloc, src, &reached.marks, &reached.bare, named)?;
-    Ok(reached)
+    Ok((reached, None))
 }
 
 /// What the linter says of a file whose reached objects keep rules 14 to 22 and 31.
@@ -201,6 +207,35 @@ fn lint_sifted<P: Placed>(alloc: Global, src: &mut P, reached: Reached) -> Resul
     })
 }
 
+/// What the linter says of a file whose reached objects keep rules 14 to 22 and 31, where the places of all objects may be
+/// given. They are given up where more than a quarter of the objects may wait for others: these and the places would come to
+/// more than 12 bytes an object together.
+fn lint_reached<P: Placed>(
+    alloc: Global,
+    src: &mut P,
+    reached: Reached,
+    places: Option<Vec<u32>>,
+) -> Result<Lint, LintRefusal>
+    requires fits { Fits (frame_in (P.means src.old)) reached }
+    requires all { IfSome places (λ places. length places.items ≡ (frame_in (P.means src.old)).objects) }
+    requires placed { HonestlyIn (P.means src.old) (λ f F. IfSome places (λ places. AreOffsets f F places.items)) }
+    requires sifted { HonestlyIn (P.means src.old) (λ f F. IsSifted f F reached) }
+    ensures reads { OnlyReads (lint_failed result) (P.means src.old) (P.means src.new) }
+    ensures exact { HonestlyIn (P.means src.old) (λ f F.
+        Lints (IsLintedBy f F) Never (IsFramedCircle f F) result) }
+{
+    let Some(places) = places else {
+        return lint_sifted(alloc, src, reached);
+    };
+    if reached.containers() > places.len() / 4 {
+        drop(places);
+        return lint_sifted(alloc, src, reached);
+    }
+    let frame = src.frame();
+    let mut table = Table::new(src, frame, &places);
+    lint_sifted(alloc, &mut table, reached)
+}
+
 /// The kind of the top.
 fn top_kind<P: Placed>(src: &mut P) -> Result<Kind, ObjectFault>
     ensures reads { OnlyReads (read_failed result) (P.means src.old) (P.means src.new) }
@@ -226,8 +261,8 @@ fn lint_objects<P: Placed>(
         Lints (λ answer. IsLintedBy f F answer.0 × ((x : head) → HasShape f F F.top.0 x → answer.1 ≡ x.kind))
         (IsObjectsFault f F) (IsFramedCircle f F) result) }
 {
-    let reached = sift(alloc, src, places)?;
-    let lint = lint_sifted(alloc, src, reached)?;
+    let (reached, places) = sift(alloc, src, places)?;
+    let lint = lint_reached(alloc, src, reached, places)?;
     let kind = top_kind(src)?;
     Ok((lint, kind))
 }

@@ -103,6 +103,15 @@ pub struct Reached {
     pub tally: Tally,
 }
 
+impl Reached {
+    /// How many objects may have references: those of which it is not known that they have none.
+    pub fn containers(&self) -> usize
+        ensures { result ≡ count_by not self.now.bare.items }
+    {
+        self.bare.iter().filter(|bare| !**bare).count()
+    }
+}
+
 /// How many references are read at once.
 const BLOCK: usize = 32;
 

@@ -14,10 +14,11 @@ loop-more-preserved g c =
       room = long;
       have = λ honest whole.
           let o = i.have honest whole in
-          let part = (rw (i.same, i.reads) at c.in_ok-count.ensures.value) honest whole in
-          (omega (arith, o.0, part.0),
-          part_all _ _ _ _ part (λ m. 0 < slice_index c.args.heights.now m) o.1 c.in_default.ensures.first,
-          λ less. let other : c.in_ok-count.count ≢ 32 = eqb-false _ _ less in omega (arith, part.0, long, other));
+          let part = (rw (i.same, i.reads) at c.in_ok-count.ensures.value) honest whole in (
+            omega (arith, o.0, part.0),
+            part_all _ _ _ _ part (λ m. 0 < slice_index c.args.heights.now m) o.1 c.in_default.ensures.first,
+            λ less. let other : c.in_ok-count.count ≢ 32 = eqb-false _ _ less in omega (arith, part.0, long, other),
+          );
     }
 
 pub returns-in-Some-clause-first : goal.returns-in-Some-clause-first

@@ -24,11 +24,12 @@ loop-more-preserved g c =
       looked = λ honest whole start.
           let o = i.looked honest whole start in
           let part = (rw (i.same, i.reads) at c.in_ok-count.ensures.value) honest whole in
-          let shows = c.in-Founded.ensures.shows refl in
-          (omega (arith, o.0, part.0),
-          part_all _ _ _ _ part (λ m. state_at states m ≡ Founded) o.1 shows.0,
-          best ∙ greatest_part heights _ _ _ _ _ _ o.0 part o.2 shows.1,
-          λ less. let other : c.in_ok-count.count ≢ c.loop-more.portion = eqb-false _ _ less in omega (arith, part.0, long, other));
+          let shows = c.in-Founded.ensures.shows refl in (
+            omega (arith, o.0, part.0),
+            part_all _ _ _ _ part (λ m. state_at states m ≡ Founded) o.1 shows.0,
+            best ∙ greatest_part heights _ _ _ _ _ _ o.0 part o.2 shows.1,
+            λ less. let other : c.in_ok-count.count ≢ c.loop-more.portion = eqb-false _ _ less in omega (arith, part.0, long, other),
+          );
     }
 
 pub returns-in-Circular-clause-shows : goal.returns-in-Circular-clause-shows
