@@ -1,10 +1,13 @@
 #!/usr/bin/env python3
 """memory.py PROGRAM
 
-Shows that `lint` takes at most 12 bytes an object on a sound file, beside a constant: under a limit of the process's data
-that is so large it says yes, and under one of 6 bytes an object it answers that memory was refused. The files have
-some 400,000 objects: keys that share one value, keys with values, numbers, texts, and dictionaries. One run counts as one
-test. The last line printed is `N passed, M failed`.
+Shows that `lint` takes at most 12 bytes an object, beside a constant, and on a faulty file a quarter of its length more: under
+a limit of the process's data that is so large it gives its answer. The files are usual ones of some 400,000 objects (keys that
+share one value, keys with values, numbers, texts, and dictionaries), for which it is also shown that memory is refused under
+a limit of 6 bytes an object, and the hostile families of tests/families.py. One run counts as one test. The last line printed
+is `N passed, M failed`.
+
+The family `ring` is left out: the line that names its circle takes more memory than `lint`.
 """
 import plistlib
 import resource
@@ -12,10 +15,14 @@ import subprocess
 import sys
 import tempfile
 
+from families import FAMILIES, ring
+
 MOST, LESS = 12, 6
 BESIDE = 1 << 20  # the program's own data, and what the allocator rounds up
+LENGTH = 2_000_000  # of a hostile file, about
+FAULT, REFUSED = 1, 4  # what the program's status says
 
-FILES = {
+USUAL = {
     "keys that share a value": lambda: {f"key {k}": True for k in range(400000)},
     "keys with values": lambda: {f"key {k}": k for k in range(200000)},
     "numbers": lambda: list(range(400000)),
@@ -25,30 +32,42 @@ FILES = {
 
 
 def lint_within(program, path, size):
-    """What `lint` answers with so many bytes of data: its status, and what it says."""
+    """What `lint` answers with so many bytes of data: its status, and the first of what it says."""
 
     def limit():
         resource.setrlimit(resource.RLIMIT_DATA, (size, size))
 
     ran = subprocess.run([program, "lint", path], capture_output=True, text=True, preexec_fn=limit, check=False)
-    return ran.returncode, (ran.stdout + ran.stderr).strip()
+    return ran.returncode, (ran.stdout + ran.stderr).strip()[:80]
+
+
+def runs():
+    """The name, the content, the bytes an object and the wanted status of each run."""
+    for name, value in USUAL.items():
+        content = plistlib.dumps(value(), fmt=plistlib.FMT_BINARY)
+        yield name, content, MOST, 0
+        yield name, content, LESS, REFUSED
+    for family in FAMILIES:
+        if family is not ring:
+            yield family.__name__, family(LENGTH), MOST, None
 
 
 def main(program):
     passed = failed = 0
-    for name, value in FILES.items():
-        content = plistlib.dumps(value(), fmt=plistlib.FMT_BINARY)
+    for name, content, each, wanted in runs():
         objects = int.from_bytes(content[-24:-16], "big")
         with tempfile.NamedTemporaryFile() as file:
             file.write(content)
             file.flush()
-            for each, wanted in ((MOST, 0), (LESS, 4)):
-                status, said = lint_within(program, file.name, each * objects + BESIDE)
-                if status == wanted:
-                    passed += 1
-                else:
-                    failed += 1
-                    print(f"{name}: {objects} objects, {each} bytes each: status {status}, wanted {wanted}: {said[:80]}")
+            if wanted is None:
+                wanted = lint_within(program, file.name, resource.RLIM_INFINITY)[0]
+            beside = BESIDE + (len(content) // 4 if wanted == FAULT else 0)
+            status, said = lint_within(program, file.name, each * objects + beside)
+        if status == wanted:
+            passed += 1
+        else:
+            failed += 1
+            print(f"{name}: {objects} objects, {each} bytes each: status {status}, wanted {wanted}: {said}")
     print(f"{passed} passed, {failed} failed")
     return 1 if failed else 0
 
