@@ -1,5 +1,5 @@
 -- What the classes of the keys of a vouched dictionary say of them.
-use Rattle.std.proofs.Common.{Bool, not, IsTrue, Option, Some, None, MatchOption, is_some, Result, Ok, Err, OnOk, ◌≡◌, ℕ, ◌*◌, ◌<◌, ◌≤◌, List, slice_index, sym, ap, ◌∙◌, subst, inr, arith}
+use Rattle.std.proofs.Common.{Bool, not, IsTrue, Option, Some, None, MatchOption, is_some, Result, Ok, Err, OnOk, ◌≡◌, ℕ, ◌*◌, ◌<◌, ◌≤◌, List, slice_index, count_by, sym, ap, ◌∙◌, subst, inr, arith}
 use Rattle.std.proofs.lemmas.Bool.{false≢true}
 use Rattle.bplist_objects.specs.declared.frame.Frame.{Frame}
 use Rattle.bplist_objects.specs.declared.head.Head.{Head}
@@ -15,6 +15,7 @@ use Rattle.bplist_objects.proofs.HeadTies.{shape_announced}
 use Rattle.bplist_keys.specs.Texts.{text_units}
 use Rattle.bplist_keys.specs.Ranks.{AreClasses}
 use Rattle.bplist_keys.specs.Classes.{HasNamedKeys, AreClassed, HaveClasses, AreApart, IsFirstAgain}
+use Rattle.bplist_keys.proofs.RankLaws.{none_marked}
 use Rattle.bplist_keys.proofs.WeightSteps.{text_units-head}
 use Rattle.bplist_cert.specs.Heights.{ref}
 use Rattle.bplist_cert.specs.Keys.{IsKey, HaveTexts, KeysDiffer, IsFirstTwice}
@@ -102,6 +103,12 @@ module _ (f : List ℕ) (F : Frame) where
   pub good_low : (heights : List ℕ) (n : ℕ) → IsSeen f F heights n → slice_index heights n ≤ 1 → HasGoodKeys f F None n
   good_low heights n seen least head has dict =
       (λ k low. absurd (no_keys heights n seen head has dict least k low), λ i j before low. absurd (no_keys heights n seen head has dict least j low))
+
+  -- where no object is named as a key, a dictionary whose keys are named has none
+  pub good_unnamed : (named : List Bool) (n : ℕ) → count_by (λ marked. marked) named ≡ 0 → HasNamedKeys f F named n → HasGoodKeys f F None n
+  good_unnamed named n none named_keys head has dict =
+      let no_key : (k : ℕ) → k < head.count → ⊥ = λ k low. none_marked named none _ (named_keys head has dict k low) in
+      (λ k low. absurd (no_key k low), λ i j before low. absurd (no_key j low))
 
   -- they keep rules 14 to 20
   pub sound_keys : (heights : List ℕ) → AreSeen f F heights F.objects → (n : ℕ) → n < F.objects → IsVouchedBy heights n → (head : Head) → HasHead f F n head → head.kind ≡ Dict → KeysAreSound f F head

@@ -31,6 +31,7 @@ use crate::heights::{Wanted, check_heights, check_refs, height_at};
 use crate::refusal::Refusal;
 use crate::seen::Seen;
 use crate::{key_classes, key_lists};
+use bplist_keys::Placed;
 use bplist_objects::{
     Fault, Frame, Framed, Head, ObjectFault, ObjectNo, Plist, Rule, check_body, frame_of, head_in,
     read_offsets_in, refs_of, shape_in,
@@ -253,7 +254,7 @@ fn see_objects<P: Framed>(
 }
 
 /// Looks at the keys of the vouched dictionaries that were seen.
-fn check_keys<P: Framed>(
+fn check_keys<P: Placed>(
     alloc: Global,
     src: &mut P,
     seen: &Seen,
@@ -285,7 +286,7 @@ fn object_of(fault: &Fault) -> u32
 
 /// Looks at all vouched objects, and then at the keys of the dictionaries among them, up to the first object that breaks a
 /// rule before those of keys. How many bytes they take.
-fn check_objects<P: Framed>(
+fn check_objects<P: Placed>(
     alloc: Global,
     src: &mut P,
     heights: &[u32],

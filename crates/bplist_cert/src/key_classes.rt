@@ -9,7 +9,7 @@ ghost use Rattle.bplist_objects.specs.Rules.{KeepsAll};
 ghost use Rattle.bplist_objects.specs.ObjectRules.{KeepsByObject, object_rules};
 ghost use Rattle.bplist_objects.specs.declared.head.Head.{Head as head};
 ghost use Rattle.bplist_objects.specs.declared.kind.Kind.TheVariants.{Dict};
-ghost use Rattle.bplist_keys.specs.Classes.{AreClassed, IsStamped, IsNew};
+ghost use Rattle.bplist_keys.specs.Classes.{HasNamedKeys, AreClassed, IsStamped, IsNew};
 ghost use Rattle.bplist_keys.specs.Ranks.{AreClasses};
 ghost use Rattle.bplist_keys.specs.Failures.{failed_to_read};
 ghost use Rattle.bplist_cert.specs.Heights.{ref};
@@ -159,16 +159,22 @@ fn check_object<P: Placed>(
     }
 }
 
-/// Looks at the keys of the vouched dictionaries that were seen, where the places are given.
-fn check_seen<P: Placed>(alloc: Global, src: &mut P, seen: &Seen) -> Result<(), Refusal>
-    requires { length seen.now.heights.now ≡ (frame_in (P.means src.old)).objects }
+/// Looks at the keys of the vouched dictionaries that were seen, where what they name as keys is named and the places are given.
+fn check_named<P: Placed>(
+    alloc: Global,
+    src: &mut P,
+    seen: &Seen,
+    named: NamedKeys,
+) -> Result<(), Refusal>
+    requires all { length seen.now.heights.now ≡ (frame_in (P.means src.old)).objects }
+    requires all_named { length named.marks.items ≡ (frame_in (P.means src.old)).objects }
     ensures reads { OnlyReads (refused_read result) (P.means src.old) (P.means src.new) }
     ensures exact { HonestlyIn (P.means src.old) (λ f F. AreSeen f F seen.now.heights.now seen.now.bound
+        → ((n : ℕ) → n < seen.now.bound → IsVouchedBy seen.now.heights.now n → HasNamedKeys f F named.marks.items n)
         → Judges (λ _. (n : ℕ) → n < seen.now.bound → IsVouchedBy seen.now.heights.now n → HasGoodKeys f F None n)
         (IsFirstKeysFault f F (lists seen.now.heights.now None) seen.now.bound) result) }
 {
     let _frame = src.frame();
-    let named = seen_keys(alloc, src, seen)?;
     let classes = key_classes(alloc, src, seen, named)?;
     let mut look = ClassLook {
         table: ClassTable::new(alloc, classes)?,
@@ -184,7 +190,9 @@ fn check_seen<P: Placed>(alloc: Global, src: &mut P, seen: &Seen) -> Result<(), 
 
 /// Looks at the keys of the vouched dictionaries that were seen: they are texts that differ. With all vouched objects seen
 /// each text that is named as a key is read once to find its class, and again only where another has the same fingerprint.
-pub(crate) fn check_keys<P: Framed>(alloc: Global, src: &mut P, seen: &Seen) -> Result<(), Refusal>
+/// Where no object is named as a key, as in a file without dictionaries, neither places nor classes are worth their memory and
+/// their passes over all objects: no dictionary has a key that could be wrong.
+pub(crate) fn check_keys<P: Placed>(alloc: Global, src: &mut P, seen: &Seen) -> Result<(), Refusal>
     requires { length seen.now.heights.now ≡ (frame_in (P.means src.old)).objects }
     ensures reads { OnlyReads (refused_read result) (P.means src.old) (P.means src.new) }
     ensures exact { HonestlyIn (P.means src.old) (λ f F. AreSeen f F seen.now.heights.now seen.now.bound
@@ -192,6 +200,10 @@ pub(crate) fn check_keys<P: Framed>(alloc: Global, src: &mut P, seen: &Seen) -> 
         (IsFirstKeysFault f F (lists seen.now.heights.now None) seen.now.bound) result) }
 {
     let frame = src.frame();
+    let named = seen_keys(alloc, src, seen)?;
+    if named.count() == 0 {
+        return Ok(());
+    }
     let places = places_of(alloc, src, &frame)?;
-    check_seen(alloc, &mut Table::new(src, frame, &places), seen)
+    check_named(alloc, &mut Table::new(src, frame, &places), seen, named)
 }

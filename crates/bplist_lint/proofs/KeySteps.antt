@@ -1,5 +1,5 @@
 -- What the keys of a dictionary keep and break, and what a refusal says.
-use Rattle.std.proofs.Common.{◌≡◌, ℕ, ◌+◌, ◌<◌, inl, inr, List, [], Result, Ok, Err, length, sym, ap, ◌∙◌, subst, arith}
+use Rattle.std.proofs.Common.{◌≡◌, ℕ, ◌+◌, ◌<◌, inl, inr, Bool, List, [], None, Result, Ok, Err, length, count_by, sym, ap, ◌∙◌, subst, arith}
 use Rattle.std.proofs.lemmas.Bool.{cases_eq}
 use Rattle.bplist_objects.specs.declared.rule.Rule.TheVariants as rules
 use Rattle.bplist_objects.specs.declared.fault.Fault.{Fault}
@@ -17,10 +17,13 @@ use Rattle.bplist_objects.proofs.HeadTies.{head_tie}
 use Rattle.bplist_objects.proofs.References.{length-refs}
 use Rattle.bplist_objects.proofs.ReachedObjects.{refs_spelled}
 use Rattle.bplist_objects.proofs.BodyLaws.{HasHead-unique}
+use Rattle.bplist_keys.specs.Classes.{HasNamedKeys}
 use Rattle.bplist_cert.specs.declared.refusal.Refusal.{Refusal}
 use Rattle.bplist_cert.specs.declared.refusal.Refusal.TheVariants as cert_refusals
 use Rattle.bplist_cert.specs.Refusals.{GivesRefusal, Judges}
 use Rattle.bplist_cert.specs.Keys.{HaveTexts, KeysDiffer, IsKeylessFault, IsTwiceFault}
+use Rattle.bplist_cert.specs.KeyClasses.{HasGoodKeys}
+use Rattle.bplist_cert.proofs.KeyClasses.{good_unnamed}
 use Rattle.bplist_lint.specs.KeyRules.{KeepsByKeys, BreaksAtKeys, key_rules, KeepKeysBelow, IsKeysFault}
 
 -- what is said of a fault is said of the refusal
@@ -74,6 +77,19 @@ module _ (f : List ℕ) (F : Frame) where
     | inl e ↦ absurd (unreached (rw e at r))
     | inr ne ↦ kept m (omega arith) r
   ]
+
+-- where no object is named as a key, an object whose keys are named has none
+pub unnamed_keys : (f : List ℕ) (F : Frame) (named : List Bool) (n : ℕ) → count_by (λ marked. marked) named ≡ 0 → HasNamedKeys f F named n → KeepsAll (KeepsByKeys f F n) key_rules
+unnamed_keys f F named n none named_keys = (texts, (differ, tt))
+  where
+    good : HasGoodKeys f F None n
+    good = good_unnamed f F named n none named_keys
+
+    texts : KeepsByKeys f F n rules.KeyKind
+    texts head has dict = (good head has dict).0
+
+    differ : KeepsByKeys f F n rules.KeyTwice
+    differ head has dict = (good head has dict).1
 
 -- an object without references that keeps rules 14 to 20 has no keys
 pub bare_keys : (f : List ℕ) (F : Frame) (n : ℕ) → IsFrame f F → n < F.objects → KeepsAll (KeepsByObject f F n) object_rules → refs_at f F n ≡ []

@@ -91,7 +91,8 @@ fn check_object<P: Placed>(src: &mut P, n: u32, table: &mut ClassTable) -> Resul
 
 /// Looks at the keys of each marked dictionary, in the order of the objects' numbers, where exactly the reached objects are
 /// marked, all of them keep rules 14 to 20, and what they name as keys is named. Objects with a mark in `bare` have no
-/// references.
+/// references. Where no object is named as a key, as in a file without dictionaries, neither classes nor a pass over all
+/// objects are worth their cost: no dictionary has a key that could be wrong.
 pub fn check_keys<P: Placed>(
     alloc: Global,
     src: &mut P,
@@ -108,6 +109,9 @@ pub fn check_keys<P: Placed>(
         → Judges (λ _. KeepKeysBelow f F F.objects) (IsKeysFault f F) result) }
 {
     let frame = src.frame();
+    if named.count() == 0 {
+        return Ok(());
+    }
     let classes = key_classes(alloc, src, named)?;
     let mut table = ClassTable::new(alloc, classes)?;
     for n in 0..frame.objects {

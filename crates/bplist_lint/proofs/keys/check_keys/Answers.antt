@@ -1,13 +1,21 @@
-use Rattle.std.proofs.Common.{◌≡◌, sym, ◌∙◌, arith}
+use Rattle.std.proofs.Common.{◌≡◌, count_by, sym, ◌∙◌, arith}
 use Rattle.std.proofs.lemmas.Bool.{false≢true}
 use Rattle.std.proofs.lemmas.Result.{err_from_is_err_and}
 use Rattle.bplist_objects.specs.declared.frame.Frame.{Frame}
 use Rattle.bplist_objects.specs.Framed.{frame_in}
 use Rattle.bplist_keys.proofs.LookUps.{new_low, stamped_low}
-use Rattle.bplist_lint.proofs.KeySteps.{refusals_mean, keys_fault, keys_more, keys_over, bare_keys}
+use Rattle.bplist_lint.proofs.KeySteps.{refusals_mean, keys_fault, keys_more, keys_over, bare_keys, unnamed_keys}
 use Rattle.bplist_lint.proofs.KeyClasses.{reached_sound, keys_known}
 use Rattle.bplist_lint.proofs.keys.check_keys.Goals as goal
 use Rattle.bplist_lint.proofs.keys.check_keys.Goals.{then-marks-n+then-not-bare-n+in_ok-check_object, else-marks-n, else-marks-n-via-then-marks-n+else-not-bare-n, else-marks-n-via-else-marks-n}
+
+pub returns-then-count-eq0-clause-exact : goal.returns-then-count-eq0-clause-exact
+returns-then-count-eq0-clause-exact g c = λ honest marks kept bare all_named m low reached.
+    let f = (g.P.Source.means c.args.src.now).octets in
+    let F : Frame = frame_in (g.P.Source.means c.args.src.now) in
+    let named = c.args.named.marks.items in
+    let none : count_by (λ marked. marked) named ≡ 0 = omega (arith, c.count.ensures, c.if-count-eq0.true) in
+    unnamed_keys f F named m none (all_named m reached)
 
 pub returns-in_err-check_object-clause-exact : goal.returns-in_err-check_object-clause-exact
 returns-in_err-check_object-clause-exact g c = λ honest marks kept bare named.
