@@ -31,7 +31,6 @@ use crate::heights::{Wanted, check_heights, check_refs, height_at};
 use crate::refusal::Refusal;
 use crate::seen::Seen;
 use crate::{key_classes, key_lists};
-use bplist_keys::Placed;
 use bplist_objects::{
     Fault, Frame, Framed, Head, ObjectFault, ObjectNo, Plist, Rule, check_body, frame_of, head_in,
     read_offsets_in, refs_of, shape_in,
@@ -254,7 +253,7 @@ fn see_objects<P: Framed>(
 }
 
 /// Looks at the keys of the vouched dictionaries that were seen.
-fn check_keys<P: Placed>(
+fn check_keys<P: Framed>(
     alloc: Global,
     src: &mut P,
     seen: &Seen,
@@ -286,7 +285,7 @@ fn object_of(fault: &Fault) -> u32
 
 /// Looks at all vouched objects, and then at the keys of the dictionaries among them, up to the first object that breaks a
 /// rule before those of keys. How many bytes they take.
-fn check_objects<P: Placed>(
+fn check_objects<P: Framed>(
     alloc: Global,
     src: &mut P,
     heights: &[u32],

@@ -192,7 +192,7 @@ fn check_named<P: Placed>(
 /// each text that is named as a key is read once to find its class, and again only where another has the same fingerprint.
 /// Where no object is named as a key, as in a file without dictionaries, neither places nor classes are worth their memory and
 /// their passes over all objects: no dictionary has a key that could be wrong.
-pub(crate) fn check_keys<P: Placed>(alloc: Global, src: &mut P, seen: &Seen) -> Result<(), Refusal>
+pub(crate) fn check_keys<P: Framed>(alloc: Global, src: &mut P, seen: &Seen) -> Result<(), Refusal>
     requires { length seen.now.heights.now ≡ (frame_in (P.means src.old)).objects }
     ensures reads { OnlyReads (refused_read result) (P.means src.old) (P.means src.new) }
     ensures exact { HonestlyIn (P.means src.old) (λ f F. AreSeen f F seen.now.heights.now seen.now.bound

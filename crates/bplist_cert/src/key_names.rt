@@ -3,6 +3,7 @@
 ghost use Rattle.std.specs.Prelude.{◌≡◌, ◌<◌, ℕ, IfOk, length};
 ghost use Rattle.bplist_octets.specs.Meaning.{OnlyReads};
 ghost use Rattle.bplist_objects.specs.Answers.{Never};
+ghost use Rattle.bplist_objects.specs.Frame.{off};
 ghost use Rattle.bplist_objects.specs.Framed.{frame_in, HonestlyIn};
 ghost use Rattle.bplist_objects.specs.Rules.{KeepsAll};
 ghost use Rattle.bplist_objects.specs.ObjectRules.{KeepsByObject, object_rules};
@@ -14,21 +15,26 @@ ghost use Rattle.bplist_cert.specs.Refusals.{Judges, refused_read};
 
 use crate::refusal::Refusal;
 use crate::seen::Seen;
-use bplist_keys::{NamedKeys, Placed, name_keys, placed_shape};
-use bplist_objects::{Framed, Kind};
+use bplist_keys::{NamedKeys, PlaceBlock, name_keys};
+use bplist_objects::{Framed, Kind, ObjectNo, shape_in};
 use std::alloc::Global;
 
-/// Names the keys of object `n`, where it is a dictionary.
-fn name_object<P: Placed>(src: &mut P, n: u32, named: &mut NamedKeys) -> Result<(), Refusal>
+/// Names the keys of object `n`, which stands at `place`, where it is a dictionary.
+fn name_object<P: Framed>(
+    src: &mut P,
+    n: u32,
+    place: u64,
+    named: &mut NamedKeys,
+) -> Result<(), Refusal>
     requires within { n < (frame_in (P.means src.old)).objects }
     requires all { length named.old.marks.items ≡ (frame_in (P.means src.old)).objects }
     ensures reads { OnlyReads (refused_read result) (P.means src.old) (P.means src.new) }
     ensures all { length named.new.marks.items ≡ (frame_in (P.means src.old)).objects }
     ensures keeps { (m : ℕ) → IsMarked named.old.marks.items m → IsMarked named.new.marks.items m }
-    ensures exact { HonestlyIn (P.means src.old) (λ f F. KeepsAll (KeepsByObject f F n) object_rules
+    ensures exact { HonestlyIn (P.means src.old) (λ f F. place ≡ off f F n → KeepsAll (KeepsByObject f F n) object_rules
         → Judges (λ _. HasNamedKeys f F named.new.marks.items n) Never result) }
 {
-    let head = placed_shape(src, n)?;
+    let head = shape_in(src, ObjectNo(n), place)?;
     match head.kind {
         Kind::Dict => Ok(name_keys(src, &head, named)?),
         _ => Ok(()),
@@ -36,7 +42,7 @@ fn name_object<P: Placed>(src: &mut P, n: u32, named: &mut NamedKeys) -> Result<
 }
 
 /// The objects that the vouched dictionaries which were seen name as keys. An object of height 1 has no references.
-pub(crate) fn seen_keys<P: Placed>(
+pub(crate) fn seen_keys<P: Framed>(
     alloc: Global,
     src: &mut P,
     seen: &Seen,
@@ -50,16 +56,18 @@ pub(crate) fn seen_keys<P: Placed>(
 {
     let objects = src.frame().objects;
     let mut named = NamedKeys::new(alloc, objects)?;
+    let mut places = PlaceBlock::new();
     for n in 0..seen.bound {
         if seen.heights[n as usize] > 1 {
-            name_object(src, n, &mut named)?;
+            let place = places.place(src, n)?;
+            name_object(src, n, place, &mut named)?;
         }
     }
     Ok(named)
 }
 
 /// The objects that the vouched dictionaries name as keys.
-pub fn vouched_keys<P: Placed>(
+pub fn vouched_keys<P: Framed>(
     alloc: Global,
     src: &mut P,
     heights: &[u32],

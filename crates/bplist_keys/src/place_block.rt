@@ -16,7 +16,7 @@ const BLOCK: usize = 256;
 /// The places of a few objects that follow one another, so that a pass over all objects reads the offset table in blocks and
 /// keeps none of it.
 #[derive(Drop)]
-pub(crate) struct PlaceBlock {
+pub struct PlaceBlock {
     /// The number of the first object.
     first: u32,
     /// How many objects there are.

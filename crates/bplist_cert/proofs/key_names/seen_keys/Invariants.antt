@@ -1,6 +1,7 @@
 use Rattle.std.proofs.Common.{◌≡◌, ℕ, ◌<◌, length}
 use Rattle.bplist_objects.specs.Framed.{frame_in, HonestlyIn}
 use Rattle.bplist_keys.specs.Classes.{HasNamedKeys}
+use Rattle.bplist_keys.specs.Places.{AreNext}
 use Rattle.bplist_cert.specs.Valid.{IsVouchedBy}
 use Rattle.bplist_cert.specs.Looks.{AreSeen}
 use Rattle.bplist_cert.proofs.key_names.seen_keys.Given as goal
@@ -14,4 +15,5 @@ invariant-loop-n g l =
       all : length l.named.marks.items ≡ (frame_in (means l.fn.src)).objects;
       named : HonestlyIn (means l.fn.src) (λ f F. AreSeen f F l.seen.heights.now l.seen.bound
           → (m : ℕ) → m < l.n → IsVouchedBy l.seen.heights.now m → HasNamedKeys f F l.named.marks.items m);
+      places : HonestlyIn (means l.fn.src) (λ f F. AreNext f F l.places.first l.places.count l.places.places);
     }
