@@ -38,7 +38,7 @@ mod weighted;
 
 pub use class_table::{ClassTable, Wrong};
 pub use failure::Failure;
-pub use named_keys::{NamedKeys, name_keys};
+pub use named_keys::{NamedKeys, name_keys, numbers_of};
 pub use place_block::PlaceBlock;
 pub use places::{Placed, Table, placed_shape, places_of};
 pub use ranks::{Ranks, classes_of, ranks_of};

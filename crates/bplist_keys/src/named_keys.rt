@@ -17,6 +17,17 @@ use std::alloc::{AllocError, Global};
 /// is set up for each of them.
 pub(crate) const BLOCK: usize = 32;
 
+/// A number for each mark: 1 where it is set, else 0. Memory is asked for once.
+pub fn numbers_of(alloc: Global, marks: &[bool]) -> Result<Vec<u32>, AllocError>
+    ensures { IfOk result (λ numbers. numbers.items ≡ map from_bool marks.now) }
+{
+    let mut numbers = Vec::with_capacity(alloc, marks.len())?;
+    for marked in marks {
+        numbers.push(u32::from(*marked))?;
+    }
+    Ok(numbers)
+}
+
 /// The objects of a file that are named as keys: exactly these are marked.
 #[derive(Drop)]
 pub struct NamedKeys {
@@ -38,17 +49,6 @@ impl NamedKeys {
         ensures { result ≡ count_by (λ marked. marked) self.now.marks.items }
     {
         self.marks.iter().filter(|marked| **marked).count()
-    }
-
-    /// A number for each object: 1 where it is named, else 0.
-    pub(crate) fn into_numbers(self, alloc: Global) -> Result<Vec<u32>, AllocError>
-        ensures { IfOk result (λ numbers. numbers.items ≡ map from_bool self.marks.items) }
-    {
-        let mut numbers = Vec::with_capacity(alloc, self.marks.len())?;
-        for marked in &self.marks {
-            numbers.push(u32::from(*marked))?;
-        }
-        Ok(numbers)
     }
 
     /// Object `m` is named as a key.

@@ -11,7 +11,7 @@ use Rattle.bplist_cert.proofs.AllNumbers.{onto}
 use Rattle.bplist_lint.specs.Graph.{Reaches, Ends, IsNext, IsCircleOf}
 use Rattle.bplist_lint.specs.Graph.Reaches.{start, onward}
 use Rattle.bplist_lint.specs.Graph.Ends.{ends}
-use Rattle.bplist_lint.proofs.VisitSteps.{at_set, count-set, unwritten}
+use Rattle.bplist_lint.proofs.Writes.{at_set, count-set, unwritten}
 
 -- there is one below a bound, or there is none
 pub some_or_none : (Q : ℕ → Type 0) → ((k : ℕ) → Either (Q k)) → (bound : ℕ) → ((i : ℕ) × (i < bound) × Q i) ⊎ ((k : ℕ) → k < bound → Q k → ⊥)

@@ -1,7 +1,7 @@
 pub mod MarkSteps
 pub mod ReachSteps
-pub mod VisitSteps
-pub mod WalkSteps
+pub mod Writes
+pub mod HeightSteps
 pub mod TrailSteps
 pub mod ObjectReferences
 pub mod TallySteps

@@ -6,7 +6,7 @@ use Rattle.std.proofs.lemmas.List.{get_or-set_same, get_or-set_other, get_or-tak
 use Rattle.std.proofs.lemmas.List.Elements.{Contains-append_left, Contains-push, Contains-push_cases, Contains-get_or}
 use Rattle.bplist_keys.specs.Marks.{IsMarked}
 use Rattle.bplist_lint.specs.Walks.{AreApart, Noted}
-use Rattle.bplist_lint.proofs.VisitSteps.{seen-set, differ_push, differ_front, differ_last}
+use Rattle.bplist_lint.proofs.Writes.{seen-set, differ_push, differ_front, differ_last}
 
 -- ---- a stack on which no object stands twice
 pub apart_none : AreApart []

@@ -12,7 +12,7 @@ use Rattle.bplist_cert.specs.Valid.{IsVouchedBy, IsValid, IsVouched, HasKeys}
 use Rattle.bplist_lint.specs.Graph.{greatest}
 use Rattle.bplist_lint.specs.Least.{StandsLeast}
 use Rattle.bplist_lint.specs.WellFormed.{IsWellFormed}
-use Rattle.bplist_lint.proofs.VisitSteps.{unwritten, nothing}
+use Rattle.bplist_lint.proofs.Writes.{unwritten, nothing}
 use Rattle.bplist_lint.proofs.FoundedObjects.{map-same, le-greatest}
 use Rattle.bplist_lint.proofs.HeldValues.{Sound, sound, founded_sound}
 

@@ -20,7 +20,7 @@ use Rattle.bplist_objects.proofs.References.{length-refs, nth-refs}
 use Rattle.bplist_keys.specs.Marks.{IsMarked}
 use Rattle.bplist_lint.specs.Reaching.{HasMarks, row, number_at, set_size, reference_at, AreGood, AreFollowed, Looked, IsSearching}
 use Rattle.bplist_lint.specs.PlaceSets.{IsIn}
-use Rattle.bplist_lint.proofs.VisitSteps.{seen-set, unwritten}
+use Rattle.bplist_lint.proofs.Writes.{seen-set, unwritten}
 
 pub marked_within : (marks : List Bool) (n : ℕ) → IsMarked marks n → n < length marks
 marked_within [] n h = absurd (false≢true h)

@@ -9,7 +9,7 @@ use Rattle.bplist_lint.specs.Graph.Reaches.{start, onward}
 use Rattle.bplist_lint.specs.Graph.Ends.{ends}
 use Rattle.bplist_lint.specs.Graph.Least.{above}
 use Rattle.bplist_lint.specs.Trail.{number, object, AllHave, IsFirstWithout, IsPlaceOf, Placed, Leading}
-use Rattle.bplist_lint.proofs.VisitSteps.{push_cases, at_set, seen-set, unwritten}
+use Rattle.bplist_lint.proofs.Writes.{push_cases, at_set, seen-set, unwritten}
 
 pub numbers_named : (xs : List ℕ) → map number (map object xs) ≡ xs
 numbers_named [] = refl

@@ -23,7 +23,7 @@ use Rattle.bplist_lint.specs.Graph.Least.{above}
 use Rattle.bplist_lint.specs.KeyRules.{KeepKeysBelow}
 use Rattle.bplist_lint.specs.ReachRules.{KeepReachBelow}
 use Rattle.bplist_lint.specs.Referring.{key_count, hidden, refs_in, graph_of}
-use Rattle.bplist_lint.specs.Visits.{AreClosed, AreLeastOf}
+use Rattle.bplist_lint.specs.HeightWalks.{AreClosed, AreLeastOf}
 use Rattle.bplist_lint.proofs.KeptRules.{kept_spells}
 use Rattle.bplist_lint.proofs.ObjectReferences.{found_as, as_spelled, all_announced, no_refs_leaf}
 use Rattle.bplist_lint.proofs.ReferenceGraph.{reach_iff}

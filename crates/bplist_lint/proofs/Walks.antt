@@ -29,7 +29,7 @@ use Rattle.bplist_lint.specs.Walks.{Noted, extent_by, extent, extents_below, IsV
 use Rattle.bplist_lint.proofs.MarkSteps.{apart_none, apart_push, apart_front, apart_last, fresh-set}
 use Rattle.bplist_lint.proofs.ReachSteps.{marked_within}
 use Rattle.bplist_lint.proofs.TallySteps.{tallied_none, tallied_over, tallied_more, next_is}
-use Rattle.bplist_lint.proofs.VisitSteps.{seen-set, unwritten}
+use Rattle.bplist_lint.proofs.Writes.{seen-set, unwritten}
 
 -- ---- sums below a number
 sum_of_none : (g : ℕ → ℕ) (n : ℕ) → ((m : ℕ) → g m ≡ 0) → sum_below g n ≡ 0

@@ -1,6 +1,6 @@
 pub mod Graph
 pub mod Reaching
-pub mod Visits
+pub mod HeightWalks
 pub mod Trail
 pub mod Referring
 pub mod Tallies

@@ -1,15 +1,16 @@
 //! Which objects are founded, and their least heights.
 
 ghost use Rattle.std.specs.Prelude.{◌≡◌, ◌≢◌, ℕ, ◌+◌, ◌^◌, ◌<◌, ◌≤◌, Bool, List, [], ◌∷◌, ◌++◌, IsTrue, length, map, set, slice_index, vec_len, IfOk, OnOk};
+ghost use Rattle.std.specs.Int.{from_bool};
 ghost use Rattle.bplist_octets.specs.Meaning.{OnlyReads};
 ghost use Rattle.bplist_keys.specs.Failures.{failed_to_read};
 ghost use Rattle.bplist_lint.specs.Graph.{IsWhole, AreObjects};
 ghost use Rattle.bplist_keys.specs.Marks.{IsMarked};
-ghost use Rattle.bplist_lint.specs.Visits.{Finds, Shows, Standing, Walking, AreClosed, AreLeastOf, state_at, first_state, first_height, work};
+ghost use Rattle.bplist_lint.specs.HeightWalks.{Finds, Shows, Standing, Walking, AreClosed, AreLeastOf, state_at, first_state, work};
 ghost use Rattle.bplist_lint.specs.declared.heights.State.TheVariants as states;
 
 use crate::references::{BLOCK, References};
-use bplist_keys::Failure;
+use bplist_keys::{Failure, numbers_of};
 use std::alloc::{AllocError, Global};
 
 /// How many references are read at first where a look at an object goes on.
@@ -65,28 +66,18 @@ fn first_states(alloc: Global, bare: &[bool]) -> Result<Vec<State>, AllocError>
     Ok(states)
 }
 
-/// The heights that are known before the first look: 1 of each object that is known to have no references, 0 of the others.
-fn first_heights(alloc: Global, bare: &[bool]) -> Result<Vec<u32>, AllocError>
-    ensures { IfOk result (λ heights. heights.items ≡ map first_height bare.now) }
-{
-    let mut heights = Vec::with_capacity(alloc, bare.len())?;
-    for known in bare {
-        heights.push(u32::from(*known))?;
-    }
-    Ok(heights)
-}
-
 impl HeightWalk {
-    /// Before the first look. Objects with a mark in `bare` have no references, and the file has this length.
+    /// Before the first look. Objects with a mark in `bare` have no references, and so height 1 at once, the number of a mark. The
+    /// file has this length.
     fn new(alloc: Global, bare: &[bool], len: u64) -> Result<HeightWalk, AllocError>
         ensures states { IfOk result (λ walk. walk.states.items ≡ map first_state bare.now) }
-        ensures heights { IfOk result (λ walk. walk.heights.items ≡ map first_height bare.now) }
+        ensures heights { IfOk result (λ walk. walk.heights.items ≡ map from_bool bare.now) }
         ensures empty { IfOk result (λ walk. vec_len walk.stack ≡ 0) }
     {
         let containers = bare.iter().filter(|known| !**known).count();
         Ok(HeightWalk {
             states: first_states(alloc, bare)?,
-            heights: first_heights(alloc, bare)?,
+            heights: numbers_of(alloc, bare)?,
             stack: Vec::with_capacity(alloc, containers)?,
             stride: len / u32::MAX as u64 + 1,
         })

@@ -1,5 +1,5 @@
 use Rattle.std.proofs.Common.{◌≡◌, map, take}
-use Rattle.bplist_lint.specs.Visits.{first_state}
+use Rattle.bplist_lint.specs.HeightWalks.{first_state}
 use Rattle.bplist_lint.proofs.heights.first_states.Given as goal
 
 abbrev pub invariant-loop-known : goal.invariant-loop-known

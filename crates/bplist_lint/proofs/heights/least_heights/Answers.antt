@@ -2,7 +2,7 @@ use Rattle.std.proofs.Common.{◌-◌, arith, ◌∙◌, inl, inr}
 use Rattle.std.proofs.lemmas.Grind.{common_steps}
 use Rattle.std.proofs.lemmas.Bool.{cases_eq}
 use Rattle.bplist_lint.proofs.ReachSteps.{marked_within}
-use Rattle.bplist_lint.proofs.WalkSteps.{standing_first, walking_first, are_least}
+use Rattle.bplist_lint.proofs.HeightSteps.{standing_first, walking_first, are_least}
 use Rattle.bplist_lint.proofs.heights.least_heights.Goals as goal
 
 pub loop-n-init : goal.loop-n-init

@@ -1,6 +1,6 @@
 use Rattle.std.proofs.Common.{◌≡◌, ◌≢◌, ◌≤◌, ℕ, [], IsTrue, vec_len}
 use Rattle.bplist_keys.specs.Marks.{IsMarked}
-use Rattle.bplist_lint.specs.Visits.{state_at, Standing, Walking, AreClosed}
+use Rattle.bplist_lint.specs.HeightWalks.{state_at, Standing, Walking, AreClosed}
 use Rattle.bplist_lint.specs.declared.heights.State.TheVariants.{New}
 use Rattle.bplist_lint.proofs.heights.least_heights.Given as goal
 

@@ -11,7 +11,7 @@ use Rattle.bplist_keys.specs.Marks.{IsMarked}
 use Rattle.bplist_lint.specs.Reaching.{number_at, reference_at}
 use Rattle.bplist_lint.specs.declared.place_set.PlaceSet.{PlaceSet}
 use Rattle.bplist_lint.proofs.ReachSteps.{size_small, numbers_low, reference_at_k, all_marked}
-use Rattle.bplist_lint.proofs.WalkSteps.{among_at}
+use Rattle.bplist_lint.proofs.HeightSteps.{among_at}
 use Rattle.bplist_lint.proofs.reach.follow.Goals as goal
 
 pub refs_of-requires : goal.refs_of-requires

@@ -4,7 +4,7 @@ use Rattle.std.proofs.lemmas.Result.{err_from_is_err_and}
 use Rattle.bplist_objects.specs.declared.frame.Frame.{Frame}
 use Rattle.bplist_objects.specs.Framed.{frame_in}
 use Rattle.bplist_cert.specs.Valid.{IsVouchedBy}
-use Rattle.bplist_lint.proofs.VisitSteps.{nothing, unwritten}
+use Rattle.bplist_lint.proofs.Writes.{nothing, unwritten}
 use Rattle.bplist_lint.proofs.ListSteps.{listed_none, listed_over}
 use Rattle.bplist_lint.proofs.upgrader.list_all.Goals as goal
 use Rattle.bplist_lint.proofs.upgrader.list_all.Goals.{then-heights-n-gt0+in_ok-starts-2, else-heights-n-gt0}

@@ -1,10 +1,10 @@
 use Rattle.std.proofs.Common.{◌≡◌, ◌≢◌, max, length, refl, arith, ◌∙◌}
 use Rattle.std.proofs.lemmas.Bool.{eqb-false}
 use Rattle.std.proofs.lemmas.Grind.{common_steps}
-use Rattle.bplist_lint.specs.Visits.{state_at}
+use Rattle.bplist_lint.specs.HeightWalks.{state_at}
 use Rattle.bplist_lint.specs.declared.heights.State.TheVariants.{Founded}
 use Rattle.bplist_lint.proofs.Parts.{contains_part, part_all}
-use Rattle.bplist_lint.proofs.WalkSteps.{greatest_part}
+use Rattle.bplist_lint.proofs.HeightSteps.{greatest_part}
 use Rattle.bplist_lint.proofs.heights.HeightWalk.look.Goals as goal
 
 pub loop-more-preserved : goal.loop-more-preserved

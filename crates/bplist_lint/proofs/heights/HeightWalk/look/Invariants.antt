@@ -1,6 +1,6 @@
 use Rattle.std.proofs.Common.{◌≡◌, ℕ, ◌<◌, ◌≤◌, ◌+◌, ◌-◌, ◌*◌, ◌^◌, cond, false, IsTrue, length, map, take, slice_index}
 use Rattle.bplist_lint.specs.Graph.{IsWhole, greatest}
-use Rattle.bplist_lint.specs.Visits.{state_at}
+use Rattle.bplist_lint.specs.HeightWalks.{state_at}
 use Rattle.bplist_lint.specs.declared.heights.State.TheVariants.{Founded}
 use Rattle.bplist_lint.proofs.heights.HeightWalk.look.Given as goal
 

@@ -1,9 +1,9 @@
 use Rattle.std.proofs.Common.{◌≡◌, ◌<◌, length, slice_index, max, refl, sym, ◌∙◌, below_more, arith}
 use Rattle.std.proofs.lemmas.Grind.{common_steps}
 use Rattle.std.proofs.lemmas.List.{get_or_read}
-use Rattle.bplist_lint.specs.Visits.{state_at}
+use Rattle.bplist_lint.specs.HeightWalks.{state_at}
 use Rattle.bplist_lint.specs.declared.heights.State.TheVariants.{New, Founded}
-use Rattle.bplist_lint.proofs.WalkSteps.{greatest_more}
+use Rattle.bplist_lint.proofs.HeightSteps.{greatest_more}
 use Rattle.bplist_lint.proofs.heights.HeightWalk.look_at.Goals as goal
 
 pub loop-k-preserved : goal.loop-k-preserved

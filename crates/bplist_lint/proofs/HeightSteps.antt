@@ -1,5 +1,6 @@
 -- Steps of the walk that finds the least heights.
 use Rattle.std.proofs.Common.{◌≡◌, ◌≢◌, ℕ, zero, suc, ◌+◌, ◌<◌, ◌≤◌, max, ◌⊎◌, inl, inr, Bool, true, false, cond, List, [], ◌∷◌, ◌++◌, length, get_or, map, set, take, slice_index, count_by, Contains, refl, sym, ◌∙◌, ap, arith, add-one}
+use Rattle.std.specs.Int.{from_bool}
 use Rattle.std.proofs.Math.ListN.{get_or-eq_default}
 use Rattle.std.proofs.lemmas.Bool.{cases_eq, cases_lt}
 use Rattle.std.proofs.lemmas.List.{get_or-set_same, get_or-set_other, get_or_append_left, get_or_push, get_or_default, get_or-map, length-set, length-map, length_push, map-append, take_more}
@@ -9,12 +10,12 @@ use Rattle.bplist_lint.specs.Graph.{Ends, Least, greatest, IsPart}
 use Rattle.bplist_lint.specs.Graph.Ends.{ends}
 use Rattle.bplist_lint.specs.Graph.Least.{above}
 use Rattle.bplist_keys.specs.Marks.{IsMarked}
-use Rattle.bplist_lint.specs.Visits.{state_at, is_new, is_founded, first_state, first_height, work, Standing, Walking, AreLeastOf}
+use Rattle.bplist_lint.specs.HeightWalks.{state_at, is_new, is_founded, first_state, work, Standing, Walking, AreLeastOf}
 use Rattle.bplist_lint.specs.declared.heights.State.{State}
 use Rattle.bplist_lint.specs.declared.heights.State.TheVariants.{New, Open, Founded, Circular}
 use Rattle.bplist_lint.proofs.MarkSteps.{apart_none, apart_push, apart_front, apart_last}
 use Rattle.bplist_lint.proofs.Parts.{take_part}
-use Rattle.bplist_lint.proofs.VisitSteps.{count-set, push_cases, at_set}
+use Rattle.bplist_lint.proofs.Writes.{count-set, push_cases, at_set}
 
 -- ---- states
 -- an object of which something is known is one of those that have a state
@@ -25,7 +26,7 @@ state_within states n known = elim (cases_lt n (length states)) [
 ]
 
 -- the states and heights before the first look
-pub first_is : (bare : List Bool) (n : ℕ) → (IsMarked bare n × (state_at (map first_state bare) n ≡ Founded) × (get_or (map first_height bare) n 0 ≡ 1)) ⊎ ((state_at (map first_state bare) n ≡ New) × (get_or (map first_height bare) n 0 ≡ 0))
+pub first_is : (bare : List Bool) (n : ℕ) → (IsMarked bare n × (state_at (map first_state bare) n ≡ Founded) × (get_or (map from_bool bare) n 0 ≡ 1)) ⊎ ((state_at (map first_state bare) n ≡ New) × (get_or (map from_bool bare) n 0 ≡ 0))
 first_is [] n = inr (refl, refl)
 first_is (true ∷ bs) zero = inl (refl, refl, refl)
 first_is (true ∷ bs) (suc n) = first_is bs n
@@ -38,10 +39,10 @@ counted states n is =
     let within = state_within states n (λ e. absurd (cc (sym is ∙ e))) in
     omega (arith, rw is at (count-set is_founded states n New New within))
 
-pub standing_first : (size : ℕ) (bare : List Bool) → length bare ≡ size → Standing size (map first_state bare) (map first_height bare) []
+pub standing_first : (size : ℕ) (bare : List Bool) → length bare ≡ size → Standing size (map first_state bare) (map from_bool bare) []
 standing_first size bare long = record {
   all_states = length-map bare first_state ∙ long;
-  all_heights = length-map bare first_height ∙ long;
+  all_heights = length-map bare from_bool ∙ long;
   are_open = λ k h. absurd (omega arith);
   apart = apart_none;
   on_stack = λ n is. elim (first_is bare n) [
@@ -219,7 +220,7 @@ greatest_part heights references block i count best height low part is here =
     rw (take_part references block i count part low, map-append h (take i references) (take count block), is, here) (sym (greatest-append (map h (take i references)) (map h (take count block))))
 
 -- ---- what is known of the references
-pub walking_first : (refs : ℕ → List ℕ) (marks bare : List Bool) → ((n : ℕ) → IsMarked bare n → IsMarked marks n × (refs n ≡ [])) → Walking refs marks (map first_state bare) (map first_height bare) []
+pub walking_first : (refs : ℕ → List ℕ) (marks bare : List Bool) → ((n : ℕ) → IsMarked bare n → IsMarked marks n × (refs n ≡ [])) → Walking refs marks (map first_state bare) (map from_bool bare) []
 walking_first refs marks bare are = record {
   marked = λ n known. elim (first_is bare n) [
     | inl c ↦ (are n c.0).0

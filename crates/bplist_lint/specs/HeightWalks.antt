@@ -28,11 +28,6 @@ abbrev pub first_state : Bool → State
 first_state true = Founded
 first_state false = New
 
--- its height before the first look: 1 where it is known to have no references
-abbrev pub first_height : Bool → ℕ
-first_height true = 1
-first_height false = 0
-
 -- what is left to do: each object on the stack, and twice each object of which nothing is known
 abbrev pub work : List State → List ℕ → ℕ
 work states stack = 2 * count_by is_new states + length stack
