@@ -1,10 +1,12 @@
 -- Key lists by the markers and counts of the keys: pairs of texts in order. Source: profile.
-use Rattle.std.specs.Prelude.{◌≡◌, ℕ, ◌+◌, ◌*◌, ◌<◌, List, slice_index, Option, Some, None, IfSome}
+use Rattle.std.specs.Prelude.{◌≡◌, ℕ, ◌+◌, ◌*◌, ◌<◌, ◌≤◌, List, slice_index, Option, Some, None, IfSome}
 use Rattle.std.specs.declared.cmp.Ordering.TheVariants.{Less}
 use Rattle.bplist_objects.specs.declared.frame.Frame.{Frame}
 use Rattle.bplist_objects.specs.declared.head.Head.{Head}
 use Rattle.bplist_objects.specs.Units.{IsTextKind, compare_units}
 use Rattle.bplist_keys.specs.Runs.{AreRuns}
+use Rattle.bplist_keys.specs.Places.{AreNext}
+use Rattle.bplist_keys.specs.declared.place_block.PlaceBlock.{PlaceBlock}
 use Rattle.bplist_cert.specs.declared.key_lists.ReadKey.{ReadKey}
 use Rattle.bplist_cert.specs.declared.key_pairs.OrderedPairs.{OrderedPairs}
 use Rattle.bplist_keys.specs.Texts.{HasTextShape, IsTextHead, text_units}
@@ -40,3 +42,11 @@ module _ (f : List ℕ) (F : Frame) where
   -- the keys of a dictionary with this head are texts by marker and count
   abbrev pub HaveTextShapes : Head → Type 0
   HaveTextShapes head = (k : ℕ) → k < head.count → HasTextShape f F (ref f F head k)
+
+  -- where a dictionary has at most 32 keys, these numbers begin with the references to them
+  abbrev pub AreFewKeys : Head → List ℕ → Type 0
+  AreFewKeys head numbers = head.count ≤ 32 → (k : ℕ) → k < head.count → slice_index numbers k ≡ ref f F head k
+
+  -- the places that are held are those of their objects
+  abbrev pub IsPlaced : PlaceBlock → Type 0
+  IsPlaced places = AreNext f F places.first places.count places.places

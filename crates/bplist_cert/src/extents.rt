@@ -21,7 +21,8 @@ pub(crate) fn check_extent<P: Framed>(
         × ((frame_in (P.means src.now)).table < used + (head.now.«end» - place) + 8)) }
 {
     let extent = head.end.saturating_sub(place);
-    if used as u128 + extent as u128 + 8 > src.frame().table as u128 {
+    let left = src.frame().table.saturating_sub(used);
+    if extent > left || left - extent < 8 {
         return Err(Fault {
             rule: Rule::Overfull,
             object: Some(n),

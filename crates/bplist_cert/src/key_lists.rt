@@ -17,7 +17,7 @@ ghost use Rattle.bplist_cert.specs.Lists.{lists};
 ghost use Rattle.bplist_cert.specs.CheckRules.{IsWhole, list_of, HasOrder, IsKeysFault};
 ghost use Rattle.bplist_cert.specs.Keys.{HaveTexts, AreInOrder};
 ghost use Rattle.bplist_cert.specs.KeyClasses.{KeysAreSound, HasGoodKeys, BreaksKeys, IsFirstKeysFault};
-ghost use Rattle.bplist_cert.specs.KeyPairs.{Ascends, AreKnown, HaveTextShapes, Follows, IsReadKey, IsSafeKey};
+ghost use Rattle.bplist_cert.specs.KeyPairs.{AreFewKeys, IsPlaced, Ascends, AreKnown, HaveTextShapes, Follows, IsReadKey, IsSafeKey};
 ghost use Rattle.bplist_cert.specs.LowBytes.{AreLow};
 ghost use Rattle.bplist_cert.specs.Valid.{IsVouchedBy};
 ghost use Rattle.bplist_cert.specs.Looks.{AreSeen};
@@ -28,8 +28,12 @@ use crate::key_pairs::OrderedPairs;
 use crate::keys::check_texts;
 use crate::low_bytes::LowBytes;
 use crate::seen::Seen;
-use bplist_objects::{Framed, Head, Kind, ObjectFault, ObjectNo, offset_of, ref_at, shape_at};
+use bplist_keys::PlaceBlock;
+use bplist_objects::{Framed, Head, Kind, ObjectFault, ObjectNo, read_refs_in, ref_at, shape_at};
 use bplist_octets::ReadFault;
+
+/// Up to so many keys are read at once. Most dictionaries have no more.
+const FEW: usize = 32;
 
 /// A key that was looked at: its object, and its head where that was read.
 #[derive(Clone, Copy, Debug)]
@@ -120,21 +124,58 @@ fn follows<P: Framed>(
     }
 }
 
-/// The object that the key at a position of a dictionary names, where there are such a key and such an object.
-fn key_at<P: Framed>(src: &mut P, head: &Head, position: u32) -> Result<Option<u32>, ReadFault>
+/// Reads the references to the keys of a dictionary where they are few.
+fn read_few<P: Framed>(src: &mut P, head: &Head, into: &mut [u64]) -> Result<(), ReadFault>
     requires head { IsSafeHead (frame_in (P.means src.old)) head.now }
     requires dict { head.now.kind ≡ Dict }
+    requires room { length into.old ≡ 32 }
+    ensures reads { OnlyReads (is_err result) (P.means src.old) (P.means src.new) }
+    ensures few { HonestlyIn (P.means src.old) (λ f F. OnOk result (AreFewKeys f F head.now into.new)) }
+{
+    if head.count > FEW as u64 {
+        return Ok(());
+    }
+    read_refs_in(src, head, 0, &mut into[..head.count as usize])
+}
+
+/// The number of the reference to key `i`, which is among these where the keys are few.
+fn ref_among<P: Framed>(src: &mut P, head: &Head, few: &[u64], i: u64) -> Result<u64, ReadFault>
+    requires head { IsSafeHead (frame_in (P.means src.old)) head.now }
+    requires dict { head.now.kind ≡ Dict }
+    requires room { length few.now ≡ 32 }
+    requires within { i < head.now.count }
+    ensures reads { OnlyReads (is_err result) (P.means src.old) (P.means src.new) }
+    ensures exact { HonestlyIn (P.means src.old) (λ f F. AreFewKeys f F head.now few.now
+        → IfOk result (λ m. m ≡ ref f F head.now i)) }
+{
+    let frame = src.frame();
+    if head.count <= FEW as u64 {
+        return Ok(few[i as usize]);
+    }
+    ref_at(src, &frame, head, i)
+}
+
+/// The object that the key at a position of a dictionary names, where there are such a key and such an object.
+fn key_at<P: Framed>(
+    src: &mut P,
+    head: &Head,
+    few: &[u64],
+    position: u32,
+) -> Result<Option<u32>, ReadFault>
+    requires head { IsSafeHead (frame_in (P.means src.old)) head.now }
+    requires dict { head.now.kind ≡ Dict }
+    requires room { length few.now ≡ 32 }
     ensures reads { OnlyReads (is_err result) (P.means src.old) (P.means src.new) }
     ensures inside { IfOk result (λ found. IfSome found (λ m. (position < head.now.count) × (m < (frame_in (P.means src.old)).objects))) }
-    ensures exact { HonestlyIn (P.means src.old) (λ f F.
-        IfOk result (λ found. IfSome found (λ m. m ≡ ref f F head.now position))) }
+    ensures exact { HonestlyIn (P.means src.old) (λ f F. AreFewKeys f F head.now few.now
+        → IfOk result (λ found. IfSome found (λ m. m ≡ ref f F head.now position))) }
 {
     if position as u64 >= head.count {
         return Ok(None);
     }
-    let frame = src.frame();
-    let m = ref_at(src, &frame, head, position as u64)?;
-    if m >= frame.objects as u64 {
+    let objects = src.frame().objects;
+    let m = ref_among(src, head, few, position as u64)?;
+    if m >= objects as u64 {
         return Ok(None);
     }
     Ok(Some(m as u32))
@@ -155,9 +196,11 @@ fn is_ascending<P: Framed>(
         → IfOk result (λ good. AreKnown f F pairs.new
         × (IsTrue good → HaveTextShapes f F head.now × AreInOrder f F head.now list.now head.now.count))) }
 {
+    let mut few = [0u64; FEW];
+    read_few(src, head, &mut few)?;
     let mut before: Option<ReadKey> = None;
     for position in list {
-        let Some(m) = key_at(src, head, *position)? else {
+        let Some(m) = key_at(src, head, &few, *position)? else {
             return Ok(false);
         };
         let Some(key) = follows(src, &before, m, pairs)? else {
@@ -180,11 +223,12 @@ fn key_list(keys: &KeyLists, n: u32, count: u64) -> Option<&[u32]>
     Some(part_of(&keys.positions, start as usize, count as usize))
 }
 
-/// What keys are looked up in.
+/// What keys are looked up in, and the places of the dictionaries.
 #[derive(Drop)]
 struct ListLook {
     pairs: OrderedPairs,
     low: LowBytes,
+    places: PlaceBlock,
 }
 
 /// Whether the key list of dictionary `n` has its keys in order, which are texts by marker and count then.
@@ -226,6 +270,7 @@ fn check_list<P: Framed>(
     requires within { n.0 < (frame_in (P.means src.old)).objects }
     requires starts { length keys.now.starts ≡ (frame_in (P.means src.old)).objects }
     ensures reads { OnlyReads (read_failed result) (P.means src.old) (P.means src.new) }
+    ensures places { look.new.places ≡ look.old.places }
     ensures known { HonestlyIn (P.means src.old) (λ f F. AreKnown f F look.old.pairs → AreLow f look.old.low.rows
         → OnOk result (AreKnown f F look.new.pairs × AreLow f look.new.low.rows)) }
     ensures exact { HonestlyIn (P.means src.old) (λ f F. AreKnown f F look.old.pairs → AreLow f look.old.low.rows
@@ -258,13 +303,15 @@ fn check_object<P: Framed>(
     ensures reads { OnlyReads (read_failed result) (P.means src.old) (P.means src.new) }
     ensures known { HonestlyIn (P.means src.old) (λ f F. AreKnown f F look.old.pairs → AreLow f look.old.low.rows
         → OnOk result (AreKnown f F look.new.pairs × AreLow f look.new.low.rows)) }
+    ensures placed { HonestlyIn (P.means src.old) (λ f F. IsPlaced f F look.old.places → OnOk result (IsPlaced f F look.new.places)) }
     ensures exact { HonestlyIn (P.means src.old) (λ f F. AreKnown f F look.old.pairs → AreLow f look.old.low.rows
+        → IsPlaced f F look.old.places
         → KeepsAll (KeepsByObject f F n) object_rules
         → ((head : head) → HasHead f F n head → head.kind ≡ Dict → seen.now.bound ≡ F.objects → KeysAreSound f F head)
         → Gives (λ _. HasGoodKeys f F (Some keys.now) n) (BreaksKeys f F F.objects (Some keys.now) n) result) }
 {
     let frame = src.frame();
-    let place = offset_of(src, &frame, ObjectNo(n))?;
+    let place = look.places.place(src, n)?;
     let head = shape_at(src, &frame, ObjectNo(n), place)?;
     match head.kind {
         Kind::Dict => check_list(src, seen, keys, ObjectNo(n), &head, look),
@@ -301,6 +348,7 @@ pub(crate) fn check_keys<P: Framed>(
     let mut look = ListLook {
         pairs: OrderedPairs::new(),
         low: LowBytes::new(src.len()),
+        places: PlaceBlock::new(),
     };
     for n in 0..seen.bound {
         if may_be_wrong(keys, n, seen.heights[n as usize]) {

@@ -21,9 +21,9 @@ pub(crate) const BLOCK: usize = 32;
 pub fn numbers_of(alloc: Global, marks: &[bool]) -> Result<Vec<u32>, AllocError>
     ensures { IfOk result (λ numbers. numbers.items ≡ map from_bool marks.now) }
 {
-    let mut numbers = Vec::with_capacity(alloc, marks.len())?;
-    for marked in marks {
-        numbers.push(u32::from(*marked))?;
+    let mut numbers = vec![in alloc; 0u32; marks.len()]?;
+    for (i, marked) in marks.iter().enumerate() {
+        numbers[i] = u32::from(*marked);
     }
     Ok(numbers)
 }

@@ -10,8 +10,8 @@ ghost use Rattle.bplist_keys.specs.Places.{AreNext};
 use bplist_objects::{Framed, read_offsets_in};
 use bplist_octets::ReadFault;
 
-/// How many places are read at once at most.
-const BLOCK: usize = 256;
+/// How many places are read at once at most: as many as a byte counts, so that a number below the count is one of a place.
+const BLOCK: usize = u8::MAX as usize;
 
 /// The places of a few objects that follow one another, so that a pass over all objects reads the offset table in blocks and
 /// keeps none of it.
@@ -20,9 +20,8 @@ pub struct PlaceBlock {
     /// The number of the first object.
     first: u32,
     /// How many objects there are.
-    count: u32,
+    count: u8,
     places: [u64; BLOCK],
-    pub ghost within: { count ≤ 256 },
 }
 
 impl PlaceBlock {
@@ -45,14 +44,10 @@ impl PlaceBlock {
         ensures some { OnOk result (0 < self.new.count) }
         ensures places { HonestlyIn (P.means src.old) (λ f F. OnOk result (AreNext f F self.new.first self.new.count self.new.places)) }
     {
-        let count = (src.frame().objects - first).min(BLOCK as u32);
-        let mut places = [0; BLOCK];
-        read_offsets_in(src, first, &mut places[..count as usize])?;
-        *self = PlaceBlock {
-            first,
-            count,
-            places,
-        };
+        let count = (src.frame().objects - first).min(u8::MAX as u32) as u8;
+        read_offsets_in(src, first, &mut self.places[..count as usize])?;
+        self.first = first;
+        self.count = count;
         Ok(())
     }
 
@@ -65,7 +60,7 @@ impl PlaceBlock {
         ensures places { HonestlyIn (P.means src.old) (λ f F. AreNext f F self.old.first self.old.count self.old.places
             → OnOk result (AreNext f F self.new.first self.new.count self.new.places)) }
     {
-        if m < self.first || m - self.first >= self.count {
+        if m < self.first || m - self.first >= self.count as u32 {
             self.read(src, m)?;
         }
         Ok(self.places[(m - self.first) as usize])

@@ -1,6 +1,7 @@
 -- How the rules of marker and count are kept and broken.
-use Rattle.std.proofs.Common.{◌≡◌, ◌⊎◌, ℕ, ◌+◌, ◌-◌, ◌*◌, ◌<◌, ◌≤◌, List, slice_index, Some, sym, ap, ◌∙◌, arith, refl, inl, inr, subst}
+use Rattle.std.proofs.Common.{◌≡◌, ℕ, ◌+◌, ◌*◌, ◌<◌, ◌≤◌, true, List, slice_index, Some, arith, refl, inl, inr, subst}
 use Rattle.std.proofs.Math.Nat.{mul-le-mul_left}
+use Rattle.std.proofs.lemmas.Bool.{false≢true}
 use Rattle.bplist_objects.specs.declared.rule.Rule.TheVariants.{Count, Extent}
 use Rattle.bplist_objects.specs.declared.fault.Fault.{Fault}
 use Rattle.bplist_objects.specs.declared.frame.Frame.{Frame}
@@ -10,17 +11,18 @@ use Rattle.bplist_objects.specs.declared.kind.Kind.TheVariants as kinds
 use Rattle.bplist_objects.specs.Rules.{KeepsAll}
 use Rattle.bplist_objects.specs.Frame.{off}
 use Rattle.bplist_objects.specs.Heads.{unit}
-use Rattle.bplist_objects.specs.Announced.{Form, plain, counted, form_of, Marks, IsMarker, IsLong, IsLongOf, IsCountForm, HasLongCount, AnnouncesAs, HasHead}
+use Rattle.bplist_objects.specs.Safe.{MayCount}
+use Rattle.bplist_objects.specs.Announced.{Form, plain, counted, form_of, is_counted, Marks, IsMarker, IsLong, IsLongOf, IsCountForm, HasLongCount, AnnouncesAs, HasHead}
 use Rattle.bplist_objects.specs.ObjectRules.{KeepsByObject, IsObjectFault, shape_rules}
-use Rattle.bplist_objects.specs.Counts.{IsLongCountFault, IsCountFault}
+use Rattle.bplist_objects.specs.Counts.{IsLongCountFault}
 use Rattle.bplist_objects.specs.Answers.{GivesFault}
 use Rattle.bplist_objects.specs.declared.fault.ObjectFault.{ObjectFault}
 use Rattle.bplist_objects.specs.declared.fault.ObjectFault.TheVariants as errors
-use Rattle.bplist_objects.proofs.HeadLaws.{long-Announces, announced_marks}
+use Rattle.bplist_objects.proofs.HeadLaws.{long_marks, long-Announces, announced_marks}
 use Rattle.bplist_objects.proofs.BodyLaws.{HasHead-unique}
 
 -- a count behind a long marker is announced
-announced_behind : (f : List ℕ) (place : ℕ) (form : Form) (count body : ℕ) → IsLongOf form (slice_index f place) → HasLongCount f place count body → AnnouncesAs f place form count body
+pub announced_behind : (f : List ℕ) (place : ℕ) (form : Form) (count body : ℕ) → IsLongOf form (slice_index f place) → HasLongCount f place count body → AnnouncesAs f place form count body
 announced_behind f place (plain low high says) count body l h = absurd l
 announced_behind f place (counted high) count body l h = inr (l, h)
 
@@ -35,11 +37,10 @@ unit-pos r kinds.Set h = omega arith
 unit-pos r kinds.Dict h = omega arith
 unit-pos r _ h = omega arith
 
--- a body that has no room ends behind the table
-pub no_room : (table body count unit : ℕ) → body ≤ table → 1 ≤ unit → (table - body < count) ⊎ (table - body < count * unit) → table < body + count * unit
-no_room table body count unit h one (inl l) =
+-- where the count alone has no room the body has none
+pub no_room : (table body count unit : ℕ) → 1 ≤ unit → table < body + count → table < body + count * unit
+no_room table body count unit one l =
     let more : count * 1 ≤ count * unit = mul-le-mul_left count one in omega arith
-no_room table body count unit h one (inr l) = omega arith
 
 module _ (f : List ℕ) (F : Frame) (n : ℕ) (far : 8 ≤ off f F n) where
   abbrev o : ℕ
@@ -65,18 +66,29 @@ module _ (f : List ℕ) (F : Frame) (n : ℕ) (far : 8 ≤ off f F n) where
     shape_extent l fault rule object place = inr (far, inr (marker_kept, inr (count_kept, inl (rule, (object, (inr (head, h, l), place))))))
 
   -- what is wrong with a long count is the first that is wrong with the object
-  pub shape_long : (kind : Kind) → Marks (slice_index f o) kind → IsLongOf (form_of kind) (slice_index f o) → (fault : Fault) → IsLongCountFault f F.table o n fault → IsObjectFault f F n shape_rules fault
-  shape_long kind marks long fault (object, inl (rule, inside, wrong, place)) =
+  pub shape_long : 1 ≤ F.ref_size → (kind : Kind) → Marks (slice_index f o) kind → IsLongOf (form_of kind) (slice_index f o) → (fault : Fault) → IsLongCountFault f F.table o n fault → IsObjectFault f F n shape_rules fault
+  shape_long low kind marks long fault (object, inl (rule, inside, wrong, place)) =
       inr (far, inr ((kind, marks), inl (rule, (object, ((kind, long), inside, wrong, place)))))
-  shape_long kind marks long fault (object, inr (rule, place, inl late)) =
+  shape_long low kind marks long fault (object, inr (rule, place, inl late)) =
       inr (far, inr ((kind, marks), inr (λ m l. absurd (omega arith), inl (rule, (object, (inl ((kind, long), late), place))))))
-  shape_long kind marks long fault (object, inr (rule, place, inr (count, body, has, late))) =
+  shape_long low kind marks long fault (object, inr (rule, place, inr (count, body, has, late))) =
       let head : Head = record { kind = kind; count = count; body = body; «end» = body + count * unit F.ref_size kind } in
-      shape_extent head (announced_behind f o (form_of kind) count body long has, refl) (omega arith) fault rule object place
+      shape_extent head (announced_behind f o (form_of kind) count body long has, refl) (no_room F.table body count (unit F.ref_size kind) (unit-pos F.ref_size kind low) late) fault rule object place
+
+-- a kind whose count may stand behind the marker may have any
+pub counted_may : (kind : Kind) (count : ℕ) → is_counted (form_of kind) ≡ true → MayCount kind count
+counted_may kinds.Null count h = absurd (false≢true h)
+counted_may kinds.False count h = absurd (false≢true h)
+counted_may kinds.True count h = absurd (false≢true h)
+counted_may kinds.Int count h = absurd (false≢true h)
+counted_may kinds.Real count h = absurd (false≢true h)
+counted_may kinds.Date count h = absurd (false≢true h)
+counted_may kinds.Uid count h = absurd (false≢true h)
+counted_may _ count h = tt
 
 -- the same of what a call answers
-pub shape_count : (f : List ℕ) (F : Frame) (n place marker : ℕ) (kind : Kind) (e : ObjectFault) → place ≡ off f F n → 8 ≤ place → Marks marker kind → slice_index f place ≡ marker → GivesFault (IsCountFault f F.table place n kind marker) e → GivesFault (IsObjectFault f F n shape_rules) e
-shape_count f F n place marker kind (errors.Read _) at far marks same h = tt
-shape_count f F n place marker kind (errors.Fault fault) at far marks same (long, h) =
-    let here : marker ≡ slice_index f (off f F n) = sym same ∙ ap (slice_index f) at in
-    shape_long f F n (subst (λ p. 8 ≤ p) at far) kind (subst (λ m. Marks m kind) here marks) (subst (IsLongOf (form_of kind)) here long) fault (subst (λ p. IsLongCountFault f F.table p n fault) at h)
+pub shape_count : (f : List ℕ) (F : Frame) (n place : ℕ) (kind : Kind) (e : ObjectFault) → 1 ≤ F.ref_size → place ≡ off f F n → 8 ≤ place → IsLongOf (form_of kind) (slice_index f place) → GivesFault (IsLongCountFault f F.table place n) e → GivesFault (IsObjectFault f F n shape_rules) e
+shape_count f F n place kind (errors.Read _) low at far long h = tt
+shape_count f F n place kind (errors.Fault fault) low at far long h =
+    let here = subst (λ p. IsLongOf (form_of kind) (slice_index f p)) at long in
+    shape_long f F n (subst (λ p. 8 ≤ p) at far) low kind (long_marks (slice_index f (off f F n)) (form_of kind) here) here fault (subst (λ p. IsLongCountFault f F.table p n fault) at h)

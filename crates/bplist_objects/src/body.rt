@@ -25,12 +25,13 @@ use crate::scan::{first_high_in, first_not_below};
 use crate::table::offset_of;
 use bplist_octets::Source;
 
-/// Looks for a byte of 128 or more in a text of one byte a unit.
-fn check_ascii<S: Source>(src: &mut S, n: ObjectNo, head: &Head) -> Result<(), ObjectFault>
-    requires { head.now.body + head.now.count ≤ length (S.means src.old).octets }
+/// Looks for a byte of 128 or more in a text of one byte a unit. The head is handed on as a copy, so that the caller's stays in
+/// registers.
+fn check_ascii<S: Source>(src: &mut S, n: ObjectNo, head: Head) -> Result<(), ObjectFault>
+    requires { head.body + head.count ≤ length (S.means src.old).octets }
     ensures reads { OnlyReads (read_failed result) (S.means src.old) (S.means src.new) }
     ensures exact { Honestly (S.means src.old) (λ f. Gives
-        (λ _. AreBelow f head.now.body 1 head.now.count 128) (IsAsciiFault f n.0 head.now) result) }
+        (λ _. AreBelow f head.body 1 head.count 128) (IsAsciiFault f n.0 head) result) }
 {
     let _len = src.len();
     match first_high_in(src, head.body, head.count)? {
@@ -40,18 +41,13 @@ fn check_ascii<S: Source>(src: &mut S, n: ObjectNo, head: &Head) -> Result<(), O
 }
 
 /// Looks at the number of a UID that stands at `place`.
-fn check_uid<S: Source>(
-    src: &mut S,
-    n: ObjectNo,
-    place: u64,
-    head: &Head,
-) -> Result<(), ObjectFault>
-    requires some { 1 ≤ head.now.count }
-    requires few { head.now.count ≤ 16 }
-    requires within { head.now.body + head.now.count ≤ length (S.means src.old).octets }
+fn check_uid<S: Source>(src: &mut S, n: ObjectNo, place: u64, head: Head) -> Result<(), ObjectFault>
+    requires some { 1 ≤ head.count }
+    requires few { head.count ≤ 16 }
+    requires within { head.body + head.count ≤ length (S.means src.old).octets }
     ensures reads { OnlyReads (read_failed result) (S.means src.old) (S.means src.new) }
     ensures exact { Honestly (S.means src.old) (λ f. Gives
-        (λ _. num_at f head.now.body head.now.count ≤ 4294967295) (IsUidFault f n.0 place head.now) result) }
+        (λ _. num_at f head.body head.count ≤ 4294967295) (IsUidFault f n.0 place head) result) }
 {
     if wide_in(src, head.body, head.count as u8)? <= 4294967295 {
         Ok(())
@@ -104,8 +100,8 @@ pub fn check_body<S: Source>(
         result) }
 {
     match head.kind {
-        Kind::Ascii => check_ascii(src, n, head),
-        Kind::Uid => check_uid(src, n, place, head),
+        Kind::Ascii => check_ascii(src, n, *head),
+        Kind::Uid => check_uid(src, n, place, *head),
         Kind::Array | Kind::Set | Kind::Dict => check_refs(src, frame, n, head),
         _ => Ok(()),
     }

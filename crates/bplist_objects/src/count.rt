@@ -1,18 +1,19 @@
 //! The count of an object: in its marker, or as an integer object behind it.
 
-ghost use Rattle.std.specs.Prelude.{◌≡◌, ℕ, ◌+◌, ◌^◌, ◌≤◌, ◌<◌, List, false, IfOk, length, slice_index};
+ghost use Rattle.std.specs.Prelude.{◌≡◌, ℕ, ◌+◌, ◌^◌, ◌≤◌, ◌<◌, List, false, true, IfOk, IfSome, MatchOption, is_err, length, slice_index};
 ghost use Rattle.bplist_octets.specs.Meaning.{OnlyReads, Honestly};
 ghost use Rattle.bplist_objects.specs.Answers.{Gives, read_failed};
-ghost use Rattle.bplist_objects.specs.Announced.{Marks, form_of, is_counted, HasLongCount, Announces};
+ghost use Rattle.bplist_objects.specs.Announced.{Marks, form_of, is_counted, IsLongOf, HasLongCount, Announces};
+ghost use Rattle.bplist_objects.specs.Numbers.{num_at};
 ghost use Rattle.bplist_objects.specs.Safe.{MayCount};
-ghost use Rattle.bplist_objects.specs.Counts.{IsLongCountFault, IsCountFault};
+ghost use Rattle.bplist_objects.specs.Counts.{IsLongCountFault};
 
 use crate::fault::{ObjectFault, broken};
 use crate::frame::ObjectNo;
 use crate::kind::Kind;
-use crate::numbers::{octet_in, wide_in};
+use crate::numbers::{number_in, octet_in, wide_in};
 use crate::rule::Rule;
-use bplist_octets::Source;
+use bplist_octets::{ReadFault, Source};
 
 /// A small power of two.
 fn power_of_2(w: u8) -> u8
@@ -30,13 +31,29 @@ fn power_of_2(w: u8) -> u8
     }
 }
 
-/// The count that stands behind the marker at `place`, and the first place after it.
-fn long_count<S: Source>(
+/// The number that the `size` bytes from `place` on spell. Most counts have one byte, which takes no buffer.
+#[inline(always)]
+fn spelled_count<S: Source>(src: &mut S, place: u64, size: u8) -> Result<u128, ReadFault>
+    requires low { 1 ≤ size }
+    requires high { size ≤ 16 }
+    requires within { place + size ≤ length (S.means src.old).octets }
+    ensures reads { OnlyReads (is_err result) (S.means src.old) (S.means src.new) }
+    ensures value { IfOk result (λ x. Honestly (S.means src.old) (λ f. x ≡ num_at f place size)) }
+{
+    match size {
+        1 => Ok(number_in(src, place, 1)? as u128),
+        _ => wide_in(src, place, size),
+    }
+}
+
+/// The count that stands behind the marker at `place`, and the first place after it, where the table is not nearer than
+/// the count says, as each of it takes a byte at least.
+pub(crate) fn long_count<S: Source>(
     src: &mut S,
     table: u64,
     place: u64,
     n: ObjectNo,
-) -> Result<(u128, u64), ObjectFault>
+) -> Result<(u64, u64), ObjectFault>
     requires inside { place < table }
     requires within { table ≤ length (S.means src.old).octets }
     ensures reads { OnlyReads (read_failed result) (S.means src.old) (S.means src.new) }
@@ -55,8 +72,12 @@ fn long_count<S: Source>(
     if table - place - 2 < size as u64 {
         return Err(broken(Rule::Extent, n, place));
     }
-    let count = wide_in(src, place + 2, size)?;
-    Ok((count, place + 2 + size as u64))
+    let count = spelled_count(src, place + 2, size)?;
+    let body = place + 2 + size as u64;
+    if count > (table - body) as u128 {
+        return Err(broken(Rule::Extent, n, place));
+    }
+    Ok((count as u64, body))
 }
 
 /// The count of an object of a kind whose marker says all.
@@ -66,6 +87,7 @@ fn fixed_count(kind: Kind, marker: u8) -> u8
     requires fixed { is_counted (form_of kind) ≡ false }
     ensures announces { (f : List ℕ) (place : ℕ) → slice_index f place ≡ marker → Announces f place kind result (place + 1) }
     ensures may { MayCount kind result }
+    ensures few { result ≤ 16 }
 {
     match kind {
         Kind::Int => power_of_2(marker - 0x10),
@@ -76,34 +98,21 @@ fn fixed_count(kind: Kind, marker: u8) -> u8
     }
 }
 
-/// The count of an object, and the first place after marker and count.
+/// The count that a marker of this kind holds, where it does not say that the count stands behind it.
 #[inline(always)]
-pub(crate) fn count_of<S: Source>(
-    src: &mut S,
-    table: u64,
-    place: u64,
-    n: ObjectNo,
-    kind: Kind,
-    marker: u8,
-) -> Result<(u128, u64), ObjectFault>
+pub(crate) fn short_count(kind: Kind, marker: u8) -> Option<u8>
     requires marks { Marks marker kind }
-    requires inside { place < table }
-    requires within { table ≤ length (S.means src.old).octets }
-    ensures reads { OnlyReads (read_failed result) (S.means src.old) (S.means src.new) }
-    ensures exact { Honestly (S.means src.old) (λ f. slice_index f place ≡ marker
-        → Gives (λ found. Announces f place kind found.0 found.1) (IsCountFault f table place n.0 kind marker) result) }
-    ensures safe { IfOk result (λ found. (place < found.1) × (found.1 ≤ table)) }
-    ensures may { IfOk result (λ found. MayCount kind found.0) }
+    ensures found { MatchOption result
+        (IsLongOf (form_of kind) marker × (is_counted (form_of kind) ≡ true))
+        (λ count. (f : List ℕ) (place : ℕ) → slice_index f place ≡ marker → Announces f place kind count (place + 1)) }
+    ensures may { IfSome result (MayCount kind) }
+    ensures few { IfSome result (λ count. count ≤ 16) }
 {
     match kind {
         Kind::Bytes | Kind::Ascii | Kind::Wide | Kind::Array | Kind::Set | Kind::Dict => {
             let low = marker % 16;
-            if low == 15 {
-                long_count(src, table, place, n)
-            } else {
-                Ok((low as u128, place + 1))
-            }
+            if low == 15 { None } else { Some(low) }
         }
-        _ => Ok((fixed_count(kind, marker) as u128, place + 1)),
+        _ => Some(fixed_count(kind, marker)),
     }
 }

@@ -1,18 +1,18 @@
 //! The heads of objects: what marker and count say.
 
-ghost use Rattle.std.specs.Prelude.{◌≡◌, ◌<◌, IfOk, length};
+ghost use Rattle.std.specs.Prelude.{◌≡◌, ◌<◌, ◌≤◌, true, IfOk, length, slice_index};
 ghost use Rattle.bplist_octets.specs.Meaning.{OnlyReads};
 ghost use Rattle.bplist_objects.specs.Framed.{HonestlyBy};
 ghost use Rattle.bplist_objects.specs.Frame.{off};
 ghost use Rattle.bplist_objects.specs.Safe.{IsSafe, IsSafeHead};
 ghost use Rattle.bplist_objects.specs.Answers.{Gives, Never, read_failed};
 ghost use Rattle.bplist_objects.specs.Rules.{KeepsAll};
-ghost use Rattle.bplist_objects.specs.Announced.{HasHead};
+ghost use Rattle.bplist_objects.specs.Announced.{form_of, is_counted, IsLongOf, HasHead};
 ghost use Rattle.bplist_objects.specs.Heads.{HasShape};
 ghost use Rattle.bplist_objects.specs.declared.head.Head.{Head as head};
 ghost use Rattle.bplist_objects.specs.ObjectRules.{KeepsByObject, IsObjectFault, shape_rules};
 
-use crate::count::count_of;
+use crate::count::{long_count, short_count};
 use crate::fault::{ObjectFault, broken};
 use crate::frame::{Frame, ObjectNo};
 use crate::kind::{Kind, kind_of, unit_of};
@@ -33,6 +33,39 @@ pub struct Head {
     pub body: u64,
     /// The place after the object's last byte, from the file's first byte.
     pub end: u64,
+}
+
+/// The head of object `n`, whose place is known, where its marker is one of this kind and says that the count stands behind it.
+fn long_shape<S: Source>(
+    src: &mut S,
+    frame: &Frame,
+    n: ObjectNo,
+    place: u64,
+    kind: Kind,
+) -> Result<Head, ObjectFault>
+    requires safe { IsSafe (length (S.means src.old).octets) frame.now }
+    requires counted { is_counted (form_of kind) ≡ true }
+    requires low { 8 ≤ place }
+    requires inside { place < frame.now.table }
+    ensures reads { OnlyReads (read_failed result) (S.means src.old) (S.means src.new) }
+    ensures rules { HonestlyBy (S.means src.old) frame.now (λ f F. place ≡ off f F n.0
+        → IsLongOf (form_of kind) (slice_index f place)
+        → Gives (λ head. HasHead f F n.0 head × KeepsAll (KeepsByObject f F n.0) shape_rules)
+        (IsObjectFault f F n.0 shape_rules) result) }
+    ensures safe { IfOk result (IsSafeHead frame.now) }
+    ensures behind { IfOk result (λ head. place < head.body) }
+{
+    let (count, body) = long_count(src, frame.table, place, n)?;
+    let unit = unit_of(kind, frame.ref_size);
+    if count as u128 * unit as u128 > (frame.table - body) as u128 {
+        return Err(broken(Rule::Extent, n, place));
+    }
+    Ok(Head {
+        kind,
+        count,
+        body,
+        end: body + count * unit as u64,
+    })
 }
 
 /// The head of object `n`, whose place is known, by the rules of marker and count.
@@ -62,19 +95,20 @@ fn shape_by_rules<S: Source>(
     let Some(kind) = kind_of(marker) else {
         return Err(broken(Rule::Marker, n, place));
     };
-    let (count, body) = count_of(src, frame.table, place, n, kind, marker)?;
-    let unit = unit_of(kind, frame.ref_size);
-    let room = (frame.table - body) as u128;
-    // A count of up to 16 bytes is compared before it is multiplied, so that the product is exact.
-    if count > room || count * unit as u128 > room {
+    // Most counts stand in the marker, and the few numbers that they are need no wide product.
+    let Some(count) = short_count(kind, marker) else {
+        return long_shape(src, frame, n, place, kind);
+    };
+    let body = place + 1;
+    let size = count as u64 * unit_of(kind, frame.ref_size) as u64;
+    if size > frame.table - body {
         return Err(broken(Rule::Extent, n, place));
     }
-    let count = count as u64;
     Ok(Head {
         kind,
-        count,
+        count: count as u64,
         body,
-        end: body + count * unit as u64,
+        end: body + size,
     })
 }
 

@@ -71,7 +71,8 @@ pub(crate) fn part_of(l: &[u8], place: usize, n: usize) -> &[u8]
 }
 
 /// The numbers that a block of bytes spells, `size` bytes each.
-fn numbers_of_block(block: &[u8], size: usize, into: &mut [u64])
+#[inline(always)]
+fn spell_block(block: &[u8], size: usize, into: &mut [u64])
     requires low { 1 ≤ size }
     requires high { size ≤ 8 }
     requires room { length block.now ≡ length into.old * size }
@@ -79,6 +80,21 @@ fn numbers_of_block(block: &[u8], size: usize, into: &mut [u64])
 {
     for k in 0..into.len() {
         into[k] = sized(part_of(block, k * size, size));
+    }
+}
+
+/// The same, where each usual size has a loop of its own, in which the size is known.
+fn numbers_of_block(block: &[u8], size: usize, into: &mut [u64])
+    requires low { 1 ≤ size }
+    requires high { size ≤ 8 }
+    requires room { length block.now ≡ length into.old * size }
+    ensures numbers { AreNumbers block.now 0 size into.new }
+{
+    match size {
+        1 => spell_block(block, 1, into),
+        2 => spell_block(block, 2, into),
+        4 => spell_block(block, 4, into),
+        _ => spell_block(block, size, into),
     }
 }
 

@@ -16,6 +16,7 @@ pub loop-n-init : goal.loop-n-init
 loop-n-init g c = record {
   reads = refl;
   known = λ honest. (c.new.ensures _ _, c.new-2.ensures _);
+  placed = λ honest. c.new-3.ensures (g.P.Source.means c.args.src.now).octets (frame_in (g.P.Source.means c.args.src.now));
   exact = λ honest seen k low. absurd (omega (arith, low));
 }
 
@@ -29,7 +30,7 @@ returns-in_err-check_object-clause-exact g c = λ honest seen.
     let within : n < F.objects = omega (arith, c.loop-n-test.true, c.args.seen.now.within, c.requires.all) in
     let here : IsVouchedBy heights n = c.may_be_wrong.ensures.vouched c.if-may_be_wrong.true in
     let known = v.known honest in
-    let given = (rw v.reads at c.in_err-check_object.ensures.exact) honest known.0 known.1 (seen n c.loop-n-test.true here).own
+    let given = (rw v.reads at c.in_err-check_object.ensures.exact) honest known.0 known.1 (v.placed honest) (seen n c.loop-n-test.true here).own
     (λ head has dict whole. sound_keys f F heights (subst (AreSeen f F heights) whole seen) n within here head has dict) in
     let p = err_from_is_err_and c.from_residual.result c.from_residual.ensures.1 in
     rw (p.1, p.2) (given_weaker _ _ c.in_err-check_object.field-0.0 (λ fault h. record {
@@ -52,11 +53,12 @@ loop-n-preserved g c =
       | then-may_be_wrong+in_ok-check_object w ↦ record {
         reads = rw w.src-is (w.in_ok-check_object.ensures.reads ∙ v.reads);
         known = λ honest. let known = v.known honest in rw w.look-is ((rw v.reads at w.in_ok-check_object.ensures.known) honest known.0 known.1);
+        placed = λ honest. rw w.look-is ((rw v.reads at w.in_ok-check_object.ensures.placed) honest (v.placed honest));
         exact = λ honest seen m low vouched. elim (cases_eq m n) [
           | inl e ↦
               let here = subst (IsVouchedBy heights) e vouched in
               let known = v.known honest in
-              let good = (rw v.reads at w.in_ok-check_object.ensures.exact) honest known.0 known.1 (seen n c.loop-n-test.true here).own
+              let good = (rw v.reads at w.in_ok-check_object.ensures.exact) honest known.0 known.1 (v.placed honest) (seen n c.loop-n-test.true here).own
               (λ head has dict whole. sound_keys f F heights (subst (AreSeen f F heights) whole seen) n within here head has dict) in
               subst (HasGoodKeys f F (Some c.args.keys.now)) (sym e) good
           | inr d ↦ v.exact honest seen m (omega (arith, low, d)) vouched
@@ -65,6 +67,7 @@ loop-n-preserved g c =
       | else-may_be_wrong w ↦ record {
         reads = rw w.src-is v.reads;
         known = λ honest. rw w.look-is (v.known honest);
+        placed = λ honest. rw w.look-is (v.placed honest);
         exact = λ honest seen m low vouched. elim (cases_eq m n) [
           | inl e ↦
               let here = subst (IsVouchedBy heights) e vouched in

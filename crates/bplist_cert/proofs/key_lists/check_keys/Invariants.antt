@@ -3,7 +3,7 @@ use Rattle.bplist_objects.specs.Framed.{HonestlyIn}
 use Rattle.bplist_cert.specs.Valid.{IsVouchedBy}
 use Rattle.bplist_cert.specs.Looks.{AreSeen}
 use Rattle.bplist_cert.specs.LowBytes.{AreLow}
-use Rattle.bplist_cert.specs.KeyPairs.{AreKnown}
+use Rattle.bplist_cert.specs.KeyPairs.{AreKnown, IsPlaced}
 use Rattle.bplist_cert.specs.KeyClasses.{HasGoodKeys}
 use Rattle.bplist_cert.proofs.key_lists.check_keys.Given as goal
 
@@ -14,6 +14,7 @@ invariant-loop-n g l =
     record {
       reads : g.P.Source.means l.src ≡ m;
       known : HonestlyIn m (λ f F. AreKnown f F l.look.pairs × AreLow f l.look.low.rows);
+      placed : HonestlyIn m (λ f F. IsPlaced f F l.look.places);
       exact : HonestlyIn m (λ f F. AreSeen f F l.seen.heights.now l.seen.bound
           → (k : ℕ) → k < l.n → IsVouchedBy l.seen.heights.now k → HasGoodKeys f F (Some l.keys) k);
     }

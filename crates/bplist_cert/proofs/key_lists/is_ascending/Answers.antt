@@ -21,6 +21,7 @@ loop-position-preserved g c =
     let v = c.loop-position.invariant in
     let inside = rw (c.in-Some.is, v.same) at c.in_ok-m.ensures.inside in
     let key = rw c.in-Some-2.is at c.in_ok-key.ensures.key in
+    let few = c.in_ok-read_few.ensures.few in
     let is = rw (c.in-Some.is, v.same) at c.in_ok-m.ensures.exact in
     let exact = rw (c.in-Some-2.is, c.in_ok-m.ensures.reads, v.same) at c.in_ok-key.ensures.exact in
     record {
@@ -28,10 +29,10 @@ loop-position-preserved g c =
       inside = (subst (λ m. m < F.objects) (sym key.0) inside.1, rw (c.in_ok-m.ensures.reads, v.same) at key.1);
       pairs = λ honest pairs. (exact honest (v.pairs honest pairs) (v.read honest pairs)).0;
       ascend = λ honest pairs.
-          ascend_more f F c.args.head.now c.args.list.now c.loop-position.position-index c.loop-position.before c.in-Some.m (v.ascend honest pairs) inside.0 (is honest) (v.last honest)
+          ascend_more f F c.args.head.now c.args.list.now c.loop-position.position-index c.loop-position.before c.in-Some.m (v.ascend honest pairs) inside.0 (is honest (few honest)) (v.last honest)
           (exact honest (v.pairs honest pairs) (v.read honest pairs)).1.1;
       read = λ honest pairs. (exact honest (v.pairs honest pairs) (v.read honest pairs)).1.0;
-      last = λ honest. (c.loop-position.position-index, omega arith, key.0 ∙ is honest);
+      last = λ honest. (c.loop-position.position-index, omega arith, key.0 ∙ is honest (few honest));
     }
 
 pub returns-clause-exact : goal.returns-clause-exact
