@@ -1,5 +1,6 @@
 -- What printing answers, by what the walk and the sink answer.
-use Rattle.std.proofs.Common.{◌≡◌, inl, inr, ◌≤◌, ℕ, List, [], ◌++◌, arith, length, refl, ap, subst, Option, Some, None, append-nil}
+use Rattle.std.proofs.Common.{◌≡◌, inl, inr, ◌<◌, ◌≤◌, ℕ, List, [], ◌++◌, arith, length, take, refl, ap, subst, Option, Some, None, Err, append-nil}
+use Rattle.std.specs.Io.KnownBytes.{Appends}
 use Rattle.std.proofs.KnownBytes.{Keeps-refl}
 use Rattle.bplist_objects.specs.declared.frame.Frame.{Frame}
 use Rattle.bplist_objects.specs.Value.{Value}
@@ -8,11 +9,11 @@ use Rattle.bplist_ascii.specs.declared.print_fault.PrintFault.{PrintFault}
 use Rattle.bplist_ascii.specs.declared.print_fault.PrintFault.TheVariants.{NoAsciiForm, TooLong, Write, Read, Changed, Memory}
 use Rattle.bplist_ascii.specs.Sending.{Sending, SendsSome, Takes, TakesPart, IsOut, IsCut, AtMost}
 use Rattle.bplist_ascii.specs.Writing.{IsReadFault, AddFails, TakesWithin}
-use Rattle.bplist_ascii.specs.Printed.{FitsLimit, into_sink, HasText, PrintFails}
+use Rattle.bplist_ascii.specs.Printed.{FitsLimit, IsPut, IsPrinted, HasText}
 use Rattle.bplist_ascii.proofs.SinkSteps.{out_start, out_takes, out_part, out_long}
 
 -- a failed read before anything is put in, of a value without a text
-pub read_prints : (now : Option (List ℕ)) (s : Sending) (f : List ℕ) (F : Frame) (n : ℕ) (v : Value) (limit : ℕ) (e : PrintFault) → value_text v ≡ None → IsReadFault e → PrintFails (into_sink now now s s) f F n v limit e
+pub read_prints : (now : Option (List ℕ)) (s : Sending) (f : List ℕ) (F : Frame) (n : ℕ) (v : Value) (limit : ℕ) (e : PrintFault) → value_text v ≡ None → IsReadFault e → IsPut now now s s f F n v limit (Err e)
 read_prints now s f F n v limit (Read fault) none h = inl (none, (Keeps-refl now, refl))
 read_prints now s f F n v limit (Write sent) none h = absurd h
 read_prints now s f F n v limit Memory none h = absurd h
@@ -20,14 +21,27 @@ read_prints now s f F n v limit Changed none h = absurd h
 read_prints now s f F n v limit TooLong none h = absurd h
 read_prints now s f F n v limit (NoAsciiForm m) none h = absurd h
 
+-- what was not put into a new sink was not written
+pub put_failed : (old new : Option (List ℕ)) (s t : Sending) (f : List ℕ) (F : Frame) (n : ℕ) (v : Value) (limit : ℕ) (e : PrintFault) → s.sent ≡ 0 → s.held ≡ [] → IsPut old new s t f F n v limit (Err e) → IsPrinted old new f F n v limit (Err e)
+put_failed old new s t f F n v limit (NoAsciiForm m) sent held (none, formless, (kept, _)) = (none, formless, kept)
+put_failed old new s t f F n v limit TooLong sent held (text, is, long, (kept, _)) = (text, is, long, kept)
+put_failed old new s t f F n v limit (Write k) sent held (text, is, fits, (gone, fewer, counted, out)) =
+    let all : s.held ++ text ≡ text = ap (λ h. h ++ text) held in
+    let same : gone ≡ k = omega (arith, counted, sent) in
+    (text, is, fits, (subst (λ x. k < length x) all (subst (λ j. j < length (s.held ++ text)) same fewer), subst (λ x. Appends old new (take k x)) all (subst (λ j. Appends old new (take j (s.held ++ text))) same out)))
+put_failed old new s t f F n v limit (Read fault) sent held (inl (none, (kept, _))) = inl (none, kept)
+put_failed old new s t f F n v limit (Read fault) sent held (inr (text, is, fits, some)) = inr (text, is, fits, subst (λ h. SendsSome old new (h ++ text)) held some)
+put_failed old new s t f F n v limit Changed sent held h = absurd h
+put_failed old new s t f F n v limit Memory sent held (text, is, fits, some) = (text, is, fits, subst (λ h. SendsSome old new (h ++ text)) held some)
+
 pub walk_fails : (old new : Option (List ℕ)) (before after : Sending) (f : List ℕ) (F : Frame) (n : ℕ) (v : Value) (limit : ℕ) (e : PrintFault) (t : List ℕ) → value_text v ≡ Some t → plain v ≡ t → FitsLimit limit t
-    → (length (plain v) ≤ limit → AddFails old new before (plain v) e) → PrintFails (into_sink old new before after) f F n v limit e
+    → (length (plain v) ≤ limit → AddFails old new before (plain v) e) → IsPut old new before after f F n v limit (Err e)
 walk_fails old new before after f F n v limit e t some is fits h = go e (h (let long = ap length is in let low = fits.0 in omega (arith, long, low)))
   where
     begins : SendsSome old new (before.held ++ plain v) → HasText v limit (λ t. SendsSome old new (before.held ++ t))
     begins p = (t, some, fits, subst (λ l. SendsSome old new (before.held ++ l)) is p)
 
-    go : (e : PrintFault) → AddFails old new before (plain v) e → PrintFails (into_sink old new before after) f F n v limit e
+    go : (e : PrintFault) → AddFails old new before (plain v) e → IsPut old new before after f F n v limit (Err e)
     go (Write sent) p = (t, some, fits, subst (λ l. TakesPart old new before l sent) is p)
     go (Read fault) p = inr (begins p)
     go Memory p = begins p

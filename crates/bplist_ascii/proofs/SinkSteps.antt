@@ -25,48 +25,46 @@ pub takes_then_part : (old mid new : Option (List ℕ)) (s t : Sending) (xs ys :
 takes_then_part old mid new s t xs ys k p q =
     let all : s.held ++ (xs ++ ys) ≡ p.gone ++ (t.held ++ ys) = sym (append_assoc s.held xs ys) ∙ ap (λ l. l ++ ys) p.all ∙ append_assoc p.gone t.held ys in
     let a = p.counted in
-    let b = q.counted in
-    let fewer = q.fewer in
-    let long = ap length all in
-    record {
-      gone = length p.gone + q.gone;
-      fewer = omega (arith, long, fewer, length-append p.gone (t.held ++ ys));
-      counted = omega (arith, a, b);
-      appended = subst (Appends old new) (sym (ap (take (length p.gone + q.gone)) all ∙ take-append-add p.gone (t.held ++ ys) q.gone)) (Appends-trans old mid new p.gone (take q.gone (t.held ++ ys)) p.appended q.appended);
-    }
+    let b = q.2 in
+    let fewer = q.1 in
+    let long = ap length all in (
+      length p.gone + q.0,
+      omega (arith, long, fewer, length-append p.gone (t.held ++ ys)),
+      omega (arith, a, b),
+      subst (Appends old new) (sym (ap (take (length p.gone + q.0)) all ∙ take-append-add p.gone (t.held ++ ys) q.0)) (Appends-trans old mid new p.gone (take q.0 (t.held ++ ys)) p.appended q.3),
+    )
 
 -- of what was put in a first part went out
 pub some_of_takes : {old new : Option (List ℕ)} {s t : Sending} {xs : List ℕ} (ys : List ℕ) → Takes old new s t xs → SendsSome old new (s.held ++ (xs ++ ys))
-some_of_takes {s = s} {t = t} {xs = xs} ys p = record {
-  gone = p.gone;
-  rest = t.held ++ ys;
-  appended = p.appended;
-  all = sym (append_assoc s.held xs ys) ∙ ap (λ l. l ++ ys) p.all ∙ append_assoc p.gone t.held ys;
-}
+some_of_takes {s = s} {t = t} {xs = xs} ys p = (
+  p.gone,
+  t.held ++ ys,
+  p.appended,
+  sym (append_assoc s.held xs ys) ∙ ap (λ l. l ++ ys) p.all ∙ append_assoc p.gone t.held ys,
+)
 
 -- what was put in first went out with a first part of more, and others would have followed
 pub takes_then_some : (old mid new : Option (List ℕ)) {s t : Sending} {xs : List ℕ} (ys zs : List ℕ) → Takes old mid s t xs → SendsSome mid new (t.held ++ ys)
     → SendsSome old new (s.held ++ (xs ++ (ys ++ zs)))
-takes_then_some old mid new {s} {t} {xs} ys zs p q = record {
-  gone = p.gone ++ q.gone;
-  rest = q.rest ++ zs;
-  appended = Appends-trans old mid new p.gone q.gone p.appended q.appended;
-  all = sym (append_assoc s.held xs (ys ++ zs)) ∙ ap (λ l. l ++ (ys ++ zs)) p.all ∙ append_assoc p.gone t.held (ys ++ zs) ∙ ap (λ l. p.gone ++ l) (sym (append_assoc t.held ys zs) ∙ ap (λ l. l ++ zs) q.all ∙ append_assoc q.gone q.rest zs)
-      ∙ sym (append_assoc p.gone q.gone (q.rest ++ zs));
-}
+takes_then_some old mid new {s} {t} {xs} ys zs p q = (
+  p.gone ++ q.0,
+  q.1 ++ zs,
+  Appends-trans old mid new p.gone q.0 p.appended q.2,
+  sym (append_assoc s.held xs (ys ++ zs)) ∙ ap (λ l. l ++ (ys ++ zs)) p.all ∙ append_assoc p.gone t.held (ys ++ zs) ∙ ap (λ l. p.gone ++ l) (sym (append_assoc t.held ys zs) ∙ ap (λ l. l ++ zs) q.3 ∙ append_assoc q.0 q.1 zs)
+      ∙ sym (append_assoc p.gone q.0 (q.1 ++ zs)),
+)
 
 -- what is cut is cut in a longer text
 pub part_of_more : (old new : Option (List ℕ)) (s : Sending) (xs ys : List ℕ) (k : ℕ) → TakesPart old new s xs k → TakesPart old new s (xs ++ ys) k
 part_of_more old new s xs ys k p =
     let all : s.held ++ (xs ++ ys) ≡ (s.held ++ xs) ++ ys = sym (append_assoc s.held xs ys) in
-    let fewer = p.fewer in
-    let long = ap length all in
-    record {
-      gone = p.gone;
-      fewer = omega (arith, long, fewer, length-append (s.held ++ xs) ys);
-      counted = p.counted;
-      appended = subst (Appends old new) (sym (ap (take p.gone) all ∙ take-append-le p.gone (s.held ++ xs) ys (omega (arith, fewer)))) p.appended;
-    }
+    let fewer = p.1 in
+    let long = ap length all in (
+      p.0,
+      omega (arith, long, fewer, length-append (s.held ++ xs) ys),
+      p.2,
+      subst (Appends old new) (sym (ap (take p.0) all ∙ take-append-le p.0 (s.held ++ xs) ys (omega (arith, fewer)))) p.3,
+    )
 
 -- before anything is put in
 pub out_start : (start : Option (List ℕ)) (s : Sending) → s.sent ≡ 0 → s.held ≡ [] → IsOut start start s []
@@ -86,12 +84,12 @@ pub out_part : (start old new : Option (List ℕ)) (s : Sending) (written bytes 
 out_part start old new s written bytes k o p =
     let all : written ++ bytes ≡ o.gone ++ (s.held ++ bytes) = ap (λ l. l ++ bytes) (sym o.all) ∙ append_assoc o.gone s.held bytes in
     let a = o.counted in
-    let b = p.counted in
-    let fewer = p.fewer in
+    let b = p.2 in
+    let fewer = p.1 in
     let long = ap length all in
-    let is : k ≡ length o.gone + p.gone = omega (arith, a, b) in (
+    let is : k ≡ length o.gone + p.0 = omega (arith, a, b) in (
       omega (arith, is, fewer, long, length-append o.gone (s.held ++ bytes)),
-      subst (Appends start new) (sym (ap (take k) all ∙ ap (λ i. take i (o.gone ++ (s.held ++ bytes))) is ∙ take-append-add o.gone (s.held ++ bytes) p.gone)) (Appends-trans start old new o.gone (take p.gone (s.held ++ bytes)) o.appended p.appended),
+      subst (Appends start new) (sym (ap (take k) all ∙ ap (λ i. take i (o.gone ++ (s.held ++ bytes))) is ∙ take-append-add o.gone (s.held ++ bytes) p.0)) (Appends-trans start old new o.gone (take p.0 (s.held ++ bytes)) o.appended p.3),
     )
 
 -- what is cut in a text is cut in a longer one

@@ -1,6 +1,6 @@
 -- What is put into a sink, piece by piece.
 use Rattle.std.proofs.Common.{IsTrue, take-append-drop, slice_index, ◌&&◌, ◌≡◌, ℕ, suc, ◌+◌, ◌<◌, ◌≤◌, Bool, true, false, List, [], ◌∷◌, ◌++◌, arith, length, take, drop, refl, sym, ap, ◌∙◌, subst, append_assoc, append-nil, Result, Ok, Err}
-use Rattle.std.specs.Prelude.{Option, OnErr}
+use Rattle.std.specs.Prelude.{Option, OnErr, ⊤}
 use Rattle.std.specs.List.{flat_map, list_all}
 use Rattle.std.proofs.KnownBytes.{Appends-trans}
 use Rattle.std.proofs.lemmas.List.{length-append}
@@ -15,8 +15,8 @@ use Rattle.bplist_ascii.specs.declared.style.Style.TheVariants.{Bare, Quoted}
 use Rattle.bplist_octets.specs.Meaning.{Meaning}
 use Rattle.bplist_cursor.specs.declared.faults.Unread.{Unread}
 use Rattle.bplist_cursor.specs.declared.faults.Unread.TheVariants as unread
-use Rattle.bplist_cursor.specs.Causes.{IsUnread}
-use Rattle.bplist_ascii.specs.Writing.{IsReadFault, print_fault_of, styled, fits, is_bare_text, Adds, AddsText, AddFails, StaysWithin}
+use Rattle.bplist_cursor.specs.Causes.{GivesRead}
+use Rattle.bplist_ascii.specs.Writing.{IsReadFault, styled, fits, is_bare_text, Adds, AddsText, AddFails, StaysWithin}
 use Rattle.bplist_ascii.specs.declared.print_fault.PrintFault.{PrintFault}
 use Rattle.bplist_ascii.specs.declared.print_fault.PrintFault.TheVariants.{NoAsciiForm, TooLong, Write, Read, Changed, Memory}
 use Rattle.bplist_cursor.proofs.StepObjects.{not_true}
@@ -175,8 +175,13 @@ text_under e p = record { bytes = p.bytes; adds = p.adds; is = λ h. p.is h ∙ 
 pub fails_under : (old new : Option (List ℕ)) (s : Sending) (room : ℕ) (e : PrintFault) {xs ys : List ℕ} → xs ≡ ys → (length xs ≤ room → AddFails old new s xs e) → length ys ≤ room → AddFails old new s ys e
 fails_under old new s room e is h = subst (λ l. length l ≤ room → AddFails old new s l e) is h
 
+-- the same cause as an answer of the printer
+abbrev print_fault_of : Unread → PrintFault
+print_fault_of (unread.Read fault) = Read fault
+print_fault_of unread.Changed = Changed
+
 -- a failed read is one to the printer
-pub read_unread : (e : Unread) → IsUnread e → IsReadFault (print_fault_of e)
+pub read_unread : (e : Unread) → GivesRead {X = ⊤} (λ _. ⊤) (Err e) → IsReadFault (print_fault_of e)
 read_unread (unread.Read x) h = tt
 read_unread unread.Changed h = h
 

@@ -5,7 +5,7 @@ use Rattle.bplist_objects.specs.declared.frame.Frame.{Frame}
 use Rattle.bplist_objects.specs.Value.{Value}
 use Rattle.bplist_cursor.specs.Formless.{IsFormless}
 use Rattle.bplist_cursor.specs.OldStyle.{value_text}
-use Rattle.bplist_ascii.specs.Sending.{Sending, SendsSome, Takes, TakesPart, IsCut}
+use Rattle.bplist_ascii.specs.Sending.{Sending, SendsPart, SendsSome, Takes, IsCut}
 use Rattle.bplist_ascii.specs.declared.print_fault.PrintFault.{PrintFault}
 use Rattle.bplist_ascii.specs.declared.print_fault.PrintFault.TheVariants.{NoAsciiForm, TooLong, Write, Read, Changed, Memory}
 
@@ -17,45 +17,29 @@ FitsLimit limit text = (length text ≤ limit) × (length text < 184467440737095
 abbrev pub IsTooLong : ℕ → List ℕ → Type 0
 IsTooLong limit text = (limit < length text) ⊎ (18446744073709551615 ≤ length text)
 
--- what can become of a text: nothing of it is put in, or all, or a first part, or so many bytes before a write failed
-pub record Outcomes : Type 1 where
-  pub nothing : Type 0
-  pub all : List ℕ → Type 0
-  pub some : List ℕ → Type 0
-  pub cut : List ℕ → ℕ → Type 0
-
--- of a text that is put into a sink
-abbrev pub into_sink : Option (List ℕ) → Option (List ℕ) → Sending → Sending → Outcomes
-into_sink old new before after = record {
-  nothing = Keeps old new × (after ≡ before);
-  all = Takes old new before after;
-  some = λ text. SendsSome old new (before.held ++ text);
-  cut = TakesPart old new before;
-}
-
--- of a text that is written
-abbrev pub to_writer : Option (List ℕ) → Option (List ℕ) → Outcomes
-to_writer old new = record { nothing = Keeps old new; all = Appends old new; some = SendsSome old new; cut = IsCut old new }
-
 -- the value has a text that is not too long, and that became of it
 abbrev pub HasText : Value → ℕ → (List ℕ → Type 0) → Type 0
 HasText v limit P = (t : List ℕ) × (value_text v ≡ Some t) × FitsLimit limit t × P t
 
-module _ (outcomes : Outcomes) (f : List ℕ) (F : Frame) (n : ℕ) (v : Value) (limit : ℕ) where
-  -- why the value v of object n was not printed, and what became of its text
-  abbrev pub PrintFails : PrintFault → Type 0
-  PrintFails (NoAsciiForm m) = (value_text v ≡ None) × IsFormless f F n v m.0 × outcomes.nothing
-  PrintFails TooLong = (t : List ℕ) × (value_text v ≡ Some t) × IsTooLong limit t × outcomes.nothing
-  PrintFails (Write sent) = HasText v limit (λ t. outcomes.cut t sent)
-  PrintFails (Read _) = ((value_text v ≡ None) × outcomes.nothing) ⊎ HasText v limit outcomes.some
-  PrintFails Changed = ⊥
-  PrintFails Memory = HasText v limit outcomes.some
-
-  -- the text of the value was printed, or why not
-  abbrev pub Prints : Result (Unit {0}) PrintFault → Type 0
-  Prints (Ok _) = HasText v limit outcomes.all
-  Prints (Err fault) = PrintFails fault
+-- where nothing of a text goes out, or all, or a first part, or so many bytes before a write failed
+module _ (nothing : Type 0) (all some : List ℕ → Type 0) (cut : List ℕ → ℕ → Type 0) where
+  module _ (f : List ℕ) (F : Frame) (n : ℕ) (v : Value) (limit : ℕ) where
+    -- the text of the value v that object n holds was printed, or why not, and what became of it
+    abbrev pub Prints : Result (Unit {0}) PrintFault → Type 0
+    Prints (Ok _) = HasText v limit all
+    Prints (Err (NoAsciiForm m)) = (value_text v ≡ None) × IsFormless f F n v m.0 × nothing
+    Prints (Err TooLong) = (t : List ℕ) × (value_text v ≡ Some t) × IsTooLong limit t × nothing
+    Prints (Err (Write sent)) = HasText v limit (λ t. cut t sent)
+    Prints (Err (Read _)) = ((value_text v ≡ None) × nothing) ⊎ HasText v limit some
+    Prints (Err Changed) = ⊥
+    Prints (Err Memory) = HasText v limit some
 
 -- the text of the value that object n holds was written, or why not
 abbrev pub IsPrinted : Option (List ℕ) → Option (List ℕ) → List ℕ → Frame → ℕ → Value → ℕ → Result (Unit {0}) PrintFault → Type 0
-IsPrinted old new = Prints (to_writer old new)
+IsPrinted old new = Prints (Keeps old new) (Appends old new) (SendsSome old new) (IsCut old new)
+
+module _ (old new : Option (List ℕ)) (before after : Sending) where
+  -- the text of the value that object n holds was put into a sink, or why not
+  abbrev pub IsPut : List ℕ → Frame → ℕ → Value → ℕ → Result (Unit {0}) PrintFault → Type 0
+  IsPut = Prints (Keeps old new × (after ≡ before)) (Takes old new before after) (λ text. SendsSome old new (before.held ++ text))
+      (λ text. SendsPart old new before.sent (before.held ++ text))

@@ -8,18 +8,12 @@ pub record Sending : Type 0 where
   pub held : List ℕ
 
 -- where `before` bytes had gone out, a first part of these went out too, and fewer than all
-pub record SendsPart (old new : Option (List ℕ)) (before : ℕ) (bytes : List ℕ) (sent : ℕ) : Type 0 where
-  pub gone : ℕ
-  pub fewer : gone < length bytes
-  pub counted : sent ≡ before + gone
-  pub appended : Appends old new (take gone bytes)
+abbrev pub SendsPart : Option (List ℕ) → Option (List ℕ) → ℕ → List ℕ → ℕ → Type 0
+SendsPart old new before bytes sent = (n : ℕ) × (n < length bytes) × (sent ≡ before + n) × Appends old new (take n bytes)
 
 -- a first part of these bytes went out
-pub record SendsSome (old new : Option (List ℕ)) (bytes : List ℕ) : Type 0 where
-  pub gone : List ℕ
-  pub rest : List ℕ
-  pub appended : Appends old new gone
-  pub all : bytes ≡ gone ++ rest
+abbrev pub SendsSome : Option (List ℕ) → Option (List ℕ) → List ℕ → Type 0
+SendsSome old new bytes = (gone rest : List ℕ) × Appends old new gone × (bytes ≡ gone ++ rest)
 
 -- a sink took bytes: of what it held and these, a first part went out, and it holds the rest
 pub record Takes (old new : Option (List ℕ)) (before after : Sending) (bytes : List ℕ) : Type 0 where

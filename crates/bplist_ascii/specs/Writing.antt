@@ -1,29 +1,17 @@
 -- What is put into a sink where there is room for so many bytes. Source: profile.
 use Rattle.std.specs.Prelude.{◌≡◌, ℕ, ◌+◌, ◌≤◌, Bool, true, false, List, [], ◌∷◌, ◌++◌, length, Option, Result, Ok, Err, ⊤}
 use Rattle.std.specs.List.{list_all}
-use Rattle.bplist_cursor.specs.declared.faults.Unread.{Unread}
-use Rattle.bplist_cursor.specs.declared.faults.Unread.TheVariants as unread
 use Rattle.bplist_cursor.specs.Texts.{is_plain, quoted_unit}
 use Rattle.bplist_ascii.specs.Sending.{Sending, SendsSome, Takes, TakesPart, AtMost}
 use Rattle.bplist_ascii.specs.declared.print_fault.PrintFault.{PrintFault}
-use Rattle.bplist_ascii.specs.declared.print_fault.PrintFault.TheVariants.{Write, Read, Changed, Memory}
+use Rattle.bplist_ascii.specs.declared.print_fault.PrintFault.TheVariants.{Write, Read, Memory}
 use Rattle.bplist_ascii.specs.declared.style.Style.{Style}
 use Rattle.bplist_ascii.specs.declared.style.Style.TheVariants.{Bare, Quoted}
 
--- the same cause as an answer of the printer
-abbrev pub print_fault_of : Unread → PrintFault
-print_fault_of (unread.Read fault) = Read fault
-print_fault_of unread.Changed = Changed
-
--- the fault says that a read has failed
-abbrev pub is_read : PrintFault → Bool
-is_read (Read _) = true
-is_read _ = false
-
 -- the answer says that a read has failed
 abbrev pub print_read : {X : Type 0} → Result X PrintFault → Bool
-print_read (Ok x) = false
-print_read (Err fault) = is_read fault
+print_read (Err (Read _)) = true
+print_read _ = false
 
 -- a failed read alone
 abbrev pub IsReadFault : PrintFault → Type 0

@@ -1,8 +1,9 @@
 //! Why a value was not printed.
 
 ghost use Rattle.std.specs.Prelude.{◌≡◌};
-ghost use Rattle.bplist_ascii.specs.Writing.{print_fault_of};
-ghost use Rattle.bplist_ascii.specs.declared.print_fault.PrintFault.TheVariants.{Write as write_failed, Read as read_failed, Memory as no_memory};
+ghost use Rattle.bplist_cursor.specs.declared.faults.Unread.TheVariants.{Read as unread_read, Changed as unread_changed};
+ghost use Rattle.bplist_ascii.specs.declared.print_fault.PrintFault.{PrintFault as print_fault};
+ghost use Rattle.bplist_ascii.specs.declared.print_fault.PrintFault.TheVariants as print_faults;
 
 use crate::sink::WriteFault;
 use bplist_cursor::Unread;
@@ -32,7 +33,7 @@ pub enum PrintFault {
 }
 
 impl From<WriteFault> for PrintFault {
-    ghost from_gives = { λ fault e. e ≡ write_failed fault.sent };
+    ghost from_gives = { λ fault e. e ≡ print_faults.Write fault.sent };
 
     fn from(fault: WriteFault) -> PrintFault {
         PrintFault::Write { sent: fault.sent }
@@ -40,7 +41,7 @@ impl From<WriteFault> for PrintFault {
 }
 
 impl From<ReadFault> for PrintFault {
-    ghost from_gives = { λ fault e. e ≡ read_failed fault };
+    ghost from_gives = { λ fault e. e ≡ print_faults.Read fault };
 
     fn from(fault: ReadFault) -> PrintFault {
         PrintFault::Read(fault)
@@ -48,7 +49,8 @@ impl From<ReadFault> for PrintFault {
 }
 
 impl From<Unread> for PrintFault {
-    ghost from_gives = { λ unread e. e ≡ print_fault_of unread };
+    ghost from_gives = { λ cause e. e ≡ elim cause as (λ _. print_fault)
+        [ unread_read fault ↦ print_faults.Read fault | unread_changed ↦ print_faults.Changed ] };
 
     fn from(unread: Unread) -> PrintFault {
         match unread {
@@ -59,7 +61,7 @@ impl From<Unread> for PrintFault {
 }
 
 impl<T: Drop> From<AllocFailed<T>> for PrintFault {
-    ghost from_gives = { λ _ e. e ≡ no_memory };
+    ghost from_gives = { λ _ e. e ≡ print_faults.Memory };
 
     fn from(_failed: AllocFailed<T>) -> PrintFault {
         PrintFault::Memory

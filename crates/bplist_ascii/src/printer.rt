@@ -1,15 +1,15 @@
 //! The old-style text of a value, written to a writer.
 
-ghost use Rattle.std.specs.Prelude.{◌≡◌, Err, OnOk, OnErr};
+ghost use Rattle.std.specs.Prelude.{◌≡◌, ℕ, ◌+◌, ◌≤◌, List, length, Err, OnOk, OnErr};
 ghost use Rattle.bplist_cert.specs.CheckedFile.{HonestlyChecked};
 ghost use Rattle.bplist_objects.specs.Value.{Value};
 ghost use Rattle.bplist_objects.specs.Holds.{Holds};
 ghost use Rattle.bplist_cert.specs.Valid.{IsVouchedBy};
 ghost use Rattle.bplist_cursor.specs.Kept.{Keeps};
 ghost use Rattle.bplist_cursor.specs.Sizes.{AreMeasures};
-ghost use Rattle.bplist_ascii.specs.Sending.{AtMost};
-ghost use Rattle.bplist_ascii.specs.Writing.{print_read, TakesWithin, StaysWithin};
-ghost use Rattle.bplist_ascii.specs.Printed.{into_sink, Prints, IsPrinted};
+ghost use Rattle.bplist_ascii.specs.Sending.{AtMost, Takes};
+ghost use Rattle.bplist_ascii.specs.Writing.{print_read};
+ghost use Rattle.bplist_ascii.specs.Printed.{IsPut, IsPrinted};
 ghost use Rattle.bplist_ascii.specs.declared.print_fault.PrintFault.TheVariants.{Changed};
 
 use crate::formless::first_formless;
@@ -42,10 +42,11 @@ pub fn print_into<S: Source, W: Write>(
     ensures reads { Keeps (print_read result) checked.old checked.new }
     ensures exact { HonestlyChecked checked.old (λ f F. IsVouchedBy checked.old.certificate.heights node.object.0
         → (v : Value) → Holds f F node.object.0 v
-        → Prints (into_sink (W.contents out.old) (W.contents out.new) sink.old sink.new) f F node.object.0 v limit result) }
+        → IsPut (W.contents out.old) (W.contents out.new) sink.old sink.new f F node.object.0 v limit result) }
     ensures unvouched { (IsVouchedBy checked.old.certificate.heights node.object.0 → ⊥) → result ≡ Err Changed }
-    ensures bounded { OnErr result (StaysWithin (W.contents out.old) (W.contents out.new) sink.old limit) }
-    ensures fits { OnOk result (TakesWithin (W.contents out.old) (W.contents out.new) sink.old sink.new limit) }
+    ensures bounded { OnErr result (AtMost (W.contents out.old) (W.contents out.new) (length sink.old.held + limit)) }
+    ensures fits { OnOk result ((bytes : List ℕ) × Takes (W.contents out.old) (W.contents out.new) sink.old sink.new bytes
+        × (length bytes ≤ limit)) }
 {
     let _frame = checked.frame();
     if checked.height(node.object) == 0 {

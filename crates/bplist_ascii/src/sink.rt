@@ -2,7 +2,7 @@
 
 ghost use Rattle.std.specs.Prelude.{◌≡◌, ◌+◌, ◌-◌, ◌^◌, ◌<◌, ◌≤◌, ◌↔◌, [], ◌++◌, length, take, OnOk, IfErr, IsTrue};
 ghost use Rattle.std.specs.Io.KnownBytes.{Appends};
-ghost use Rattle.bplist_ascii.specs.Sending.{Sending, SendsPart, Takes, TakesPart};
+ghost use Rattle.bplist_ascii.specs.Sending.{Sending, SendsPart, Takes};
 
 use std::io::{ErrorKind, Write};
 use std::marker::Model;
@@ -110,7 +110,8 @@ impl Sink {
     /// dropped then.
     pub fn put<W: Write>(&mut self, out: &mut W, bytes: &[u8]) -> Result<(), WriteFault>
         ensures taken { OnOk result (Takes (W.contents out.old) (W.contents out.new) self.old self.new bytes.now) }
-        ensures part { IfErr result (λ e. TakesPart (W.contents out.old) (W.contents out.new) self.old bytes.now e.sent) }
+        ensures part { IfErr result (λ e. SendsPart (W.contents out.old) (W.contents out.new) self.old.sent
+            (self.old.held ++ bytes.now) e.sent) }
         ensures dropped { IfErr result (λ e. self.new ≡ record { sent = e.sent; held = [] }) }
     {
         if !self.can_count(bytes) {
@@ -132,7 +133,8 @@ impl Sink {
     pub fn flush<W: Write>(&mut self, out: &mut W) -> Result<(), WriteFault>
         ensures taken { OnOk result (Takes (W.contents out.old) (W.contents out.new) self.old self.new []) }
         ensures empty { OnOk result (self.new.held ≡ []) }
-        ensures part { IfErr result (λ e. TakesPart (W.contents out.old) (W.contents out.new) self.old [] e.sent) }
+        ensures part { IfErr result (λ e. SendsPart (W.contents out.old) (W.contents out.new) self.old.sent
+            (self.old.held ++ []) e.sent) }
         ensures dropped { IfErr result (λ e. self.new ≡ record { sent = e.sent; held = [] }) }
     {
         let used = self.used;
@@ -169,7 +171,8 @@ impl Sink {
         requires empty { self.old.held ≡ [] }
         requires counted { self.old.sent + length bytes.now < 2 ^ 64 }
         ensures taken { OnOk result (Takes (W.contents out.old) (W.contents out.new) self.old self.new bytes.now) }
-        ensures part { IfErr result (λ e. TakesPart (W.contents out.old) (W.contents out.new) self.old bytes.now e.sent) }
+        ensures part { IfErr result (λ e. SendsPart (W.contents out.old) (W.contents out.new) self.old.sent
+            (self.old.held ++ bytes.now) e.sent) }
         ensures dropped { IfErr result (λ e. self.new ≡ record { sent = e.sent; held = [] }) }
     {
         self.tally.send(out, bytes)

@@ -4,7 +4,25 @@ use Rattle.bplist_objects.specs.declared.fault.ObjectFault.TheVariants as errors
 use Rattle.bplist_objects.specs.Answers.{GivesFault, Never}
 use Rattle.bplist_cursor.specs.declared.faults.Unread.{Unread}
 use Rattle.bplist_cursor.specs.declared.faults.Unread.TheVariants as unread
-use Rattle.bplist_cursor.specs.Causes.{IsUnread, IsExcused, unread_of, cursor_fault_of}
+use Rattle.bplist_cursor.specs.declared.faults.CursorFault.{CursorFault}
+use Rattle.bplist_cursor.specs.declared.faults.CursorFault.TheVariants as faults
+use Rattle.bplist_cursor.specs.Causes.{IsExcused}
+use Rattle.std.specs.Bool.{⊤}
+
+-- what a fault of an object is to the cursor
+abbrev pub unread_of : ObjectFault → Unread
+unread_of (errors.Fault _) = unread.Changed
+unread_of (errors.Read e) = unread.Read e
+
+-- a cause as a fault of the cursor
+abbrev pub cursor_fault_of : Unread → CursorFault
+cursor_fault_of (unread.Read e) = faults.Read e
+cursor_fault_of unread.Changed = faults.Changed
+
+-- a failed read, and not Changed
+abbrev pub IsUnread : Unread → Type 0
+IsUnread (unread.Read _) = ⊤
+IsUnread unread.Changed = ⊥
 
 -- without a fault it is a failed read
 pub unread_never : (e : ObjectFault) → GivesFault Never e → IsUnread (unread_of e)

@@ -11,13 +11,14 @@ use Rattle.bplist_objects.proofs.Fronts.{one_head}
 use Rattle.bplist_cert.proofs.VouchedObjects.{object_holds, references_lower}
 use Rattle.bplist_cert.specs.Valid.{IsVouchedBy, IsValid}
 use Rattle.bplist_cert.specs.CheckedFile.{CheckedFile, IsChecked}
-use Rattle.bplist_cursor.specs.Look.{stepped, look, look_from, after_step}
+use Rattle.bplist_cursor.specs.Look.{stepped, look, look_from, on_either}
 use Rattle.bplist_cursor.specs.Leads.{Leads}
 use Rattle.bplist_cursor.specs.Found.{LeadTo, IsHeld}
-use Rattle.bplist_cursor.specs.KeySearch.{halvings, halvings_at, on_taken, RisesAtMost}
+use Rattle.bplist_cursor.specs.KeySearch.{halvings, halvings_at, RisesAtMost}
 use Rattle.bplist_cursor.specs.declared.found.Why.{Why}
 use Rattle.std.specs.Bool.{⊤}
-use Rattle.bplist_cursor.specs.Causes.{IsUnread, IsExcused, GivesCursor, is_unread}
+use Rattle.bplist_cursor.specs.Causes.{IsExcused, GivesCursor, read_failed}
+use Rattle.bplist_cursor.proofs.Causes.{IsUnread}
 use Rattle.bplist_cursor.specs.Kept.{Keeps}
 use Rattle.bplist_octets.proofs.Sources.{never_fails}
 use Rattle.bplist_cursor.specs.declared.faults.Unread.{Unread}
@@ -82,24 +83,24 @@ module _ (checked : CheckedFile) (is : IsChecked checked) (honest : IsTrue check
         let there = taken_there f F a.value n s m a.holds.1 b.0 b.1 b.2 in
         record {
           value = q.0;
-          led = sym (ap (λ d. look_from k a.value d) e ∙ ap (λ x. after_step k x (λ w. look_from (k + 1) w (drop (suc k) steps))) q.1 ∙ ap (λ j. look_from (k + 1) q.0 (drop j steps)) z) ∙ a.led;
+          led = sym (ap (λ d. look_from k a.value d) e ∙ ap (λ x. on_either x (λ w. look_from (k + 1) w (drop (suc k) steps)) (λ why. Err (record { step = k; why = why }))) q.1 ∙ ap (λ j. look_from (k + 1) q.0 (drop j steps)) z) ∙ a.led;
           holds = (lower_vouched n m b.0 a.holds.0 b.1 there, q.2);
           leads = λ j l. a.leads j (subst (λ d. LeadTo f F n d j) (sym e) (m, b, subst (λ i. LeadTo f F m (drop i steps) j) (sym z) l));
           spent = λ keyed has.
               let old = a.spent keyed has in
               let rise = rises keyed has in
-              let sum = ap (λ d. halvings a.value d) e ∙ ap (λ x. halvings_at a.value + on_taken x (λ w. halvings w (drop (suc k) steps))) q.1 ∙ ap (λ j. halvings_at a.value + halvings q.0 (drop j steps)) z in
+              let sum = ap (λ d. halvings a.value d) e ∙ ap (λ x. halvings_at a.value + on_either x (λ w. halvings w (drop (suc k) steps)) (λ why. 0)) q.1 ∙ ap (λ j. halvings_at a.value + halvings q.0 (drop j steps)) z in
               omega (arith, old, rise, sum);
         }
 
     pub off : (y : Why) → stepped a.value s ≡ Err y → look v steps ≡ Err (record { step = k; why = y })
-    off y x = sym a.led ∙ ap (λ d. look_from k a.value d) e ∙ ap (λ x. after_step k x (λ w. look_from (k + 1) w (drop (suc k) steps))) x
+    off y x = sym a.led ∙ ap (λ d. look_from k a.value d) e ∙ ap (λ x. on_either x (λ w. look_from (k + 1) w (drop (suc k) steps)) (λ why. Err (record { step = k; why = why }))) x
 
     pub spent_off : (y : Why) → stepped a.value s ≡ Err y → RisesAtMost checked made more (halvings_at a.value) → RisesAtMost checked before more (halvings v steps)
     spent_off y x rises keyed has =
         let old = a.spent keyed has in
         let rise = rises keyed has in
-        let sum = ap (λ d. halvings a.value d) e ∙ ap (λ x. halvings_at a.value + on_taken x (λ w. halvings w (drop (suc k) steps))) x in
+        let sum = ap (λ d. halvings a.value d) e ∙ ap (λ x. halvings_at a.value + on_either x (λ w. halvings w (drop (suc k) steps)) (λ why. 0)) x in
         omega (arith, old, rise, sum)
 
   module _ (v : Value) (steps : List (List ℕ)) (k n before made : ℕ) (e : drop k steps ≡ []) (a : Along checked v steps k n before made) where
@@ -127,7 +128,7 @@ module _ (checked : CheckedFile) (is : IsChecked checked) (honest : IsTrue check
   quiet n vouched P (Err e) h = excused_for n vouched e h
 
 -- a source without failures has not failed
-pub never_read : (old new : CheckedFile) (e : Unread) → Keeps (is_unread e) old new → new.source.failures ≡ 0 → IsUnread e → ⊥
+pub never_read : (old new : CheckedFile) (e : Unread) → Keeps (read_failed {X = ⊤} (Err e)) old new → new.source.failures ≡ 0 → IsUnread e → ⊥
 never_read old new (unread.Read x) k z h =
     let before : old.source.failures ≡ 0 = omega (arith, k.source.rises, z) in
     let no_read : true ≡ false = never_fails true old.source new.source before z k.source in

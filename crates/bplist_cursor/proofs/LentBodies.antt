@@ -1,5 +1,5 @@
 -- Bodies of bytes of an object that a checked file vouches for.
-use Rattle.std.proofs.Common.{◌≡◌, ◌<◌, ℕ, List, [], ◌∷◌, false, IsTrue, Result, Ok, Err, refl, subst}
+use Rattle.std.proofs.Common.{◌≡◌, ◌⊎◌, inl, inr, ◌<◌, ℕ, List, [], ◌∷◌, false, IsTrue, Result, Ok, Err, refl, subst, sym}
 use Rattle.std.proofs.Props.{props}
 use Rattle.std.specs.List.{AllByRecursion}
 use Rattle.std.proofs.Math.Logic.{∥∥₁_elim}
@@ -15,13 +15,11 @@ use Rattle.bplist_objects.specs.Heads.{HasShape, Spells, IsProperLeaf, content_o
 use Rattle.bplist_objects.proofs.Fronts.{one_shape}
 use Rattle.bplist_cert.specs.CheckedFile.{CheckedFile, IsChecked}
 use Rattle.bplist_cert.specs.Valid.{IsVouchedBy}
-use Rattle.bplist_cursor.specs.Lent.{IsByteKind, SpellsBytes}
+use Rattle.bplist_cursor.specs.Lent.{SpellsBytes}
 
--- a kind of bytes is one of two
-byte_kinds : (kind : Kind) → IsByteKind kind → (kind ≡ kinds.Bytes → ⊥) → (kind ≡ kinds.Ascii → ⊥) → ⊥
-byte_kinds kinds.Bytes is bytes ascii = bytes refl
-byte_kinds kinds.Ascii is bytes ascii = ascii refl
-byte_kinds _ is bytes ascii = is
+-- the kinds of data and of texts of one byte a unit
+abbrev IsByteKind : Kind → Type 0
+IsByteKind kind = (kind ≡ kinds.Bytes) ⊎ (kind ≡ kinds.Ascii)
 
 -- without a failed read and without a fault there is an answer
 pub no_error : {X : Type 0} (P : X → Type 0) (r : Result X ObjectFault) → read_failed r ≡ false → Gives P Never r → ((x : X) → r ≡ Ok x → ⊥) → ⊥
@@ -36,14 +34,12 @@ low_prop (x ∷ xs) = hlevel (props, low_prop xs)
 
 module _ (f : List ℕ) (F : Frame) where
   proper_prop : (kind : Kind) (count body : ℕ) → IsByteKind kind → IsProp (IsProperLeaf f F kind count body)
-  proper_prop kinds.Bytes count body is = hlevel props
-  proper_prop kinds.Ascii count body is = low_prop (part f body count)
-  proper_prop _ count body is = absurd is
+  proper_prop kind count body (inl e) = subst (λ k. IsProp (IsProperLeaf f F k count body)) (sym e) (hlevel props)
+  proper_prop kind count body (inr e) = subst (λ k. IsProp (IsProperLeaf f F k count body)) (sym e) (low_prop (part f body count))
 
   no_refs : (kind : Kind) (count body : ℕ) → IsByteKind kind → AllByRecursion (λ m. m < F.objects) (refs (content_of f F kind count body))
-  no_refs kinds.Bytes count body is = tt
-  no_refs kinds.Ascii count body is = tt
-  no_refs _ count body is = absurd is
+  no_refs kind count body (inl e) = subst (λ k. AllByRecursion (λ m. m < F.objects) (refs (content_of f F k count body))) (sym e) tt
+  no_refs kind count body (inr e) = subst (λ k. AllByRecursion (λ m. m < F.objects) (refs (content_of f F k count body))) (sym e) tt
 
 module _ (checked : CheckedFile) (known : IsChecked checked) (honest : IsTrue checked.source.honest) (n : ℕ) (vouched : IsVouchedBy checked.certificate.heights n) where
   -- the head of such a body is all that is needed of the object
@@ -56,10 +52,10 @@ module _ (checked : CheckedFile) (known : IsChecked checked) (honest : IsTrue ch
       let spells = (a.valid.vouched n vouched).spells in
       subst (λ (h : Head). IsProperLeaf f F h.kind h.count h.body) (one_shape f F n spells.shape head spells.has has) spells.proper) in
       let spells : Spells f F n (content_at f F head) = record { shape = head; has = has; proper = proper; means = refl; refs = no_refs f F head.kind head.count head.body is } in
-      record { head = head; is_head = (has, spells); kind = is; body = body }
+      (head, (has, spells), is, body)
 
 -- an object with another head has no such body
 pub other_head : (f : List ℕ) (F : Frame) (n : ℕ) (head : Head) → HasShape f F n head → (head.kind ≡ kinds.Bytes → ⊥) → (head.kind ≡ kinds.Ascii → ⊥)
     → (bytes : List ℕ) → SpellsBytes f F n bytes → ⊥
 other_head f F n head has bytes ascii l s =
-    byte_kinds head.kind (subst (λ (h : Head). IsByteKind h.kind) (one_shape f F n s.head head s.is_head.0 has) s.kind) bytes ascii
+    elim (subst (λ (h : Head). IsByteKind h.kind) (one_shape f F n s.0 head s.1.0 has) s.2) [ inl e ↦ bytes e | inr e ↦ ascii e ]

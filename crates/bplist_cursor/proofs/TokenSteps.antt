@@ -8,12 +8,16 @@ use Rattle.std.specs.Char.Escape.{encode_utf16}
 use Rattle.std.proofs.lemmas.List.{length-append, map-append}
 use Rattle.std.proofs.lemmas.Grind.{flat_map-append}
 use Rattle.std.proofs.lemmas.Str.{chars_past_char, IsUtf8-past_char, chars-nil, encodes-append}
-use Rattle.bplist_cursor.specs.Path.{escaped, units, written_token, written, IsPathOf, IsNoEscape, IsLoose, IsFirstLoose, IsWrongAt, IsNoPath}
+use Rattle.bplist_cursor.specs.Path.{escaped, units, written, IsPathOf, IsNoEscape, IsLoose, IsFirstLoose, IsWrongAt, IsNoPath}
 use Rattle.bplist_cursor.specs.Tokens.{IsReadable, Reads, IsClosed, MeetsLoose, left, slash}
 use Rattle.bplist_cursor.specs.PathFaults.{OnText}
 use Rattle.bplist_cursor.specs.declared.path.PathFault.{PathFault}
 use Rattle.bplist_cursor.specs.declared.path.PathFault.TheVariants.{Text, Memory}
 use Rattle.bplist_cursor.proofs.Escapes.{closed-nil, closed-append, closed_written, closed-cons, first_loose, written_not_loose, same_first}
+
+-- a token in a path text, with its `/`
+abbrev written_token : List ℕ → List ℕ
+written_token token = 0x2F ∷ flat_map escaped token
 
 -- one character was read
 pub reads_char : (s t : CharIndices) (c : ℕ) → IsReadable s → char_indices_rest s ≡ encode_utf8 c ++ char_indices_rest t

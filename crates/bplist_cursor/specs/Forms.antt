@@ -1,5 +1,5 @@
 -- Whether a value has a text and how long it is, and a table of these by the number of the object. Source: profile.
-use Rattle.std.specs.Prelude.{◌≡◌, ℕ, ◌+◌, List, [], ◌∷◌, length, Option, Some, None, slice_get, unwrap_or}
+use Rattle.std.specs.Prelude.{◌≡◌, ℕ, ◌+◌, List, [], ◌∷◌, length, Option, option_map, slice_get, unwrap_or}
 use Rattle.bplist_objects.specs.declared.frame.Frame.{Frame}
 use Rattle.bplist_objects.specs.Value.{Value}
 use Rattle.bplist_objects.specs.Heads.{Content, leaf, array, set, dict, Spells}
@@ -8,14 +8,13 @@ use Rattle.bplist_cursor.specs.declared.form.Form.TheVariants.{NoForm, Length}
 use Rattle.bplist_cursor.specs.Nodes.{cap}
 use Rattle.bplist_cursor.specs.OldStyle.{leaf_text, value_text}
 
+-- the form of a value: the capped length of its text, or that it has none
+abbrev pub form_of : Value → Form
+form_of v = unwrap_or (option_map (λ t. Length (cap (length t))) (value_text v)) NoForm
+
 -- the form of a value with this text, or none
 abbrev pub form_of_text : Option (List ℕ) → Form
-form_of_text None = NoForm
-form_of_text (Some t) = Length (cap (length t))
-
--- the form of a value
-abbrev pub form_of : Value → Form
-form_of v = form_of_text (value_text v)
+form_of_text text = unwrap_or (option_map (λ t. Length (cap (length t))) text) NoForm
 
 -- the form of two texts together, none if one has none
 abbrev pub joined : Form → Form → Form

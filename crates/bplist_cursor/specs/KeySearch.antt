@@ -1,17 +1,16 @@
 -- Looking up a key by halving a sorted key list. Source: profile.
-use Rattle.std.specs.Prelude.{◌≡◌, ℕ, zero, suc, ◌+◌, ◌^◌, ◌<◌, ◌≤◌, ltb, List, [], ◌∷◌, length, slice_index, if◌then◌else◌, Result, Ok, Err, Option, Some, None}
+use Rattle.std.specs.Prelude.{◌≡◌, ℕ, zero, suc, ◌+◌, ◌^◌, ◌<◌, ◌≤◌, ltb, List, [], ◌∷◌, length, slice_index, if◌then◌else◌, Option, Some, None}
 use Rattle.std.specs.declared.cmp.Ordering.{Ordering}
 use Rattle.std.specs.declared.cmp.Ordering.TheVariants.{Less}
 use Rattle.bplist_objects.specs.declared.frame.Frame.{Frame}
 use Rattle.bplist_objects.specs.declared.kind.Kind.{Kind}
 use Rattle.bplist_objects.specs.declared.kind.Kind.TheVariants.{Dict}
-use Rattle.bplist_objects.specs.Value.{Value, leaf, array, set, dict, keys, text}
+use Rattle.bplist_objects.specs.Value.{Value, dict, keys, text}
 use Rattle.bplist_objects.specs.Heads.{Content, Spells}
 use Rattle.bplist_objects.specs.Units.{compare_units}
 use Rattle.bplist_cert.specs.CheckedFile.{CheckedFile}
 use Rattle.bplist_cert.specs.Lists.{Keyed}
-use Rattle.bplist_cursor.specs.Look.{stepped}
-use Rattle.bplist_cursor.specs.declared.found.Why.{Why}
+use Rattle.bplist_cursor.specs.Look.{stepped, on_either}
 use Rattle.bplist_cursor.specs.declared.faults.Unread.{Unread}
 use Rattle.bplist_cursor.specs.declared.faults.Unread.TheVariants.{Changed}
 
@@ -28,19 +27,12 @@ halvings_of _ count = 0
 -- how many comparisons a step at this value may take
 abbrev pub halvings_at : Value → ℕ
 halvings_at (dict ps) = digits_2 (length (keys ps))
-halvings_at (leaf l) = 0
-halvings_at (array vs) = 0
-halvings_at (set vs) = 0
-
--- those of the further steps, if the step is taken
-abbrev pub on_taken : Result Value Why → (Value → ℕ) → ℕ
-on_taken (Ok w) go = go w
-on_taken (Err why) go = 0
+halvings_at _ = 0
 
 -- the sum, over the dictionaries met, of the binary digits of their count of pairs
 abbrev pub halvings : Value → List (List ℕ) → ℕ
 halvings v [] = 0
-halvings v (s ∷ steps) = halvings_at v + on_taken (stepped v s) (λ w. halvings w steps)
+halvings v (s ∷ steps) = halvings_at v + on_either (stepped v s) (λ w. halvings w steps) (λ why. 0)
 
 -- with key lists the counter rises by at most this
 abbrev pub RisesAtMost : CheckedFile → ℕ → ℕ → ℕ → Type 0

@@ -12,8 +12,7 @@ module _ (f : List ℕ) (F : Frame) where
   abbrev pub IsTaken : Content → List ℕ → ℕ → Type 0
   IsTaken (dict ks ms) s m = (i : ℕ) × (i < length ks) × Spells f F (slice_index ks i) (leaf (text s)) × (slice_index ms i ≡ m)
   IsTaken (array ms) s m = (i : ℕ) × (i < length ms) × (decimal i ≡ s) × (slice_index ms i ≡ m)
-  IsTaken (set ms) s m = ⊥
-  IsTaken (leaf l) s m = ⊥
+  IsTaken _ s m = ⊥
 
   -- from object n the step leads to object m
   abbrev pub Leads : ℕ → List ℕ → ℕ → Type 0

@@ -1,10 +1,10 @@
 -- The members of a value in their order: of a dictionary each key before its value. Source: profile.
-use Rattle.std.specs.Prelude.{◌≡◌, ℕ, zero, suc, ◌+◌, ◌*◌, List, ◌∷◌, slice_get, Option, Some, None, ⊤}
+use Rattle.std.specs.Prelude.{◌≡◌, ℕ, zero, suc, ◌+◌, ◌*◌, List, [], ◌∷◌, zip, flat_map, slice_get, option_map, Option, Some, None, ⊤}
 use Rattle.bplist_objects.specs.declared.frame.Frame.{Frame}
 use Rattle.bplist_objects.specs.declared.kind.Kind.{Kind}
 use Rattle.bplist_objects.specs.declared.kind.Kind.TheVariants.{Dict}
 use Rattle.bplist_objects.specs.Value.{Value, leaf, array, set, dict, Values, no_values, value, Pairs, no_pairs, pair, text}
-use Rattle.bplist_objects.specs.Heads.{Content}
+use Rattle.bplist_objects.specs.Heads.{Content, refs}
 use Rattle.bplist_objects.specs.Holds.{Holds}
 use Rattle.bplist_cursor.specs.declared.found.Node.{Node}
 
@@ -28,19 +28,14 @@ member_of (array vs) i = nth_value vs i
 member_of (set vs) i = nth_value vs i
 member_of (dict ps) i = nth_of_pairs ps i
 
+-- the object that the reference for member i names: of a dictionary each key before its value
+abbrev pub member_reference : Content → ℕ → Option ℕ
+member_reference (Content.dict ks ms) i = slice_get (flat_map (λ pair. pair.0 ∷ pair.1 ∷ []) (zip ks ms)) i
+member_reference content i = slice_get (refs content) i
+
 -- number 2j is key j, and 2j + 1 is value j
 abbrev pub nth_in_turn : List ℕ → List ℕ → ℕ → Option ℕ
-nth_in_turn (k ∷ ks) (m ∷ ms) zero = Some k
-nth_in_turn (k ∷ ks) (m ∷ ms) (suc zero) = Some m
-nth_in_turn (k ∷ ks) (m ∷ ms) (suc (suc i)) = nth_in_turn ks ms i
-nth_in_turn _ _ i = None
-
--- the object that the reference for member i names
-abbrev pub member_reference : Content → ℕ → Option ℕ
-member_reference (Content.leaf l) i = None
-member_reference (Content.array ms) i = slice_get ms i
-member_reference (Content.set ms) i = slice_get ms i
-member_reference (Content.dict ks ms) i = nth_in_turn ks ms i
+nth_in_turn ks ms i = member_reference (Content.dict ks ms) i
 
 -- the node of an object
 abbrev pub node_of : ℕ → Node
@@ -48,8 +43,7 @@ node_of n = record { object = record { 0 = n } }
 
 -- the node of that object, if there is one
 abbrev pub named : Option ℕ → Option Node
-named None = None
-named (Some n) = Some (node_of n)
+named o = option_map node_of o
 
 -- among the references of an object of this kind and count, number k is the one for member i
 abbrev pub IsNumberOf : Kind → ℕ → ℕ → ℕ → Type 0

@@ -3,12 +3,6 @@ use Rattle.std.specs.Prelude.{ℕ, List, [], ◌∷◌, ◌++◌, Option, Some, 
 use Rattle.bplist_objects.specs.Value.{Leaf, bytes, text, Value, leaf, array, set, dict, Values, no_values, value, Pairs, no_pairs, pair}
 use Rattle.bplist_cursor.specs.Texts.{text_of_units, text_of_bytes}
 
--- the text of a leaf, if it has one
-abbrev pub leaf_text : Leaf → Option (List ℕ)
-leaf_text (text u) = Some (text_of_units u)
-leaf_text (bytes l) = Some (text_of_bytes l)
-leaf_text _ = None
-
 -- `,` before more members
 abbrev pub comma : Values → List ℕ
 comma no_values = []
@@ -17,10 +11,11 @@ comma (value v vs) = 0x2C ∷ []
 abbrev mutual
   -- the text of a value, if all its parts have one
   pub value_text : Value → Option (List ℕ)
-  value_text (leaf l) = leaf_text l
+  value_text (leaf (text u)) = Some (text_of_units u)
+  value_text (leaf (bytes l)) = Some (text_of_bytes l)
   value_text (array vs) = option_map (λ t. 0x28 ∷ (t ++ 0x29 ∷ [])) (members_text vs)
-  value_text (set vs) = None
   value_text (dict ps) = option_map (λ t. 0x7B ∷ (t ++ 0x7D ∷ [])) (pairs_text ps)
+  value_text _ = None
 
   -- the members' texts, with `,` between them
   pub members_text : Values → Option (List ℕ)
@@ -32,7 +27,9 @@ abbrev mutual
   pairs_text no_pairs = Some []
   pairs_text (pair u v ps) = option_and_then (λ t. option_map (λ r. text_of_units u ++ (0x3D ∷ (t ++ (0x3B ∷ r)))) (pairs_text ps)) (value_text v)
 
--- the same in two parts: whether there is a text, and the text
+-- the text of a leaf, if it has one
+abbrev pub leaf_text : Leaf → Option (List ℕ)
+leaf_text l = value_text (leaf l)
 
 -- the leaf has a text; here and below the same in two parts, whether there is a text and which
 abbrev pub IsFormedLeaf : Leaf → Type 0

@@ -7,21 +7,17 @@ use Rattle.std.specs.Char.Escape.{encode_utf16}
 abbrev pub escaped : ℕ → List ℕ
 escaped c = if c == 0x7E then 0x7E ∷ 0x30 ∷ [] else if c == 0x2F then 0x7E ∷ 0x31 ∷ [] else c ∷ []
 
--- a token in a path text, with its `/`
-abbrev pub written_token : List ℕ → List ℕ
-written_token token = 0x2F ∷ flat_map escaped token
-
--- the path text of tokens
+-- the path text of tokens: each with a `/` before it
 abbrev pub written : List (List ℕ) → List ℕ
-written tokens = flat_map written_token tokens
+written tokens = flat_map (λ token. 0x2F ∷ flat_map escaped token) tokens
 
 -- a token's characters as UTF-16 units
 abbrev pub units : List ℕ → List ℕ
 units token = flat_map encode_utf16 token
 
--- the text spells these steps
+-- the text spells these steps: of each token the characters as UTF-16 units
 abbrev pub IsPathOf : List ℕ → List (List ℕ) → Type 0
-IsPathOf text steps = (tokens : List (List ℕ)) × (chars text ≡ written tokens) × (steps ≡ map units tokens)
+IsPathOf text steps = (tokens : List (List ℕ)) × (chars text ≡ written tokens) × (steps ≡ map (flat_map encode_utf16) tokens)
 
 -- neither `0` nor `1`
 abbrev pub IsNoEscape : List ℕ → Type 0

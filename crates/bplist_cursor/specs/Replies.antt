@@ -1,5 +1,5 @@
 -- What a value replies to a query. Source: profile.
-use Rattle.std.specs.Prelude.{ℕ, ◌+◌, length, Result, Ok, Err}
+use Rattle.std.specs.Prelude.{ℕ, ◌+◌, length}
 use Rattle.bplist_objects.specs.Value.{Leaf, null, boolean, int, real, date, bytes, text, uid, Value, leaf, array, set, dict, Values, no_values, value, keys}
 use Rattle.bplist_cursor.specs.declared.faces.Face.{Face}
 use Rattle.bplist_cursor.specs.declared.faces.Face.TheVariants as faces
@@ -7,7 +7,7 @@ use Rattle.bplist_cursor.specs.declared.reply.Query.{Query}
 use Rattle.bplist_cursor.specs.declared.reply.Query.TheVariants as queries
 use Rattle.bplist_cursor.specs.declared.reply.Reply.{Reply}
 use Rattle.bplist_cursor.specs.declared.reply.Reply.TheVariants as replies
-use Rattle.bplist_cursor.specs.Look.{Missing, look}
+use Rattle.bplist_cursor.specs.Look.{look, on_either}
 use Rattle.bplist_cursor.specs.Nodes.{cap, nodes}
 
 -- how many members an array or set has
@@ -36,17 +36,10 @@ face (dict ps) = faces.Dict (length (keys ps))
 -- the keys of a dictionary
 abbrev pub keys_reply : Value → Reply
 keys_reply (dict ps) = replies.Keys (keys ps)
-keys_reply (leaf l) = replies.NoKeys
-keys_reply (array vs) = replies.NoKeys
-keys_reply (set vs) = replies.NoKeys
-
--- the reply of the value found, or that there is none
-abbrev pub on_found : Result Value Missing → (Value → Reply) → Reply
-on_found (Ok v) go = go v
-on_found (Err m) go = replies.Missing m.step m.why
+keys_reply _ = replies.NoKeys
 
 -- a value's reply to a query
 abbrev pub reply : Value → Query → Reply
-reply v (queries.Get steps) = on_found (look v steps) (λ w. replies.Face (face w))
-reply v (queries.Keys steps) = on_found (look v steps) keys_reply
-reply v (queries.Size steps) = on_found (look v steps) (λ w. replies.Size (cap (nodes w)))
+reply v (queries.Get steps) = on_either (look v steps) (λ w. replies.Face (face w)) (λ m. replies.Missing m.step m.why)
+reply v (queries.Keys steps) = on_either (look v steps) keys_reply (λ m. replies.Missing m.step m.why)
+reply v (queries.Size steps) = on_either (look v steps) (λ w. replies.Size (cap (nodes w))) (λ m. replies.Missing m.step m.why)

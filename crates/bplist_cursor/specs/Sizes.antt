@@ -28,11 +28,11 @@ size_in sizes n = slice_index_or sizes n None
 
 -- the nodes of object n
 abbrev pub nodes_in : Table → ℕ → Option ℕ
-nodes_in sizes n = option_map (λ s. s.nodes) (size_in sizes n)
+nodes_in sizes n = option_map (λ s. s.nodes) (slice_index_or sizes n None)
 
 -- the form of object n
 abbrev pub form_in : Table → ℕ → Option Form
-form_in sizes n = option_map (λ s. s.form) (size_in sizes n)
+form_in sizes n = option_map (λ s. s.form) (slice_index_or sizes n None)
 
 -- the total with the sizes of these objects added, if the table has them all
 abbrev pub added : Table → Size → List ℕ → Option Size

@@ -23,10 +23,10 @@ quoted_unit u =
 abbrev pub quoted : List ℕ → List ℕ
 quoted units = 0x22 ∷ (flat_map quoted_unit units ++ 0x22 ∷ [])
 
--- the old-style text of these units; the empty text is quoted
+-- the old-style text of these units: themselves if all are plain, else quoted; the empty text is quoted
 abbrev pub text_of_units : List ℕ → List ℕ
-text_of_units [] = quoted []
-text_of_units (u ∷ us) = if list_all is_plain (u ∷ us) then u ∷ us else quoted (u ∷ us)
+text_of_units [] = 0x22 ∷ 0x22 ∷ []
+text_of_units us = if list_all is_plain us then us else 0x22 ∷ (flat_map quoted_unit us ++ 0x22 ∷ [])
 
 -- the old-style text of data: `<`, the digits, `>`
 abbrev pub text_of_bytes : List ℕ → List ℕ

@@ -1,9 +1,11 @@
 //! Why there is no answer.
 
 ghost use Rattle.std.specs.Prelude.{◌≡◌};
-ghost use Rattle.bplist_cursor.specs.Causes.{unread_of, cursor_fault_of};
-ghost use Rattle.bplist_cursor.specs.declared.faults.Unread.TheVariants.{Read as unread_read};
-ghost use Rattle.bplist_cursor.specs.declared.faults.CursorFault.TheVariants.{Read, Memory};
+ghost use Rattle.bplist_objects.specs.declared.fault.ObjectFault.TheVariants.{Fault as object_fault, Read as object_read};
+ghost use Rattle.bplist_cursor.specs.declared.faults.Unread.{Unread as unread};
+ghost use Rattle.bplist_cursor.specs.declared.faults.Unread.TheVariants.{Read as unread_read, Changed as unread_changed};
+ghost use Rattle.bplist_cursor.specs.declared.faults.CursorFault.{CursorFault as cursor_fault};
+ghost use Rattle.bplist_cursor.specs.declared.faults.CursorFault.TheVariants.{Read, Changed, Memory};
 
 use bplist_objects::ObjectFault;
 use bplist_octets::ReadFault;
@@ -40,7 +42,8 @@ impl From<ReadFault> for Unread {
 }
 
 impl From<ObjectFault> for Unread {
-    ghost from_gives = { λ fault e. e ≡ unread_of fault };
+    ghost from_gives = { λ fault e. e ≡ elim fault as (λ _. unread)
+        [ object_fault _ ↦ unread_changed | object_read error ↦ unread_read error ] };
 
     fn from(fault: ObjectFault) -> Unread {
         match fault {
@@ -51,7 +54,8 @@ impl From<ObjectFault> for Unread {
 }
 
 impl From<Unread> for CursorFault {
-    ghost from_gives = { λ unread e. e ≡ cursor_fault_of unread };
+    ghost from_gives = { λ cause e. e ≡ elim cause as (λ _. cursor_fault)
+        [ unread_read error ↦ Read error | unread_changed ↦ Changed ] };
 
     fn from(unread: Unread) -> CursorFault {
         match unread {

@@ -1,4 +1,5 @@
-//! Laws of the definitions: each is the contract of a function that does nothing.
+//! Laws of the definitions: each is the contract of a function that does nothing. Those of the crate alone say what its bodies
+//! rest on: tables by object, and the text of a value in two parts.
 
 ghost use Rattle.std.specs.Prelude.{◌≡◌, ◌≤◌, ◌↔◌, ℕ, ◌<◌, List, Ok, Err, Some, None, Contains, slice_index};
 ghost use Rattle.bplist_objects.specs.declared.frame.Frame.{Frame as frame};
@@ -38,7 +39,7 @@ pub fn steps_follow_references()
 
 /// An object that holds a value spells something, and where no reference of that is taken for a step, the step can't be
 /// taken. One that is taken is a reference of the object.
-pub fn references_decide_steps()
+pub(crate) fn references_decide_steps()
     ensures content { (f : List ℕ) (F : frame) (n : ℕ) (v : Value) → Holds f F n v → (c : Content) × Spells f F n c × HasTextKeys f F c }
     ensures not_taken { (f : List ℕ) (F : frame) (n : ℕ) (v : Value) (step : List ℕ) (c : Content) → Holds f F n v → Spells f F n c
         → ((m : ℕ) → IsTaken f F c step m → ⊥) → stepped v step ≡ Err (why_of c) }
@@ -48,14 +49,14 @@ pub fn references_decide_steps()
 
 /// A table over the objects of a height of 1 or more, where these refer to such objects only and each is one more than its
 /// references together, has the sizes of the trees.
-pub fn measured_is_nodes()
+pub(crate) fn measured_is_nodes()
     ensures { (f : List ℕ) (F : frame) (H M : List ℕ) → ((n : ℕ) → 1 ≤ slice_index H n → Measured f F M n)
         → ((n m : ℕ) → 1 ≤ slice_index H n → Refs f F n m → 1 ≤ slice_index H m)
         → (n : ℕ) (v : Value) → 1 ≤ slice_index H n → Holds f F n v → slice_index M n ≡ cap (nodes v) }
 {}
 
 /// A value has a text exactly where it is formed, and then it is its plain text.
-pub fn text_in_parts()
+pub(crate) fn text_in_parts()
     ensures { (v : Value) (t : List ℕ) → (value_text v ≡ Some t) ↔ (IsFormed v × (plain v ≡ t)) }
 {}
 
@@ -68,7 +69,7 @@ pub fn one_formless()
 
 /// A table over the objects of a height of 1 or more, where these refer to such objects only and each has the form that
 /// those of its references make, has the forms of the values.
-pub fn formed_is_form()
+pub(crate) fn formed_is_form()
     ensures { (f : List ℕ) (F : frame) (H : List ℕ) (T : List Form) → ((n : ℕ) → 1 ≤ slice_index H n → Formed f F T n)
         → ((n m : ℕ) → 1 ≤ slice_index H n → Refs f F n m → 1 ≤ slice_index H m)
         → (n : ℕ) (v : Value) → 1 ≤ slice_index H n → Holds f F n v → form_at T n ≡ form_of v }

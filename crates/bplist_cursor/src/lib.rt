@@ -53,10 +53,7 @@ pub use faces::Face;
 pub use faults::{CursorFault, Unread};
 pub use form::Form;
 pub use found::{Found, Node, Why};
-pub use laws::{
-    formed_is_form, measured_is_nodes, one_formless, one_path, one_place, references_decide_steps,
-    steps_follow_references, text_in_parts,
-};
+pub use laws::{one_formless, one_path, one_place, steps_follow_references};
 pub use list::List;
 pub use lookup::{locate, locate_counted, locate_in_slice};
 pub use measures::Measures;

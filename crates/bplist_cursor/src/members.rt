@@ -1,6 +1,6 @@
 //! The members of nodes.
 
-ghost use Rattle.std.specs.Prelude.{◌≡◌, ℕ, ◌+◌, ◌*◌, ◌^◌, ◌<◌, ◌≤◌, List, length, slice_index, false, IsTrue, IfOk, IfErr, IfSome, MatchOption, Some, None, Err};
+ghost use Rattle.std.specs.Prelude.{◌≡◌, ℕ, ◌+◌, ◌*◌, ◌^◌, ◌<◌, ◌≤◌, List, length, slice_index, false, IsTrue, IfOk, IfErr, IfSome, MatchOption, option_map, Some, None, Err};
 ghost use Rattle.bplist_cert.specs.CheckedFile.{HonestlyChecked};
 ghost use Rattle.bplist_objects.specs.Value.{Value};
 ghost use Rattle.bplist_objects.specs.Heads.{Content, Spells, array, content_at, set, dict, refs};
@@ -48,7 +48,7 @@ pub fn member_by_head<S: Source>(
     ensures reads { Keeps (read_failed result) checked.old checked.new }
     ensures reference { HonestlyChecked checked.old (λ f F. (n : ℕ) → IsVouchedBy checked.old.certificate.heights n
         → (content : Content) → Spells f F n content → content ≡ content_at f F head.now
-        → GivesRead (λ member. member ≡ named (member_reference content i)) result) }
+        → GivesRead (λ member. member ≡ option_map node_of (member_reference content i)) result) }
     ensures vouched { IfOk result (λ member. IfSome member (λ m. IsVouchedBy checked.old.certificate.heights m.object.0)) }
     ensures within { IfOk result (λ member. IfSome member (λ _. i < ref_count head.now.kind head.now.count)) }
 {

@@ -2,8 +2,15 @@ use Rattle.std.proofs.Common.{rules, ◌≡◌, [], Err, ap}
 use Rattle.bplist_ascii.specs.Sending.{Sending}
 use Rattle.bplist_ascii.specs.declared.print_fault.PrintFault.TheVariants.{Write}
 use Rattle.bplist_ascii.proofs.SinkSteps.{cut_bounded}
-use Rattle.bplist_ascii.proofs.PrintSteps.{cut_of_flush, most_of_flush}
+use Rattle.bplist_ascii.proofs.PrintSteps.{cut_of_flush, most_of_flush, put_failed}
 use Rattle.bplist_ascii.proofs.printer.print.Goals as goal
+
+pub returns-in_err-print_into-clause-exact : goal.returns-in_err-print_into-clause-exact
+returns-in_err-print_into-clause-exact g c = λ honest vouched v h.
+    let is : c.from_residual.result ≡ Err c.in_err-print_into.field-0.0 = search rules in
+    let sent : c.new-sink.result.sent ≡ 0 = ap (λ (s : Sending). s.sent) c.new-sink.ensures in
+    let held : c.new-sink.result.held ≡ [] = ap (λ (s : Sending). s.held) c.new-sink.ensures in
+    rw is (put_failed _ _ c.new-sink.result c.print_into.new.sink _ _ _ v c.args.limit c.in_err-print_into.field-0.0 sent held (c.in_err-print_into.ensures.exact honest vouched v h))
 
 pub returns-in_err-flush-clause-exact : goal.returns-in_err-flush-clause-exact
 returns-in_err-flush-clause-exact g c = λ honest vouched v h.

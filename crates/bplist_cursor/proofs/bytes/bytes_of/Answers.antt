@@ -1,4 +1,4 @@
-use Rattle.std.proofs.Common.{arith, ◌≡◌, ℕ, ◌+◌, ◌∙◌, subst, sym, refl, inl, inr, ap}
+use Rattle.std.proofs.Common.{arith, ◌≡◌, ℕ, ◌+◌, ◌∙◌, refl, ap}
 use Rattle.bplist_octets.proofs.Sources.{slice_never_fails}
 use Rattle.bplist_octets.specs.Meaning.{Meaning}
 use Rattle.bplist_octets.specs.Octets.{part}
@@ -6,7 +6,6 @@ use Rattle.bplist_octets.specs.Slices.{address_in}
 use Rattle.bplist_objects.specs.Answers.{read_failed}
 use Rattle.bplist_objects.specs.declared.head.Head.{Head}
 use Rattle.bplist_cert.specs.Valid.{IsVouchedBy}
-use Rattle.bplist_cursor.specs.Lent.{IsByteKind}
 use Rattle.bplist_cursor.proofs.LentBodies.{spells_bytes, other_head, no_error}
 use Rattle.bplist_cursor.proofs.bytes.bytes_of.Goals as goal
 
@@ -16,7 +15,7 @@ returns-in_default-clause-bytes c = λ bytes vouched s.
     let octets : c.new-source.result.octets.now ≡ c.args.checked.now.source.octets = c.new-source.ensures.octets ∙ c.octets.ensures.octets in
     let shaped = rw (c.frame-frame.ensures.frame, octets) at c.shape_of.ensures.shaped in
     let sound = slice_never_fails (read_failed c.shape_of.result) c.new-source.result c.shape_of.new.src c.shape_of.ensures.reads in
-    no_error (λ (y : Head). y ≡ s.head) c.shape_of.result sound (shaped refl is s.head s.is_head.0) c.in_default.not-Ok
+    no_error (λ (y : Head). y ≡ s.0) c.shape_of.result sound (shaped refl is s.0 s.1.0) c.in_default.not-Ok
 
 pub returns-in_default-kind-clause-bytes : goal.returns-in_default-kind-clause-bytes
 returns-in_default-kind-clause-bytes c = λ bytes vouched s.
@@ -32,10 +31,9 @@ returns-in-Bytes-clause-bytes c =
     let octets : c.new-source.result.octets.now ≡ c.args.checked.now.source.octets = c.new-source.ensures.octets ∙ c.octets.ensures.octets in
     let has = (rw (c.frame-frame.ensures.frame, octets) at c.in-Ok.ensures.exact) refl is in
     let vouched : IsVouchedBy c.args.checked.now.certificate.heights c.args.node.object.0 = omega arith in
-    let kind : IsByteKind c.in-Ok.head.kind = elim c.in-Bytes.is [ inl e ↦ subst IsByteKind (sym e) tt | inr e ↦ subst IsByteKind (sym e) tt ] in
     let same : c.shape_of.new.src.octets.now ≡ c.new-source.result.octets.now = ap (λ (m : Meaning). m.octets) c.in-Ok.ensures.reads in
     let body = c.borrow.ensures.part ∙ ap (λ f. part f c.in-Ok.head.body c.in-Ok.head.count) (same ∙ octets) in
-    (vouched, spells_bytes c.args.checked.now c.frame-frame.ensures.checked c.octets.ensures.honest c.args.node.object.0 vouched c.in-Ok.head has kind c.borrow.result.now body)
+    (vouched, spells_bytes c.args.checked.now c.frame-frame.ensures.checked c.octets.ensures.honest c.args.node.object.0 vouched c.in-Ok.head has c.in-Bytes.is c.borrow.result.now body)
 
 pub returns-in-Bytes-clause-place : goal.returns-in-Bytes-clause-place
 returns-in-Bytes-clause-place c =

@@ -1,4 +1,4 @@
-use Rattle.std.proofs.Common.{arith, ◌∙◌, ap, slice_index}
+use Rattle.std.proofs.Common.{arith, ap, slice_index}
 use Rattle.std.proofs.lemmas.Result.{err_from_is_err_and}
 use Rattle.bplist_cursor.proofs.Membership.{node_of_number, no_node, number_below}
 use Rattle.bplist_cursor.proofs.VouchedObjects.{vouched_reference}
