@@ -1,16 +1,16 @@
 -- What `certify` says, from the answers of the linter.
-use Rattle.std.proofs.Common.{ℕ, List, Bool}
+use Rattle.std.proofs.Common.{ℕ, List, Bool, true}
 use Rattle.bplist_lint.specs.declared.refusal.LintRefusal.{LintRefusal}
 use Rattle.bplist_lint.specs.declared.refusal.LintRefusal.TheVariants as lint_refusals
 use Rattle.bplist_lint.specs.FileFault.{IsFileFault, IsFileCircle}
 use Rattle.bplist_lint.specs.Refusals.{Refuses}
 use Rattle.bplint_lines.specs.Answers.{IsRefusal}
-use Rattle.bplint_engine.specs.Certify.{SortedSays}
-use Rattle.bplint_lines.specs.Faults.{lint_fault}
+use Rattle.bplint_engine.specs.Certify.{CertifySays}
+use Rattle.bplint_engine.proofs.FaultsBelow.{lint_fault}
 
 -- the file holds no value
 pub lint_refused : (hex : Bool) (f : List ℕ) (refusal : LintRefusal) → Refuses (IsFileFault f) (IsFileCircle f) refusal
-    → IsRefusal (SortedSays hex f) (lint_fault refusal)
+    → IsRefusal (CertifySays true hex f) (lint_fault refusal)
 lint_refused hex f (lint_refusals.Fault fault) h = h
 lint_refused hex f (lint_refusals.Circle ns) h = h
 lint_refused hex f (lint_refusals.Read _) h = tt

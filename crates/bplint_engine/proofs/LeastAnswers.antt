@@ -1,5 +1,7 @@
 -- What `show` and `ls` say, from the linter's certificate and the answers of the cursor.
-use Rattle.std.proofs.Common.{◌≡◌, ℕ, List, [], ◌∷◌, map, Option, None, Result, Ok, Err, sym, ap, subst}
+use Rattle.std.proofs.Common.{◌≡◌, inl, inr, ℕ, List, [], ◌∷◌, map, Option, None, Result, Ok, Err, refl, sym, ap, subst}
+use Rattle.std.specs.List.{AllZip}
+use Rattle.std.specs.List.{flat_map}
 use Rattle.std.proofs.Math.Logic.{∥∥₁_map}
 use Rattle.std.proofs.lemmas.Grind.{not_there}
 use Rattle.bplist_objects.specs.declared.frame.Frame.{Frame}
@@ -23,14 +25,15 @@ use Rattle.bplint_lines.specs.declared.fault.RunFault.{RunFault}
 use Rattle.bplint_lines.specs.declared.fault.RunFault.TheVariants as faults
 use Rattle.bplint_lines.specs.declared.output.Output.{Output}
 use Rattle.bplint_lines.specs.declared.said.Said.{Said}
-use Rattle.bplint_lines.specs.Answers.{Answer, gives, refuses, Answers, IsRefusal, Leaves, LeavesBy}
-use Rattle.bplint_engine.specs.PathQueries.{AreQueries}
-use Rattle.bplint_lines.specs.Faults.{Gives, IsExcused, lint_fault}
-use Rattle.bplint_engine.specs.Get.{said_of, reply_lines}
+use Rattle.bplint_lines.specs.Answers.{Answer, refuses, Answers, IsRefusal, Leaves, LeavesBy}
+use Rattle.bplint_engine.specs.PathQueries.{IsQueryOf, IsWrongAmong}
+use Rattle.bplint_lines.specs.Faults.{Gives, IsExcused, OnPath}
+use Rattle.bplint_engine.proofs.FaultsBelow.{lint_fault}
+use Rattle.bplint_engine.specs.Get.{reply_line, said_of}
 use Rattle.bplint_engine.specs.Lint.{LintSays, IsLintFault}
 use Rattle.bplint_engine.specs.Ls.{ListGives, ListSays}
 use Rattle.bplint_engine.specs.Print.{PathSays}
-use Rattle.bplint_engine.specs.Show.{IsShowFault, ShowSays, TextSays}
+use Rattle.bplint_engine.specs.Show.{IsShowFault, LeastLeads, ShowSays, TextSays}
 use Rattle.bplint_engine.specs.CertifiedFile.{IsLeastFor}
 use Rattle.bplint_engine.proofs.GetAnswers.{excused_refused}
 use Rattle.bplint_engine.proofs.LeftBytes.{said_as}
@@ -65,7 +68,7 @@ least_for f G lint lists (F, is, by) same fits frames agreed =
     }
 
 -- the first fault of the file is one of `show` and `ls`
-pub show_fault : (f : List ℕ) (texts : List (List ℕ)) (queries : List Query) (fault : RunFault) → AreQueries texts queries
+pub show_fault : (f : List ℕ) (texts : List (List ℕ)) (queries : List Query) (fault : RunFault) → AllZip IsQueryOf texts queries
     → IsLintFault f fault → IsShowFault f texts fault
 show_fault f texts queries (faults.Fault fault) are h = (queries, are, h)
 show_fault f texts queries (faults.Circle ns) are h = (queries, are, h)
@@ -80,21 +83,26 @@ refused_as f Says (faults.Read _) to h = tt
 refused_as f Says faults.Memory to h = tt
 refused_as f Says _ to h = absurd h
 
--- and one of `show --text`
-pub text_fault : (f text : List ℕ) (limit : ℕ) (queries : List Query) (fault : RunFault) → AreQueries (text ∷ []) queries
-    → IsLintFault f fault → TextSays f text limit (refuses fault)
-text_fault f text limit queries (faults.Fault fault) are h = (queries, are, h)
-text_fault f text limit queries (faults.Circle ns) are h = (queries, are, h)
-text_fault f text limit queries _ are h = absurd h
+-- the same with the least certificate
+pub least_fault : (Says : List ℕ → Answer → Type 0) (f : List ℕ) (texts : List (List ℕ)) (queries : List Query) (fault : RunFault) → AllZip IsQueryOf texts queries
+    → IsLintFault f fault → LeastLeads Says f texts (refuses fault)
+least_fault Says f texts queries fault are h = inl (fault, refl, show_fault f texts queries fault are h)
+
+-- a path text is wrong
+pub path_refused : (Says : List ℕ → Answer → Type 0) (f : List ℕ) (texts : List (List ℕ)) (fault : RunFault) → OnPath (IsWrongAmong texts) fault
+    → IsRefusal (LeastLeads Says f texts) fault
+path_refused Says f texts (faults.Path place) h = inl (faults.Path place, refl, h)
+path_refused Says f texts faults.Memory h = tt
+path_refused Says f texts _ h = absurd h
 
 -- the queries of `show` were answered
 pub show_says : (f : List ℕ) (texts : List (List ℕ)) (queries : List Query) (F : Frame) (lists : Lists) (made : Result Output RunFault)
-    → AreQueries texts queries → IsLeastFor f F lists
+    → AllZip IsQueryOf texts queries → IsLeastFor f F lists
     → Gives (λ output. (v : Value) → Holds f F F.top.0 v
-    → (output.said ≡ said_of (map (reply v) queries)) × (output.bytes.items ≡ reply_lines (map (reply v) queries))) made
+    → (output.said ≡ said_of (map (reply v) queries)) × (output.bytes.items ≡ flat_map reply_line (map (reply v) queries))) made
     → Answers (ShowSays f texts) made
 show_says f texts queries F lists (Ok output) are least told =
-    (F, least.lint, least.frame, least.linted, (queries, F, lists, are, least.vouched, told))
+    inr (F, least.lint, least.frame, least.linted, (queries, F, lists, are, least.vouched, told))
 show_says f texts queries F lists (Err fault) are least told = excused_refused (ShowSays f texts) fault told
 
 -- a fault that is excused where a value is there is excused
@@ -114,36 +122,22 @@ excused_there faults.InputTooLong there told = not_there there told
 
 -- the members under the path of `ls` were listed
 pub list_says : (f text : List ℕ) (steps : List (List ℕ)) (F : Frame) (lists : Lists) (made : Result Output RunFault)
-    → AreQueries (text ∷ []) (Get steps ∷ []) → IsLeastFor f F lists → ∥ ((v : Value) × Holds f F F.top.0 v) ∥₁
+    → AllZip IsQueryOf (text ∷ []) (Get steps ∷ []) → IsLeastFor f F lists → ∥ ((v : Value) × Holds f F F.top.0 v) ∥₁
     → ((v : Value) → Holds f F F.top.0 v → Gives (λ output. ListGives text (look v steps) output.said output.bytes.items) made)
     → Answers (ListSays f text) made
-list_says f text steps F lists (Ok output) are least value told = (steps, F, least.lint, are, least.frame, least.linted, told)
+list_says f text steps F lists (Ok output) are least value told = (steps, F, least.lint, are.0, least.frame, least.linted, told)
 list_says f text steps F lists (Err fault) are least value told =
     excused_refused (ListSays f text) fault (excused_there fault value (λ h. told h.0 h.1))
 
 -- the answer for the value that the file holds is that of `show --text`
 path_to_text : (f text : List ℕ) (limit : ℕ) (steps : List (List ℕ)) (F : Frame) (lists : Lists) (v : Value)
-    → AreQueries (text ∷ []) (Get steps ∷ []) → IsLeastFor f F lists → Holds f F F.top.0 v
+    → AllZip IsQueryOf (text ∷ []) (Get steps ∷ []) → IsLeastFor f F lists → Holds f F F.top.0 v
     → (a : Answer) → PathSays f F limit steps v a → TextSays f text limit a
-path_to_text f text limit steps F lists v are l holds (gives said bytes) h =
-    (F, l.lint, l.frame, l.linted, path_to_print f (octets_of l.lint.certificate) (text ∷ []) limit steps F lists v are l.vouched holds (gives said bytes) h)
-path_to_text f text limit steps F lists v are l holds (refuses (faults.NoAsciiForm part)) h =
-    (F, l.lint, l.frame, l.linted, path_to_print f (octets_of l.lint.certificate) (text ∷ []) limit steps F lists v are l.vouched holds (refuses (faults.NoAsciiForm part)) h)
-path_to_text f text limit steps F lists v are l holds (refuses faults.TooLong) h =
-    (F, l.lint, l.frame, l.linted, path_to_print f (octets_of l.lint.certificate) (text ∷ []) limit steps F lists v are l.vouched holds (refuses faults.TooLong) h)
-path_to_text f text limit steps F lists v are l holds (refuses (faults.Fault fault)) (n, w, leads, is, h) = absurd h
-path_to_text f text limit steps F lists v are l holds (refuses (faults.Circle ns)) (n, w, leads, is, h) = absurd h
-path_to_text f text limit steps F lists v are l holds (refuses (faults.Path place)) (n, w, leads, is, h) = absurd h
-path_to_text f text limit steps F lists v are l holds (refuses (faults.Read fault)) (n, w, leads, is, h) = absurd h
-path_to_text f text limit steps F lists v are l holds (refuses faults.Hex) (n, w, leads, is, h) = absurd h
-path_to_text f text limit steps F lists v are l holds (refuses faults.Changed) (n, w, leads, is, h) = absurd h
-path_to_text f text limit steps F lists v are l holds (refuses (faults.Write sent)) (n, w, leads, is, h) = absurd h
-path_to_text f text limit steps F lists v are l holds (refuses faults.Memory) (n, w, leads, is, h) = absurd h
-path_to_text f text limit steps F lists v are l holds (refuses faults.Open) (n, w, leads, is, h) = absurd h
-path_to_text f text limit steps F lists v are l holds (refuses faults.InputTooLong) (n, w, leads, is, h) = absurd h
+path_to_text f text limit steps F lists v are l holds a h =
+    inr (F, l.lint, l.frame, l.linted, path_to_print f (octets_of l.lint.certificate) (text ∷ []) limit steps F lists v are l.vouched holds a h)
 
 pub text_leaves : (f text : List ℕ) (limit : ℕ) (steps : List (List ℕ)) (F : Frame) (lists : Lists) (old new : Option (List ℕ))
-    (result : Result Said RunFault) → AreQueries (text ∷ []) (Get steps ∷ []) → IsLeastFor f F lists
+    (result : Result Said RunFault) → AllZip IsQueryOf (text ∷ []) (Get steps ∷ []) → IsLeastFor f F lists
     → ∥ ((v : Value) × Holds f F F.top.0 v) ∥₁
     → ((v : Value) → Holds f F F.top.0 v → LeavesBy (PathSays f F limit steps v) limit old new result)
     → Leaves (TextSays f text limit) limit old new result

@@ -6,7 +6,7 @@ use Rattle.bplint_lines.specs.declared.fault.RunFault.{RunFault}
 use Rattle.bplint_lines.specs.declared.fault.RunFault.TheVariants as faults
 use Rattle.bplint_lines.specs.declared.output.Output.{Output}
 use Rattle.bplint_lines.specs.declared.said.Said.{Said}
-use Rattle.bplint_lines.specs.Answers.{Answer, gives, refuses, Answers, BeginsAnswer, IsRefusal, LeavesBy, LeavesFault, Sends}
+use Rattle.bplint_lines.specs.Answers.{Answer, gives, refuses, Answers, BeginsAnswer, IsRefusal, LeavesBy, Sends}
 
 -- nothing was added
 nothing : (old new : Option (List ℕ)) → Keeps old new → Appends old new []
@@ -23,7 +23,7 @@ kept_self (Some xs) = refl
 
 -- what was refused before anything was written
 pub refused : (Says : Answer → Type 0) (most : ℕ) (old new : Option (List ℕ)) (fault : RunFault) → IsRefusal Says fault → Keeps old new
-    → LeavesFault Says most old new fault
+    → LeavesBy Says most old new (Err fault)
 refused Says most old new (faults.Write _) h kept = absurd h
 refused Says most old new (faults.Read _) h kept = begins_nothing Says most old new kept
 refused Says most old new faults.Memory h kept = begins_nothing Says most old new kept

@@ -1,5 +1,6 @@
 mod CertifyAnswers
 mod EqualAnswers
+mod FaultsBelow
 mod GetAnswers
 mod HexAnswers
 mod LeastAnswers

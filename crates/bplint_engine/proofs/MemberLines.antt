@@ -1,5 +1,5 @@
 -- The lines of the members of containers.
-use Rattle.std.proofs.Common.{◌≡◌, ◌<◌, ◌+◌, ◌-◌, ◌*◌, ◌++◌, ◌∷◌, [], ◌∙◌, ℕ, zero, suc, List, length, Some, ap, append_assoc, arith, refl, sym}
+use Rattle.std.proofs.Common.{◌≡◌, ◌<◌, ◌+◌, ◌-◌, ◌*◌, ◌++◌, ◌∷◌, [], ◌∙◌, ℕ, zero, suc, List, length, Some, ap, append_assoc, append-nil, arith, refl, sym}
 use Rattle.bplist_objects.specs.Value.{Value, leaf, array, set, dict, text, Values, no_values, value, Pairs, no_pairs, pair, keys}
 use Rattle.bplist_cursor.specs.declared.faces.Face.{Face}
 use Rattle.bplist_cursor.specs.declared.faults.CursorFault.{CursorFault}
@@ -9,8 +9,9 @@ use Rattle.bplist_cursor.specs.Members.{nth_value, nth_of_pairs, member_of}
 use Rattle.bplist_cursor.specs.Replies.{count, face}
 use Rattle.bplint_engine.specs.declared.member_lines.Members.{Members}
 use Rattle.bplint_engine.specs.declared.member_lines.Members.TheVariants.{Array, Set, Dict}
-use Rattle.bplint_lines.specs.Faults.{IsExcused, cursor_fault}
-use Rattle.bplint_engine.specs.Ls.{IsContainer, IsLeaf, first_lines, line_of_member, line_of_pair, listed, member_line, named_line}
+use Rattle.bplint_lines.specs.Faults.{IsExcused}
+use Rattle.bplint_engine.proofs.FaultsBelow.{cursor_fault}
+use Rattle.bplint_engine.specs.Ls.{IsContainer, IsLeaf, first_lines, line_of_member, line_of_pair, listed, member_line, named_line, pair_lines, value_lines}
 use Rattle.bplint_lines.specs.MemberNames.{bracketed, index_name, key_name}
 use Rattle.bplint_lines.specs.OutputLines.{face_line}
 
@@ -85,12 +86,81 @@ added lines name mid new shown m named behind is =
     behind ∙ ap (λ xs. xs ++ 9 ∷ (face_line shown ++ 10 ∷ [])) named ∙ append_assoc lines name (9 ∷ (face_line shown ++ 10 ∷ []))
     ∙ ap (λ x. lines ++ (name ++ 9 ∷ (face_line x ++ 10 ∷ []))) is
 
+-- ---- all lines, one after the other
+sums : (ℕ → List ℕ) → ℕ → List ℕ
+sums g zero = []
+sums g (suc n) = sums g n ++ g n
+
+sums_front : (g : ℕ → List ℕ) (n : ℕ) → sums g (suc n) ≡ g 0 ++ sums (λ j. g (suc j)) n
+unfolding sums
+sums_front g zero = sym (append-nil (g 0))
+sums_front g (suc n) =
+    ap (λ l. l ++ g (suc n)) (sums_front g n) ∙ append_assoc (g 0) (sums (λ j. g (suc j)) n) (g (suc n))
+
+sums_same : (g h : ℕ → List ℕ) (n : ℕ) → ((j : ℕ) → g j ≡ h j) → sums g n ≡ sums h n
+unfolding sums
+sums_same g h zero same = refl
+sums_same g h (suc n) same = let rest = sums_same g h n same in let last = same n in cc
+
+first_sums : (path : List ℕ) (w : Value) (n : ℕ) → first_lines path w n ≡ sums (member_line path w) n
+unfolding sums
+first_sums path w zero = refl
+first_sums path w (suc n) = ap (λ l. l ++ member_line path w n) (first_sums path w n)
+
+values_summed : (name : ℕ → List ℕ) (k : ℕ) (vs : Values) → sums (λ j. line_of_member (name (k + j)) (nth_value vs j)) (count vs) ≡ value_lines name k vs
+unfolding sums
+values_summed name k no_values = refl
+values_summed name k (value v vs) =
+    let g = λ (j : ℕ). line_of_member (name (k + j)) (nth_value (value v vs) j) in
+    let long : 1 + count vs ≡ suc (count vs) = omega arith in
+    let none : k + 0 ≡ k = omega arith in
+    ap (sums g) long ∙ sums_front g (count vs)
+    ∙ ap (λ l. named_line (name (k + 0)) v ++ l) (sums_same (λ j. g (suc j)) (λ j. line_of_member (name (k + 1 + j)) (nth_value vs j)) (count vs)
+    (λ j. let step : k + suc j ≡ k + 1 + j = omega arith in ap (λ x. line_of_member (name x) (nth_value vs j)) step) ∙ values_summed name (k + 1) vs)
+    ∙ ap (λ x. named_line (name x) v ++ value_lines name (k + 1) vs) none
+
+pairs_summed : (path : List ℕ) (k : ℕ) (ps : Pairs)
+    → sums (λ j. line_of_pair path (k + j) (nth_of_pairs ps (2 * j)) (nth_of_pairs ps (2 * j + 1))) (length (keys ps)) ≡ pair_lines path k ps
+unfolding sums
+pairs_summed path k no_pairs = refl
+pairs_summed path k (pair u v ps) =
+    let g = λ (j : ℕ). line_of_pair path (k + j) (nth_of_pairs (pair u v ps) (2 * j)) (nth_of_pairs (pair u v ps) (2 * j + 1)) in
+    let none : k + 0 ≡ k = omega arith in
+    sums_front g (length (keys ps))
+    ∙ ap (λ l. named_line (key_name path (k + 0) u) v ++ l) (sums_same (λ j. g (suc j)) (λ j. line_of_pair path (k + 1 + j) (nth_of_pairs ps (2 * j)) (nth_of_pairs ps (2 * j + 1)))
+    (length (keys ps)) (λ j. let step : k + suc j ≡ k + 1 + j = omega arith in
+    let key : 2 * suc j ≡ suc (suc (2 * j)) = omega arith in
+    let behind : 2 * suc j + 1 ≡ suc (suc (2 * j + 1)) = omega arith in
+    (λ i. line_of_pair path (step i) (nth_of_pairs (pair u v ps) (key i)) (nth_of_pairs (pair u v ps) (behind i)))) ∙ pairs_summed path (k + 1) ps)
+    ∙ ap (λ x. named_line (key_name path x u) v ++ pair_lines path (k + 1) ps) none
+
+array_lines : (path : List ℕ) (vs : Values) → first_lines path (array vs) (count vs) ≡ value_lines (index_name path) 0 vs
+array_lines path vs =
+    first_sums path (array vs) (count vs)
+    ∙ sums_same (member_line path (array vs)) (λ j. line_of_member (index_name path (0 + j)) (nth_value vs j)) (count vs)
+    (λ j. let same : j ≡ 0 + j = omega arith in ap (λ x. line_of_member (index_name path x) (nth_value vs j)) same)
+    ∙ values_summed (index_name path) 0 vs
+
+set_lines : (path : List ℕ) (vs : Values) → first_lines path (set vs) (count vs) ≡ value_lines bracketed 0 vs
+set_lines path vs =
+    first_sums path (set vs) (count vs)
+    ∙ sums_same (member_line path (set vs)) (λ j. line_of_member (bracketed (0 + j)) (nth_value vs j)) (count vs)
+    (λ j. let same : j ≡ 0 + j = omega arith in ap (λ x. line_of_member (bracketed x) (nth_value vs j)) same)
+    ∙ values_summed bracketed 0 vs
+
+dict_lines : (path : List ℕ) (ps : Pairs) → first_lines path (dict ps) (length (keys ps)) ≡ pair_lines path 0 ps
+dict_lines path ps =
+    first_sums path (dict ps) (length (keys ps))
+    ∙ sums_same (member_line path (dict ps)) (λ j. line_of_pair path (0 + j) (nth_of_pairs ps (2 * j)) (nth_of_pairs ps (2 * j + 1))) (length (keys ps))
+    (λ j. let same : j ≡ 0 + j = omega arith in ap (λ x. line_of_pair path x (nth_of_pairs ps (2 * j)) (nth_of_pairs ps (2 * j + 1))) same)
+    ∙ pairs_summed path 0 ps
+
 -- all lines of a container
 pub container_listed : (members : Members) (n : ℕ) (path : List ℕ) (w : Value) → IsContainer members n w
     → first_lines path w n ≡ listed path w
-container_listed Array n path (array vs) is = ap (first_lines path (array vs)) (sym is)
-container_listed Set n path (set vs) is = ap (first_lines path (set vs)) (sym is)
-container_listed Dict n path (dict ps) is = ap (first_lines path (dict ps)) (sym is)
+container_listed Array n path (array vs) is = ap (first_lines path (array vs)) (sym is) ∙ array_lines path vs
+container_listed Set n path (set vs) is = ap (first_lines path (set vs)) (sym is) ∙ set_lines path vs
+container_listed Dict n path (dict ps) is = ap (first_lines path (dict ps)) (sym is) ∙ dict_lines path ps
 container_listed Array n path (leaf x) is = absurd is
 container_listed Array n path (set vs) is = absurd is
 container_listed Array n path (dict ps) is = absurd is

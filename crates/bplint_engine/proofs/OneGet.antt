@@ -1,5 +1,7 @@
 -- What `get` says is one, and so are the queries of path texts.
 use Rattle.std.proofs.Common.{◌≡◌, ℕ, List, [], ◌∷◌, map, inl, inr, refl, sym, ap, ◌∙◌, subst}
+use Rattle.std.specs.List.{AllZip}
+use Rattle.std.specs.List.{flat_map}
 use Rattle.std.proofs.Math.Logic.{∥∥₁_map}
 use Rattle.bplist_objects.specs.declared.frame.Frame.{Frame}
 use Rattle.bplist_objects.specs.Holds.{Holds}
@@ -14,8 +16,8 @@ use Rattle.bplist_cursor.proofs.Escapes.{same_place, same_written}
 use Rattle.bplint_lines.specs.declared.fault.RunFault.{RunFault}
 use Rattle.bplint_lines.specs.declared.fault.RunFault.TheVariants as faults
 use Rattle.bplint_lines.specs.Answers.{Answer, gives, refuses}
-use Rattle.bplint_engine.specs.PathQueries.{IsQueryOf, AreQueries, IsWrongAmong, IsAskingFault}
-use Rattle.bplint_engine.specs.Get.{GetSays, said_of, reply_lines}
+use Rattle.bplint_engine.specs.PathQueries.{IsAskingFault, IsQueryOf, IsWrongAmong}
+use Rattle.bplint_engine.specs.Get.{GetSays, reply_line, said_of}
 use Rattle.bplint_engine.specs.CertifiedFile.{IsVouchedFor}
 use Rattle.bplint_engine.proofs.EqualAnswers.{same_gives, open_bytes, open_said}
 use Rattle.bplint_engine.proofs.OneCheck.{same_frame, not_vouched, one_vouching}
@@ -29,7 +31,7 @@ one_query text (queries.Get a) (queries.Get b) h k = ap queries.Get (one_path te
 one_query text (queries.Get a) _ h k = absurd k
 one_query text _ r h k = absurd h
 
-pub one_queries : (texts : List (List ℕ)) (qs rs : List Query) → AreQueries texts qs → AreQueries texts rs → qs ≡ rs
+pub one_queries : (texts : List (List ℕ)) (qs rs : List Query) → AllZip IsQueryOf texts qs → AllZip IsQueryOf texts rs → qs ≡ rs
 one_queries [] [] [] h k = refl
 one_queries [] [] (r ∷ rs) h k = absurd k
 one_queries [] (q ∷ qs) rs h k = absurd h
@@ -44,7 +46,7 @@ not_both : (text : List ℕ) (q : Query) (place : ℕ) → IsQueryOf text q → 
 not_both text (queries.Get steps) place h wrong = wrong.none steps h
 not_both text _ place h wrong = absurd h
 
-not_wrong : (texts : List (List ℕ)) (qs : List Query) (place : ℕ) → AreQueries texts qs → IsWrongAmong texts place → ⊥
+not_wrong : (texts : List (List ℕ)) (qs : List Query) (place : ℕ) → AllZip IsQueryOf texts qs → IsWrongAmong texts place → ⊥
 not_wrong [] qs place h wrong = wrong
 not_wrong (t ∷ ts) [] place h wrong = h
 not_wrong (t ∷ ts) (q ∷ qs) place h (inl first) = not_both t q place h.0 first
@@ -67,7 +69,7 @@ module _ (f cert : List ℕ) (texts : List (List ℕ)) where
   one_asking (faults.Fault x) _ h k = absurd k
   one_asking _ b h k = absurd h
 
-  pub not_asking : (qs : List Query) (F : Frame) (lists : Lists) (a : RunFault) → AreQueries texts qs → IsVouchedFor f cert F lists → IsAskingFault f cert texts a → ⊥
+  pub not_asking : (qs : List Query) (F : Frame) (lists : Lists) (a : RunFault) → AllZip IsQueryOf texts qs → IsVouchedFor f cert F lists → IsAskingFault f cert texts a → ⊥
   not_asking qs F lists (faults.Path p) are v h = not_wrong texts qs p are h
   not_asking qs F lists (faults.Fault x) are v h = not_vouched f cert F lists x v h.2
   not_asking qs F lists _ are v h = h
@@ -78,7 +80,7 @@ module _ (f cert : List ℕ) (texts : List (List ℕ)) where
 
   pub one_get : (a b : Answer) → GetSays f cert texts a → GetSays f cert texts b → a ≡ b
   one_get (gives s xs) (gives t ys) (qs, F, l, are, v, told) (rs, G, m, are', w, told') =
-      let Told : List Query → Frame → Value → Type 0 = λ zs X x. Holds f X X.top.0 x → (t ≡ said_of (map (reply x) zs)) × (ys ≡ reply_lines (map (reply x) zs)) in
+      let Told : List Query → Frame → Value → Type 0 = λ zs X x. Holds f X X.top.0 x → (t ≡ said_of (map (reply x) zs)) × (ys ≡ flat_map reply_line (map (reply x) zs)) in
       let other : (x : Value) → Told rs F x = subst (λ X. (x : Value) → Told rs X x) (same_frame f cert G F m l w v) told' in
       let same : (x : Value) → Told qs F x = subst (λ zs. (x : Value) → Told zs F x) (one_queries texts rs qs are' are) other in
       let value = value_there F l v in

@@ -1,8 +1,8 @@
 -- What `lint` says is one, and so is the first fault of a file.
 use Rattle.std.proofs.Common.{◌≡◌, ℕ, ◌++◌, List, [], ◌∷◌, map, slice_index, sym, ap, ◌∙◌, subst}
 use Rattle.bplist_objects.specs.declared.frame.Frame.{Frame}
-use Rattle.bplist_objects.specs.Heads.{Spells}
-use Rattle.bplist_objects.proofs.Fronts.{one_head}
+use Rattle.bplist_objects.specs.Heads.{HasShape}
+use Rattle.bplist_objects.proofs.Fronts.{one_shape}
 use Rattle.bplist_lint.specs.declared.answer.Lint.{Lint}
 use Rattle.bplist_lint.specs.Linted.{IsLintedBy, is_vouched}
 use Rattle.bplist_lint.specs.ReachRules.{number_below}
@@ -13,7 +13,7 @@ use Rattle.bplint_lines.specs.declared.fault.RunFault.{RunFault}
 use Rattle.bplint_lines.specs.declared.fault.RunFault.TheVariants as faults
 use Rattle.bplint_lines.specs.Answers.{Answer, gives, refuses}
 use Rattle.bplint_engine.specs.Lint.{IsLintFault, LintSays}
-use Rattle.bplint_lines.specs.OutputLines.{content_word, lint_line}
+use Rattle.bplint_lines.specs.OutputLines.{kind_word, lint_line}
 use Rattle.bplint_engine.proofs.EqualAnswers.{same_gives, same_numbers}
 
 module _ (f : List ℕ) where
@@ -37,14 +37,15 @@ module _ (f : List ℕ) where
       least_heights_one f F a.certificate.heights b.certificate.heights (formed_by_valid f F a.certificate.heights x.valid) x.least y.least
 
   pub one_lint : (a b : Answer) → LintSays f a → LintSays f b → a ≡ b
-  one_lint (gives s xs) (gives t ys) (F, x, c, is, l, sp, all, line) (G, y, d, is', m, sp', all', line') =
+  one_lint (gives s xs) (gives t ys) (x, c, (F, is, l, (head, (has, _), kind)), all, line) (y, d, (G, is', m, (head', (has', _), kind')), all', line') =
       let same : G ≡ F = one_frame f G F is' is in
       let n : IsLintedBy f F y = subst (λ X. IsLintedBy f X y) same m in
       let heights = same_heights F x y l n in
       let reached : x.reached ≡ y.reached = l.reached ∙ ap (λ hs. number_below (is_vouched hs) F.objects) heights ∙ sym n.reached in
       let height : x.height ≡ y.height = l.height ∙ ap (λ hs. slice_index hs F.top.0) heights ∙ sym n.height in
-      let word = ap content_word (one_head f F F.top.0 c d sp (subst (λ X. Spells f X X.top.0 d) same sp')) in
+      let heads : head ≡ head' = one_shape f F F.top.0 head head' has (subst (λ X. HasShape f X X.top.0 head') same has') in
+      let word = ap kind_word (kind ∙ ap (λ h. h.kind) heads ∙ sym kind') in
       same_gives s t xs ys (all ∙ sym all') (line ∙ (λ i. lint_line (reached i) (height i) (word i) ++ 10 ∷ []) ∙ sym line')
-  one_lint (gives s xs) (refuses b) h k = absurd (not_linted h.0 h.1 b h.4 k)
-  one_lint (refuses a) (gives t ys) h k = absurd (not_linted k.0 k.1 a k.4 h)
+  one_lint (gives s xs) (refuses b) h k = absurd (not_linted h.2.0 h.0 b h.2.2 k)
+  one_lint (refuses a) (gives t ys) h k = absurd (not_linted k.2.0 k.0 a k.2.2 h)
   one_lint (refuses a) (refuses b) h k = ap refuses (one_lint_fault a b h k)

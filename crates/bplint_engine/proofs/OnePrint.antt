@@ -1,5 +1,6 @@
 -- What `print` says is one.
 use Rattle.std.proofs.Common.{◌≡◌, ◌⊎◌, ℕ, ◌++◌, List, [], ◌∷◌, length, inl, inr, Option, Some, None, Result, Ok, Err, refl, sym, ap, ◌∙◌, subst, arith}
+use Rattle.std.specs.List.{AllZip}
 use Rattle.std.proofs.Props.{props}
 use Rattle.std.proofs.Math.Logic.{∥∥₁_elim}
 use Rattle.bplist_objects.specs.declared.frame.Frame.{Frame}
@@ -17,8 +18,10 @@ use Rattle.bplint_lines.specs.declared.fault.RunFault.{RunFault}
 use Rattle.bplint_lines.specs.declared.fault.RunFault.TheVariants as faults
 use Rattle.bplint_lines.specs.declared.said.Said.{Said}
 use Rattle.bplint_lines.specs.Answers.{Answer, gives, refuses}
-use Rattle.bplint_engine.specs.PathQueries.{IsAskingFault}
-use Rattle.bplint_engine.specs.Print.{PrintGives, PrintRefuses, PathSays, ValueSays, PrintSays}
+use Rattle.bplint_engine.specs.PathQueries.{IsAskingFault, IsQueryOf}
+use Rattle.bplint_engine.specs.CertifiedFile.{IsVouchedFor}
+use Rattle.bplist_cert.specs.Lists.{Lists}
+use Rattle.bplint_engine.specs.Print.{PrintGives, PrintRefuses, PathSays, PrintSays}
 use Rattle.bplint_engine.proofs.OneLocation.{one_end}
 use Rattle.bplint_engine.proofs.EqualAnswers.{same_gives}
 use Rattle.bplint_engine.proofs.OneCheck.{same_frame}
@@ -77,7 +80,13 @@ same_steps : (a b : List (List ℕ)) → queries.Get a ∷ [] ≡ queries.Get b 
 same_steps a b e = cc
 
 module _ (f cert : List ℕ) (texts : List (List ℕ)) (limit : ℕ) where
-  one_value_answer : (a b : Answer) → ValueSays f cert texts limit a → ValueSays f cert texts limit b → a ≡ b
+  -- the answer for the file's value
+  abbrev ValueSays : Answer → Type 0
+  ValueSays answer =
+      (steps : List (List ℕ)) × (F : Frame) × (lists : Lists) × (v : Value) × AllZip IsQueryOf texts (queries.Get steps ∷ [])
+      × IsVouchedFor f cert F lists × Holds f F F.top.0 v × PathSays f F limit steps v answer
+
+  one_value_answer : (a b : Answer) → ValueSays a → ValueSays b → a ≡ b
   one_value_answer a b (steps, F, l, v, are, vouched, holds, h) (steps', G, m, w, are', vouched', holds', k) =
       let frame = same_frame f cert G F m l vouched' vouched in
       let path : steps' ≡ steps = same_steps steps' steps (one_queries texts _ _ are' are) in
@@ -87,24 +96,24 @@ module _ (f cert : List ℕ) (texts : List (List ℕ)) (limit : ℕ) where
       (λ i j x y. ∥∥₁_elim vouched.accepted (hlevel props) (λ accepted. one_end f F accepted.valid.frame steps v F.top.0 i j holds x y))
       a b h other
 
-  not_asked : (a : RunFault) (b : Answer) → IsAskingFault f cert texts a → ValueSays f cert texts limit b → ⊥
+  not_asked : (a : RunFault) (b : Answer) → IsAskingFault f cert texts a → ValueSays b → ⊥
   not_asked a b h (steps, F, l, v, are, vouched, holds, k) = not_asking f cert texts (queries.Get steps ∷ []) F l a are vouched h
 
   -- a refusal is a fault of what is asked, or the value's
-  refused_by : (a : RunFault) → PrintSays f cert texts limit (refuses a) → IsAskingFault f cert texts a ⊎ ValueSays f cert texts limit (refuses a)
+  refused_by : (a : RunFault) → PrintSays f cert texts limit (refuses a) → IsAskingFault f cert texts a ⊎ ValueSays (refuses a)
   refused_by (faults.Path p) h = inl h
   refused_by (faults.Fault x) h = inl h
   refused_by _ h = inr h
 
-  one_print_refusal : (a b : RunFault) → IsAskingFault f cert texts a ⊎ ValueSays f cert texts limit (refuses a)
-      → IsAskingFault f cert texts b ⊎ ValueSays f cert texts limit (refuses b) → refuses a ≡ refuses b
+  one_print_refusal : (a b : RunFault) → IsAskingFault f cert texts a ⊎ ValueSays (refuses a)
+      → IsAskingFault f cert texts b ⊎ ValueSays (refuses b) → refuses a ≡ refuses b
   one_print_refusal a b (inl h) (inl k) = ap refuses (one_asking f cert texts a b h k)
   one_print_refusal a b (inl h) (inr k) = absurd (not_asked a (refuses b) h k)
   one_print_refusal a b (inr h) (inl k) = absurd (not_asked b (refuses a) k h)
   one_print_refusal a b (inr h) (inr k) = one_value_answer (refuses a) (refuses b) h k
 
-  given_once : (s : Said) (xs : List ℕ) (b : RunFault) → ValueSays f cert texts limit (gives s xs)
-      → IsAskingFault f cert texts b ⊎ ValueSays f cert texts limit (refuses b) → gives s xs ≡ refuses b
+  given_once : (s : Said) (xs : List ℕ) (b : RunFault) → ValueSays (gives s xs)
+      → IsAskingFault f cert texts b ⊎ ValueSays (refuses b) → gives s xs ≡ refuses b
   given_once s xs b h (inl k) = absurd (not_asked b (gives s xs) k h)
   given_once s xs b h (inr k) = one_value_answer (gives s xs) (refuses b) h k
 

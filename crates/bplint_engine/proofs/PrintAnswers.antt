@@ -1,5 +1,6 @@
 -- What `print` says and leaves, from the answers of the cursor and of the printer.
 use Rattle.std.proofs.Common.{◌≡◌, inl, inr, ◌∙◌, append_assoc, ℕ, ◌+◌, List, [], ◌∷◌, ◌++◌, length, ap, sym, subst, refl, arith, Option, Result, Ok, Err}
+use Rattle.std.specs.List.{AllZip}
 use Rattle.std.specs.Prelude.{IfOk, IfErr}
 use Rattle.std.proofs.Math.Logic.{∥∥₁_map}
 use Rattle.bplist_objects.specs.declared.frame.Frame.{Frame}
@@ -17,7 +18,7 @@ use Rattle.bplist_cursor.specs.Causes.{IsExcused}
 use Rattle.bplist_cursor.specs.Found.{IsFound, LeadTo, IsHeld}
 use Rattle.bplist_cursor.specs.Look.{look}
 use Rattle.bplist_ascii.specs.Sending.{Sending, SendsSome, Takes, TakesPart, AtMost}
-use Rattle.bplist_ascii.specs.Printed.{into_sink, HasText, PrintFails, Prints}
+use Rattle.bplist_ascii.specs.Printed.{IsPut, HasText}
 use Rattle.bplist_ascii.specs.declared.sink.WriteFault.{WriteFault}
 use Rattle.bplist_ascii.specs.declared.print_fault.PrintFault.{PrintFault}
 use Rattle.bplist_ascii.specs.declared.print_fault.PrintFault.TheVariants as print_faults
@@ -27,9 +28,9 @@ use Rattle.bplint_lines.specs.declared.fault.RunFault.TheVariants as faults
 use Rattle.bplint_lines.specs.declared.output.Output.{Output}
 use Rattle.bplint_lines.specs.declared.said.Said.{Said}
 use Rattle.bplint_lines.specs.declared.said.Said.TheVariants.{All, SomeMissing}
-use Rattle.bplint_lines.specs.Answers.{Answer, gives, refuses, Answers, BeginsAnswer, IsRefusal, Leaves, LeavesBy, LeavesFault}
-use Rattle.bplint_engine.specs.PathQueries.{AreQueries}
-use Rattle.bplint_lines.specs.Faults.{cursor_fault, print_fault}
+use Rattle.bplint_lines.specs.Answers.{Answer, gives, refuses, Answers, BeginsAnswer, IsRefusal, Leaves, LeavesBy}
+use Rattle.bplint_engine.specs.PathQueries.{IsQueryOf}
+use Rattle.bplint_engine.proofs.FaultsBelow.{cursor_fault, print_fault}
 use Rattle.bplint_lines.specs.OutputLines.{missing_line}
 use Rattle.bplint_engine.specs.Print.{NodeSays, PathSays, PrintSays, PrintGives}
 use Rattle.bplint_engine.specs.CertifiedFile.{IsVouchedFor}
@@ -37,7 +38,7 @@ use Rattle.bplint_engine.proofs.LeftBytes.{begins_nothing, kept_self, said_as}
 
 -- the cursor met a failed read or a refused growth
 pub cursor_stopped : (Says : Answer → Type 0) (most : ℕ) (old : Option (List ℕ)) (fault : CursorFault) → IsExcused fault
-    → LeavesFault Says most old old (cursor_fault fault)
+    → LeavesBy Says most old old (Err (cursor_fault fault))
 cursor_stopped Says most old (cursor_faults.Read _) h = begins_nothing Says most old old (kept_self old)
 cursor_stopped Says most old cursor_faults.Changed h = absurd h
 cursor_stopped Says most old cursor_faults.Memory h = begins_nothing Says most old old (kept_self old)
@@ -50,16 +51,16 @@ begun_answer : (old new : Option (List ℕ)) (s : Sending) (f : List ℕ) (F : F
     → s ≡ record { sent = 0; held = [] } → HasText w limit (λ t. SendsSome old new (s.held ++ t)) → AtMost old new (length s.held + limit)
     → BeginsAnswer (NodeSays f F limit n w) limit old new
 begun_answer old new s f F n w limit start (t, is, fits, some) bound =
-    let all : t ++ 10 ∷ [] ≡ some.gone ++ (some.rest ++ 10 ∷ []) =
-    ap (λ l. l ++ 10 ∷ []) (sym (ap (λ x. x.held ++ t) start) ∙ some.all) ∙ append_assoc some.gone some.rest (10 ∷ []) in (
+    let all : t ++ 10 ∷ [] ≡ some.0 ++ (some.1 ++ 10 ∷ []) =
+    ap (λ l. l ++ 10 ∷ []) (sym (ap (λ x. x.held ++ t) start) ∙ some.3) ∙ append_assoc some.0 some.1 (10 ∷ []) in (
       within old new s limit start bound,
-      inr (All, t ++ 10 ∷ [], (t, is, fits, refl, refl), record { gone = some.gone; rest = some.rest ++ 10 ∷ []; appended = some.appended; all = all }),
+      inr (All, t ++ 10 ∷ [], (t, is, fits, refl, refl), (some.0, some.1 ++ 10 ∷ [], some.2, all)),
     )
 
 -- the text was not put in whole
-pub print_failed : (old new : Option (List ℕ)) (s u : Sending) (f : List ℕ) (F : Frame) (n : ℕ) (w : Value) (limit : ℕ) (fault : PrintFault)
-    → s ≡ record { sent = 0; held = [] } → PrintFails (into_sink old new s u) f F n w limit fault → AtMost old new (length s.held + limit)
-    → LeavesFault (NodeSays f F limit n w) limit old new (print_fault fault)
+print_failed : (old new : Option (List ℕ)) (s u : Sending) (f : List ℕ) (F : Frame) (n : ℕ) (w : Value) (limit : ℕ) (fault : PrintFault)
+    → s ≡ record { sent = 0; held = [] } → IsPut old new s u f F n w limit (Err fault) → AtMost old new (length s.held + limit)
+    → LeavesBy (NodeSays f F limit n w) limit old new (Err (print_fault fault))
 print_failed old new s u f F n w limit (print_faults.NoAsciiForm part) start (none, formless, (kept, _)) bound = ((none, formless), kept)
 print_failed old new s u f F n w limit print_faults.TooLong start (t, is, long, (kept, _)) bound = ((t, is, long), kept)
 print_failed old new s u f F n w limit (print_faults.Write sent) start (t, is, fits, part) bound = (
@@ -73,17 +74,24 @@ print_failed old new s u f F n w limit (print_faults.Read _) start (inr begun) b
 print_failed old new s u f F n w limit print_faults.Changed start h bound = absurd h
 print_failed old new s u f F n w limit print_faults.Memory start begun bound = begun_answer old new s f F n w limit start begun bound
 
+-- the same of an answer that is known to be this fault
+pub print_refused : (old new : Option (List ℕ)) (s u : Sending) (f : List ℕ) (F : Frame) (n : ℕ) (w : Value) (limit : ℕ) (r : Result (Unit {0}) PrintFault) (fault : PrintFault)
+    → r ≡ Err fault → s ≡ record { sent = 0; held = [] } → IsPut old new s u f F n w limit r → AtMost old new (length s.held + limit)
+    → LeavesBy (NodeSays f F limit n w) limit old new (Err (print_fault fault))
+print_refused old new s u f F n w limit r fault is start put bound =
+    print_failed old new s u f F n w limit fault start (subst (λ x. IsPut old new s u f F n w limit x) is put) bound
+
 -- the text was put in, and its line feed was not
 pub end_failed : (old mid new : Option (List ℕ)) (s t : Sending) (f : List ℕ) (F : Frame) (n : ℕ) (w : Value) (limit sent : ℕ)
-    → s ≡ record { sent = 0; held = [] } → Prints (into_sink old mid s t) f F n w limit (Ok tt) → TakesPart mid new t (10 ∷ []) sent
-    → LeavesFault (NodeSays f F limit n w) limit old new (faults.Write sent)
+    → s ≡ record { sent = 0; held = [] } → IsPut old mid s t f F n w limit (Ok tt) → TakesPart mid new t (10 ∷ []) sent
+    → LeavesBy (NodeSays f F limit n w) limit old new (Err (faults.Write sent))
 end_failed old mid new s t f F n w limit sent start (text, is, fits, takes) part =
     let out = out_takes (out_start old s (ap (λ x. x.sent) start) (ap (λ x. x.held) start)) takes in
     (All, text ++ 10 ∷ [], (text, is, fits, refl, refl), out_part old mid new t text (10 ∷ []) sent out part)
 
 -- text and line feed went out
 pub printed : (old mid new : Option (List ℕ)) (s t u : Sending) (f : List ℕ) (F : Frame) (n : ℕ) (w : Value) (limit : ℕ)
-    → s ≡ record { sent = 0; held = [] } → Prints (into_sink old mid s t) f F n w limit (Ok tt) → Takes mid new t u (10 ∷ []) → u.held ≡ []
+    → s ≡ record { sent = 0; held = [] } → IsPut old mid s t f F n w limit (Ok tt) → Takes mid new t u (10 ∷ []) → u.held ≡ []
     → LeavesBy (NodeSays f F limit n w) limit old new (Ok All)
 printed old mid new s t u f F n w limit start (text, is, fits, takes) ended empty =
     let out = out_takes (out_start old s (ap (λ x. x.sent) start) (ap (λ x. x.held) start)) takes in
@@ -113,7 +121,7 @@ missing_says f F limit steps v step why (Err fault) is _ memory = subst (IsRefus
 
 -- the answer for the value that the file holds is that of the command
 pub path_to_print : (f cert : List ℕ) (texts : List (List ℕ)) (limit : ℕ) (steps : List (List ℕ)) (F : Frame) (lists : Lists) (v : Value)
-    → AreQueries texts (Get steps ∷ []) → IsVouchedFor f cert F lists → Holds f F F.top.0 v
+    → AllZip IsQueryOf texts (Get steps ∷ []) → IsVouchedFor f cert F lists → Holds f F F.top.0 v
     → (a : Answer) → PathSays f F limit steps v a → PrintSays f cert texts limit a
 path_to_print f cert texts limit steps F lists v are vouched holds (gives said bytes) h = (steps, F, lists, v, are, vouched, holds, h)
 path_to_print f cert texts limit steps F lists v are vouched holds (refuses (faults.NoAsciiForm part)) h = (steps, F, lists, v, are, vouched, holds, h)
@@ -130,7 +138,7 @@ path_to_print f cert texts limit steps F lists v are vouched holds (refuses faul
 path_to_print f cert texts limit steps F lists v are vouched holds (refuses faults.InputTooLong) (n, w, leads, is, h) = absurd h
 
 pub print_leaves : (f cert : List ℕ) (texts : List (List ℕ)) (limit : ℕ) (steps : List (List ℕ)) (F : Frame) (lists : Lists) (old new : Option (List ℕ))
-    (result : Result Said RunFault) → AreQueries texts (Get steps ∷ []) → IsVouchedFor f cert F lists → ∥ ((v : Value) × Holds f F F.top.0 v) ∥₁
+    (result : Result Said RunFault) → AllZip IsQueryOf texts (Get steps ∷ []) → IsVouchedFor f cert F lists → ∥ ((v : Value) × Holds f F F.top.0 v) ∥₁
     → ((v : Value) → Holds f F F.top.0 v → LeavesBy (PathSays f F limit steps v) limit old new result)
     → Leaves (PrintSays f cert texts limit) limit old new result
 print_leaves f cert texts limit steps F lists old new result are vouched value left =

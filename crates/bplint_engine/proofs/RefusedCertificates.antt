@@ -6,7 +6,8 @@ use Rattle.bplist_cert.specs.PairFault.{IsPairFault}
 use Rattle.bplist_cert.specs.Refusals.{GivesRefusal}
 use Rattle.bplist_cert.specs.declared.refusal.Refusal.{Refusal}
 use Rattle.bplist_cert.specs.declared.refusal.Refusal.TheVariants as refusals
-use Rattle.bplint_lines.specs.Faults.{OnFault, check_fault}
+use Rattle.bplint_lines.specs.Faults.{OnFault}
+use Rattle.bplint_engine.proofs.FaultsBelow.{check_fault}
 use Rattle.bplint_engine.specs.CertifiedFile.{IsVouchingFault}
 
 -- the bytes are those of a certificate, and the check refuses it

@@ -17,21 +17,14 @@ abbrev pub written : Bool → List ℕ → List ℕ
 written false octets = octets
 written true octets = encode_lower octets ++ 10 ∷ []
 
--- `certify` answers the certificate of the least heights
-abbrev pub LeastSays : Bool → List ℕ → Answer → Type 0
-LeastSays hex f (gives said bytes) =
-    (F : Frame) × (lint : Lint) × IsFrame f F × IsLintedBy f F lint
-    × (said ≡ All) × (bytes ≡ written hex (octets_of lint.certificate))
-LeastSays hex f (refuses fault) = IsLintFault f fault
+-- the lists that are written: those of the least heights, or with key lists
+abbrev pub AreWritten : Bool → List ℕ → Frame → Lists → Lists → Type 0
+AreWritten false f F least lists = lists ≡ least
+AreWritten true f F least lists = IsCertificate lists × ∥ IsUpgraded f F least.heights lists ∥₁
 
--- `certify --sorted` answers it with key lists
-abbrev pub SortedSays : Bool → List ℕ → Answer → Type 0
-SortedSays hex f (gives said bytes) =
-    (F : Frame) × (lint : Lint) × (lists : Lists) × IsFrame f F × IsLintedBy f F lint
-    × IsCertificate lists × ∥ IsUpgraded f F lint.certificate.heights lists ∥₁ × (said ≡ All) × (bytes ≡ written hex (octets_of lists))
-SortedSays hex f (refuses fault) = IsLintFault f fault
-
--- `certify`, with or without key lists
+-- `certify`, with or without key lists, answers a certificate of the least heights
 abbrev pub CertifySays : Bool → Bool → List ℕ → Answer → Type 0
-CertifySays false hex f answer = LeastSays hex f answer
-CertifySays true hex f answer = SortedSays hex f answer
+CertifySays sorted hex f (gives said bytes) =
+    (F : Frame) × (lint : Lint) × (lists : Lists) × IsFrame f F × IsLintedBy f F lint
+    × AreWritten sorted f F lint.certificate lists × (said ≡ All) × (bytes ≡ written hex (octets_of lists))
+CertifySays sorted hex f (refuses fault) = IsLintFault f fault

@@ -1,6 +1,6 @@
 -- What `get` says. Source: profile.
 use Rattle.std.specs.Prelude.{◌≡◌, ◌∷◌, ◌++◌, ℕ, List, [], map, Bool, true, false, if◌then◌else◌}
-use Rattle.std.specs.List.{flat_map, list_any}
+use Rattle.std.specs.List.{AllZip, flat_map, list_any}
 use Rattle.bplist_objects.specs.declared.frame.Frame.{Frame}
 use Rattle.bplist_objects.specs.Value.{Value}
 use Rattle.bplist_objects.specs.Holds.{Holds}
@@ -12,7 +12,7 @@ use Rattle.bplist_cursor.specs.Replies.{reply}
 use Rattle.bplint_lines.specs.declared.said.Said.{Said}
 use Rattle.bplint_lines.specs.declared.said.Said.TheVariants.{All, SomeMissing}
 use Rattle.bplint_lines.specs.Answers.{Answer, gives, refuses}
-use Rattle.bplint_engine.specs.PathQueries.{AreQueries, IsAskingFault}
+use Rattle.bplint_engine.specs.PathQueries.{IsAskingFault, IsQueryOf}
 use Rattle.bplint_lines.specs.OutputLines.{face_line, missing_line}
 use Rattle.bplint_engine.specs.CertifiedFile.{IsVouchedFor}
 
@@ -21,10 +21,6 @@ abbrev pub reply_line : Reply → List ℕ
 reply_line (Face face) = face_line face ++ 10 ∷ []
 reply_line (Missing step why) = missing_line step why ++ 10 ∷ []
 reply_line _ = []
-
--- the lines of replies, in order
-abbrev pub reply_lines : List Reply → List ℕ
-reply_lines replies = flat_map reply_line replies
 
 -- the path leads nowhere
 abbrev pub is_missing : Reply → Bool
@@ -38,7 +34,7 @@ said_of replies = if list_any is_missing replies then SomeMissing else All
 -- `get` answers a line for each path, from the file's value
 abbrev pub GetSays : List ℕ → List ℕ → List (List ℕ) → Answer → Type 0
 GetSays f cert texts (gives said bytes) =
-    (queries : List Query) × (F : Frame) × (lists : Lists) × AreQueries texts queries × IsVouchedFor f cert F lists
+    (queries : List Query) × (F : Frame) × (lists : Lists) × AllZip IsQueryOf texts queries × IsVouchedFor f cert F lists
     × ((v : Value) → Holds f F F.top.0 v
-    → (said ≡ said_of (map (reply v) queries)) × (bytes ≡ reply_lines (map (reply v) queries)))
+    → (said ≡ said_of (map (reply v) queries)) × (bytes ≡ flat_map reply_line (map (reply v) queries)))
 GetSays f cert texts (refuses fault) = IsAskingFault f cert texts fault

@@ -3,10 +3,10 @@ use Rattle.std.specs.Prelude.{◌≡◌, ◌∷◌, ◌++◌, ℕ, zero, suc, �
 use Rattle.bplist_objects.specs.declared.frame.Frame.{Frame}
 use Rattle.bplist_objects.specs.Frame.{IsFrame}
 use Rattle.bplist_objects.specs.Holds.{Holds}
-use Rattle.bplist_objects.specs.Value.{Value, leaf, array, set, dict, text, keys}
-use Rattle.bplist_cursor.specs.declared.reply.Query.TheVariants.{Get}
+use Rattle.bplist_objects.specs.Value.{Value, Values, Pairs, leaf, array, set, dict, no_values, value, no_pairs, pair, text, keys}
 use Rattle.bplist_cursor.specs.Look.{Missing, look}
 use Rattle.bplist_cursor.specs.Members.{member_of}
+use Rattle.bplist_cursor.specs.Path.{IsPathOf}
 use Rattle.bplist_cursor.specs.Replies.{count, face}
 use Rattle.bplist_lint.specs.declared.answer.Lint.{Lint}
 use Rattle.bplist_lint.specs.Linted.{IsLintedBy}
@@ -15,7 +15,6 @@ use Rattle.bplint_engine.specs.declared.member_lines.Members.TheVariants.{Array,
 use Rattle.bplint_lines.specs.declared.said.Said.{Said}
 use Rattle.bplint_lines.specs.declared.said.Said.TheVariants.{All, SomeMissing}
 use Rattle.bplint_lines.specs.Answers.{Answer, gives, refuses}
-use Rattle.bplint_engine.specs.PathQueries.{AreQueries}
 use Rattle.bplint_lines.specs.MemberNames.{bracketed, index_name, key_name}
 use Rattle.bplint_lines.specs.OutputLines.{face_line, missing_line}
 use Rattle.bplint_engine.specs.Show.{IsShowFault}
@@ -58,12 +57,22 @@ abbrev pub first_lines : List ℕ → Value → ℕ → List ℕ
 first_lines path w zero = []
 first_lines path w (suc n) = first_lines path w n ++ member_line path w n
 
+-- the lines of values from number i on, with these names
+abbrev pub value_lines : (ℕ → List ℕ) → ℕ → Values → List ℕ
+value_lines name i no_values = []
+value_lines name i (value v vs) = named_line (name i) v ++ value_lines name (i + 1) vs
+
+-- the lines of pairs from number i on
+abbrev pub pair_lines : List ℕ → ℕ → Pairs → List ℕ
+pair_lines path i no_pairs = []
+pair_lines path i (pair u v ps) = named_line (key_name path i u) v ++ pair_lines path (i + 1) ps
+
 -- all lines of a value: of its members, or of the leaf
 abbrev pub listed : List ℕ → Value → List ℕ
 listed path (leaf l) = named_line path (leaf l)
-listed path (array vs) = first_lines path (array vs) (count vs)
-listed path (set vs) = first_lines path (set vs) (count vs)
-listed path (dict ps) = first_lines path (dict ps) (length (keys ps))
+listed path (array vs) = value_lines (index_name path) 0 vs
+listed path (set vs) = value_lines bracketed 0 vs
+listed path (dict ps) = pair_lines path 0 ps
 
 -- what `ls` writes of a found value, or of a path that leads nowhere
 abbrev pub ListGives : List ℕ → Result Value Missing → Said → List ℕ → Type 0
@@ -73,6 +82,6 @@ ListGives path (Err missing) said bytes = (said ≡ SomeMissing) × (bytes ≡ m
 -- `ls` answers the members under a path of the file's value
 abbrev pub ListSays : List ℕ → List ℕ → Answer → Type 0
 ListSays f path (gives said bytes) =
-    (steps : List (List ℕ)) × (F : Frame) × (lint : Lint) × AreQueries (path ∷ []) (Get steps ∷ []) × IsFrame f F × IsLintedBy f F lint
+    (steps : List (List ℕ)) × (F : Frame) × (lint : Lint) × IsPathOf path steps × IsFrame f F × IsLintedBy f F lint
     × ((v : Value) → Holds f F F.top.0 v → ListGives path (look v steps) said bytes)
 ListSays f path (refuses fault) = IsShowFault f (path ∷ []) fault

@@ -13,10 +13,6 @@ abbrev pub IsQueryOf : List ℕ → Query → Type 0
 IsQueryOf text (Get steps) = IsPathOf text steps
 IsQueryOf text _ = ⊥
 
--- the queries ask for the paths of these texts, in order
-abbrev pub AreQueries : List (List ℕ) → List Query → Type 0
-AreQueries texts queries = AllZip IsQueryOf texts queries
-
 -- the first wrong path text is wrong at this place
 abbrev pub IsWrongAmong : List (List ℕ) → ℕ → Type 0
 IsWrongAmong [] place = ⊥
@@ -26,5 +22,5 @@ IsWrongAmong (text ∷ texts) place =
 -- the first fault of path texts, certificate bytes, and the pair, in this order
 abbrev pub IsAskingFault : List ℕ → List ℕ → List (List ℕ) → RunFault → Type 0
 IsAskingFault f cert texts (faults.Path place) = IsWrongAmong texts place
-IsAskingFault f cert texts (faults.Fault fault) = (queries : List Query) × AreQueries texts queries × IsVouchingFault f cert fault
+IsAskingFault f cert texts (faults.Fault fault) = (asked : List Query) × AllZip IsQueryOf texts asked × IsVouchingFault f cert fault
 IsAskingFault f cert texts _ = ⊥

@@ -1,5 +1,6 @@
 -- What `print` says. Source: profile.
 use Rattle.std.specs.Prelude.{◌≡◌, ◌∷◌, ◌++◌, ℕ, List, [], None, Some, Result, Ok, Err}
+use Rattle.std.specs.List.{AllZip}
 use Rattle.bplist_objects.specs.declared.frame.Frame.{Frame}
 use Rattle.bplist_objects.specs.Value.{Value}
 use Rattle.bplist_objects.specs.Holds.{Holds}
@@ -15,7 +16,7 @@ use Rattle.bplint_lines.specs.declared.said.Said.TheVariants.{All, SomeMissing}
 use Rattle.bplint_lines.specs.declared.fault.RunFault.{RunFault}
 use Rattle.bplint_lines.specs.declared.fault.RunFault.TheVariants as faults
 use Rattle.bplint_lines.specs.Answers.{Answer, gives, refuses}
-use Rattle.bplint_engine.specs.PathQueries.{AreQueries, IsAskingFault}
+use Rattle.bplint_engine.specs.PathQueries.{IsAskingFault, IsQueryOf}
 use Rattle.bplint_lines.specs.OutputLines.{missing_line}
 use Rattle.bplint_engine.specs.CertifiedFile.{IsVouchedFor}
 
@@ -33,29 +34,21 @@ PrintRefuses f F limit n w faults.TooLong =
     (text : List ℕ) × (value_text w ≡ Some text) × IsTooLong limit text
 PrintRefuses f F limit n w _ = ⊥
 
--- the same of the value under a path
-abbrev pub IsPrintRefusal : List ℕ → Frame → ℕ → List (List ℕ) → Value → RunFault → Type 0
-IsPrintRefusal f F limit steps v fault =
-    (n : ℕ) × (w : Value) × LeadTo f F F.top.0 steps n × (look v steps ≡ Ok w) × PrintRefuses f F limit n w fault
-
--- `print` answers the text under the path, or that it leads nowhere
+-- `print` answers the text under the path, or that it leads nowhere, or why the value there is not printed
 abbrev pub PathSays : List ℕ → Frame → ℕ → List (List ℕ) → Value → Answer → Type 0
 PathSays f F limit steps v (gives said bytes) = PrintGives limit (look v steps) said bytes
-PathSays f F limit steps v (refuses fault) = IsPrintRefusal f F limit steps v fault
+PathSays f F limit steps v (refuses fault) =
+    (n : ℕ) × (w : Value) × LeadTo f F F.top.0 steps n × (look v steps ≡ Ok w) × PrintRefuses f F limit n w fault
 
 -- the same of the value that object n holds
 abbrev pub NodeSays : List ℕ → Frame → ℕ → ℕ → Value → Answer → Type 0
 NodeSays f F limit n w (gives said bytes) = PrintGives limit (Ok w) said bytes
 NodeSays f F limit n w (refuses fault) = PrintRefuses f F limit n w fault
 
--- the same of the file's value and one path text
-abbrev pub ValueSays : List ℕ → List ℕ → List (List ℕ) → ℕ → Answer → Type 0
-ValueSays f cert texts limit answer =
-    (steps : List (List ℕ)) × (F : Frame) × (lists : Lists) × (v : Value) × AreQueries texts (Get steps ∷ [])
-    × IsVouchedFor f cert F lists × Holds f F F.top.0 v × PathSays f F limit steps v answer
-
--- the answer of `print`
+-- the answer of `print` for the file's value and one path text
 abbrev pub PrintSays : List ℕ → List ℕ → List (List ℕ) → ℕ → Answer → Type 0
 PrintSays f cert texts limit (refuses (faults.Path place)) = IsAskingFault f cert texts (faults.Path place)
 PrintSays f cert texts limit (refuses (faults.Fault fault)) = IsAskingFault f cert texts (faults.Fault fault)
-PrintSays f cert texts limit answer = ValueSays f cert texts limit answer
+PrintSays f cert texts limit answer =
+    (steps : List (List ℕ)) × (F : Frame) × (lists : Lists) × (v : Value) × AllZip IsQueryOf texts (Get steps ∷ [])
+    × IsVouchedFor f cert F lists × Holds f F F.top.0 v × PathSays f F limit steps v answer

@@ -1,11 +1,11 @@
 //! The answer of `certify`.
-ghost use Rattle.std.specs.Prelude.{◌≡◌, IfOk, IsTrue};
+ghost use Rattle.std.specs.Prelude.{◌≡◌, IfOk, IsTrue, false, true};
 ghost use Rattle.bplist_octets.specs.Meaning.{OnlyReads};
 ghost use Rattle.bplist_cert.specs.Encoding.{octets_of};
 ghost use Rattle.bplist_cert.specs.Lists.{Lists, IsCertificate};
 ghost use Rattle.bplist_lint.specs.Upgraded.{IsUpgraded};
 ghost use Rattle.bplint_lines.specs.Answers.{Answers, read_failed};
-ghost use Rattle.bplint_engine.specs.Certify.{CertifySays, LeastSays, SortedSays, written};
+ghost use Rattle.bplint_engine.specs.Certify.{CertifySays, written};
 ghost use Rattle.bplint_lines.specs.Faults.{Gives};
 
 use bplint_lines::{Output, RunFault, Said};
@@ -34,7 +34,7 @@ pub(crate) fn certify_output<S: Source>(
 /// The bytes of the certificate of the least heights.
 fn least_output<S: Source>(alloc: Global, src: &mut S, hex: bool) -> Result<Output, RunFault>
     ensures reads { OnlyReads (read_failed result) (S.means src.old) (S.means src.new) }
-    ensures exact { IsTrue (S.means src.old).honest → Answers (LeastSays hex (S.means src.old).octets) result }
+    ensures exact { IsTrue (S.means src.old).honest → Answers (CertifySays false hex (S.means src.old).octets) result }
 {
     let found = lint(alloc, src)?;
     Ok(output_of(alloc, &found.certificate, hex)?)
@@ -43,7 +43,7 @@ fn least_output<S: Source>(alloc: Global, src: &mut S, hex: bool) -> Result<Outp
 /// The bytes of the certificate of the least heights with key lists, and the source again.
 fn sorted_output<S: Source>(alloc: Global, src: S, hex: bool) -> (Result<Output, RunFault>, S)
     ensures source { OnlyReads (read_failed result.0) (S.means src) (S.means result.1) }
-    ensures exact { IsTrue (S.means src).honest → Answers (SortedSays hex (S.means src).octets) result.0 }
+    ensures exact { IsTrue (S.means src).honest → Answers (CertifySays true hex (S.means src).octets) result.0 }
 {
     let mut src = src;
     let found = match lint(alloc, &mut src) {

@@ -1,5 +1,6 @@
 //! The answer of `get`.
 ghost use Rattle.std.specs.Prelude.{◌≡◌, ◌++◌, IfOk, IsTrue, OnOk, map, string_bytes};
+ghost use Rattle.std.specs.List.{flat_map};
 ghost use Rattle.std.specs.List.{list_any};
 ghost use Rattle.bplist_octets.specs.Meaning.{OnlyReads};
 ghost use Rattle.bplist_objects.specs.Holds.{Holds};
@@ -8,7 +9,7 @@ ghost use Rattle.bplist_cursor.specs.Kept.{Keeps};
 ghost use Rattle.bplist_cursor.specs.Replies.{reply};
 ghost use Rattle.bplint_lines.specs.Answers.{Answers, read_failed};
 ghost use Rattle.bplint_lines.specs.Faults.{Gives};
-ghost use Rattle.bplint_engine.specs.Get.{GetSays, reply_line, reply_lines};
+ghost use Rattle.bplint_engine.specs.Get.{GetSays, reply_line};
 ghost use Rattle.bplint_engine.specs.Get as spec;
 
 use crate::certified_file::check_octets;
@@ -49,7 +50,8 @@ pub(crate) fn answer_queries<S: Source>(
     ensures source { OnlyReads (read_failed result.0) checked.source (S.means result.1) }
     ensures exact { IsTrue checked.source.honest → Gives (λ output. (v : Value)
         → Holds checked.source.octets checked.frame checked.frame.top.0 v
-        → (output.said ≡ spec.said_of (map (reply v) queries.now)) × (output.bytes.items ≡ reply_lines (map (reply v) queries.now))) result.0 }
+        → (output.said ≡ spec.said_of (map (reply v) queries.now))
+        × (output.bytes.items ≡ flat_map reply_line (map (reply v) queries.now))) result.0 }
 {
     let mut checked = checked;
     let made = lines_for(alloc, &mut checked, queries);
@@ -65,7 +67,8 @@ fn lines_for<S: Source>(
     ensures reads { Keeps (read_failed result) checked.old checked.new }
     ensures exact { IsTrue checked.old.source.honest → Gives (λ output. (v : Value)
         → Holds checked.old.source.octets checked.old.frame checked.old.frame.top.0 v
-        → (output.said ≡ spec.said_of (map (reply v) queries.now)) × (output.bytes.items ≡ reply_lines (map (reply v) queries.now))) result }
+        → (output.said ≡ spec.said_of (map (reply v) queries.now))
+        × (output.bytes.items ≡ flat_map reply_line (map (reply v) queries.now))) result }
 {
     let replies = answer_all(alloc, checked, queries)?;
     Ok(lines_of(alloc, &replies)?)
@@ -73,7 +76,8 @@ fn lines_for<S: Source>(
 
 /// The lines of replies, and whether one of them says that a path leads nowhere.
 fn lines_of(alloc: Global, replies: &[Reply]) -> Result<Output, AllocError>
-    ensures { IfOk result (λ output. (output.said ≡ spec.said_of replies.now) × (output.bytes.items ≡ reply_lines replies.now)) }
+    ensures { IfOk result (λ output. (output.said ≡ spec.said_of replies.now)
+        × (output.bytes.items ≡ flat_map reply_line replies.now)) }
 {
     let mut bytes = Vec::new(alloc);
     for reply in replies {

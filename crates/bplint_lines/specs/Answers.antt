@@ -45,18 +45,15 @@ abbrev pub BeginsAnswer : (Answer → Type 0) → ℕ → Option (List ℕ) → 
 BeginsAnswer Says most old new =
     AtMost old new most × (Keeps old new ⊎ ((said : Said) × (bytes : List ℕ) × Says (gives said bytes) × SendsSome old new bytes))
 
--- the fault is the answer and nothing is written, except for a first part after `Write`, `Read` and `Memory`
-abbrev pub LeavesFault : (Answer → Type 0) → ℕ → Option (List ℕ) → Option (List ℕ) → RunFault → Type 0
-LeavesFault Says most old new (faults.Write sent) =
-    (said : Said) × (bytes : List ℕ) × Says (gives said bytes) × IsCut old new bytes sent
-LeavesFault Says most old new (faults.Read _) = BeginsAnswer Says most old new
-LeavesFault Says most old new faults.Memory = BeginsAnswer Says most old new
-LeavesFault Says most old new fault = Says (refuses fault) × Keeps old new
-
--- what a run leaves with the writer: the answer's bytes, or what its fault allows
+-- what a run leaves with the writer: all bytes of its answer, a first part after `Write`, at most one after `Read` and
+-- `Memory`, and nothing where another fault is the answer
 abbrev pub LeavesBy : (Answer → Type 0) → ℕ → Option (List ℕ) → Option (List ℕ) → Result Said RunFault → Type 0
 LeavesBy Says most old new (Ok said) = (bytes : List ℕ) × Says (gives said bytes) × Appends old new bytes
-LeavesBy Says most old new (Err fault) = LeavesFault Says most old new fault
+LeavesBy Says most old new (Err (faults.Write sent)) =
+    (said : Said) × (bytes : List ℕ) × Says (gives said bytes) × IsCut old new bytes sent
+LeavesBy Says most old new (Err (faults.Read _)) = BeginsAnswer Says most old new
+LeavesBy Says most old new (Err faults.Memory) = BeginsAnswer Says most old new
+LeavesBy Says most old new (Err fault) = Says (refuses fault) × Keeps old new
 
 -- the same as a bare fact
 abbrev pub Leaves : (Answer → Type 0) → ℕ → Option (List ℕ) → Option (List ℕ) → Result Said RunFault → Type 0

@@ -1,66 +1,8 @@
--- The faults of a run that come from the layers below. Source: profile.
+-- What is said of the faults of a run. Source: profile.
 use Rattle.std.specs.Prelude.{ℕ, Result, Ok, Err}
 use Rattle.bplist_objects.specs.declared.fault.Fault.{Fault}
-use Rattle.bplist_cert.specs.declared.certificate.CertRefusal.{CertRefusal}
-use Rattle.bplist_cert.specs.declared.certificate.CertRefusal.TheVariants as cert_refusals
-use Rattle.bplist_cert.specs.declared.refusal.Refusal.{Refusal}
-use Rattle.bplist_cert.specs.declared.refusal.Refusal.TheVariants as refusals
-use Rattle.bplist_lint.specs.declared.refusal.LintRefusal.{LintRefusal}
-use Rattle.bplist_lint.specs.declared.refusal.LintRefusal.TheVariants as lint_refusals
-use Rattle.bplist_cursor.specs.declared.faults.CursorFault.{CursorFault}
-use Rattle.bplist_cursor.specs.declared.faults.CursorFault.TheVariants as cursor_faults
-use Rattle.bplist_cursor.specs.declared.path.PathFault.{PathFault}
-use Rattle.bplist_cursor.specs.declared.path.PathFault.TheVariants as path_faults
-use Rattle.bplist_lint.specs.declared.upgrade_fault.UpgradeFault.{UpgradeFault}
-use Rattle.bplist_lint.specs.declared.upgrade_fault.UpgradeFault.TheVariants as upgrade_faults
-use Rattle.bplist_ascii.specs.declared.print_fault.PrintFault.{PrintFault}
-use Rattle.bplist_ascii.specs.declared.print_fault.PrintFault.TheVariants as print_faults
 use Rattle.bplint_lines.specs.declared.fault.RunFault.{RunFault}
 use Rattle.bplint_lines.specs.declared.fault.RunFault.TheVariants as faults
-
--- a refusal of the linter as a fault
-abbrev pub lint_fault : LintRefusal → RunFault
-lint_fault (lint_refusals.Fault fault) = faults.Fault fault
-lint_fault (lint_refusals.Circle objects) = faults.Circle objects
-lint_fault (lint_refusals.Read fault) = faults.Read fault
-lint_fault lint_refusals.Memory = faults.Memory
-
--- a refusal of certificate bytes as a fault
-abbrev pub octets_fault : CertRefusal → RunFault
-octets_fault (cert_refusals.Fault fault) = faults.Fault fault
-octets_fault cert_refusals.Memory = faults.Memory
-
--- a refusal of the check as a fault
-abbrev pub check_fault : Refusal → RunFault
-check_fault (refusals.Fault fault) = faults.Fault fault
-check_fault (refusals.Read fault) = faults.Read fault
-check_fault refusals.Memory = faults.Memory
-
--- a wrong path text as a fault
-abbrev pub path_fault : PathFault → RunFault
-path_fault (path_faults.Text place) = faults.Path place
-path_fault path_faults.Memory = faults.Memory
-
--- a cursor's fault
-abbrev pub cursor_fault : CursorFault → RunFault
-cursor_fault (cursor_faults.Read fault) = faults.Read fault
-cursor_fault cursor_faults.Changed = faults.Changed
-cursor_fault cursor_faults.Memory = faults.Memory
-
--- an upgrade's fault
-abbrev pub upgrade_fault : UpgradeFault → RunFault
-upgrade_fault (upgrade_faults.Read fault) = faults.Read fault
-upgrade_fault upgrade_faults.Changed = faults.Changed
-upgrade_fault upgrade_faults.Memory = faults.Memory
-
--- a printer's fault
-abbrev pub print_fault : PrintFault → RunFault
-print_fault (print_faults.NoAsciiForm part) = faults.NoAsciiForm part
-print_fault print_faults.TooLong = faults.TooLong
-print_fault (print_faults.Write sent) = faults.Write sent
-print_fault (print_faults.Read fault) = faults.Read fault
-print_fault print_faults.Changed = faults.Changed
-print_fault print_faults.Memory = faults.Memory
 
 -- P holds of a broken rule, nothing is said of a failed read or of refused memory, and no other fault comes
 abbrev pub OnFault : (Fault → Type 0) → RunFault → Type 0

@@ -5,13 +5,9 @@ use Rattle.std.specs.Fmt.{decimal}
 use Rattle.std.specs.Char.Utf16.{has_unpaired_surrogate, utf16_lossy_chars}
 use Rattle.bplist_cursor.specs.Path.{escaped}
 
--- a control character
-abbrev pub is_control : ℕ → Bool
-is_control u = nat_lt u 0x20 || u == 0x7F
-
--- the key's path text is UTF-8 and stays on its line
+-- the key's path text is UTF-8 and has no control character
 abbrev pub has_path_text : List ℕ → Bool
-has_path_text units = not (list_any is_control units) && not (has_unpaired_surrogate units)
+has_path_text units = not (list_any (λ u. nat_lt u 0x20 || u == 0x7F) units) && not (has_unpaired_surrogate units)
 
 -- a member's path text: its container's, `/`, and the escaped token
 abbrev pub path_behind : List ℕ → List ℕ → List ℕ

@@ -4,8 +4,6 @@ use Rattle.std.specs.Fmt.{decimal, signed_decimal}
 use Rattle.hex.specs.Hex.{encode_lower}
 use Rattle.bplist_objects.specs.declared.kind.Kind.{Kind}
 use Rattle.bplist_objects.specs.declared.kind.Kind.TheVariants.{Null, False, True, Int, Real, Date, Bytes, Ascii, Wide, Uid, Array, Set, Dict}
-use Rattle.bplist_objects.specs.Value.{null, boolean, int, real, date, bytes, text, uid}
-use Rattle.bplist_objects.specs.Heads.{Content, leaf, array, set, dict}
 use Rattle.bplist_cursor.specs.declared.faces.Face.{Face}
 use Rattle.bplist_cursor.specs.declared.faces.Face.TheVariants as faces
 use Rattle.bplist_cursor.specs.declared.found.Why.{Why}
@@ -27,21 +25,6 @@ kind_word Uid = codes "uid"
 kind_word Array = codes "array"
 kind_word Set = codes "set"
 kind_word Dict = codes "dict"
-
--- the word of what an object spells
-abbrev pub content_word : Content → List ℕ
-content_word (leaf null) = codes "null"
-content_word (leaf (boolean false)) = codes "false"
-content_word (leaf (boolean true)) = codes "true"
-content_word (leaf (int i)) = codes "int"
-content_word (leaf (real l)) = codes "real"
-content_word (leaf (date l)) = codes "date"
-content_word (leaf (bytes l)) = codes "data"
-content_word (leaf (text units)) = codes "text"
-content_word (leaf (uid x)) = codes "uid"
-content_word (array ms) = codes "array"
-content_word (set ms) = codes "set"
-content_word (dict ks ms) = codes "dict"
 
 -- the line of `lint`
 abbrev pub lint_line : ℕ → ℕ → List ℕ → List ℕ

@@ -1,74 +1,55 @@
 -- What the rules ask, in plain words. Source: profile.
-use Rattle.std.specs.Prelude.{ℕ, List, codes}
+use Prim.Native.String.{String}
+use Rattle.std.specs.Prelude.{◌-◌, List, [], ◌∷◌, get_or}
 use Rattle.bplist_objects.specs.declared.rule.Rule.{Rule}
-use Rattle.bplist_objects.specs.declared.rule.Rule.TheVariants as rules
+use Rattle.bplist_objects.specs.Words.{number_of}
 
--- what the rule asks
-abbrev pub asked_by : Rule → List ℕ
-asked_by rules.TooLarge = codes "A file has at most 4294967295 bytes."
-asked_by rules.TooShort = codes "A file has at least 41 bytes: a header of 8, an object and a trailer of 32."
-asked_by rules.Magic = codes "A file begins with the eight bytes bplist00."
-asked_by rules.NoObjects = codes "The trailer gives one object or more."
-asked_by rules.Top = codes "The number of the top object is below the number of objects."
-asked_by rules.TableEarly = codes "The offset table begins at place 9 or later, behind the header and an object."
-asked_by rules.TableLate = codes "The offset table begins before the trailer, the last 32 bytes."
-asked_by rules.OffsetSize = codes "An entry of the offset table has 1 to 8 bytes."
-asked_by rules.RefSize = codes "A reference has 1 to 8 bytes."
-asked_by rules.Length = codes "Offset table and trailer go exactly to the end of the file."
-asked_by rules.RefNarrow = codes "A reference has bytes enough to hold the number of objects."
-asked_by rules.OffsetNarrow = codes "An entry of the offset table has bytes enough to hold the place of the table."
-asked_by rules.OffsetHigh = codes "Each entry of the offset table leads to a place before the table."
-asked_by rules.OffsetLow = codes "An object begins at place 8 or later, behind the header."
-asked_by rules.Marker = codes "An object begins with a byte that marks a kind."
-asked_by rules.Count = codes "A count of 15 or more is an integer of 1 to 16 bytes behind the marker."
-asked_by rules.Extent = codes "An object ends before the offset table."
-asked_by rules.NotAscii = codes "A text of one byte a character has bytes below 80 (hexadecimal) alone."
-asked_by rules.UidLarge = codes "A UID is at most 4294967295."
-asked_by rules.RefHigh = codes "A reference is the number of an object, below the number of objects."
-asked_by rules.KeyKind = codes "The keys of a dictionary are texts."
-asked_by rules.KeyTwice = codes "The keys of a dictionary differ."
-asked_by rules.Circle = codes "No chain of references that begins at the top comes back to an object of the chain."
-asked_by rules.CertMagic = codes "A certificate begins with the eight bytes bplcert1 or bplcert2."
-asked_by rules.CertLength = codes "A certificate has as many bytes as its version and its number of heights ask for."
-asked_by rules.CertCount = codes "A certificate has one height for each object of the file."
-asked_by rules.TopNotVouched = codes "The height of the top object is 1 or more."
-asked_by rules.ChildNotVouched = codes "What an object of height 1 or more refers to has a height of 1 or more."
-asked_by rules.HeightNotLess = codes "What an object of height 1 or more refers to has a smaller height."
-asked_by rules.PathText = codes "A path text is empty or begins with /, and 0 or 1 stands behind each ~ in it."
-asked_by rules.Overfull = codes "The objects that count take no more bytes in all than lie between the header and the offset table. For lint the reached ones count, for check those of height 1 or more."
-asked_by rules.KeyOrder = codes "The key list of a dictionary is wholly there, and names the dictionary's keys in ascending order."
+-- what each rule asks and something that breaks it, in the order of the rules' numbers
+abbrev pub texts : List (String × String)
+texts =
+    ("A file has at most 4294967295 bytes.", "a file of 4294967296 bytes, place 4294967296")
+    ∷ ("A file has at least 41 bytes: a header of 8, an object and a trailer of 32.", "a file of 40 bytes, place 40")
+    ∷ ("A file begins with the eight bytes bplist00.", "a file that begins with bplist15, place 6")
+    ∷ ("The trailer gives one object or more.", "bytes 8 to 15 of the trailer are 0")
+    ∷ ("The number of the top object is below the number of objects.", "one object and the top 1")
+    ∷ ("The offset table begins at place 9 or later, behind the header and an object.", "a trailer that puts the table at place 8")
+    ∷ ("The offset table begins before the trailer, the last 32 bytes.", "a file of 42 bytes with the table at place 10")
+    ∷ ("An entry of the offset table has 1 to 8 bytes.", "byte 6 of the trailer is 0 or 9")
+    ∷ ("A reference has 1 to 8 bytes.", "byte 7 of the trailer is 0 or 9")
+    ∷ ("Offset table and trailer go exactly to the end of the file.", "two entries of one byte each in a table of three bytes")
+    ∷ ("A reference has bytes enough to hold the number of objects.", "256 objects and references of one byte")
+    ∷ (
+      "An entry of the offset table has bytes enough to hold the place of the table.",
+      "a table at place 256 and entries of one byte",
+    )
+    ∷ ("Each entry of the offset table leads to a place before the table.", "a table at place 9 and an entry 9")
+    ∷ ("An object begins at place 8 or later, behind the header.", "an entry 7")
+    ∷ ("An object begins with a byte that marks a kind.", "an object that begins with 0f or 70")
+    ∷ ("A count of 15 or more is an integer of 1 to 16 bytes behind the marker.", "data that begins with 4f 15")
+    ∷ ("An object ends before the offset table.", "data of five bytes, two bytes before the table")
+    ∷ ("A text of one byte a character has bytes below 80 (hexadecimal) alone.", "the text 51 e9")
+    ∷ ("A UID is at most 4294967295.", "the UID 84 01 00 00 00 00")
+    ∷ ("A reference is the number of an object, below the number of objects.", "an array a1 05 in a file of two objects")
+    ∷ ("The keys of a dictionary are texts.", "a dictionary whose key is the integer 5")
+    ∷ ("The keys of a dictionary differ.", "a dictionary with the key a twice")
+    ∷ ("No chain of references that begins at the top comes back to an object of the chain.", "an array that is its own member")
+    ∷ ("A certificate begins with the eight bytes bplcert1 or bplcert2.", "a certificate that begins with bplcert3")
+    ∷ ("A certificate has as many bytes as its version and its number of heights ask for.", "bplcert1, the number 2 and one height")
+    ∷ ("A certificate has one height for each object of the file.", "one height for a file of two objects")
+    ∷ ("The height of the top object is 1 or more.", "the heights 0 1 for a file with the top 0")
+    ∷ ("What an object of height 1 or more refers to has a height of 1 or more.", "the heights 2 0 for an array of object 1")
+    ∷ ("What an object of height 1 or more refers to has a smaller height.", "the heights 1 1 for an array of object 1")
+    ∷ ("A path text is empty or begins with /, and 0 or 1 stands behind each ~ in it.", "the path text a/b, or /a~2")
+    ∷ (
+      "The objects that count take no more bytes in all than lie between the header and the offset table. For lint the reached ones count, for check those of height 1 or more.",
+      "two objects that lie over one another and fill the file",
+    )
+    ∷ (
+      "The key list of a dictionary is wholly there, and names the dictionary's keys in ascending order.",
+      "the key list 1 0 for the keys a and b",
+    )
+    ∷ []
 
--- something that breaks the rule
-abbrev pub broken_by : Rule → List ℕ
-broken_by rules.TooLarge = codes "a file of 4294967296 bytes, place 4294967296"
-broken_by rules.TooShort = codes "a file of 40 bytes, place 40"
-broken_by rules.Magic = codes "a file that begins with bplist15, place 6"
-broken_by rules.NoObjects = codes "bytes 8 to 15 of the trailer are 0"
-broken_by rules.Top = codes "one object and the top 1"
-broken_by rules.TableEarly = codes "a trailer that puts the table at place 8"
-broken_by rules.TableLate = codes "a file of 42 bytes with the table at place 10"
-broken_by rules.OffsetSize = codes "byte 6 of the trailer is 0 or 9"
-broken_by rules.RefSize = codes "byte 7 of the trailer is 0 or 9"
-broken_by rules.Length = codes "two entries of one byte each in a table of three bytes"
-broken_by rules.RefNarrow = codes "256 objects and references of one byte"
-broken_by rules.OffsetNarrow = codes "a table at place 256 and entries of one byte"
-broken_by rules.OffsetHigh = codes "a table at place 9 and an entry 9"
-broken_by rules.OffsetLow = codes "an entry 7"
-broken_by rules.Marker = codes "an object that begins with 0f or 70"
-broken_by rules.Count = codes "data that begins with 4f 15"
-broken_by rules.Extent = codes "data of five bytes, two bytes before the table"
-broken_by rules.NotAscii = codes "the text 51 e9"
-broken_by rules.UidLarge = codes "the UID 84 01 00 00 00 00"
-broken_by rules.RefHigh = codes "an array a1 05 in a file of two objects"
-broken_by rules.KeyKind = codes "a dictionary whose key is the integer 5"
-broken_by rules.KeyTwice = codes "a dictionary with the key a twice"
-broken_by rules.Circle = codes "an array that is its own member"
-broken_by rules.CertMagic = codes "a certificate that begins with bplcert3"
-broken_by rules.CertLength = codes "bplcert1, the number 2 and one height"
-broken_by rules.CertCount = codes "one height for a file of two objects"
-broken_by rules.TopNotVouched = codes "the heights 0 1 for a file with the top 0"
-broken_by rules.ChildNotVouched = codes "the heights 2 0 for an array of object 1"
-broken_by rules.HeightNotLess = codes "the heights 1 1 for an array of object 1"
-broken_by rules.PathText = codes "the path text a/b, or /a~2"
-broken_by rules.Overfull = codes "two objects that lie over one another and fill the file"
-broken_by rules.KeyOrder = codes "the key list 1 0 for the keys a and b"
+-- what the rule asks, and something that breaks it
+abbrev pub text_of : Rule → String × String
+text_of rule = get_or texts (number_of rule - 1) ("", "")

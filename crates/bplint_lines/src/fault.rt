@@ -1,8 +1,15 @@
 //! Why a run gives no answer, the line that says so, and the exit status.
 ghost use Rattle.std.specs.Prelude.{◌≡◌, IfOk, string_bytes};
-ghost use Rattle.bplint_lines.specs.declared.fault.RunFault.TheVariants.{Memory, Read, Write};
-ghost use Rattle.bplint_lines.specs.Faults.{octets_fault, check_fault, lint_fault, path_fault, cursor_fault, upgrade_fault, print_fault};
-ghost use Rattle.bplint_lines.specs.FaultLines.{line_of, status_of, fault_line, read_line, circle_line};
+ghost use Rattle.bplint_lines.specs.declared.fault.RunFault.TheVariants.{Changed, Circle, Fault, Memory, NoAsciiForm, Path};
+ghost use Rattle.bplint_lines.specs.declared.fault.RunFault.TheVariants.{Read, TooLong, Write};
+ghost use Rattle.bplist_ascii.specs.declared.print_fault.PrintFault.TheVariants as print;
+ghost use Rattle.bplist_cert.specs.declared.certificate.CertRefusal.TheVariants as cert;
+ghost use Rattle.bplist_cert.specs.declared.refusal.Refusal.TheVariants as check;
+ghost use Rattle.bplist_cursor.specs.declared.faults.CursorFault.TheVariants as cursor;
+ghost use Rattle.bplist_cursor.specs.declared.path.PathFault.TheVariants as path;
+ghost use Rattle.bplist_lint.specs.declared.refusal.LintRefusal.TheVariants as lint;
+ghost use Rattle.bplist_lint.specs.declared.upgrade_fault.UpgradeFault.TheVariants as upgrade;
+ghost use Rattle.bplint_lines.specs.FaultLines.{line_of, status_of, fault_line};
 
 use bplist_ascii::{PrintFault, WriteFault};
 use bplist_cert::{CertRefusal, Refusal};
@@ -56,7 +63,12 @@ impl From<ReadFault> for RunFault {
 }
 
 impl From<LintRefusal> for RunFault {
-    ghost from_gives = { λ refusal fault. fault ≡ lint_fault refusal };
+    ghost from_gives = { λ refusal fault. fault ≡ elim refusal [
+      | lint.Fault broken ↦ Fault broken
+      | lint.Circle objects ↦ Circle objects
+      | lint.Read failed ↦ Read failed
+      | lint.Memory ↦ Memory
+    ] };
 
     fn from(refusal: LintRefusal) -> RunFault {
         match refusal {
@@ -69,7 +81,8 @@ impl From<LintRefusal> for RunFault {
 }
 
 impl From<CertRefusal> for RunFault {
-    ghost from_gives = { λ refusal fault. fault ≡ octets_fault refusal };
+    ghost from_gives = { λ refusal fault.
+        fault ≡ elim refusal [ cert.Fault broken ↦ Fault broken | cert.Memory ↦ Memory ] };
 
     fn from(refusal: CertRefusal) -> RunFault {
         match refusal {
@@ -80,7 +93,8 @@ impl From<CertRefusal> for RunFault {
 }
 
 impl From<Refusal> for RunFault {
-    ghost from_gives = { λ refusal fault. fault ≡ check_fault refusal };
+    ghost from_gives = { λ refusal fault. fault
+        ≡ elim refusal [ check.Fault broken ↦ Fault broken | check.Read failed ↦ Read failed | check.Memory ↦ Memory ] };
 
     fn from(refusal: Refusal) -> RunFault {
         match refusal {
@@ -92,7 +106,8 @@ impl From<Refusal> for RunFault {
 }
 
 impl From<PathFault> for RunFault {
-    ghost from_gives = { λ refusal fault. fault ≡ path_fault refusal };
+    ghost from_gives = { λ refusal fault.
+        fault ≡ elim refusal [ path.Text place ↦ Path place | path.Memory ↦ Memory ] };
 
     fn from(refusal: PathFault) -> RunFault {
         match refusal {
@@ -103,7 +118,8 @@ impl From<PathFault> for RunFault {
 }
 
 impl From<CursorFault> for RunFault {
-    ghost from_gives = { λ refusal fault. fault ≡ cursor_fault refusal };
+    ghost from_gives = { λ refusal fault. fault
+        ≡ elim refusal [ cursor.Read failed ↦ Read failed | cursor.Changed ↦ Changed | cursor.Memory ↦ Memory ] };
 
     fn from(refusal: CursorFault) -> RunFault {
         match refusal {
@@ -115,7 +131,8 @@ impl From<CursorFault> for RunFault {
 }
 
 impl From<UpgradeFault> for RunFault {
-    ghost from_gives = { λ refusal fault. fault ≡ upgrade_fault refusal };
+    ghost from_gives = { λ refusal fault. fault
+        ≡ elim refusal [ upgrade.Read failed ↦ Read failed | upgrade.Changed ↦ Changed | upgrade.Memory ↦ Memory ] };
 
     fn from(refusal: UpgradeFault) -> RunFault {
         match refusal {
@@ -127,7 +144,14 @@ impl From<UpgradeFault> for RunFault {
 }
 
 impl From<PrintFault> for RunFault {
-    ghost from_gives = { λ refusal fault. fault ≡ print_fault refusal };
+    ghost from_gives = { λ refusal fault. fault ≡ elim refusal [
+      | print.NoAsciiForm object ↦ NoAsciiForm object
+      | print.TooLong ↦ TooLong
+      | print.Write sent ↦ Write sent
+      | print.Read failed ↦ Read failed
+      | print.Changed ↦ Changed
+      | print.Memory ↦ Memory
+    ] };
 
     fn from(refusal: PrintFault) -> RunFault {
         match refusal {
@@ -212,7 +236,7 @@ impl RunFault {
 }
 
 fn line_of_read(fault: ReadFault) -> &'static str
-    ensures { result.now ≡ read_line fault }
+    ensures { result.now ≡ line_of (Read fault) }
 {
     match fault {
         ReadFault::Device => "read Device",
@@ -237,7 +261,7 @@ fn line_of_rule(
 }
 
 fn line_of_circle(alloc: Global, objects: &[ObjectNo]) -> Result<String, AllocError>
-    ensures { IfOk result (λ text. string_bytes text ≡ circle_line objects.now) }
+    ensures { IfOk result (λ text. string_bytes text ≡ line_of (Circle objects.now)) }
 {
     let mut line = String::from_str(alloc, "circle")?;
     for object in objects {

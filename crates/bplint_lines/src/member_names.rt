@@ -1,12 +1,11 @@
 //! The names that lines have for the members of containers.
 //!
 //! Each call adds its name to the bytes. The one refusal is that of a growth.
-ghost use Rattle.std.specs.Prelude.{◌≡◌, ◌++◌, IfOk, MatchOption, OnOk, encode_utf8_all, false, string_bytes, true};
+ghost use Rattle.std.specs.Prelude.{◌≡◌, ◌++◌, ◌||◌, ◌==◌, IfOk, MatchOption, OnOk, encode_utf8_all, false, nat_lt, string_bytes, true};
 ghost use Rattle.std.specs.Char.Utf16.{utf16_lossy_chars};
 ghost use Rattle.std.specs.List.{flat_map, list_any};
 ghost use Rattle.bplist_cursor.specs.Path.{escaped};
 ghost use Rattle.bplint_lines.specs.MemberNames.{bracketed, has_path_text, index_name, key_name, path_behind};
-ghost use Rattle.bplint_lines.specs.MemberNames as spec;
 
 use std::alloc::{AllocError, Global};
 
@@ -64,13 +63,13 @@ fn key_text(alloc: Global, units: &[u16]) -> Result<Option<String>, AllocError>
 }
 
 fn have_control(units: &[u16]) -> bool
-    ensures { result ≡ list_any spec.is_control units.now }
+    ensures { result ≡ list_any (λ u. nat_lt u 0x20 || u == 0x7F) units.now }
 {
     units.iter().any(|unit| is_control(*unit))
 }
 
 fn is_control(unit: u16) -> bool
-    ensures { result ≡ spec.is_control unit }
+    ensures { result ≡ (nat_lt unit 0x20 || unit == 0x7F) }
 {
     unit < 0x20 || unit == 0x7F
 }

@@ -18,7 +18,8 @@ use Rattle.bplist_objects.specs.Announced.{HasHead}
 use Rattle.bplist_objects.specs.Frame.{IsFrame, off}
 use Rattle.bplist_objects.proofs.KeptOrBroken.{object_kept_or_fault}
 use Rattle.bplist_objects.proofs.HeadTies.{announced_shape, kept_announces}
-use Rattle.bplint_map.specs.Rows.{AreFindings, IsFinding, extent, left_behind, row, shown}
+use Rattle.bplint_map.specs.Rows.{AreFindings, IsFinding, left_behind, row, shown}
+use Rattle.bplint_map.specs.Layout.{end_by}
 
 module _ (f : List ℕ) (F : Frame) (n : ℕ) where
   pub one_finding : (a b : Finding) → IsFinding f F n a → IsFinding f F n b → a ≡ b
@@ -39,12 +40,12 @@ module _ (f : List ℕ) (F : Frame) (n : ℕ) where
       ap Lost (sym h.2 ∙ ap (λ fault. fault.rule) same ∙ k.2)
 
   -- the finding of an object that has a head has that head
-  head_same : (head : Head) (found : Finding) → HasShape f F n head → IsFinding f F n found → (place : ℕ) → extent place found ≡ head.end - place
+  head_same : (head : Head) (found : Finding) → HasShape f F n head → IsFinding f F n found → (place : ℕ) → end_by place found - place ≡ head.end - place
   head_same head (Whole x) has is place = ap (λ (h : Head). h.end - place) (one_shape f F n x head is.0 has)
   head_same head (Wrong x rule) has is place = ap (λ (h : Head). h.end - place) (one_shape f F n x head is.0 has)
   head_same head (Lost rule) has is place = absurd (no_shape f F n is.0 head is.1 has)
 
-  shown_all : (left place : ℕ) (found : Finding) → extent place found ≤ left → shown left place found ≡ found
+  shown_all : (left place : ℕ) (found : Finding) → end_by place found - place ≤ left → shown left place found ≡ found
   shown_all left place (Whole x) fits = refl
   shown_all left place (Wrong x rule) fits = let t : nat_le (x.end - place) left ≡ true = grind (arith, nat_tests) in rw t
   shown_all left place (Lost rule) fits = refl
@@ -54,10 +55,10 @@ module _ (f : List ℕ) (F : Frame) (n : ℕ) where
       → head.end - place ≤ left → (got ≡ shown left place found) × (left - (head.end - place) ≡ left_behind left place found)
   looked left place head found got has is given fits =
       let e = head_same head found has is place in
-      let t : nat_le (extent place found) left ≡ true = grind (arith, nat_tests) in
+      let t : nat_le (end_by place found - place) left ≡ true = grind (arith, nat_tests) in
       (one_finding got found given is ∙ sym (shown_all left place found (omega (arith, e, fits))), rw (t, e) refl)
 
-  shown_none : (left place : ℕ) (head : Head) (found : Finding) → HasShape f F n head → IsFinding f F n found → left < extent place found → Whole head ≡ shown left place found
+  shown_none : (left place : ℕ) (head : Head) (found : Finding) → HasShape f F n head → IsFinding f F n found → left < end_by place found - place → Whole head ≡ shown left place found
   shown_none left place head (Whole x) has is over = ap Whole (one_shape f F n head x has is.0)
   shown_none left place head (Wrong x rule) has is over =
       let t : nat_le (x.end - place) left ≡ false = grind (arith, nat_tests) in
@@ -69,15 +70,15 @@ module _ (f : List ℕ) (F : Frame) (n : ℕ) where
       → left < head.end - place → (Whole head ≡ shown left place found) × (left ≡ left_behind left place found)
   passed left place head found has is over =
       let e = head_same head found has is place in
-      let t : nat_le (extent place found) left ≡ false = grind (arith, nat_tests) in
+      let t : nat_le (end_by place found - place) left ≡ false = grind (arith, nat_tests) in
       (shown_none left place head found has is (omega (arith, e, over)), rw t refl)
 
   -- an object without a head
   pub lost : (left place : ℕ) (fault : Fault) (found : Finding) → IsObjectFault f F n shape_rules fault → IsFinding f F n found
       → (Lost fault.rule ≡ shown left place found) × (left ≡ left_behind left place found)
-  lost left place fault found broken is = rw (sym (one_finding (Lost fault.rule) found (fault, broken, refl) is)) (refl, go (nat_le 0 left))
+  lost left place fault found broken is = rw (sym (one_finding (Lost fault.rule) found (fault, broken, refl) is)) (refl, go (nat_le (place - place) left))
     where
-      go : (t : Bool) → left ≡ cond t (left - 0) left
+      go : (t : Bool) → left ≡ cond t (left - (place - place)) left
       go true = omega arith
       go false = refl
 

@@ -1,9 +1,10 @@
 -- Gaps and overlaps of a map.
-use Rattle.std.proofs.Common.{◌≡◌, ◌⊎◌, ℕ, ◌<◌, ◌≤◌, List, [], ◌∷◌, ◌++◌, inl, inr, max, min, cond, nat_lt, Bool, true, false, arith}
+use Rattle.std.proofs.Common.{◌≡◌, ◌⊎◌, ap, codes, length, refl, ℕ, ◌<◌, ◌≤◌, List, [], ◌∷◌, ◌++◌, inl, inr, max, min, cond, nat_lt, Bool, true, false, arith}
 use Rattle.std.proofs.lemmas.Bool.{cases_lt}
 use Rattle.std.proofs.lemmas.Bool.Decides.{nat_tests}
 use Rattle.bplint_map.specs.declared.rows.Row.{Row}
-use Rattle.bplint_map.specs.Layout.{Part, gap, overlap, AreInOrder, IsAmong, IsCovered, IsCoveredTwice, IsGapOf, IsOverlapOf, StandFrom, before, gap_up, overlap_up, parts, row_end}
+use Rattle.bplint_map.specs.Layout.{Part, bare, AreInOrder, Covers, IsAmong, IsBare, IsCoveredTwice, bare_up, before, parts, row_end}
+use Rattle.std.specs.List.{AllByRecursion}
 
 -- ---- one of several parts
 among_left : (P : Part → Type 0) (xs ys : List Part) → IsAmong P xs → IsAmong P (xs ++ ys)
@@ -21,50 +22,39 @@ among_split P (x ∷ xs) ys (inl h) = inl (inl h)
 among_split P (x ∷ xs) ys (inr h) = elim (among_split P xs ys h) [ inl a ↦ inl (inr a) | inr b ↦ inr b ]
 
 -- ---- the parts between two places
-in_gap : (x a b : ℕ) → a ≤ x → x < b → IsAmong (IsGapOf x) (gap_up a b)
-in_gap x a b low high =
+in_bare : (word : List ℕ) (x a b : ℕ) → a ≤ x → x < b → IsAmong (IsBare word x) (bare_up word a b)
+in_bare word x a b low high =
     let t : nat_lt a b ≡ true = grind (arith, nat_tests) in
-    rw t (inl (low, high))
+    rw t (inl (refl, low, high))
 
-of_gap : (x a b : ℕ) → IsAmong (IsGapOf x) (gap_up a b) → (a ≤ x) × (x < b)
-of_gap x a b h = go (nat_lt a b) h
+of_bare : (own word : List ℕ) (x a b : ℕ) → IsAmong (IsBare word x) (bare_up own a b) → (own ≡ word) × (a ≤ x) × (x < b)
+of_bare own word x a b h = go (nat_lt a b) h
   where
-    go : (t : Bool) → IsAmong (IsGapOf x) (cond t (gap a b ∷ []) []) → (a ≤ x) × (x < b)
+    go : (t : Bool) → IsAmong (IsBare word x) (cond t (bare own a b ∷ []) []) → (own ≡ word) × (a ≤ x) × (x < b)
     go true (inl h) = h
     go true (inr h) = absurd h
     go false h = absurd h
 
-no_gap : (x a b : ℕ) → IsAmong (IsGapOf x) (overlap_up a b) → ⊥
-no_gap x a b h = go (nat_lt a b) h
-  where
-    go : (t : Bool) → IsAmong (IsGapOf x) (cond t (overlap a b ∷ []) []) → ⊥
-    go true (inl h) = h
-    go true (inr h) = h
-    go false h = h
+in_gap : (x a b : ℕ) → a ≤ x → x < b → IsAmong (IsBare (codes "gap") x) (bare_up (codes "gap") a b)
+in_gap = in_bare (codes "gap")
 
-in_overlap : (x a b : ℕ) → a ≤ x → x < b → IsAmong (IsOverlapOf x) (overlap_up a b)
-in_overlap x a b low high =
-    let t : nat_lt a b ≡ true = grind (arith, nat_tests) in
-    rw t (inl (low, high))
+of_gap : (x a b : ℕ) → IsAmong (IsBare (codes "gap") x) (bare_up (codes "gap") a b) → (a ≤ x) × (x < b)
+of_gap x a b h = let o = of_bare (codes "gap") (codes "gap") x a b h in (o.1, o.2)
 
-of_overlap : (x a b : ℕ) → IsAmong (IsOverlapOf x) (overlap_up a b) → (a ≤ x) × (x < b)
-of_overlap x a b h = go (nat_lt a b) h
-  where
-    go : (t : Bool) → IsAmong (IsOverlapOf x) (cond t (overlap a b ∷ []) []) → (a ≤ x) × (x < b)
-    go true (inl h) = h
-    go true (inr h) = absurd h
-    go false h = absurd h
+no_gap : (x a b : ℕ) → IsAmong (IsBare (codes "gap") x) (bare_up (codes "overlap") a b) → ⊥
+no_gap x a b h = let e : 7 ≡ 3 = ap length (of_bare (codes "overlap") (codes "gap") x a b h).0 in omega (arith, e)
 
-no_overlap : (x a b : ℕ) → IsAmong (IsOverlapOf x) (gap_up a b) → ⊥
-no_overlap x a b h = go (nat_lt a b) h
-  where
-    go : (t : Bool) → IsAmong (IsOverlapOf x) (cond t (gap a b ∷ []) []) → ⊥
-    go true (inl h) = h
-    go true (inr h) = h
-    go false h = h
+in_overlap : (x a b : ℕ) → a ≤ x → x < b → IsAmong (IsBare (codes "overlap") x) (bare_up (codes "overlap") a b)
+in_overlap = in_bare (codes "overlap")
+
+of_overlap : (x a b : ℕ) → IsAmong (IsBare (codes "overlap") x) (bare_up (codes "overlap") a b) → (a ≤ x) × (x < b)
+of_overlap x a b h = let o = of_bare (codes "overlap") (codes "overlap") x a b h in (o.1, o.2)
+
+no_overlap : (x a b : ℕ) → IsAmong (IsBare (codes "overlap") x) (bare_up (codes "gap") a b) → ⊥
+no_overlap x a b h = let e : 3 ≡ 7 = ap length (of_bare (codes "gap") (codes "overlap") x a b h).0 in omega (arith, e)
 
 -- ---- rows that stand from a place on
-stand_covered : (p x : ℕ) (rows : List Row) → StandFrom p rows → IsCovered x rows → p ≤ x
+stand_covered : (p x : ℕ) (rows : List Row) → AllByRecursion (λ (later : Row). p ≤ later.place) rows → IsAmong (Covers x) rows → p ≤ x
 stand_covered p x [] s h = absurd h
 stand_covered p x (row ∷ rows) s (inl h) = omega (arith, s.0, h.0)
 stand_covered p x (row ∷ rows) s (inr h) = stand_covered p x rows s.1 h
@@ -80,24 +70,24 @@ below_max x a b h = elim (cases_lt x a) [
 
 module _ (table x : ℕ) where
   -- ---- gaps
-  pub gaps_all : (reached : ℕ) (rows : List Row) → reached ≤ x → x < table → IsCovered x rows ⊎ IsAmong (IsGapOf x) (parts table reached rows)
+  pub gaps_all : (reached : ℕ) (rows : List Row) → reached ≤ x → x < table → IsAmong (Covers x) rows ⊎ IsAmong (IsBare (codes "gap") x) (parts table reached rows)
   gaps_all reached [] low high = inr (in_gap x reached table low high)
   gaps_all reached (row ∷ rows) low high = elim (cases_lt x row.place) [
-    | inl l ↦ inr (among_left (IsGapOf x) (before reached row) _ (among_left (IsGapOf x) (gap_up reached row.place) _ (in_gap x reached row.place low l)))
+    | inl l ↦ inr (among_left (IsBare (codes "gap") x) (before reached row) _ (among_left (IsBare (codes "gap") x) (bare_up (codes "gap") reached row.place) _ (in_gap x reached row.place low l)))
     | inr l ↦ elim (cases_lt x (row_end row)) [
       | inl m ↦ inl (inl (l, m))
       | inr m ↦ elim (gaps_all (max reached (row_end row)) rows (grind (arith, nat_tests)) high) [
         | inl c ↦ inl (inr c)
-        | inr g ↦ inr (among_right (IsGapOf x) (before reached row) _ (inr g))
+        | inr g ↦ inr (among_right (IsBare (codes "gap") x) (before reached row) _ (inr g))
       ]
     ]
   ]
 
   -- a gap lies behind all that was reached, and in no object
-  pub gaps_alone : (reached : ℕ) (rows : List Row) → AreInOrder rows → IsAmong (IsGapOf x) (parts table reached rows) → (reached ≤ x) × (IsCovered x rows → ⊥)
+  pub gaps_alone : (reached : ℕ) (rows : List Row) → AreInOrder rows → IsAmong (IsBare (codes "gap") x) (parts table reached rows) → (reached ≤ x) × (IsAmong (Covers x) rows → ⊥)
   gaps_alone reached [] order h = ((of_gap x reached table h).0, λ c. c)
-  gaps_alone reached (row ∷ rows) order h = elim (among_split (IsGapOf x) (before reached row) _ h) [
-    | inl b ↦ elim (among_split (IsGapOf x) (gap_up reached row.place) (overlap_up row.place (min reached (row_end row))) b) [
+  gaps_alone reached (row ∷ rows) order h = elim (among_split (IsBare (codes "gap") x) (before reached row) _ h) [
+    | inl b ↦ elim (among_split (IsBare (codes "gap") x) (bare_up (codes "gap") reached row.place) (bare_up (codes "overlap") row.place (min reached (row_end row))) b) [
       | inl g ↦ first (of_gap x reached row.place g)
       | inr o ↦ absurd (no_gap x row.place (min reached (row_end row)) o)
     ]
@@ -105,7 +95,7 @@ module _ (table x : ℕ) where
     | inr (inr r) ↦ later (gaps_alone (max reached (row_end row)) rows order.2 r)
   ]
     where
-      first : (reached ≤ x) × (x < row.place) → (reached ≤ x) × (IsCovered x (row ∷ rows) → ⊥)
+      first : (reached ≤ x) × (x < row.place) → (reached ≤ x) × (IsAmong (Covers x) (row ∷ rows) → ⊥)
       first g = (
         g.0,
         λ c. elim c [
@@ -114,7 +104,7 @@ module _ (table x : ℕ) where
         ],
       )
 
-      later : (max reached (row_end row) ≤ x) × (IsCovered x rows → ⊥) → (reached ≤ x) × (IsCovered x (row ∷ rows) → ⊥)
+      later : (max reached (row_end row) ≤ x) × (IsAmong (Covers x) rows → ⊥) → (reached ≤ x) × (IsAmong (Covers x) (row ∷ rows) → ⊥)
       later r = (
         grind (arith, nat_tests, r.0),
         λ c. elim c [
@@ -124,23 +114,23 @@ module _ (table x : ℕ) where
       )
 
   -- ---- overlaps
-  pub overlaps_all : (reached : ℕ) (rows : List Row) → ((x < reached) × IsCovered x rows) ⊎ IsCoveredTwice x rows → IsAmong (IsOverlapOf x) (parts table reached rows)
+  pub overlaps_all : (reached : ℕ) (rows : List Row) → ((x < reached) × IsAmong (Covers x) rows) ⊎ IsCoveredTwice x rows → IsAmong (IsBare (codes "overlap") x) (parts table reached rows)
   overlaps_all reached [] (inl h) = absurd h.1
   overlaps_all reached [] (inr h) = absurd h
   overlaps_all reached (row ∷ rows) (inl (low, inl own)) =
-      among_left (IsOverlapOf x) (before reached row) _ (among_right (IsOverlapOf x) (gap_up reached row.place) _ (in_overlap x row.place (min reached (row_end row)) own.0 (grind (arith, nat_tests, own.1))))
+      among_left (IsBare (codes "overlap") x) (before reached row) _ (among_right (IsBare (codes "overlap") x) (bare_up (codes "gap") reached row.place) _ (in_overlap x row.place (min reached (row_end row)) own.0 (grind (arith, nat_tests, own.1))))
   overlaps_all reached (row ∷ rows) (inl (low, inr other)) =
-      among_right (IsOverlapOf x) (before reached row) _ (inr (overlaps_all (max reached (row_end row)) rows (inl (grind (arith, nat_tests), other))))
+      among_right (IsBare (codes "overlap") x) (before reached row) _ (inr (overlaps_all (max reached (row_end row)) rows (inl (grind (arith, nat_tests), other))))
   overlaps_all reached (row ∷ rows) (inr (inl (own, other))) =
-      among_right (IsOverlapOf x) (before reached row) _ (inr (overlaps_all (max reached (row_end row)) rows (inl (grind (arith, nat_tests, own.1), other))))
+      among_right (IsBare (codes "overlap") x) (before reached row) _ (inr (overlaps_all (max reached (row_end row)) rows (inl (grind (arith, nat_tests, own.1), other))))
   overlaps_all reached (row ∷ rows) (inr (inr twice)) =
-      among_right (IsOverlapOf x) (before reached row) _ (inr (overlaps_all (max reached (row_end row)) rows (inr twice)))
+      among_right (IsBare (codes "overlap") x) (before reached row) _ (inr (overlaps_all (max reached (row_end row)) rows (inr twice)))
 
-  pub overlaps_alone : (reached : ℕ) (rows : List Row) → AreInOrder rows → IsAmong (IsOverlapOf x) (parts table reached rows)
-      → ((x < reached) × IsCovered x rows) ⊎ IsCoveredTwice x rows
+  pub overlaps_alone : (reached : ℕ) (rows : List Row) → AreInOrder rows → IsAmong (IsBare (codes "overlap") x) (parts table reached rows)
+      → ((x < reached) × IsAmong (Covers x) rows) ⊎ IsCoveredTwice x rows
   overlaps_alone reached [] order h = absurd (no_overlap x reached table h)
-  overlaps_alone reached (row ∷ rows) order h = elim (among_split (IsOverlapOf x) (before reached row) _ h) [
-    | inl b ↦ elim (among_split (IsOverlapOf x) (gap_up reached row.place) (overlap_up row.place (min reached (row_end row))) b) [
+  overlaps_alone reached (row ∷ rows) order h = elim (among_split (IsBare (codes "overlap") x) (before reached row) _ h) [
+    | inl b ↦ elim (among_split (IsBare (codes "overlap") x) (bare_up (codes "gap") reached row.place) (bare_up (codes "overlap") row.place (min reached (row_end row))) b) [
       | inl g ↦ absurd (no_overlap x reached row.place g)
       | inr o ↦ own (of_overlap x row.place (min reached (row_end row)) o)
     ]
@@ -148,10 +138,10 @@ module _ (table x : ℕ) where
     | inr (inr r) ↦ later (overlaps_alone (max reached (row_end row)) rows order.2 r)
   ]
     where
-      own : (row.place ≤ x) × (x < min reached (row_end row)) → ((x < reached) × IsCovered x (row ∷ rows)) ⊎ IsCoveredTwice x (row ∷ rows)
+      own : (row.place ≤ x) × (x < min reached (row_end row)) → ((x < reached) × IsAmong (Covers x) (row ∷ rows)) ⊎ IsCoveredTwice x (row ∷ rows)
       own o = inl (grind (arith, nat_tests, o.1), inl (o.0, grind (arith, nat_tests, o.1)))
 
-      later : ((x < max reached (row_end row)) × IsCovered x rows) ⊎ IsCoveredTwice x rows → ((x < reached) × IsCovered x (row ∷ rows)) ⊎ IsCoveredTwice x (row ∷ rows)
+      later : ((x < max reached (row_end row)) × IsAmong (Covers x) rows) ⊎ IsCoveredTwice x rows → ((x < reached) × IsAmong (Covers x) (row ∷ rows)) ⊎ IsCoveredTwice x (row ∷ rows)
       later (inl (low, other)) = elim (below_max x reached (row_end row) low) [
         | inl l ↦ inl (l, inr other)
         | inr l ↦ inr (inl ((stand_covered row.place x rows order.1 other, l), other))
@@ -159,11 +149,11 @@ module _ (table x : ℕ) where
       later (inr twice) = inr (inr twice)
 
 -- no object takes a byte before place 8
-from_8 : (x : ℕ) (rows : List Row) → AreInOrder rows → IsCovered x rows → 8 ≤ x
+from_8 : (x : ℕ) (rows : List Row) → AreInOrder rows → IsAmong (Covers x) rows → 8 ≤ x
 from_8 x [] order h = absurd h
 from_8 x (row ∷ rows) order (inl own) = let low = order.0 (omega (arith, own.0, own.1)) in omega (arith, low, own.0)
 from_8 x (row ∷ rows) order (inr other) = from_8 x rows order.2 other
 
-pub twice : (x : ℕ) (rows : List Row) → AreInOrder rows → ((x < 8) × IsCovered x rows) ⊎ IsCoveredTwice x rows → IsCoveredTwice x rows
+pub twice : (x : ℕ) (rows : List Row) → AreInOrder rows → ((x < 8) × IsAmong (Covers x) rows) ⊎ IsCoveredTwice x rows → IsCoveredTwice x rows
 twice x rows order (inl (low, h)) = absurd (omega (arith, low, from_8 x rows order h))
 twice x rows order (inr h) = h

@@ -1,10 +1,13 @@
 -- The text of a map, and its way to the writer.
-use Rattle.std.proofs.Common.{◌≡◌, inr, ℕ, ◌+◌, ◌<◌, ◌≤◌, List, [], ◌∷◌, ◌++◌, max, length, map, drop, cond, nat_lt, Bool, true, false, refl, sym, ap, ◌∙◌, subst, add-one, append_assoc, append-nil, Option, Ok, get_or, arith, codes}
+use Rattle.std.proofs.Common.{◌≡◌, inl, inr, ℕ, ◌+◌, ◌<◌, ◌≤◌, List, [], ◌∷◌, ◌++◌, max, length, map, drop, cond, nat_lt, Bool, true, false, refl, sym, ap, ◌∙◌, subst, add-one, append_assoc, append-nil, Option, None, Some, Ok, Err, get_or, arith, codes}
 use Rattle.std.proofs.lemmas.Grind.{flat_map-append}
 use Rattle.std.proofs.lemmas.List.{drop_all, get_or-map, length-map}
 use Rattle.std.proofs.Math.Seq.{drop-cons}
 use Rattle.bplist_objects.specs.declared.frame.Frame.{Frame}
-use Rattle.std.specs.Io.KnownBytes.{Appends}
+use Rattle.std.specs.Io.KnownBytes.{Appends, Keeps}
+use Rattle.bplist_objects.specs.declared.fault.Fault.{Fault}
+use Rattle.bplist_objects.specs.FrameRules.{IsFrameFault}
+use Rattle.bplint_lines.specs.Faults.{IsExcused}
 use Rattle.bplist_objects.specs.Frame.{IsFrame, off}
 use Rattle.bplist_ascii.specs.Sending.{Sending, SendsSome, Takes, TakesPart, IsCut, IsOut}
 use Rattle.bplist_ascii.proofs.SinkSteps.{out_end, out_part, out_start, out_takes, part_of_more, takes_then_part, takes_then_some}
@@ -15,11 +18,11 @@ use Rattle.bplint_map.specs.declared.rows.Finding.{Finding}
 use Rattle.bplint_map.specs.declared.rows.Row.{Row}
 use Rattle.bplint_map.specs.declared.verdict.Verdict.{Verdict}
 use Rattle.bplint_lines.specs.declared.said.Said.TheVariants.{All}
-use Rattle.bplint_lines.specs.Answers.{gives}
+use Rattle.bplint_lines.specs.Answers.{BeginsAnswer, gives}
 use Rattle.bplint_map.proofs.Findings.{findings_of}
-use Rattle.bplint_map.specs.Layout.{object, gap, before, parts, row_end}
+use Rattle.bplint_map.specs.Layout.{object, bare, before, parts, row_end}
 use Rattle.bplint_map.specs.Lines.{bare_line, bare_lines, part_line, part_lines}
-use Rattle.bplint_map.specs.Map.{IsVerdict, LeavesMap, LeavesMapFault, MapSays, PutsSome, map_text}
+use Rattle.bplint_map.specs.Map.{IsVerdict, LeavesMap, MapSays, PutsSome, map_text}
 use Rattle.bplint_map.specs.Rows.{AreFindings, IsByPlace, left_behind, placed, row, rows}
 
 -- ---- the text
@@ -34,7 +37,7 @@ module _ (verdict : Verdict) (table : ℕ) where
   pub last_lines : (reached : ℕ) → part_lines verdict (parts table reached []) ≡ bare_lines reached table (codes "gap")
   last_lines reached = go (nat_lt reached table)
     where
-      go : (t : Bool) → part_lines verdict (cond t (gap reached table ∷ []) []) ≡ cond t (bare_line reached table (codes "gap")) []
+      go : (t : Bool) → part_lines verdict (cond t (bare (codes "gap") reached table ∷ []) []) ≡ cond t (bare_line reached table (codes "gap")) []
       go true = append-nil (bare_line reached table (codes "gap"))
       go false = refl
 
@@ -101,8 +104,8 @@ module _ (old new : Option (List ℕ)) (s : Sending) where
   some_of_more text xs ys (faults.Read _) some e = rw e (longer some)
     where
       longer : SendsSome old new (s.held ++ xs) → SendsSome old new (s.held ++ (xs ++ ys))
-      longer p = record { gone = p.gone; rest = p.rest ++ ys; appended = p.appended; all = sym (append_assoc s.held xs ys) ∙ ap (λ l. l ++ ys) p.all ∙ append_assoc p.gone p.rest ys }
-  some_of_more text xs ys faults.Memory p e = rw e (record { gone = p.gone; rest = p.rest ++ ys; appended = p.appended; all = sym (append_assoc s.held xs ys) ∙ ap (λ l. l ++ ys) p.all ∙ append_assoc p.gone p.rest ys })
+      longer p = (p.0, p.1 ++ ys, p.2, sym (append_assoc s.held xs ys) ∙ ap (λ l. l ++ ys) p.3 ∙ append_assoc p.0 p.1 ys)
+  some_of_more text xs ys faults.Memory p e = rw e (p.0, p.1 ++ ys, p.2, sym (append_assoc s.held xs ys) ∙ ap (λ l. l ++ ys) p.3 ∙ append_assoc p.0 p.1 ys)
   some_of_more text xs ys (faults.Fault _) some e = absurd some
   some_of_more text xs ys (faults.Circle _) some e = absurd some
   some_of_more text xs ys (faults.Path _) some e = absurd some
@@ -114,20 +117,42 @@ module _ (old new : Option (List ℕ)) (s : Sending) where
   some_of_more text xs ys faults.InputTooLong some e = absurd some
 
 -- ---- what is left with the writer
+kept_self : (old : Option (List ℕ)) → Keeps old old
+kept_self None = tt
+kept_self (Some xs) = refl
+
+nothing_added : (old : Option (List ℕ)) → Appends old old []
+nothing_added None = tt
+nothing_added (Some xs) = sym (append-nil xs)
+
+-- the file breaks one of rules 1 to 13
+pub fault_out : (f : List ℕ) (old : Option (List ℕ)) (fault : Fault) → IsFrameFault f fault → LeavesMap f old old (Err (faults.Fault fault))
+fault_out f old fault h = (0, (h, kept_self old))
+
+-- a read failed or memory was refused before anything was put in
+pub excused_out : (f : List ℕ) (old : Option (List ℕ)) (fault : RunFault) → IsExcused fault → LeavesMap f old old (Err fault)
+excused_out f old (faults.Read _) h = (0, (([], omega arith, nothing_added old), inl (kept_self old)))
+excused_out f old faults.Memory h = (0, (([], omega arith, nothing_added old), inl (kept_self old)))
+excused_out f old _ h = absurd h
+
 module _ (f : List ℕ) (F : Frame) (frame : IsFrame f F) (verdict : Verdict) (linted : IsVerdict f verdict) (order : List ℕ) (by_place : IsByPlace f F order) where
   -- the map of the file
   abbrev pub the_map : List ℕ
   the_map = map_text f F verdict (findings_of f F frame).0 order
 
   says : MapSays f (gives All the_map)
-  says = (F, frame, record { verdict = verdict; findings = (findings_of f F frame).0; order = order; linted = linted; found = (findings_of f F frame).1; by_place = by_place; is = refl }, refl)
+  says = (F, verdict, (findings_of f F frame).0, order, frame, linted, (findings_of f F frame).1, by_place, refl, refl)
+
+  -- a first part of it went out
+  begun : (old new : Option (List ℕ)) → SendsSome old new the_map → (most : ℕ) × BeginsAnswer (MapSays f) most old new
+  begun old new some = (length some.0, ((some.0, omega arith, some.2), inr (All, the_map, says, some)))
 
   -- it was not put in
-  pub map_cut : (old new : Option (List ℕ)) (s : Sending) (fault : RunFault) → s ≡ record { sent = 0; held = [] } → PutsSome old new s the_map fault → LeavesMapFault f old new fault
+  pub map_cut : (old new : Option (List ℕ)) (s : Sending) (fault : RunFault) → s ≡ record { sent = 0; held = [] } → PutsSome old new s the_map fault → LeavesMap f old new (Err fault)
   map_cut old new s (faults.Write k) start part =
-      (the_map, says, out_part old old new s [] the_map k (out_start old s (ap (λ x. x.sent) start) (ap (λ x. x.held) start)) part)
-  map_cut old new s (faults.Read _) start some = inr (the_map, says, subst (λ l. SendsSome old new (l ++ the_map)) (ap (λ x. x.held) start) some)
-  map_cut old new s faults.Memory start some = inr (the_map, says, subst (λ l. SendsSome old new (l ++ the_map)) (ap (λ x. x.held) start) some)
+      (0, (All, the_map, says, out_part old old new s [] the_map k (out_start old s (ap (λ x. x.sent) start) (ap (λ x. x.held) start)) part))
+  map_cut old new s (faults.Read _) start some = begun old new (subst (λ l. SendsSome old new (l ++ the_map)) (ap (λ x. x.held) start) some)
+  map_cut old new s faults.Memory start some = begun old new (subst (λ l. SendsSome old new (l ++ the_map)) (ap (λ x. x.held) start) some)
   map_cut old new s (faults.Fault _) start some = absurd some
   map_cut old new s (faults.Circle _) start some = absurd some
   map_cut old new s (faults.Path _) start some = absurd some
@@ -143,9 +168,9 @@ module _ (f : List ℕ) (F : Frame) (frame : IsFrame f F) (verdict : Verdict) (l
     held = out_takes (out_start old s (ap (λ x. x.sent) start) (ap (λ x. x.held) start)) takes
 
     -- its end was not sent
-    pub end_cut : (k : ℕ) → TakesPart mid new t [] k → LeavesMapFault f old new (faults.Write k)
-    end_cut k part = (the_map, says, subst (λ l. IsCut old new l k) (append-nil the_map) (out_part old mid new t ([] ++ the_map) [] k held part))
+    pub end_cut : (k : ℕ) → TakesPart mid new t [] k → LeavesMap f old new (Err (faults.Write k))
+    end_cut k part = (0, (All, the_map, says, subst (λ l. IsCut old new l k) (append-nil the_map) (out_part old mid new t ([] ++ the_map) [] k held part)))
 
     -- all of it was sent
     pub all_out : Takes mid new t u [] → u.held ≡ [] → LeavesMap f old new (Ok All)
-    all_out flushed empty = (the_map, says, subst (Appends old new) (append-nil the_map) (out_end (out_takes held flushed) empty))
+    all_out flushed empty = (0, (the_map, says, subst (Appends old new) (append-nil the_map) (out_end (out_takes held flushed) empty)))

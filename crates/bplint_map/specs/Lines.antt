@@ -9,20 +9,12 @@ use Rattle.bplint_map.specs.declared.verdict.Verdict.{Verdict}
 use Rattle.bplint_map.specs.declared.verdict.Verdict.TheVariants as verdicts
 use Rattle.bplint_map.specs.declared.rows.Finding.{Finding}
 use Rattle.bplint_map.specs.declared.rows.Finding.TheVariants.{Whole, Wrong, Lost}
-use Rattle.bplint_map.specs.Layout.{Part, object, gap, overlap, parts}
+use Rattle.bplint_map.specs.Layout.{Part, object, bare, parts}
 use Rattle.bplint_lines.specs.OutputLines.{kind_word}
-
--- the line that names the columns
-abbrev pub title_line : List ℕ
-title_line = codes "place\tend\tobject\tkind\tcount\theight\n"
 
 -- the line of bytes that are no object
 abbrev pub bare_line : ℕ → ℕ → List ℕ → List ℕ
 bare_line from to word = decimal from ++ (codes "\t" ++ (decimal to ++ (codes "\t-\t" ++ (word ++ codes "\t-\t-\n"))))
-
--- the height of a reached object
-abbrev pub height_text : ℕ → List ℕ
-height_text height = if height == 0 then codes "unreached" else decimal height
 
 -- object n is the one that is named
 abbrev pub is_named : Option ObjectNo → ℕ → Bool
@@ -31,7 +23,8 @@ is_named (Some m) n = m.0 == n
 
 -- the last column of an object that breaks no rule by itself: its height, or the rule by which `lint` refuses it
 abbrev pub note : Verdict → ℕ → List ℕ
-note (verdicts.Heights heights) n = height_text (slice_index heights.items n)
+note (verdicts.Heights heights) n =
+    let height = slice_index heights.items n in if height == 0 then codes "unreached" else decimal height
 note (verdicts.Fault fault) n = if is_named fault.object n then word_of fault.rule else codes "-"
 note verdicts.Circle n = codes "-"
 
@@ -50,8 +43,7 @@ found_line verdict place number (Lost rule) =
 -- the line of a part
 abbrev pub part_line : Verdict → Part → List ℕ
 part_line verdict (object row) = found_line verdict row.place row.number row.finding
-part_line verdict (gap from to) = bare_line from to (codes "gap")
-part_line verdict (overlap from to) = bare_line from to (codes "overlap")
+part_line verdict (bare word from to) = bare_line from to word
 
 -- the lines of parts
 abbrev pub part_lines : Verdict → List Part → List ℕ

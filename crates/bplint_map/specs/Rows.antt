@@ -12,22 +12,16 @@ use Rattle.bplint_map.specs.declared.placed.Placed.{Placed}
 use Rattle.bplint_map.specs.declared.rows.Finding.{Finding}
 use Rattle.bplint_map.specs.declared.rows.Finding.TheVariants.{Whole, Wrong, Lost}
 use Rattle.bplint_map.specs.declared.rows.Row.{Row}
-
--- how many bytes an object at this place takes by what is found of it
-abbrev pub extent : ℕ → Finding → ℕ
-extent place (Whole head) = head.end - place
-extent place (Wrong head rule) = head.end - place
-extent place (Lost rule) = 0
+use Rattle.bplint_map.specs.Layout.{end_by}
 
 -- what is shown of a finding: with too few bytes left nothing is said of the rules of a body
 abbrev pub shown : ℕ → ℕ → Finding → Finding
-shown left place (Whole head) = Whole head
 shown left place (Wrong head rule) = cond (nat_le (head.end - place) left) (Wrong head rule) (Whole head)
-shown left place (Lost rule) = Lost rule
+shown left place finding = finding
 
 -- how many bytes of bodies are left to look at
 abbrev pub left_behind : ℕ → ℕ → Finding → ℕ
-left_behind left place finding = cond (nat_le (extent place finding) left) (left - extent place finding) left
+left_behind left place finding = let taken = end_by place finding - place in cond (nat_le taken left) (left - taken) left
 
 module _ (f : List ℕ) (F : Frame) where
   -- what rules 14 to 20 say of object n by itself: none is broken, or one of a body, or one of marker and count

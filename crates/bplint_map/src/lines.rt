@@ -4,7 +4,7 @@
 ghost use Rattle.std.specs.Prelude.{◌≡◌, ◌++◌, [], ◌∷◌, OnOk, string_bytes};
 ghost use Rattle.bplist_objects.specs.declared.head.Head.{Head as head_type};
 ghost use Rattle.bplist_objects.specs.Words.{word_of as word_of_rule};
-ghost use Rattle.bplint_map.specs.Layout.{before, gap, object, row_end};
+ghost use Rattle.bplint_map.specs.Layout.{before, object, row_end};
 ghost use Rattle.bplint_map.specs.Lines.{bare_line, bare_lines, found_line, head_columns, note, part_lines};
 
 use crate::rows::{Finding, Row};

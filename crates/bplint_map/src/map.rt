@@ -4,7 +4,7 @@ ghost use Rattle.bplist_octets.specs.Meaning.{OnlyReads};
 ghost use Rattle.bplist_objects.specs.Framed.{HonestlyIn, frame_in};
 ghost use Rattle.bplist_objects.specs.Safe.{IsSafe};
 ghost use Rattle.bplint_lines.specs.Answers.{read_failed};
-ghost use Rattle.bplint_map.specs.Map.{LeavesMap, Puts, back_text, front_text, map_text, most_looked, rows_text};
+ghost use Rattle.bplint_map.specs.Map.{LeavesMap, Puts, back_text, front_text, map_text, rows_text};
 ghost use Rattle.bplint_map.specs.Rows.{AreFindings, placed};
 ghost use Rattle.bplint_map.specs.declared.rows.Finding.{Finding};
 
@@ -141,7 +141,7 @@ fn put_rows<P: Framed, W: Write>(
 
 /// How many bytes of bodies are looked at in all, so that overlapping ones take no more time than others.
 fn looked_at_most(frame: &Frame) -> u64
-    ensures { frame.now.table < 2 ^ 32 → result ≡ most_looked frame.now }
+    ensures { frame.now.table < 2 ^ 32 → result ≡ 16 * frame.now.table }
 {
     frame.table.saturating_mul(16)
 }

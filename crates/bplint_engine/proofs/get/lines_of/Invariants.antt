@@ -1,6 +1,7 @@
 use Rattle.std.proofs.Common.{◌≡◌, take}
-use Rattle.bplint_engine.specs.Get.{reply_lines}
+use Rattle.std.specs.List.{flat_map}
+use Rattle.bplint_engine.specs.Get.{reply_line}
 use Rattle.bplint_engine.proofs.get.lines_of.Given as goal
 
 abbrev pub invariant-loop-reply : goal.invariant-loop-reply
-invariant-loop-reply l = l.bytes.items ≡ reply_lines (take l.reply-index l.replies)
+invariant-loop-reply l = l.bytes.items ≡ flat_map reply_line (take l.reply-index l.replies)

@@ -1,6 +1,14 @@
+use Rattle.bplint_engine.specs.Get.{GetSays}
 use Rattle.bplint_engine.specs.Show.{ShowSays}
-use Rattle.bplint_engine.proofs.LeastAnswers.{refused_as, show_fault, show_says}
+use Rattle.bplint_engine.proofs.LeastAnswers.{least_fault, path_refused, refused_as, show_says}
+use Rattle.bplint_engine.proofs.PathQueries.{bytes_of}
 use Rattle.bplint_engine.proofs.show.show_output.Goals as goal
+
+pub returns-in-Err-clause-exact : goal.returns-in-Err-clause-exact
+returns-in-Err-clause-exact g c =
+    λ honest. let f = (g.S.Source.means c.args.src).octets in
+    let texts = bytes_of c.args.texts.now in
+    path_refused (λ cert. GetSays f cert texts) f texts _ c.in-Err.ensures
 
 pub returns-in-Ok-check_least-clause-exact : goal.returns-in-Ok-check_least-clause-exact
 returns-in-Ok-check_least-clause-exact g c =
@@ -11,4 +19,6 @@ returns-in-Ok-check_least-clause-exact g c =
 
 pub returns-clause-exact : goal.returns-clause-exact
 returns-clause-exact g c =
-    λ honest. refused_as _ (ShowSays (g.S.Source.means c.args.src).octets _) _ (λ x h. show_fault _ _ _ x c.in-Ok.ensures h) (c.in-Err-check_least.ensures.exact honest)
+    λ honest. let f = (g.S.Source.means c.args.src).octets in
+    let texts = bytes_of c.args.texts.now in
+    refused_as _ (ShowSays f texts) _ (λ x h. least_fault (λ cert. GetSays f cert texts) f texts _ x c.in-Ok.ensures h) (c.in-Err-check_least.ensures.exact honest)

@@ -1,9 +1,10 @@
 use Rattle.std.proofs.Common.{◌∷◌, []}
 use Rattle.std.proofs.lemmas.Grind.{merely}
 use Rattle.bplist_cursor.specs.declared.reply.Query.TheVariants.{Get}
+use Rattle.bplint_engine.specs.Print.{PrintSays}
 use Rattle.bplint_engine.specs.Show.{TextSays}
 use Rattle.bplint_engine.proofs.LeftBytes.{kept_self, refused}
-use Rattle.bplint_engine.proofs.LeastAnswers.{refused_as, text_fault, text_leaves}
+use Rattle.bplint_engine.proofs.LeastAnswers.{least_fault, path_refused, refused_as, text_leaves}
 use Rattle.bplint_engine.proofs.show.show_text_on.Goals as goal
 
 pub returns-in-Ok-check_least-clause-exact : goal.returns-in-Ok-check_least-clause-exact
@@ -12,8 +13,18 @@ returns-in-Ok-check_least-clause-exact g c =
     let left = rw same at c.print_checked.ensures.exact in
     text_leaves _ _ _ _ _ _ _ _ _ c.in-Ok.ensures (c.in-Ok-check_least.ensures.exact honest) (c.in-Ok-check_least.ensures.value honest) (left honest)
 
+pub returns-in-Err-clause-exact : goal.returns-in-Err-clause-exact
+returns-in-Err-clause-exact g c =
+    λ honest. let f = (g.S.Source.means c.args.src).octets in
+    let text = c.args.path.now in
+    merely (refused (TextSays f text c.args.limit) c.args.limit _ _ _
+    (path_refused (λ cert. PrintSays f cert (text ∷ []) c.args.limit) f (text ∷ []) _ c.in-Err.ensures) (kept_self _))
+
 pub returns-clause-exact : goal.returns-clause-exact
 returns-clause-exact g c =
-    λ honest. merely (refused (TextSays (g.S.Source.means c.args.src).octets c.args.path.now c.args.limit) c.args.limit _ _ _
-    (refused_as _ (TextSays (g.S.Source.means c.args.src).octets c.args.path.now c.args.limit) _ (λ x h. text_fault _ c.args.path.now c.args.limit (Get c.in-Ok.path ∷ []) x c.in-Ok.ensures h)
+    λ honest. let f = (g.S.Source.means c.args.src).octets in
+    let text = c.args.path.now in
+    let limit = c.args.limit in
+    merely (refused (TextSays f text limit) limit _ _ _
+    (refused_as _ (TextSays f text limit) _ (λ x h. least_fault (λ cert. PrintSays f cert (text ∷ []) limit) f (text ∷ []) (Get c.in-Ok.path ∷ []) x c.in-Ok.ensures h)
     (c.in-Err-check_least.ensures.exact honest)) (kept_self _))

@@ -3,8 +3,29 @@ use Rattle.std.proofs.lemmas.Result.{err_from_is_err_and}
 use Rattle.bplist_octets.specs.Meaning.{Meaning}
 use Rattle.bplist_objects.specs.Framed.{frame_in}
 use Rattle.bplint_map.proofs.Findings.{findings_of}
-use Rattle.bplint_map.proofs.Texts.{all_out, end_cut, map_cut}
+use Rattle.bplint_map.proofs.Texts.{all_out, end_cut, excused_out, fault_out, map_cut}
+use Rattle.bplint_lines.specs.declared.fault.RunFault.TheVariants as faults
 use Rattle.bplint_map.proofs.map.map_on.Goals as goal
+
+pub returns-in-Err-Fault-clause-exact : goal.returns-in-Err-Fault-clause-exact
+returns-in-Err-Fault-clause-exact g c = λ honest.
+    let broken = rw c.in-Err-Fault.field-0-is at (c.in-Err-Fault.ensures.exact honest) in
+    rw c.in-Err-Fault.field-0-is (fault_out (g.S.Source.means c.args.src.now).octets (g.W.Write.contents c.args.out.now) c.in-Err-Fault.fault broken)
+
+pub returns-in-Err-Read-clause-exact : goal.returns-in-Err-Read-clause-exact
+returns-in-Err-Read-clause-exact g c = λ honest. excused_out (g.S.Source.means c.args.src.now).octets (g.W.Write.contents c.args.out.now) (faults.Read c.in-Err-Read.fault) tt
+
+pub returns-in_err-verdict-clause-exact : goal.returns-in_err-verdict-clause-exact
+returns-in_err-verdict-clause-exact g c = λ honest.
+    let p = err_from_is_err_and c.from_residual.result c.from_residual.ensures.1 in
+    let excused = rw c.in-Ok.ensures.reads at c.in_err-verdict.ensures.exact in
+    rw (p.1, p.2) (excused_out _ _ _ (excused honest))
+
+pub returns-in_err-objects-clause-exact : goal.returns-in_err-objects-clause-exact
+returns-in_err-objects-clause-exact g c = λ honest.
+    let p = err_from_is_err_and c.from_residual-in_err-objects.result c.from_residual-in_err-objects.ensures.1 in
+    let excused = rw (c.new-plist.ensures.means, c.in_ok-verdict.ensures.reads, c.in-Ok.ensures.reads) at c.in_err-objects.ensures.exact in
+    rw (p.1, p.2) (excused_out _ _ _ (excused honest))
 
 pub returns-in_err-put_map-clause-exact : goal.returns-in_err-put_map-clause-exact
 returns-in_err-put_map-clause-exact g c = λ honest.
