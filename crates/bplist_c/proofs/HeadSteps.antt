@@ -1,5 +1,5 @@
 -- The head of an object that a checked file vouches for, from call to call.
-use Rattle.std.proofs.Common.{arith, ◌≡◌, ◌≤◌, ℕ, IsTrue, false, Result, Ok, Err, ap, inl, inr}
+use Rattle.std.proofs.Common.{arith, ◌≡◌, ◌≤◌, ◌∙◌, ℕ, IsTrue, false, Result, Ok, Err, ap, inl, inr, subst, sym}
 use Rattle.std.proofs.lemmas.Bool.{cases_lt}
 use Rattle.std.proofs.lemmas.Grind.{not_there}
 use Rattle.bplist_objects.specs.declared.fault.ObjectFault.{ObjectFault}
@@ -7,17 +7,17 @@ use Rattle.bplist_objects.specs.declared.fault.ObjectFault.TheVariants as errors
 use Rattle.bplist_objects.specs.declared.frame.Frame.{Frame}
 use Rattle.bplist_objects.specs.declared.head.Head.{Head}
 use Rattle.bplist_objects.specs.Answers.{Gives, Never, read_failed}
-use Rattle.bplist_objects.specs.Heads.{HasShape}
+use Rattle.bplist_objects.specs.Heads.{Content, HasShape, IsHeadOf, Spells, content_at}
 use Rattle.bplist_cert.specs.CheckedFile.{CheckedFile, IsChecked}
 use Rattle.bplist_cert.specs.Valid.{IsVouchedBy}
-use Rattle.bplist_c.specs.Reading.{HeadSays, kind_number}
+use Rattle.bplist_c.specs.Reading.{OnObject, kind_number}
 use Rattle.bplist_c.specs.declared.status.Status.{Status}
 use Rattle.bplist_c.specs.declared.status.Status.TheVariants as statuses
 use Rattle.bplist_c.specs.declared.verdict.Top.{Top}
 
 -- this is the head of a vouched object
 abbrev pub IsHead : CheckedFile → ℕ → Result Head Status → Type 0
-IsHead checked n answer = HeadSays checked n (λ head found. found ≡ Ok head) answer
+IsHead checked n answer = OnObject checked n IsHeadOf (λ head found. found ≡ Ok head) answer
 
 -- where no read fails and no rule is broken there is an answer
 pub never_refused : {X : Type 0} (P : X → Type 0) (r : Result X ObjectFault) (e : ObjectFault) → read_failed r ≡ false → Gives P Never r → r ≡ Err e → ⊥
@@ -31,7 +31,7 @@ module _ (checked : CheckedFile) (n : ℕ) where
       → ((x : Head) → HasShape checked.source.octets checked.frame n x → h ≡ x) → IsHead checked n (Ok h)
   head_found h vouched one = record {
     none = λ no. absurd (no vouched);
-    head = λ v head is. ap Ok (one head is.0);
+    said = λ v head is. ap Ok (one head is.0);
   }
 
   -- a vouched object has no head that can't be found
@@ -39,25 +39,31 @@ module _ (checked : CheckedFile) (n : ℕ) where
       → ((x : Head) → HasShape checked.source.octets checked.frame n x → ⊥) → IsHead checked n (Err why)
   head_lost why vouched no_head = record {
     none = λ no. absurd (no vouched);
-    head = λ v head is. absurd (no_head head is.0);
+    said = λ v head is. absurd (no_head head is.0);
   }
 
-  module _ {X : Type 0} (Says : Head → Result X Status → Type 0) where
-    -- what is said of the head that was found is said of the object
-    pub by_head : (h : Head) (answer : Result X Status) → IsHead checked n (Ok h) → Says h answer → HeadSays checked n Says answer
-    by_head h answer known said = record {
-      none = λ no. let e = known.none no in cc;
-      head = λ vouched head is. let e : h ≡ head = let f = known.head vouched head is in cc in subst_says e said;
+  module _ {X : Type 0} (Says : Content → Result X Status → Type 0) where
+    -- what is said of what the head that was found spells is said of the object
+    pub by_content : (h : Head) (answer : Result X Status) → IsHead checked n (Ok h)
+        → (IsVouchedBy checked.certificate.heights n → (content : Content) → Spells checked.source.octets checked.frame n content
+        → content ≡ content_at checked.source.octets checked.frame h → Says content answer)
+        → OnObject checked n Spells Says answer
+    by_content h answer known says = record {
+      none = λ no. let e = known.none no in absurd (cc);
+      said = λ vouched content spells.
+          let spelled = subst (Spells checked.source.octets checked.frame n) spells.means spells in
+          let f = known.said vouched spells.shape (spells.has, spelled) in
+          let same : spells.shape ≡ h = cc in
+          says vouched content spells (spells.means ∙ ap (content_at checked.source.octets checked.frame) same);
     }
-      where
-        subst_says : {k : Head} → h ≡ k → Says h answer → Says k answer
-        subst_says e s = rw e at s
 
     -- no head was found
-    pub by_none : (why : Status) → IsHead checked n (Err why) → HeadSays checked n Says (Err why)
+    pub by_none : (why : Status) → IsHead checked n (Err why) → OnObject checked n Spells Says (Err why)
     by_none why known = record {
       none = λ no. let e = known.none no in let same : why ≡ statuses.NoObject = cc in ap Err same;
-      head = λ vouched head is. absurd (let e = known.head vouched head is in cc);
+      said = λ vouched content spells.
+          let spelled = subst (Spells checked.source.octets checked.frame n) spells.means spells in
+          let f = known.said vouched spells.shape (spells.has, spelled) in absurd (cc);
     }
 
 -- numbers that can't but be in order are

@@ -26,11 +26,12 @@ IsSame old new = (new.length ≡ old.length) × (new.held.value ≡ old.held.val
 
 -- the handle is closed, or its file has another length
 abbrev pub IsRefused : List ℕ → BplistHandle → Status → Type 0
-IsRefused f handle why =
-    ((handle.length ≡ 0) × (why ≡ statuses.Closed)) ⊎ ((handle.length ≢ 0) × (handle.length ≢ length f) × (why ≡ statuses.OtherFile))
+IsRefused f handle why = ((handle.length ≡ 0) × (why ≡ statuses.Closed))
+    ⊎ ((handle.length ≢ 0) × (handle.length ≢ length f) × (why ≡ statuses.OtherFile))
 
 -- a call on a handle is refused, or answers of the file that was opened
-pub record OnHandle {X : Type 0} (file : Bor (List ℕ)) (handle : BplistHandle) (Says : CheckedFile → Result X Status → Type 0) (answer : Result X Status) : Type 0 where
-  pub closed : handle.length ≡ 0 → answer ≡ Err statuses.Closed
-  pub other : handle.length ≢ 0 → handle.length ≢ length file.now → answer ≡ Err statuses.OtherFile
-  pub opened : handle.length ≢ 0 → handle.length ≡ length file.now → (s : Session) → handle.held.value ≡ Some s → Says (checked_of file s) answer
+pub record OnHandle {X : Type 0} (file : Bor (List ℕ)) (h : BplistHandle) (Says : CheckedFile → Result X Status → Type 0)
+    (answer : Result X Status) : Type 0 where
+  pub closed : h.length ≡ 0 → answer ≡ Err statuses.Closed
+  pub other : h.length ≢ 0 → h.length ≢ length file.now → answer ≡ Err statuses.OtherFile
+  pub opened : h.length ≢ 0 → h.length ≡ length file.now → (s : Session) → h.held.value ≡ Some s → Says (checked_of file s) answer

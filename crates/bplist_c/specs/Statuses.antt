@@ -1,27 +1,13 @@
 -- What C is told of an answer. Source: profile.
-use Rattle.std.specs.Prelude.{◌≡◌, ℕ, ◌<◌, ◌≤◌, List, ◌++◌, length, drop, Result, Ok, Err, Vec}
+use Rattle.std.specs.Prelude.{◌≡◌, ℕ, suc, ◌<◌, ◌≤◌, List, ◌++◌, length, drop, Result, Ok, Err, Vec}
 use Rattle.std.specs.Global.{Global}
+use denote.Enum.Declared.{tag_of}
 use Rattle.bplist_c.specs.declared.status.Status.{Status}
-use Rattle.bplist_c.specs.declared.status.Status.TheVariants as statuses
+use Rattle.bplist_c.specs.contracts.status.Status.{the_type}
 
--- the number of a status in the header
+-- the number of a status in the header: its place among the statuses, from 1
 abbrev pub number_of : Status → ℕ
-number_of statuses.Fault = 1
-number_of statuses.Memory = 2
-number_of statuses.Closed = 3
-number_of statuses.Opened = 4
-number_of statuses.OtherFile = 5
-number_of statuses.NoObject = 6
-number_of statuses.OtherKind = 7
-number_of statuses.NoMember = 8
-number_of statuses.NoKey = 9
-number_of statuses.NoIndex = 10
-number_of statuses.NotSteppable = 11
-number_of statuses.PathText = 12
-number_of statuses.NotUtf8 = 13
-number_of statuses.Short = 14
-number_of statuses.NoText = 15
-number_of statuses.NoRule = 16
+number_of status = suc (tag_of the_type status)
 
 -- status 0 and the answer, or why there is none and an unchanged output
 abbrev pub Tells : {X : Type 0} → Result X Status → X → X → ℕ → Type 0

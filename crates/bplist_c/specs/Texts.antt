@@ -1,11 +1,8 @@
 -- What C is told of the text of a value. Source: profile.
 use Rattle.std.specs.Prelude.{◌≡◌, ℕ, List, length, Option, Some, None, Result, Ok, Err, Vec}
 use Rattle.std.specs.Global.{Global}
-use Rattle.bplist_objects.specs.Holds.{Holds}
 use Rattle.bplist_objects.specs.Value.{Value}
 use Rattle.bplist_objects.specs.declared.frame.Frame.{Frame}
-use Rattle.bplist_cert.specs.CheckedFile.{CheckedFile}
-use Rattle.bplist_cert.specs.Valid.{IsVouchedBy}
 use Rattle.bplist_cursor.specs.declared.form.Form.{Form}
 use Rattle.bplist_cursor.specs.declared.form.Form.TheVariants.{NoForm, Length}
 use Rattle.bplist_cursor.specs.Formless.{IsFormless}
@@ -50,17 +47,9 @@ IsTextOf f F n v room (Ok (TooLong told)) =
 IsTextOf f F n v room (Ok (Formless part)) = (value_text v ≡ None) × IsFormless f F n v part.0
 IsTextOf f F n v room (Err why) = why ≡ statuses.Memory
 
--- the text of an object's value, none if it is not vouched for
-pub record TextSays (checked : CheckedFile) (n room : ℕ) (answer : Result Text Status) : Type 0 where
-  pub none : (IsVouchedBy checked.certificate.heights n → ⊥) → answer ≡ Err statuses.NoObject
-  pub text : IsVouchedBy checked.certificate.heights n → (v : Value) → Holds checked.source.octets checked.frame n v
-      → IsTextOf checked.source.octets checked.frame n v room answer
-
 -- buffer, output and status tell the answer
 abbrev pub TellsText : Result Text Status → List ℕ → List ℕ → BplistWritten → BplistWritten → ℕ → Type 0
-TellsText (Ok (Fits text)) old new before after status = PutsAll text.items old new after.length status × (after.object ≡ 0)
-TellsText (Ok (TooLong told)) old new before after status =
-    (status ≡ 14) × (new ≡ old) × (after ≡ record { length = told; object = 0 })
-TellsText (Ok (Formless part)) old new before after status =
-    (status ≡ 15) × (new ≡ old) × (after ≡ record { length = 0; object = part.0 })
-TellsText (Err why) old new before after status = (status ≡ number_of why) × (new ≡ old) × (after ≡ before)
+TellsText (Ok (Fits text)) old new was out status = PutsAll text.items old new out.length status × (out.object ≡ 0)
+TellsText (Ok (TooLong n)) old new was out status = (status ≡ 14) × (new ≡ old) × (out ≡ record { length = n; object = 0 })
+TellsText (Ok (Formless part)) old new was out status = (status ≡ 15) × (new ≡ old) × (out ≡ record { length = 0; object = part.0 })
+TellsText (Err why) old new was out status = (status ≡ number_of why) × (new ≡ old) × (out ≡ was)

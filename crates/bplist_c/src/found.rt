@@ -3,7 +3,11 @@
 ghost use Rattle.std.specs.Prelude.{◌≡◌, ℕ, Result};
 ghost use Rattle.bplist_c.specs.declared.found.Lead.{Lead as lead};
 ghost use Rattle.bplist_c.specs.declared.status.Status.{Status as status};
-ghost use Rattle.bplist_c.specs.Finding.{FindSays, StepSays, TellsLead, lead_of, step_answer, why_status};
+ghost use Rattle.bplist_objects.specs.Holds.{Holds};
+ghost use Rattle.bplist_cursor.specs.OneStep.{IsStepFound};
+ghost use Rattle.bplist_cursor.specs.declared.found.Found.{Found as place};
+ghost use Rattle.bplist_c.specs.Finding.{FindSays, TellsLead, lead_of, step_answer, why_status};
+ghost use Rattle.bplist_c.specs.Reading.{OnObject};
 ghost use Rattle.bplist_c.specs.Sessions.{IsFileOf, IsSame, OnHandle};
 ghost use Rattle.bplist_c.specs.Statuses.{Tells, number_of};
 
@@ -11,7 +15,7 @@ use crate::handle::BplistHandle;
 use crate::loan::{give_back, lend};
 use crate::status::{self, Status};
 use bplist_cert::Checked;
-use bplist_cursor::{CursorFault, Found, Node, Path, PathFault, Why, locate_in_slice, step_from};
+use bplist_cursor::{Found, Node, Path, PathFault, Why, locate_in_slice, step_from};
 use bplist_objects::ObjectNo;
 use bplist_octets::SliceSource;
 use std::alloc::Global;
@@ -137,7 +141,8 @@ fn step_of(
     units: &[u16],
 ) -> Result<u32, Status>
     ensures same { checked.new ≡ checked.old }
-    ensures exact { StepSays checked.old object units.now result }
+    ensures exact { OnObject checked.old object Holds (λ v answer. (found : place) × (answer ≡ step_answer found)
+        × IsStepFound checked.old.source.octets checked.old.frame object v units.now found) result }
 {
     let _before = checked.octets();
     let node = Node {
@@ -145,17 +150,19 @@ fn step_of(
     };
     let found = step_from(checked, node, units);
     let _after = checked.octets();
-    told(found)
+    match found {
+        Ok(place) => told(place),
+        Err(_) => Err(Status::NoObject),
+    }
 }
 
 /// What C is told of one step.
-fn told(found: Result<Found, CursorFault>) -> Result<u32, Status>
-    ensures { result ≡ step_answer found }
+fn told(place: Found) -> Result<u32, Status>
+    ensures { result ≡ step_answer place }
 {
-    match found {
-        Ok(Found::At(node)) => Ok(node.object.0),
-        Ok(Found::Missing { step: _, why }) => Err(status_of(why)),
-        Err(_) => Err(Status::NoObject),
+    match place {
+        Found::At(node) => Ok(node.object.0),
+        Found::Missing { step: _, why } => Err(status_of(why)),
     }
 }
 
@@ -172,7 +179,8 @@ pub extern "C" fn bplist_find_key(
     requires same { IsFileOf file.now handle.old }
     ensures kept { IsSame handle.old handle.new }
     ensures exact { (answer : Result ℕ status) × Tells answer out.old out.new result
-        × OnHandle file.entry handle.old (λ checked. StepSays checked object units.now) answer }
+        × OnHandle file.entry handle.old (λ checked. OnObject checked object Holds (λ v answer. (found : place)
+        × (answer ≡ step_answer found) × IsStepFound checked.source.octets checked.frame object v units.now found)) answer }
 {
     let answer = match lend(alloc, handle, file) {
         Ok(lent) => {

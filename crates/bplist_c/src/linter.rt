@@ -1,6 +1,10 @@
 //! The linter, for C.
 
 ghost use Rattle.std.specs.Prelude.{◌≡◌, ℕ, Result, MatchResult, map, Vec as vec};
+ghost use Rattle.bplist_objects.specs.declared.frame.Frame.{Frame as frame};
+ghost use Rattle.bplist_objects.specs.declared.head.Head.{Head as head};
+ghost use Rattle.bplist_objects.specs.Frame.{IsFrame};
+ghost use Rattle.bplist_objects.specs.Heads.{IsHeadOf};
 ghost use Rattle.bplist_lint.specs.declared.answer.Lint.{Lint as lint_answer};
 ghost use Rattle.bplist_lint.specs.declared.refusal.LintRefusal.{LintRefusal as lint_refusal};
 ghost use Rattle.bplist_lint.specs.FileFault.{IsFileFault, IsFileCircle};
@@ -11,7 +15,8 @@ ghost use Rattle.std.specs.Global.{Global as global};
 ghost use Rattle.bplist_c.specs.declared.status.Status.{Status as status};
 ghost use Rattle.bplist_c.specs.declared.status.Status.TheVariants.{Memory};
 ghost use Rattle.bplist_c.specs.Statuses.{Puts};
-ghost use Rattle.bplist_c.specs.Verdicts.{CircleSays, IsTop, NamesRule, ShowsLint};
+ghost use Rattle.bplist_c.specs.Reading.{kind_number as number_of_kind};
+ghost use Rattle.bplist_c.specs.Verdicts.{CircleSays, NamesRule, ShowsLint};
 
 use crate::object::number_of as kind_number;
 use crate::status::{Status, put_all, put_answer};
@@ -30,7 +35,8 @@ pub(crate) fn lint_file(alloc: Global, file: &[u8]) -> Result<Lint, LintRefusal>
 
 /// The top of a file that holds a value.
 fn top_of(file: &[u8], height: u32) -> Top
-    ensures { IsTop file.now height result }
+    ensures { (F : frame) → IsFrame file.now F → (head : head) → IsHeadOf file.now F F.top.0 head
+        → result ≡ record { objects = F.objects; object = F.top.0; kind = number_of_kind head.kind; height = height } }
 {
     let mut source = SliceSource::new(file);
     let Ok(frame) = frame_of(&mut source) else {
@@ -67,11 +73,7 @@ pub(crate) fn show(file: &[u8], answer: &Result<Lint, LintRefusal>, out: &mut Bp
             *out = BplistVerdict::of_top(top, found.reached, found.references);
             0
         }
-        Err(refusal) => {
-            let (status, verdict) = refused(refusal);
-            *out = verdict;
-            status.number()
-        }
+        Err(refusal) => refused(refusal, out),
     }
 }
 
@@ -79,7 +81,8 @@ pub(crate) fn show(file: &[u8], answer: &Result<Lint, LintRefusal>, out: &mut Bp
 #[unsafe(no_mangle)]
 pub extern "C" fn bplist_lint(alloc: Global, file: &[u8], out: &mut BplistVerdict) -> u32
     ensures { (answer : Result lint_answer lint_refusal)
-        × Lints (IsLinted file.now) (IsFileFault file.now) (IsFileCircle file.now) answer × ShowsLint file.now answer out.new result }
+        × Lints (IsLinted file.now) (IsFileFault file.now) (IsFileCircle file.now) answer
+        × ShowsLint file.now answer out.new result }
 {
     let answer = lint_file(alloc, file);
     show(file, &answer, out)
@@ -131,7 +134,8 @@ pub extern "C" fn bplist_circle(
 ) -> u32
     ensures { (linted : Result lint_answer lint_refusal)
         × Lints (IsLinted file.now) (IsFileFault file.now) (IsFileCircle file.now) linted
-        × ((circle : Result (vec ℕ global) status) × CircleSays linted circle × Puts circle objects.old objects.new count.old count.new result) }
+        × ((circle : Result (vec ℕ global) status) × CircleSays linted circle
+        × Puts circle objects.old objects.new count.old count.new result) }
 {
     let linted = lint_file(alloc, file);
     let circle = circle_of(alloc, linted);

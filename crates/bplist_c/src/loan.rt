@@ -28,7 +28,8 @@ pub(crate) fn lend<'a>(
     requires same { IsFileOf file.now handle.old }
     ensures { MatchResult result
         (λ lent. (0 < handle.old.length) × (handle.old.length ≡ length file.now)
-        × ((s : session) × (handle.old.held.value ≡ Some s) × (lent.checked ≡ checked_of file.entry s) × (lent.session.value.frame ≡ s.frame)))
+        × ((s : session) × (handle.old.held.value ≡ Some s) × (lent.checked ≡ checked_of file.entry s)
+        × (lent.session.value.frame ≡ s.frame)))
         (λ why. (handle.new ≡ handle.old) × IsRefused file.now handle.old why) }
 {
     if handle.length == 0 {
@@ -45,7 +46,10 @@ pub(crate) fn lend<'a>(
 /// Puts the session into the handle again.
 pub(crate) fn give_back(handle: &mut BplistHandle, lent: Lent<'_>)
     ensures length { handle.new.length ≡ length lent.entry.checked.source.octets }
-    ensures session { handle.new.held.value ≡ Some (record { frame = lent.entry.session.value.frame; certificate = lent.entry.checked.certificate }) }
+    ensures session { handle.new.held.value ≡ Some (record {
+      frame = lent.entry.session.value.frame;
+      certificate = lent.entry.checked.certificate;
+    }) }
 {
     let Lent {
         mut session,

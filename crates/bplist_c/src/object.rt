@@ -1,16 +1,18 @@
 //! What an object shows.
 
-ghost use Rattle.std.specs.Prelude.{◌≡◌, ◌+◌, ◌*◌, ◌%◌, ◌^◌, ◌≤◌, ℕ, IfErr, IfOk, Ok, Result, length};
+ghost use Rattle.std.specs.Prelude.{◌≡◌, ◌≢◌, ◌+◌, ◌*◌, ◌%◌, ◌^◌, ◌≤◌, ℕ, IfErr, IfOk, Ok, Result, length, ok_or};
 ghost use Rattle.bplist_octets.specs.Octets.{part};
 ghost use Rattle.bplist_objects.specs.Numbers.{integer, num_at};
 ghost use Rattle.bplist_objects.specs.Units.{IsTextKind, units_of};
 ghost use Rattle.bplist_objects.specs.declared.kind.Kind.TheVariants.{Int, Uid};
-ghost use Rattle.bplist_objects.specs.Heads.{unit};
+ghost use Rattle.bplist_objects.specs.Heads.{IsHeadOf, Spells, unit};
 ghost use Rattle.bplist_objects.specs.Safe.{IsSafeBody, IsSafeHead};
+ghost use Rattle.bplist_cursor.specs.Members.{member_reference};
 ghost use Rattle.bplist_c.specs.declared.object.BplistBody.{BplistBody as body};
 ghost use Rattle.bplist_c.specs.declared.status.Status.{Status as status};
+ghost use Rattle.bplist_c.specs.declared.status.Status.TheVariants.{NoMember};
 ghost use Rattle.bplist_c.specs.declared.object.BplistInteger.{BplistInteger as number};
-ghost use Rattle.bplist_c.specs.Reading.{FaceSays, HeadSays, IntSays, MemberSays, UidSays, UnitsSay, halves_of, kind_number, member_answer};
+ghost use Rattle.bplist_c.specs.Reading.{OnObject, UnitsSay, body_of, halves_of, int_answer, kind_number, uid_answer};
 ghost use Rattle.bplist_c.specs.Sessions.{IsFileOf, IsSame, OnHandle};
 ghost use Rattle.bplist_c.specs.Statuses.{Tells};
 
@@ -18,7 +20,7 @@ use crate::handle::BplistHandle;
 use crate::loan::{give_back, lend};
 use crate::status::{Status, tell};
 use bplist_cert::Checked;
-use bplist_cursor::{CursorFault, Node, member};
+use bplist_cursor::member_by_head;
 use bplist_objects::{Head, Kind, ObjectNo, int_of, read_units, shape_of, uid_of};
 use bplist_octets::SliceSource;
 use std::alloc::Global;
@@ -52,7 +54,7 @@ pub(crate) fn head_of_object(
     checked: &Checked<SliceSource<'_>>,
     object: u32,
 ) -> Result<Head, Status>
-    ensures exact { HeadSays checked.now object (λ head answer. answer ≡ Ok head) result }
+    ensures exact { OnObject checked.now object IsHeadOf (λ head answer. answer ≡ Ok head) result }
     ensures safe { IfOk result (IsSafeHead checked.now.frame) }
     ensures body { IfOk result (IsSafeBody (length checked.now.source.octets)) }
 {
@@ -72,21 +74,7 @@ pub(crate) fn head_of_object(
 pub(crate) fn number_of(kind: Kind) -> u32
     ensures { result ≡ kind_number kind }
 {
-    match kind {
-        Kind::Null => 1,
-        Kind::False => 2,
-        Kind::True => 3,
-        Kind::Int => 4,
-        Kind::Real => 5,
-        Kind::Date => 6,
-        Kind::Bytes => 7,
-        Kind::Ascii => 8,
-        Kind::Wide => 9,
-        Kind::Uid => 10,
-        Kind::Array => 11,
-        Kind::Set => 12,
-        Kind::Dict => 13,
-    }
+    kind as u32 + 1
 }
 
 /// How many bytes of the body one of the count takes.
@@ -104,7 +92,7 @@ fn unit_of(kind: Kind, ref_size: u8) -> u8
 
 /// What an object shows of itself.
 fn face_of(checked: &Checked<SliceSource<'_>>, object: u32) -> Result<BplistBody, Status>
-    ensures { FaceSays checked.now object result }
+    ensures { OnObject checked.now object IsHeadOf (λ head answer. answer ≡ Ok (body_of checked.now.frame head)) result }
 {
     let frame = checked.frame();
     let _octets = checked.octets();
@@ -168,7 +156,7 @@ fn read_part(file: &[u8], head: &Head, from: u64, into: &mut [u16])
 
 /// The integer of an object.
 fn integer_of(checked: &Checked<SliceSource<'_>>, object: u32) -> Result<BplistInteger, Status>
-    ensures { IntSays checked.now object result }
+    ensures { OnObject checked.now object Spells (λ content answer. answer ≡ int_answer content) result }
 {
     let file = checked.octets();
     let head = head_of_object(checked, object)?;
@@ -180,7 +168,7 @@ fn integer_of(checked: &Checked<SliceSource<'_>>, object: u32) -> Result<BplistI
 
 /// The number of a UID.
 fn uid_of_object(checked: &Checked<SliceSource<'_>>, object: u32) -> Result<u32, Status>
-    ensures { UidSays checked.now object result }
+    ensures { OnObject checked.now object Spells (λ content answer. answer ≡ uid_answer content) result }
 {
     let file = checked.octets();
     let head = head_of_object(checked, object)?;
@@ -197,7 +185,7 @@ fn units_of_object(
     from: u64,
     into: &mut [u16],
 ) -> Result<u64, Status>
-    ensures exact { UnitsSay checked.now object from into.old into.new result }
+    ensures exact { OnObject checked.now object IsHeadOf (UnitsSay checked.now.source.octets from into.old into.new) result }
     ensures left { IfErr result (λ why. into.new ≡ into.old) }
 {
     let file = checked.octets();
@@ -216,21 +204,13 @@ fn units_of_object(
 /// The object of a member of an object.
 fn member_of(checked: &mut Checked<SliceSource<'_>>, object: u32, i: u64) -> Result<u32, Status>
     ensures same { checked.new ≡ checked.old }
-    ensures exact { MemberSays checked.old object i result }
+    ensures exact { OnObject checked.old object Spells
+        (λ content answer. answer ≡ ok_or (member_reference content i) NoMember) result }
 {
     let _before = checked.octets();
-    let node = Node {
-        object: ObjectNo(object),
-    };
-    let found = member(checked, node, i);
+    let head = head_of_object(checked, object)?;
+    let found = member_by_head(checked, &head, i);
     let _after = checked.octets();
-    told(found)
-}
-
-/// What C is told of a member.
-fn told(found: Result<Option<Node>, CursorFault>) -> Result<u32, Status>
-    ensures { result ≡ member_answer found }
-{
     match found {
         Ok(Some(node)) => Ok(node.object.0),
         Ok(None) => Err(Status::NoMember),
@@ -250,7 +230,8 @@ pub extern "C" fn bplist_face(
     requires same { IsFileOf file.now handle.old }
     ensures kept { IsSame handle.old handle.new }
     ensures exact { (answer : Result body status) × Tells answer out.old out.new result
-        × OnHandle file.entry handle.old (λ checked. FaceSays checked object) answer }
+        × OnHandle file.entry handle.old (λ checked. OnObject checked object IsHeadOf
+        (λ head answer. answer ≡ Ok (body_of checked.frame head))) answer }
 {
     let answer = match lend(alloc, handle, file) {
         Ok(lent) => {
@@ -275,7 +256,8 @@ pub extern "C" fn bplist_int(
     requires same { IsFileOf file.now handle.old }
     ensures kept { IsSame handle.old handle.new }
     ensures exact { (answer : Result number status) × Tells answer out.old out.new result
-        × OnHandle file.entry handle.old (λ checked. IntSays checked object) answer }
+        × OnHandle file.entry handle.old (λ checked. OnObject checked object Spells
+        (λ content answer. answer ≡ int_answer content)) answer }
 {
     let answer = match lend(alloc, handle, file) {
         Ok(lent) => {
@@ -300,7 +282,8 @@ pub extern "C" fn bplist_uid(
     requires same { IsFileOf file.now handle.old }
     ensures kept { IsSame handle.old handle.new }
     ensures exact { (answer : Result ℕ status) × Tells answer out.old out.new result
-        × OnHandle file.entry handle.old (λ checked. UidSays checked object) answer }
+        × OnHandle file.entry handle.old (λ checked. OnObject checked object Spells
+        (λ content answer. answer ≡ uid_answer content)) answer }
 {
     let answer = match lend(alloc, handle, file) {
         Ok(lent) => {
@@ -326,7 +309,8 @@ pub extern "C" fn bplist_member(
     requires same { IsFileOf file.now handle.old }
     ensures kept { IsSame handle.old handle.new }
     ensures exact { (answer : Result ℕ status) × Tells answer out.old out.new result
-        × OnHandle file.entry handle.old (λ checked. MemberSays checked object i) answer }
+        × OnHandle file.entry handle.old (λ checked. OnObject checked object Spells
+        (λ content answer. answer ≡ ok_or (member_reference content i) NoMember)) answer }
 {
     let answer = match lend(alloc, handle, file) {
         Ok(lent) => {
@@ -354,7 +338,9 @@ pub extern "C" fn bplist_units(
     requires same { IsFileOf file.now handle.old }
     ensures kept { IsSame handle.old handle.new }
     ensures exact { (answer : Result ℕ status) × Tells answer count.old count.new result
-        × OnHandle file.entry handle.old (λ checked. UnitsSay checked object from units.old units.new) answer }
+        × OnHandle file.entry handle.old (λ checked. OnObject checked object IsHeadOf
+        (UnitsSay checked.source.octets from units.old units.new)) answer }
+    ensures left { result ≢ 0 → units.new ≡ units.old }
 {
     let answer = match lend(alloc, handle, file) {
         Ok(lent) => {

@@ -1,29 +1,35 @@
 //! Handles, opened and closed.
 
-ghost use Rattle.std.specs.Prelude.{◌≡◌, ◌≢◌, ℕ, None, Result, IfSome, IsSome, MatchResult, Vec as vec};
+ghost use Rattle.std.specs.Prelude.{◌≡◌, ◌≢◌, ◌⊎◌, ℕ, None, Result, IfSome, IsSome, MatchResult, Vec as vec};
 ghost use Rattle.std.specs.Global.{Global as global};
 ghost use Rattle.bplist_objects.specs.declared.head.Head.{Head as head};
 ghost use Rattle.bplist_objects.specs.Heads.{IsHeadOf};
+ghost use Rattle.bplist_octets.specs.Slices.{source_over};
+ghost use Rattle.bplist_cert.specs.CheckedFile.{IsChecked};
 ghost use Rattle.bplist_cert.specs.Encoding.{octets_of as certificate_octets};
+ghost use Rattle.bplist_cert.specs.Lists.{IsCertificate};
+ghost use Rattle.bplist_cert.specs.declared.certificate.CertRefusal.TheVariants as refusals;
 ghost use Rattle.bplist_lint.specs.declared.answer.Lint.{Lint as lint_answer};
 ghost use Rattle.bplist_lint.specs.declared.refusal.LintRefusal.{LintRefusal as lint_refusal};
 ghost use Rattle.bplist_lint.specs.FileFault.{IsFileFault, IsFileCircle};
 ghost use Rattle.bplist_lint.specs.Linted.{IsLinted};
-ghost use Rattle.bplist_lint.specs.Refusals.{Lints};
+ghost use Rattle.bplist_lint.specs.Refusals.{Lints, no_circle};
 ghost use Rattle.bplist_c.specs.declared.status.Status.{Status as status};
 ghost use Rattle.bplist_c.specs.declared.status.Status.TheVariants.{Memory};
-ghost use Rattle.bplist_c.specs.Opening.{CertificateSays, IsAcceptedFor, IsCheckedFor, IsKept, IsOpened, IsPair, IsPairRefusal, LintOpens, PairOpens, ShowsPair};
+ghost use Rattle.bplist_c.specs.Opening.{CertificateSays, IsAcceptedFor, IsCheckedFor, IsKept, IsOpened, IsPair, IsPairRefusal};
+ghost use Rattle.bplist_c.specs.Opening.{certified};
 ghost use Rattle.bplist_c.specs.Reading.{kind_number};
 ghost use Rattle.bplist_c.specs.Sessions.{IsSame, IsSessionOf};
 ghost use Rattle.bplist_c.specs.Statuses.{Puts};
-ghost use Rattle.bplist_c.specs.Verdicts.{no_verdict};
+ghost use Rattle.bplist_c.specs.declared.verdict.TheConstants.{NO_VERDICT};
+ghost use Rattle.bplist_c.specs.Verdicts.{ShowsLint, ShowsTop};
 
 use crate::handle::BplistHandle;
 use crate::linter::{lint_file, show};
 use crate::object::{head_of_object, number_of};
 use crate::session::Session;
 use crate::status::{Status, put_answer};
-use crate::verdict::{BplistVerdict, Top};
+use crate::verdict::{BplistVerdict, NO_VERDICT, Top};
 use bplist_cert::{CertRefusal, Certificate, Checked, Refusal, check};
 use bplist_lint::{Lint, upgrade};
 use bplist_objects::frame_of;
@@ -96,7 +102,9 @@ fn keep(
     out: &mut BplistVerdict,
 ) -> u32
     requires { handle.old.length ≡ 0 }
-    ensures { IsOpened checked.entry.source.octets checked.entry.certificate sorted handle.new out.old out.new result }
+    ensures { ((result ≡ 0) × (out.new ≡ out.old)
+        × IsOpened checked.entry.source.octets checked.entry.certificate sorted handle.new)
+        ⊎ ((result ≡ 2) × (out.new ≡ NO_VERDICT) × (handle.new.length ≡ 0)) }
 {
     let length = checked.octets().len() as u64;
     match sorted_session(alloc, checked, sorted) {
@@ -105,7 +113,7 @@ fn keep(
             0
         }
         None => {
-            *out = BplistVerdict::nothing();
+            *out = NO_VERDICT;
             Status::Memory.number()
         }
     }
@@ -120,13 +128,14 @@ pub extern "C" fn bplist_open(
     sorted: bool,
     out: &mut BplistVerdict,
 ) -> u32
-    ensures opened { handle.old.length ≢ 0 → IsSame handle.old handle.new × (out.new ≡ no_verdict) × (result ≡ 4) }
+    ensures opened { handle.old.length ≢ 0 → IsSame handle.old handle.new × (out.new ≡ NO_VERDICT) × (result ≡ 4) }
     ensures exact { handle.old.length ≡ 0 → (answer : Result lint_answer lint_refusal)
         × Lints (IsLinted file.now) (IsFileFault file.now) (IsFileCircle file.now) answer
-        × LintOpens file.now sorted answer handle.new out.new result }
+        × ShowsLint file.now answer out.new result
+        × MatchResult answer (λ lint. IsOpened file.now lint.certificate sorted handle.new) (λ _. handle.new.length ≡ 0) }
 {
     if handle.length != 0 {
-        *out = BplistVerdict::nothing();
+        *out = NO_VERDICT;
         return Status::Opened.number();
     }
     let answer = lint_file(alloc, file);
@@ -149,7 +158,9 @@ fn check_pair<'a>(
     file: &'a [u8],
     certificate: &[u8],
 ) -> Result<Checked<SliceSource<'a>>, CertRefusal>
-    ensures { MatchResult result (IsPair file.entry certificate.now) (IsPairRefusal file.now certificate.now) }
+    ensures { MatchResult result (λ checked. IsChecked checked × IsCertificate checked.certificate
+        × (certificate.now ≡ certificate_octets checked.certificate) × (checked.source ≡ source_over file.entry))
+        (IsPairRefusal file.now certificate.now) }
 {
     let certificate = Certificate::from_octets(alloc, certificate)?;
     match check(alloc, SliceSource::new(file), certificate) {
@@ -177,7 +188,7 @@ fn top_kind(checked: &Checked<SliceSource<'_>>) -> u32
 
 /// The verdict on a file by its certificate.
 fn verdict_of(checked: &Checked<SliceSource<'_>>) -> BplistVerdict
-    ensures { ShowsPair checked.now result }
+    ensures { ShowsTop checked.now.source.octets checked.now.frame (certified checked.now.frame checked.now.certificate) result }
 {
     let frame = checked.frame();
     let top = Top {
@@ -199,11 +210,15 @@ pub extern "C" fn bplist_open_certified(
     sorted: bool,
     out: &mut BplistVerdict,
 ) -> u32
-    ensures opened { handle.old.length ≢ 0 → IsSame handle.old handle.new × (out.new ≡ no_verdict) × (result ≡ 4) }
-    ensures exact { handle.old.length ≡ 0 → PairOpens file.entry certificate.now sorted handle.new out.new result }
+    ensures opened { handle.old.length ≢ 0 → IsSame handle.old handle.new × (out.new ≡ NO_VERDICT) × (result ≡ 4) }
+    ensures exact { handle.old.length ≡ 0 → (answer : Result lint_answer lint_refusal)
+        × Lints (IsPair file.now certificate.now) (λ fault. IsPairRefusal file.now certificate.now (refusals.Fault fault))
+        no_circle answer
+        × ShowsLint file.now answer out.new result
+        × MatchResult answer (λ lint. IsOpened file.now lint.certificate sorted handle.new) (λ _. handle.new.length ≡ 0) }
 {
     if handle.length != 0 {
-        *out = BplistVerdict::nothing();
+        *out = NO_VERDICT;
         return Status::Opened.number();
     }
     match check_pair(alloc, file, certificate) {
@@ -216,7 +231,7 @@ pub extern "C" fn bplist_open_certified(
             Status::Fault.number()
         }
         Err(CertRefusal::Memory) => {
-            *out = BplistVerdict::nothing();
+            *out = NO_VERDICT;
             Status::Memory.number()
         }
     }

@@ -1,12 +1,17 @@
 //! How large values are, and their texts.
 
-ghost use Rattle.std.specs.Prelude.{◌≡◌, Result, IfSome};
+ghost use Rattle.std.specs.Prelude.{◌≡◌, ◌⊎◌, Result, Ok, Err, IfSome};
+ghost use Rattle.bplist_objects.specs.Holds.{Holds};
 ghost use Rattle.bplist_c.specs.declared.sizes.BplistSizes.{BplistSizes as sizes};
 ghost use Rattle.bplist_c.specs.declared.status.Status.{Status as status};
+ghost use Rattle.bplist_c.specs.declared.status.Status.TheVariants.{Memory};
+ghost use Rattle.bplist_c.specs.Reading.{OnObject};
 ghost use Rattle.bplist_c.specs.Sessions.{IsFileOf, IsSame, OnHandle};
-ghost use Rattle.bplist_c.specs.Sizing.{SizeSays, sizes_by, sizes_told};
+ghost use Rattle.bplist_c.specs.Sizing.{sizes_by, sizes_told};
 ghost use Rattle.bplist_c.specs.Statuses.{Tells};
+ghost use Rattle.bplist_cursor.specs.Forms.{form_of};
 ghost use Rattle.bplist_cursor.specs.Found.{AreMeasuresOf};
+ghost use Rattle.bplist_cursor.specs.Nodes.{cap, nodes as node_count};
 ghost use Rattle.bplist_cursor.specs.Sizes.{form_in, nodes_in};
 
 use crate::handle::BplistHandle;
@@ -69,7 +74,8 @@ fn size_of(
     object: u32,
 ) -> Result<BplistSizes, Status>
     ensures same { checked.new ≡ checked.old }
-    ensures exact { SizeSays checked.old object result }
+    ensures exact { OnObject checked.old object Holds (λ v answer. (answer ≡ Ok (sizes_by (cap (node_count v)) (form_of v)))
+        ⊎ (answer ≡ Err Memory)) result }
 {
     let n = ObjectNo(object);
     if checked.height(n) == 0 {
@@ -105,7 +111,8 @@ pub extern "C" fn bplist_size(
     requires same { IsFileOf file.now handle.old }
     ensures kept { IsSame handle.old handle.new }
     ensures exact { (answer : Result sizes status) × Tells answer out.old out.new result
-        × OnHandle file.entry handle.old (λ checked. SizeSays checked object) answer }
+        × OnHandle file.entry handle.old (λ checked. OnObject checked object Holds
+        (λ v answer. (answer ≡ Ok (sizes_by (cap (node_count v)) (form_of v))) ⊎ (answer ≡ Err Memory))) answer }
 {
     let answer = match lend(alloc, handle, file) {
         Ok(lent) => {

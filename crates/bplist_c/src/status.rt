@@ -3,11 +3,11 @@
 ghost use Rattle.std.specs.Prelude.{◌≡◌};
 ghost use Rattle.bplist_c.specs.Statuses.{number_of, Puts, PutsAll, Tells};
 
-/// Why a call has no answer. A variant's number is that of the header.
+/// Why a call has no answer, in the order of the numbers of the header.
 #[derive(Clone, Copy, Debug, PartialEq, Eq, Drop)]
 pub(crate) enum Status {
     /// A rule is broken.
-    Fault = 1,
+    Fault,
     /// A growth was refused.
     Memory,
     /// The handle is closed.
@@ -45,7 +45,7 @@ impl Status {
     pub(crate) fn number(self) -> u32
         ensures { result ≡ number_of self }
     {
-        self as u32
+        self as u32 + 1
     }
 }
 

@@ -5,7 +5,9 @@ ghost use Rattle.bplist_c.specs.declared.status.Status.{Status as status};
 ghost use Rattle.bplist_c.specs.declared.text.Text.{Text as text};
 ghost use Rattle.bplist_c.specs.Sessions.{IsFileOf, IsSame, OnHandle};
 ghost use Rattle.bplist_c.specs.Statuses.{PutsAll};
-ghost use Rattle.bplist_c.specs.Texts.{TellsText, TextSays, printed_as, text_length};
+ghost use Rattle.bplist_c.specs.Reading.{OnObject};
+ghost use Rattle.bplist_objects.specs.Holds.{Holds};
+ghost use Rattle.bplist_c.specs.Texts.{IsTextOf, TellsText, printed_as, text_length};
 
 use crate::handle::BplistHandle;
 use crate::loan::{give_back, lend};
@@ -44,7 +46,8 @@ fn text_of(
     room: u64,
 ) -> Result<Text, Status>
     ensures same { checked.new ≡ checked.old }
-    ensures exact { TextSays checked.old object room result }
+    ensures exact { OnObject checked.old object Holds
+        (λ v. IsTextOf checked.old.source.octets checked.old.frame object v room) result }
 {
     let n = ObjectNo(object);
     if checked.height(n) == 0 {
@@ -133,7 +136,8 @@ pub extern "C" fn bplist_text(
     requires same { IsFileOf file.now handle.old }
     ensures kept { IsSame handle.old handle.new }
     ensures exact { (answer : Result text status) × TellsText answer buffer.old buffer.new out.old out.new result
-        × OnHandle file.entry handle.old (λ checked. TextSays checked object (length buffer.old)) answer }
+        × OnHandle file.entry handle.old (λ checked. OnObject checked object Holds
+        (λ v. IsTextOf checked.source.octets checked.frame object v (length buffer.old))) answer }
 {
     let room = buffer.len() as u64;
     let answer = match lend(alloc, handle, file) {

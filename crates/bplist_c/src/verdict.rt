@@ -1,7 +1,8 @@
 //! What was found of a file, for C.
 
-ghost use Rattle.std.specs.Prelude.{◌≡◌};
-ghost use Rattle.bplist_c.specs.Verdicts.{circle_verdict, fault_verdict, lint_refusal, no_verdict, top_verdict};
+ghost use Rattle.std.specs.Prelude.{◌≡◌, ℕ, List, Err};
+ghost use Rattle.bplist_c.specs.declared.verdict.TheConstants.{NO_VERDICT};
+ghost use Rattle.bplist_c.specs.Verdicts.{ShowsLint, circle_verdict, fault_verdict};
 
 use crate::status::Status;
 use bplist_lint::{LintRefusal, ObjectNos};
@@ -48,29 +49,32 @@ pub(crate) struct Top {
     pub(crate) height: u32,
 }
 
-impl BplistVerdict {
-    /// A verdict that says nothing.
-    pub(crate) fn nothing() -> BplistVerdict
-        ensures { result ≡ no_verdict }
-    {
-        BplistVerdict {
-            rule: 0,
-            has_object: 0,
-            object: 0,
-            top: 0,
-            top_kind: 0,
-            height: 0,
-            place: 0,
-            circle: 0,
-            objects: 0,
-            reached: 0,
-            references: 0,
-        }
-    }
+/// A verdict that says nothing.
+pub(crate) const NO_VERDICT: BplistVerdict = BplistVerdict {
+    rule: 0,
+    has_object: 0,
+    object: 0,
+    top: 0,
+    top_kind: 0,
+    height: 0,
+    place: 0,
+    circle: 0,
+    objects: 0,
+    reached: 0,
+    references: 0,
+};
 
+impl BplistVerdict {
     /// The verdict on a file with this top, which reaches so many objects with so many references.
     pub(crate) fn of_top(top: Top, reached: u64, references: u64) -> BplistVerdict
-        ensures { result ≡ top_verdict top reached references }
+        ensures { result ≡ record NO_VERDICT {
+          objects = top.objects;
+          top = top.object;
+          top_kind = top.kind;
+          height = top.height;
+          reached = reached;
+          references = references;
+        } }
     {
         BplistVerdict {
             top: top.object,
@@ -79,7 +83,7 @@ impl BplistVerdict {
             objects: top.objects as u64,
             reached,
             references,
-            ..BplistVerdict::nothing()
+            ..NO_VERDICT
         }
     }
 
@@ -96,7 +100,7 @@ impl BplistVerdict {
             has_object,
             object,
             place: fault.place,
-            ..BplistVerdict::nothing()
+            ..NO_VERDICT
         }
     }
 
@@ -113,18 +117,20 @@ impl BplistVerdict {
                 None => 0,
             },
             circle: objects.len() as u64,
-            ..BplistVerdict::nothing()
+            ..NO_VERDICT
         }
     }
 }
 
-/// What C is told of a file that the linter refuses.
-pub(crate) fn refused(refusal: &LintRefusal) -> (Status, BplistVerdict)
-    ensures { result ≡ lint_refusal refusal.now }
+/// Tells C why the linter refuses a file.
+pub(crate) fn refused(refusal: &LintRefusal, out: &mut BplistVerdict) -> u32
+    ensures { (f : List ℕ) → ShowsLint f (Err refusal.now) out.new result }
 {
-    match refusal {
+    let (status, verdict) = match refusal {
         LintRefusal::Fault(fault) => (Status::Fault, BplistVerdict::of_fault(*fault)),
         LintRefusal::Circle(circle) => (Status::Fault, BplistVerdict::of_circle(circle)),
-        LintRefusal::Read(_) | LintRefusal::Memory => (Status::Memory, BplistVerdict::nothing()),
-    }
+        LintRefusal::Read(_) | LintRefusal::Memory => (Status::Memory, NO_VERDICT),
+    };
+    *out = verdict;
+    status.number()
 }

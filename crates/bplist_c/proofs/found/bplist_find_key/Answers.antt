@@ -1,4 +1,3 @@
-use Rattle.bplist_c.specs.Finding.{StepSays}
 use Rattle.bplist_c.proofs.HandleSource.{on_lent, on_refused}
 use Rattle.bplist_c.proofs.found.bplist_find_key.Goals as goal
 use Rattle.bplist_c.proofs.found.bplist_find_key.Goals.{in-Ok, in-Err}
@@ -8,8 +7,8 @@ returns-clause-exact c = (
   c.match-lend.answer,
   c.tell.ensures,
   elim c.match-lend.branch [
-    | in-Ok w ↦ rw w.answer-is (on_lent c.args.file c.args.handle.now (λ checked. StepSays checked c.args.object c.args.units.now) w.in-Ok.ensures.2.0 w.in-Ok.lent.checked
-        w.step_of-answer.result w.in-Ok.ensures.0 w.in-Ok.ensures.1 w.in-Ok.ensures.2.1 w.in-Ok.ensures.2.2 w.step_of-answer.ensures.exact)
-    | in-Err w ↦ rw w.answer-is (on_refused c.args.file c.args.handle.now (λ checked. StepSays checked c.args.object c.args.units.now) w.in-Err.status w.in-Err.ensures.1)
+    | in-Ok w ↦ rw w.answer-is (on_lent c.args.file c.args.handle.now _ w.in-Ok.ensures.2.0 w.in-Ok.lent.checked w.step_of-answer.result
+        w.in-Ok.ensures.0 w.in-Ok.ensures.1 w.in-Ok.ensures.2.1 w.in-Ok.ensures.2.2 w.step_of-answer.ensures.exact)
+    | in-Err w ↦ rw w.answer-is (on_refused c.args.file c.args.handle.now _ w.in-Err.status w.in-Err.ensures.1)
   ],
 )

@@ -11,7 +11,7 @@ returns-clause-exact c =
     let exact = rw (c.in-Some.ensures.same, c.new-text.ensures.items) at c.print-printed.ensures.exact in
     record {
       none = λ bad. absurd (bad vouched);
-      text = λ v w holds.
+      said = λ v w holds.
           rw c.told.ensures (text_said checked.source.octets checked.frame c.args.object w c.args.room c.length_of-length.result c.print-printed.new.out c.print-printed.result
           (exact honest vouched w holds)
           (λ t is. c.length_of-length.ensures ∙ told_length _ c.args.object w t (c.in-Some.ensures.exact.form c.args.object w vouched holds) is));
