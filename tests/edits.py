@@ -15,9 +15,12 @@ An edit passes where it is refused by one of the first three. The last line is `
 one failed. With --table the rows of these edits in docs/EDITS.md are written anew: the edit, what it turns, what refuses it.
 
 Edits of different functions are tried together, in a copy of the crate over what its last check kept, so a crate takes a
-few checks; crates are tried side by side. The crates that the edits are of must be built, and those below them.
+few checks; crates are tried side by side. Functions that no edit of the check turns are not proved there: their proofs are
+holes, and a call takes its callee by its contract. An edit that is not refused so is tried once more with all proofs as they
+are. The crates that the edits are of must be built, and those below them.
 """
 import concurrent.futures
+import copy
 import dataclasses
 import importlib.machinery
 import importlib.util
@@ -31,11 +34,13 @@ import tempfile
 ROOT = pathlib.Path(__file__).resolve().parent.parent
 EDITS = ROOT / "tests/edits"
 ROOM = 5 << 30  # the memory that a check may take
+REFUSED = ("false", "open", "answer")  # the verdicts by which an edit passes
 FUNCTION = re.compile(r"(?: {4})?(?:pub(?:\(crate\))? )?(?:const )?(?:extern \"C\" )?fn (\w+)")
 IMPL = re.compile(r"impl(?:<[^>]*>)? (?:(\w+)(?:<(\w+).*>)? for )?(\w+)(?:<(\w+))?")
 OPEN = re.compile(r"note: (?:\./)?(\S+?):(\d+):\d+: (?:it is not proved that .*?|`search` found no proof )\(`([^`]+)`\)(.*)")
 ANSWER = re.compile(r"\./proofs/(\S+)/(?:Answers|Invariants|Proof)\.antt:\d+:\d+: error: (?:`([^`]+)`: )?(.*)")
 UNPROVED = re.compile(r"fn (\S+): no proof: (.*)")
+MADE = re.compile(r"\./proofs/\S+/Proof\.antt:\d+:\d+: error")
 NAMES = re.compile(r"has no field|is not in scope|has no `|is no name|was not admitted")
 
 
@@ -150,6 +155,38 @@ def turned(edits, folder):
     return texts
 
 
+def functions(folder):
+    """The (file, name, proof folder) of each function of the crate in the folder with a body of its own, tests left out."""
+    for path in sorted(folder.glob("src/**/*.rt")):
+        file = str(path.relative_to(folder))
+        lines = path.read_text().split("\n#[cfg(test)]")[0].split("\n")
+        module = "" if file in ("src/lib.rt", "src/main.rt") else file[4:-3]
+        for at, line in enumerate(lines):
+            if not (found := FUNCTION.match(line)):
+                continue
+            owner = ""
+            if line[0] == " ":
+                head = next((it for it in reversed(lines[:at]) if re.match(r"\S.*\{$", it)), "")
+                if not head.startswith("impl"):
+                    continue  # of a trait, which has no proof
+                owner = Edit("", "", [], file).owner(lines[:at], True)
+            yield file, found[1], "/".join(it for it in (module, owner, found[1]) if it)
+
+
+def set_aside(name, folder, edits):
+    """Leaves holes for the proofs of the functions that no edit turns. Those of a cycle share a proof, which stays."""
+    turned_ones = {edit.function for edit in edits}
+    for file, function, place in functions(folder):
+        proof = folder / "proofs" / place
+        if f"{file[4:-3]}::{function}" in turned_ones or (proof.parent / f"+{function}").is_dir():
+            continue
+        shutil.rmtree(proof, ignore_errors=True)
+        proof.mkdir(parents=True)
+        module = f"Rattle.{name}.proofs.{place.replace('/', '.')}.Statement"
+        spec = f"{function}_spec : {{M : Type 1}} → statement M"
+        (proof / "Proof.antt").write_text(f"use {module}.{{statement}}\n\npub {spec}\n{function}_spec = ?\n")
+
+
 def verdict(goals):
     """The verdict over all goals of a function: what was not read, and names that no longer fit, spoil the others."""
     kinds = {kind for kind, _ in goals}
@@ -197,27 +234,40 @@ def write_table(crate, rows):
 
 def tried(rt, crate, edits):
     """Each edit with its goals. A check leaves goals out, and does not try a function that calls one which another edit spoils:
-    those edits are tried again, together as long as that decides some of them, and then each alone."""
+    those edits are tried again, with no hole, together as long as that decides some of them, and then each alone."""
     with tempfile.TemporaryDirectory(prefix="edits-") as kept:
         if (work := pathlib.Path(crate.folder, "out/incremental")).is_dir():
             shutil.copytree(work, kept, dirs_exist_ok=True)
-        groups = rounds(edits)
+        groups = [(it, True) for it in rounds(edits)]
         while groups:
-            group = groups.pop(0)
-            lines = check(rt, crate, group, kept)
+            group, is_short = groups.pop(0)
+            lines = check(rt, crate, group, kept, is_short)
             goals = {edit.name: list(edit.goals(lines)) for edit in group}
-            left = [it for it in group if len(group) > 1 and verdict(goals[it.name]) in ("PROVED", "unread")]
-            groups += [left] if len(left) < len(group) and left else [[it] for it in left]
+            left = [it for it in group if (is_short or len(group) > 1) and verdict(goals[it.name]) not in REFUSED]
+            is_smaller = left and (is_short or len(left) < len(group))
+            groups += [(left, False)] if is_smaller else [([it], False) for it in left]
             yield from ((it, goals[it.name]) for it in group if it not in left)
 
 
-def check(rt, crate, edits, kept):
-    """The lines of a check of the crate with these edits, over what the folder keeps."""
+def check(rt, crate, edits, kept, is_short):
+    """The lines of a check of the crate with these edits, over what the folder keeps; a short one proves no other function."""
     flags = ["--jobs", "1", "--allow-holes"]
     for edit in edits:
         flags += ["--only", edit.path] if edit.path else []
-    lines = rt.checked(crate, turned(edits, pathlib.Path(crate.folder)), flags, kept).stdout.split("\n")
-    if not any(line.startswith("only=") for line in lines):
+    is_short = is_short and all(edit.function for edit in edits)
+    with tempfile.TemporaryDirectory(prefix="edits-") as room:
+        spare = copy.copy(crate)
+        if is_short:
+            spare.folder = room
+            for part in rt.rtlib.PARTS:
+                if os.path.isdir(f"{crate.folder}/{part}"):
+                    shutil.copytree(f"{crate.folder}/{part}", f"{room}/{part}")
+            set_aside(crate.name, pathlib.Path(room), edits)
+        lines = rt.checked(spare, turned(edits, pathlib.Path(crate.folder)), flags, kept).stdout.split("\n")
+    is_read = any(line.startswith("only=") for line in lines)
+    if is_short and (not is_read or any(MADE.match(line) for line in lines)):
+        return check(rt, crate, edits, kept, False)
+    if not is_read:
         raise ValueError("\n".join([f"{crate.name}: these edits were not read:", *[it for it in lines if "error" in it][:5]]))
     return lines
 
@@ -230,7 +280,7 @@ def try_crate(rt, crate, names, is_table):
         edit.place(pathlib.Path(crate.folder))
     rows, failed = {}, 0
     for edit, goals in tried(rt, crate, edits):
-        failed += verdict(goals) not in ("false", "open", "answer")
+        failed += verdict(goals) not in REFUSED
         print(line(edit, goals), flush=True)
         rows[edit.name] = row(edit, goals)
     if is_table:
