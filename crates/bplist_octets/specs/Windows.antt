@@ -6,7 +6,7 @@ use Rattle.bplist_octets.specs.declared.windows.Pane.{Pane}
 
 -- a pane lies inside the bytes, and holds them if the source is honest
 pub record IsPane (f : List ℕ) (honest : Bool) (pane : Pane) : Type 0 where
-  pub fits : pane.filled ≤ 8192
+  pub fits : pane.filled ≤ 16384
   pub inside : pane.start + pane.filled ≤ length f
   pub holds : IsTrue honest → take pane.filled pane.octets ≡ part f pane.start pane.filled
 

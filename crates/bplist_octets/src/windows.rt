@@ -12,9 +12,12 @@ use crate::source::{ReadFault, Source};
 use crate::window::offset_in;
 
 /// How many bytes a pane holds at most.
-const PANE: usize = 8192;
+const PANE: usize = 16_384;
 
-/// Room for 8,192 bytes of a source, which `Windows` is lent.
+/// Panes begin at multiples of this, and a pane that does not go on where one ended takes no more bytes.
+const BLOCK: usize = 8192;
+
+/// Room for 16,384 bytes of a source, which `Windows` is lent.
 #[derive(Clone, Copy, Debug, Drop)]
 pub struct Pane {
     start: u64,
@@ -36,15 +39,20 @@ impl Pane {
 
 /// Gives the pane's bytes from its byte `from` on.
 fn copy_part(pane: &Pane, from: usize, into: &mut [u8])
-    requires fits { pane.now.filled ≤ 8192 }
+    requires fits { pane.now.filled ≤ 16384 }
     requires inside { from + length into.old ≤ pane.now.filled }
     ensures { into.new ≡ part pane.now.octets from (length into.old) }
 {
     into.copy_from_slice(&pane.octets[from..from + into.len()]);
 }
 
-/// Moves a pane that has not all of the `count` bytes from place `at` on to the multiple of 8,192 below. It is empty after
-/// a failed read.
+/// The pane ends at this place, so it is next for who reads forward. Which bytes are given does not hang on it.
+fn ends_at(pane: &Pane, place: u64) -> bool {
+    pane.start.saturating_add(pane.filled as u64) == place
+}
+
+/// Moves a pane that has not all of the `count` bytes from place `at` on to the multiple of 8,192 below. A pane that ended
+/// there is read forward, and takes as much as it holds. It is empty after a failed read.
 fn hold<S: Source>(source: &mut S, pane: &mut Pane, at: u64, count: usize) -> Result<(), ReadFault>
     requires inside { at + count ≤ length (S.means source.old).octets }
     requires block { at % 8192 + count ≤ 8192 }
@@ -57,26 +65,33 @@ fn hold<S: Source>(source: &mut S, pane: &mut Pane, at: u64, count: usize) -> Re
     if offset_in(pane.start, pane.filled, at, count).is_some() {
         return Ok(());
     }
+    let start = at - at % BLOCK as u64;
+    let room = if ends_at(pane, start) { PANE } else { BLOCK };
     pane.filled = 0;
-    pane.start = at - at % PANE as u64;
-    let held = (source.len() - pane.start).min(PANE as u64) as usize;
+    pane.start = start;
+    let held = (source.len() - start).min(room as u64) as usize;
     source.read_at(pane.start, &mut pane.octets[..held])?;
     pane.filled = held;
     Ok(())
 }
 
-/// A pane that has `count` bytes from place `at` on, or where none has them the one that was taken longest ago.
+/// A pane that has `count` bytes from place `at` on. Where none has them it is one that ends at the multiple of 8,192 below,
+/// as who reads forward leaves that one, and where there is none the one that was taken longest ago.
 fn choose(panes: &[Pane], at: u64, count: usize) -> usize
     requires { 0 < length panes.now }
     ensures { result < length panes.now }
 {
+    let start = at - at % BLOCK as u64;
     let mut oldest = 0;
+    let mut least = u64::MAX;
     for (k, pane) in panes.iter().enumerate() {
         if offset_in(pane.start, pane.filled, at, count).is_some() {
             return k;
         }
-        if pane.taken < panes[oldest].taken {
+        let taken = if ends_at(pane, start) { 0 } else { pane.taken };
+        if taken < least {
             oldest = k;
+            least = taken;
         }
     }
     oldest
@@ -93,11 +108,12 @@ fn empty_all(panes: &mut [Pane])
     }
 }
 
-/// A source over a borrowed source, with panes of 8,192 bytes that are borrowed too. It has the bytes, the honesty and
-/// the count of failures of that source.
+/// A source over a borrowed source, with panes of bytes that are borrowed too. It has the bytes, the honesty and the count
+/// of failures of that source.
 ///
-/// A read of bytes that lie in one pane asks the source for nothing. Any other read moves the pane that was used longest
-/// ago. A request of more than 8,192 bytes goes straight to the source. After a failed read that pane is empty.
+/// A read of bytes that lie in one pane asks the source for nothing. Any other read moves a pane: one that ends where the read
+/// goes on takes 16,384 bytes, else the one that was used longest ago takes 8,192. A request of more than 8,192 bytes goes
+/// straight to the source. After a failed read that pane is empty.
 #[derive(Drop)]
 pub struct Windows<'a, S: Source> {
     /// The source that is read.
@@ -160,7 +176,7 @@ impl<'a, S: Source> Windows<'a, S> {
         ensures filled { OnOk result (IsTrue (S.means self.old.source.now).honest
             → into.new ≡ part (S.means self.old.source.now).octets at (length into.old)) }
     {
-        let room = PANE - (at % PANE as u64) as usize;
+        let room = BLOCK - (at % BLOCK as u64) as usize;
         if into.len() <= room {
             return self.read_block(at, into);
         }
@@ -180,7 +196,7 @@ impl<S: Source> Source for Windows<'_, S> {
     // Inlined, so that a read of one byte is no call where a pane has it.
     #[inline(always)]
     fn read_at(&mut self, at: u64, into: &mut [u8]) -> Result<(), ReadFault> {
-        if into.len() > PANE {
+        if into.len() > BLOCK {
             return self.source.read_at(at, into);
         }
         let panes = &mut *self.panes;
@@ -240,10 +256,10 @@ mod tests {
     }
 
     #[test]
-    fn each_block_once(rt: HostRuntime) {
+    fn forward_in_whole_panes(rt: HostRuntime) {
         let bytes = numbered();
-        // The tenth read of the source would fail.
-        let mut source = FaultySource::new(&bytes, 9);
+        // The sixth read of the source would fail.
+        let mut source = FaultySource::new(&bytes, 5);
         let mut panes = [Pane::EMPTY; 2];
         let mut windows = Windows::new(&mut source, &mut panes);
         let mut into = [0; 100];
@@ -265,13 +281,13 @@ mod tests {
         let mut into = [0; 1];
         for (at, want) in [
             (0, Ok(())),
-            (10_000, Ok(())),
-            (20_000, Ok(())),
-            (1, Ok(())),
             (30_000, Ok(())),
+            (50_000, Ok(())),
+            (1, Ok(())),
+            (42_000, Ok(())),
             (2, Ok(())),
-            (20_001, Ok(())),
-            (10_001, Err(ReadFault::Device)),
+            (50_001, Ok(())),
+            (30_001, Err(ReadFault::Device)),
         ] {
             assert!(rt; at < windows.len());
             assert_eq!(rt; windows.read_at(at, &mut into), want, "at {at}");
