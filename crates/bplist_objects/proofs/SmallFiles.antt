@@ -9,10 +9,22 @@ use Rattle.bplist_objects.specs.Heads.{Content, Spells}
 use Rattle.bplist_objects.specs.Reach.{Reach}
 use Rattle.bplist_objects.specs.Extents.{HaveRoom, AtMost}
 use Rattle.bplist_objects.specs.File.{FileHolds}
-use Rattle.bplist_objects.specs.Rows.{row_true, row_array, row_dict}
+use Rattle.bplist_objects.specs.Rows.{row}
 use Rattle.bplist_objects.proofs.Lists.{all_weaker}
 use Rattle.bplist_objects.proofs.ExtentSums.{most_none, most_more, shape_extent}
 use Rattle.bplist_objects.proofs.ReachedObjects.{reach_within}
+
+-- true
+abbrev row_true : List ℕ
+row_true = row (9 ∷ []) (8 ∷ [])
+
+-- an array of the same object true twice
+abbrev row_array : List ℕ
+row_array = row (162 ∷ 1 ∷ 1 ∷ 9 ∷ []) (8 ∷ 11 ∷ [])
+
+-- a dictionary from `a` to true
+abbrev row_dict : List ℕ
+row_dict = row (209 ∷ 1 ∷ 2 ∷ 81 ∷ 97 ∷ 9 ∷ []) (8 ∷ 11 ∷ 13 ∷ [])
 
 -- what all objects take bounds what the reached take
 reached_room : (f : List ℕ) (F : Frame) (t : ℕ) → F.top.0 < F.objects → AtMost f F (λ m. Reach f F m × (m < F.objects)) t → t + 8 ≤ F.table → HaveRoom f F (Reach f F)
