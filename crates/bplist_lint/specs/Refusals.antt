@@ -27,22 +27,16 @@ of_check (cert_refusals.Fault fault) = refusals.Fault fault
 of_check (cert_refusals.Read error) = refusals.Read error
 of_check cert_refusals.Memory = refusals.Memory
 
--- the refusal is a failed read
-abbrev pub refused_read : LintRefusal → Bool
-refused_read (refusals.Read _) = true
-refused_read _ = false
-
 -- the answer is a failed read
 abbrev pub lint_failed : {X : Type 0} → Result X LintRefusal → Bool
-lint_failed (Ok x) = false
-lint_failed (Err refusal) = refused_read refusal
+lint_failed (Err (refusals.Read _)) = true
+lint_failed _ = false
 
 -- P holds of the fault or Q of the circle, unless a read failed or memory was refused
 abbrev pub Refuses : (Fault → Type 0) → (List ℕ → Type 0) → LintRefusal → Type 0
 Refuses P Q (refusals.Fault fault) = P fault
 Refuses P Q (refusals.Circle circle) = Q (map number circle)
-Refuses P Q (refusals.Read _) = Unit {0}
-Refuses P Q refusals.Memory = Unit {0}
+Refuses P Q _ = Unit {0}
 
 -- P holds of the answer, Q of the fault, or R of the circle
 abbrev pub Lints : {X : Type 0} → (X → Type 0) → (Fault → Type 0) → (List ℕ → Type 0) → Result X LintRefusal → Type 0

@@ -4,7 +4,7 @@ use Rattle.bplist_objects.specs.declared.frame.Frame.{Frame}
 use Rattle.bplist_objects.specs.declared.head.Head.{Head}
 use Rattle.bplist_objects.specs.declared.kind.Kind.TheVariants.{Dict}
 use Rattle.bplist_objects.specs.Announced.{HasHead}
-use Rattle.bplist_objects.specs.Heads.{Content, leaf, array, set, dict}
+use Rattle.bplist_objects.specs.Heads.{Content, dict}
 use Rattle.bplist_objects.specs.Spelled.{spelled_at}
 use Rattle.bplist_cert.specs.Lists.{Keyed, Lists}
 use Rattle.bplist_cert.specs.Valid.{IsVouchedBy}
@@ -16,18 +16,12 @@ use Rattle.bplist_lint.specs.Linted.{is_vouched}
 -- the content is a dictionary
 abbrev pub is_dict : Option Content → Bool
 is_dict (Some (dict ks ms)) = true
-is_dict (Some (leaf l)) = false
-is_dict (Some (array ms)) = false
-is_dict (Some (set ms)) = false
-is_dict None = false
+is_dict _ = false
 
 -- how many pairs a dictionary has, 0 for other contents
 abbrev pub pairs_of : Option Content → ℕ
 pairs_of (Some (dict ks ms)) = length ks
-pairs_of (Some (leaf l)) = 0
-pairs_of (Some (array ms)) = 0
-pairs_of (Some (set ms)) = 0
-pairs_of None = 0
+pairs_of _ = 0
 
 module _ (f : List ℕ) (F : Frame) (heights : List ℕ) where
   -- how many positions the key list of object n has

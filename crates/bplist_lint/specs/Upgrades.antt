@@ -25,15 +25,10 @@ abbrev pub of_failure : Failure → UpgradeFault
 of_failure (failures.Read error) = faults.Read error
 of_failure failures.Memory = faults.Memory
 
--- the fault is a failed read
-abbrev pub is_read : UpgradeFault → Bool
-is_read (faults.Read _) = true
-is_read _ = false
-
 -- the answer is a failed read
 abbrev pub upgrade_failed : {X : Type 0} → Result X UpgradeFault → Bool
-upgrade_failed (Ok x) = false
-upgrade_failed (Err fault) = is_read fault
+upgrade_failed (Err (faults.Read _)) = true
+upgrade_failed _ = false
 
 -- the fault is no change
 abbrev pub IsNoChange : UpgradeFault → Type 0

@@ -42,9 +42,9 @@ mod walk;
 
 pub use answer::Lint;
 pub use laws::{
-    circle_iff_not_founded, fault_has_no_value, fault_is_final, graph_is_of_file,
-    holds_iff_well_formed, least_heights_are_valid, least_is_least, one_file_fault,
-    valid_iff_well_formed, value_or_fault, well_formed_iff_kept,
+    circle_iff_not_founded, fault_has_no_value, fault_is_final, holds_iff_well_formed,
+    least_heights_are_valid, least_is_least, one_file_fault, valid_iff_well_formed, value_or_fault,
+    well_formed_iff_kept,
 };
 pub use linter::{lint, lint_with_kind};
 pub use object_nos::ObjectNos;
