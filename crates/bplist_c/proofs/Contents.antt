@@ -4,13 +4,14 @@ use Rattle.bplist_octets.specs.Octets.{part}
 use Rattle.bplist_objects.specs.declared.frame.Frame.{Frame}
 use Rattle.bplist_objects.specs.declared.kind.Kind.{Kind}
 use Rattle.bplist_objects.specs.declared.kind.Kind.TheVariants as kinds
-use Rattle.bplist_objects.specs.Heads.{content_of}
+use Rattle.bplist_objects.specs.Value.{int}
+use Rattle.bplist_objects.specs.Heads.{content_of, leaf}
 use Rattle.bplist_objects.specs.Numbers.{integer, num_at}
-use Rattle.bplist_c.specs.Reading.{halves_of, int_answer, uid_answer}
+use Rattle.bplist_c.specs.Reading.{int_answer, uid_answer}
 use Rattle.bplist_c.specs.declared.status.Status.TheVariants as statuses
 
 module _ (f : List ℕ) (F : Frame) where
-  pub is_int : (kind : Kind) (count body : ℕ) → kind ≡ kinds.Int → Ok (halves_of (integer (part f body count))) ≡ int_answer (content_of f F kind count body)
+  pub is_int : (kind : Kind) (count body : ℕ) → kind ≡ kinds.Int → int_answer (leaf (int (integer (part f body count)))) ≡ int_answer (content_of f F kind count body)
   is_int kind count body e = rw e
 
   pub other_int : (kind : Kind) (count body : ℕ) → (kind ≡ kinds.Int → ⊥) → Err statuses.OtherKind ≡ int_answer (content_of f F kind count body)

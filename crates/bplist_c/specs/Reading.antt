@@ -1,5 +1,5 @@
 -- What C is told of an object. Source: profile.
-use Rattle.std.specs.Prelude.{◌≡◌, ℤ, ℕ, suc, ◌-◌, ◌*◌, ◌/◌, ◌%◌, ◌^◌, List, ◌++◌, length, drop, min, Result, Ok, Err}
+use Rattle.std.specs.Prelude.{◌≡◌, ℕ, suc, ◌-◌, ◌*◌, ◌/◌, ◌%◌, ◌^◌, List, ◌++◌, length, drop, min, Result, Ok, Err}
 use Rattle.std.specs.Int.{w128, cast_unsigned}
 use denote.Enum.Declared.{tag_of}
 use Rattle.bplist_octets.specs.Octets.{part}
@@ -32,13 +32,9 @@ pub record OnObject {X Y : Type 0} (checked : CheckedFile) (n : ℕ) (Has : List
   pub none : (IsVouchedBy checked.certificate.heights n → ⊥) → answer ≡ Err statuses.NoObject
   pub said : IsVouchedBy checked.certificate.heights n → (y : Y) → Has checked.source.octets checked.frame n y → Says y answer
 
--- the two halves of the number in two's complement
-abbrev pub halves_of : ℤ → BplistInteger
-halves_of i = record { low = cast_unsigned w128 i % 2 ^ 64; high = cast_unsigned w128 i / 2 ^ 64 }
-
--- the integer that is spelled
+-- the integer that is spelled, as the two halves of the number in two's complement
 abbrev pub int_answer : Content → Result BplistInteger Status
-int_answer (leaf (int i)) = Ok (halves_of i)
+int_answer (leaf (int i)) = Ok (record { low = cast_unsigned w128 i % 2 ^ 64; high = cast_unsigned w128 i / 2 ^ 64 })
 int_answer _ = Err statuses.OtherKind
 
 -- the number of the UID that is spelled

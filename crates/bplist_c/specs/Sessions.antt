@@ -1,5 +1,5 @@
 -- What a handle says of a file. Source: profile.
-use Rattle.std.specs.Prelude.{◌≡◌, ◌≢◌, ◌⊎◌, ℕ, List, [], length, true, Some, IfSome, Result, Err}
+use Rattle.std.specs.Prelude.{◌≡◌, ◌≢◌, ◌⊎◌, ℕ, List, length, Some, IfSome, Result, Err}
 use denote.Ref.{Bor}
 use Rattle.bplist_octets.specs.Slices.{source_over}
 use Rattle.bplist_cert.specs.CheckedFile.{CheckedFile, IsChecked}

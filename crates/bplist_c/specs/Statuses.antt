@@ -1,5 +1,5 @@
 -- What C is told of an answer. Source: profile.
-use Rattle.std.specs.Prelude.{◌≡◌, ℕ, suc, ◌<◌, ◌≤◌, List, ◌++◌, length, drop, Result, Ok, Err, Vec}
+use Rattle.std.specs.Prelude.{◌≡◌, ℕ, suc, ◌<◌, ◌≤◌, List, ◌++◌, length, drop, Result, MatchResult, Ok, Err, Vec}
 use Rattle.std.specs.Global.{Global}
 use denote.Enum.Declared.{tag_of}
 use Rattle.bplist_c.specs.declared.status.Status.{Status}
@@ -11,8 +11,7 @@ number_of status = suc (tag_of the_type status)
 
 -- status 0 and the answer, or why there is none and an unchanged output
 abbrev pub Tells : {X : Type 0} → Result X Status → X → X → ℕ → Type 0
-Tells (Ok x) old new status = (status ≡ 0) × (new ≡ x)
-Tells (Err why) old new status = (status ≡ number_of why) × (new ≡ old)
+Tells answer old new status = MatchResult answer (λ x. (status ≡ 0) × (new ≡ x)) (λ why. (status ≡ number_of why) × (new ≡ old))
 
 -- all items are put into the buffer, or it is too short and unchanged; the count is theirs
 pub record PutsAll {X : Type 0} (items old new : List X) (total status : ℕ) : Type 0 where

@@ -4,15 +4,16 @@ ghost use Rattle.std.specs.Prelude.{◌≡◌, ◌≢◌, ◌+◌, ◌*◌, ◌%
 ghost use Rattle.bplist_octets.specs.Octets.{part};
 ghost use Rattle.bplist_objects.specs.Numbers.{integer, num_at};
 ghost use Rattle.bplist_objects.specs.Units.{IsTextKind, units_of};
+ghost use Rattle.bplist_objects.specs.Value.{int};
 ghost use Rattle.bplist_objects.specs.declared.kind.Kind.TheVariants.{Int, Uid};
-ghost use Rattle.bplist_objects.specs.Heads.{IsHeadOf, Spells, unit};
+ghost use Rattle.bplist_objects.specs.Heads.{IsHeadOf, Spells, leaf, unit};
 ghost use Rattle.bplist_objects.specs.Safe.{IsSafeBody, IsSafeHead};
 ghost use Rattle.bplist_cursor.specs.Members.{member_reference};
 ghost use Rattle.bplist_c.specs.declared.object.BplistBody.{BplistBody as body};
 ghost use Rattle.bplist_c.specs.declared.status.Status.{Status as status};
 ghost use Rattle.bplist_c.specs.declared.status.Status.TheVariants.{NoMember};
 ghost use Rattle.bplist_c.specs.declared.object.BplistInteger.{BplistInteger as number};
-ghost use Rattle.bplist_c.specs.Reading.{OnObject, UnitsSay, body_of, halves_of, int_answer, kind_number, uid_answer};
+ghost use Rattle.bplist_c.specs.Reading.{OnObject, UnitsSay, body_of, int_answer, kind_number, uid_answer};
 ghost use Rattle.bplist_c.specs.Sessions.{IsFileOf, IsSame, OnHandle};
 ghost use Rattle.bplist_c.specs.Statuses.{Tells};
 
@@ -108,7 +109,7 @@ fn face_of(checked: &Checked<SliceSource<'_>>, object: u32) -> Result<BplistBody
 
 /// The two halves of a number in two's complement.
 fn halves(number: i128) -> BplistInteger
-    ensures { result ≡ halves_of number }
+    ensures { Ok result ≡ int_answer (leaf (int number)) }
 {
     let bits = number.cast_unsigned();
     BplistInteger {

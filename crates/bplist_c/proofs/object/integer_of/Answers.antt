@@ -1,10 +1,12 @@
-use Rattle.std.proofs.Common.{rules, ◌≡◌, ◌∙◌, Ok, ap, sym}
+use Rattle.std.proofs.Common.{rules, ◌≡◌, ◌∙◌, ap, sym}
 use mir.Syntax.{w128}
 use mir.Val.{SFits}
 use Rattle.std.proofs.lemmas.Int.{to_z-of_z}
 use Rattle.bplist_octets.specs.Octets.{part}
+use Rattle.bplist_objects.specs.Value.{int}
+use Rattle.bplist_objects.specs.Heads.{leaf}
 use Rattle.bplist_objects.specs.Numbers.{integer}
-use Rattle.bplist_c.specs.Reading.{halves_of, int_answer}
+use Rattle.bplist_c.specs.Reading.{int_answer}
 use Rattle.bplist_c.proofs.Contents.{is_int, other_int}
 use Rattle.bplist_c.proofs.HeadSteps.{by_content}
 use Rattle.bplist_c.proofs.object.integer_of.Goals as goal
@@ -17,7 +19,7 @@ returns-in-Int c =
     c.integer_at.ensures ∙ ap (λ f. integer (part f head.body head.count)) c.octets-file.ensures.octets in
     let fits : SFits w128 c.integer_at.result = search rules in
     let halved = simp to_z-of_z at c.halves.ensures in
-    let told = ap Ok (halved ∙ ap halves_of number) ∙ is_int checked.source.octets checked.frame head.kind head.count head.body c.in-Int.is in
+    let told = halved ∙ ap (λ i. int_answer (leaf (int i))) number ∙ is_int checked.source.octets checked.frame head.kind head.count head.body c.in-Int.is in
     by_content checked c.args.object (λ content answer. answer ≡ int_answer content) head _ c.in_ok-head.ensures.exact
     (λ vouched content spells is. told ∙ ap int_answer (sym is))
 
