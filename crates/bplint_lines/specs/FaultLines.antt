@@ -1,7 +1,8 @@
 -- The lines of faults, without line feeds, and the exit statuses. Source: profile.
-use Rattle.std.specs.Prelude.{ℕ, ◌==◌, List, ◌∷◌, ◌++◌, codes, if◌then◌else◌, Option, None, flat_map, option_map, unwrap_or}
+use Rattle.std.specs.Prelude.{ℕ, ◌==◌, List, [], ◌∷◌, ◌++◌, codes, get_or, if◌then◌else◌, Option, None, flat_map, option_map, unwrap_or}
 use Rattle.std.specs.Fmt.{decimal}
-use Rattle.bplist_octets.specs.declared.ReadFault.TheVariants.{Device, Ended, TooManyTurns}
+use denote.Enum.Declared.{tag_of}
+use Rattle.bplist_octets.specs.contracts.source.ReadFault.{the_type}
 use Rattle.bplist_objects.specs.declared.frame.ObjectNo.{ObjectNo}
 use Rattle.bplist_objects.specs.declared.rule.Rule.{Rule}
 use Rattle.bplist_objects.specs.declared.rule.Rule.TheVariants.{PathText}
@@ -22,9 +23,7 @@ line_of (is_circle objects) = codes "circle" ++ flat_map (λ (n : ObjectNo). 32 
 line_of (Path place) = fault_line PathText None place
 line_of (NoAsciiForm n) = codes "form NoAsciiForm object " ++ decimal n.0
 line_of TooLong = codes "form TooLong"
-line_of (Read Device) = codes "read Device"
-line_of (Read Ended) = codes "read Ended"
-line_of (Read TooManyTurns) = codes "read TooManyTurns"
+line_of (Read fault) = codes "read " ++ codes (get_or ("Device" ∷ "Ended" ∷ "TooManyTurns" ∷ []) (tag_of the_type fault) "")
 line_of Hex = codes "read Hex"
 line_of Changed = codes "changed"
 line_of (Write sent) = codes "write " ++ decimal sent

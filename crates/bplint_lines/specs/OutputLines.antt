@@ -1,30 +1,21 @@
 -- The lines of standard output, without line feeds. Source: profile.
-use Rattle.std.specs.Prelude.{ℕ, List, ◌++◌, codes, true, false}
+use Rattle.std.specs.Prelude.{ℕ, List, [], ◌∷◌, ◌++◌, codes, get_or, true, false}
+use denote.Enum.Declared.{tag_of}
 use Rattle.std.specs.Fmt.{decimal, signed_decimal}
 use Rattle.hex.specs.Hex.{encode_lower}
+use Rattle.bplist_objects.specs.contracts.kind.Kind.{the_type as kinds}
 use Rattle.bplist_objects.specs.declared.kind.Kind.{Kind}
-use Rattle.bplist_objects.specs.declared.kind.Kind.TheVariants.{Null, False, True, Int, Real, Date, Bytes, Ascii, Wide, Uid, Array, Set, Dict}
 use Rattle.bplist_cursor.specs.declared.faces.Face.{Face}
 use Rattle.bplist_cursor.specs.declared.faces.Face.TheVariants as faces
+use Rattle.bplist_cursor.specs.contracts.found.Why.{the_type as reasons}
 use Rattle.bplist_cursor.specs.declared.found.Why.{Why}
-use Rattle.bplist_cursor.specs.declared.found.Why.TheVariants.{NoKey, NoIndex, NotSteppable}
 use Rattle.bplist_cursor.specs.Texts.{text_of_units, text_of_bytes}
 
--- the word of a kind
+-- the words of the kinds, in the order in which they are declared
 abbrev pub kind_word : Kind → List ℕ
-kind_word Null = codes "null"
-kind_word False = codes "false"
-kind_word True = codes "true"
-kind_word Int = codes "int"
-kind_word Real = codes "real"
-kind_word Date = codes "date"
-kind_word Bytes = codes "data"
-kind_word Ascii = codes "text"
-kind_word Wide = codes "text"
-kind_word Uid = codes "uid"
-kind_word Array = codes "array"
-kind_word Set = codes "set"
-kind_word Dict = codes "dict"
+kind_word kind =
+    let scalars = "null" ∷ "false" ∷ "true" ∷ "int" ∷ "real" ∷ "date" ∷ "data" ∷ "text" ∷ "text" ∷ "uid" ∷ [] in
+    codes (get_or (scalars ++ "array" ∷ "set" ∷ "dict" ∷ []) (tag_of kinds kind) "")
 
 -- the line of `lint`
 abbrev pub lint_line : ℕ → ℕ → List ℕ → List ℕ
@@ -50,11 +41,9 @@ face_line (faces.Array count) = codes "array " ++ decimal count
 face_line (faces.Set count) = codes "set " ++ decimal count
 face_line (faces.Dict count) = codes "dict " ++ decimal count
 
--- why a step can't be taken
+-- why a step can't be taken, in the order in which the reasons are declared
 abbrev pub why_word : Why → List ℕ
-why_word NoKey = codes "NoKey"
-why_word NoIndex = codes "NoIndex"
-why_word NotSteppable = codes "NotSteppable"
+why_word why = codes (get_or ("NoKey" ∷ "NoIndex" ∷ "NotSteppable" ∷ []) (tag_of reasons why) "")
 
 -- the line for a path that leads nowhere
 abbrev pub missing_line : ℕ → Why → List ℕ
