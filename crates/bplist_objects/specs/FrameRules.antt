@@ -6,23 +6,19 @@ use Rattle.bplist_objects.specs.declared.rule.Rule.TheVariants.{TooLarge, TooSho
 use Rattle.bplist_objects.specs.declared.fault.Fault.{Fault}
 use Rattle.bplist_objects.specs.declared.frame.ObjectNo.{ObjectNo}
 use Rattle.bplist_objects.specs.declared.frame.Frame.{Frame}
-use Rattle.bplist_objects.specs.Frame.{header, trailer, off}
+use Rattle.bplist_objects.specs.Frame.{header, trailer}
 use Rattle.bplist_objects.specs.Rules.{KeepsAll, IsFirstFault}
+use Rattle.bplist_objects.specs.Scan.{AreBelow, IsFirstNotBelow}
 
 -- each entry of the offset table is below the table's place
 abbrev pub AreEntriesLow : List ℕ → Frame → Type 0
-AreEntriesLow f F = (n : ℕ) → n < F.objects → off f F n < F.table
+AreEntriesLow f F = AreBelow f F.table F.offset_size F.objects F.table
 
--- the entry of object n is the first that is not
-pub record IsFirstHighEntry (f : List ℕ) (F : Frame) (n : ℕ) : Type 0 where
-  pub within : n < F.objects
-  pub high : F.table ≤ off f F n
-  pub before : (k : ℕ) → k < n → off f F k < F.table
-
--- rule 13 is broken by this object's entry, at this place
+-- rule 13 is broken at this place by this object's entry, the first that is not
 abbrev pub IsEntryFault : List ℕ → Frame → Option ObjectNo → ℕ → Type 0
 IsEntryFault f F object place =
-    (n : ℕ) × IsFirstHighEntry f F n × (object ≡ Some (record { 0 = n })) × (place ≡ F.table + n * F.offset_size)
+    (n : ℕ) × IsFirstNotBelow f F.table F.offset_size F.objects F.table n × (object ≡ Some (record { 0 = n }))
+    × (place ≡ F.table + n * F.offset_size)
 
 -- the first byte that differs from the header's is at this place
 pub record IsFirstWrong (f : List ℕ) (place : ℕ) : Type 0 where
