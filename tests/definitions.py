@@ -1,10 +1,10 @@
 #!/usr/bin/env python3
 """definitions.py [--write | --count [ROOT]]
 
-Makes docs/DEFINITIONS.md from the comments of crates/*/specs: each definition that a contract of a public call cites, or that
-such a definition cites in turn, with the line in plain words above it. With --write the document is written; without it is
-compared with the one that is there, and the last line printed is `N passed, M failed`, one test for each crate. With --count
-the definitions and their lines are counted, crate by crate.
+Makes docs/DEFINITIONS.md from the comments of crates/*/specs: each definition that a contract of a public call cites, with the
+line in plain words above it, and the names of those that such a definition cites in turn. With --write the document is written;
+without, it is compared with the one that is there, and the last line printed is `N passed, M failed`, one test for each crate.
+With --count the definitions and their lines are counted, crate by crate.
 """
 import pathlib
 import re
@@ -14,10 +14,9 @@ HERE = pathlib.Path(__file__).resolve().parent.parent
 
 HEAD = """# Definitions
 
-What a reader has to believe: each definition that the contract of a public call cites, or that such a definition cites in turn.
-`tests/definitions.py --write` makes this page from the comments in specs/, and the gate compares. Definitions use only what
-stands above them. The head of each file names its source: Apple's CFBinaryPList.c, RFC 6901, Apple's old-style text form, or
-this project (profile).
+Each definition that the contract of a public call cites, with the plain words above it in its file. *In turn* stand the names of
+those that only definitions cite; a reader of the promises has to believe these too. Definitions use only what stands above them.
+The head of each file names its source. `tests/definitions.py --write` makes this page, and the gate compares.
 """
 
 DECLARED = re.compile(r"( *)(?:abbrev|unfoldable) pub (\S+)|( *)pub (?:record|data) (\S+)")
@@ -205,24 +204,29 @@ def cited_by(root, crate):
 
 
 def reachable(root):
-    """The definitions of each crate that contracts of public calls lead to, in reading order."""
+    """The definitions of each crate that contracts of public calls lead to, in reading order, and those that they cite."""
     specs = Specs(root)
     cited = {place for crate in specs.by_crate for place in cited_by(root, crate)}
     found = specs.reachable(cited)
-    return {crate: [one for one in all_ if one in found] for crate, all_ in specs.by_crate.items()}, specs
+    cited = {specs.by_name[place] for place in cited if place in specs.by_name}
+    return {crate: [one for one in all_ if one in found] for crate, all_ in specs.by_crate.items()}, cited, specs
 
 
-def section(crate, found):
-    """What the page says of a crate."""
+def section(crate, found, cited):
+    """What the page says of a crate: of each file the definitions that contracts cite, and the names of the others."""
     out = [f"\n## {crate}\n"]
     for file in dict.fromkeys(one.file for one in found):
+        held = [one for one in found if one.file == file]
+        others = [f"`{one.name}`" for one in held if one not in cited]
         out.append(f"\n[{file}](../crates/{crate}/specs/{file}.antt)\n\n")
-        out += [f"- `{one.name}`: {one.comment}\n" for one in found if one.file == file]
+        out += [f"- `{one.name}`: {one.comment}\n" for one in held if one in cited]
+        if others:
+            out.append(f"- *in turn*: {', '.join(others)}\n")
     return "".join(out)
 
 
 def count(root):
-    found, specs = reachable(root)
+    found, _, specs = reachable(root)
     print("crate\tdefinitions\treachable\tlines")
     totals = [0, 0, 0]
     for crate, listed in found.items():
@@ -236,8 +240,8 @@ def count(root):
 def main():
     if "--count" in sys.argv[1:]:
         return count(pathlib.Path(sys.argv[2]).resolve() if len(sys.argv) > 2 else HERE)
-    found, _ = reachable(HERE)
-    sections = {crate: section(crate, listed) for crate, listed in found.items() if listed}
+    found, cited, _ = reachable(HERE)
+    sections = {crate: section(crate, listed, cited) for crate, listed in found.items() if listed}
     page = HERE / "docs/DEFINITIONS.md"
     if "--write" in sys.argv[1:]:
         page.write_text(HEAD + "".join(sections.values()))
