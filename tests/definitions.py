@@ -14,9 +14,9 @@ HERE = pathlib.Path(__file__).resolve().parent.parent
 
 HEAD = """# Definitions
 
-Each definition that the contract of a public call cites, with the plain words above it in its file. *In turn* stand the names of
-those that only definitions cite; a reader of the promises has to believe these too. Definitions use only what stands above them.
-The head of each file names its source. `tests/definitions.py --write` makes this page, and the gate compares.
+Each definition that the contract of a public call cites, with the plain words above it in its file. Behind the file's name stand those
+that only definitions cite; a reader of the promises has to believe these too. Definitions use only what stands above them. The head of
+each file names its source. `tests/definitions.py --write` makes this page, and the gate compares.
 """
 
 DECLARED = re.compile(r"( *)(?:abbrev|unfoldable) pub (\S+)|( *)pub (?:record|data) (\S+)")
@@ -217,11 +217,9 @@ def section(crate, found, cited):
     out = [f"\n## {crate}\n"]
     for file in dict.fromkeys(one.file for one in found):
         held = [one for one in found if one.file == file]
-        others = [f"`{one.name}`" for one in held if one not in cited]
-        out.append(f"\n[{file}](../crates/{crate}/specs/{file}.antt)\n\n")
-        out += [f"- `{one.name}`: {one.comment}\n" for one in held if one in cited]
-        if others:
-            out.append(f"- *in turn*: {', '.join(others)}\n")
+        others = "".join(f", `{one.name}`" for one in held if one not in cited)
+        lines = "".join(f"- `{one.name}`: {one.comment}\n" for one in held if one in cited)
+        out.append(f"\n[{file}](../crates/{crate}/specs/{file}.antt){others}\n" + ("\n" + lines if lines else ""))
     return "".join(out)
 
 
