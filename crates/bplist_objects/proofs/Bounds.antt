@@ -9,21 +9,24 @@ use Rattle.bplist_objects.specs.Frame.{IsFrame}
 use Rattle.bplist_objects.specs.Heads.{unit, IsFront, HasShape}
 use Rattle.bplist_objects.specs.Safe.{MayCount, ref_count, IsSafe, IsSafeFrame, IsSafeHead}
 use Rattle.bplist_objects.proofs.BodyLaws.{refs_fit}
+use Rattle.bplist_objects.proofs.FrameTies.{numbered}
 use Rattle.bplist_objects.proofs.ShapeLaws.{unit-pos}
 
 -- a frame is safe
 pub frame_safe : (f : List ℕ) (F : Frame) → IsFrame f F → IsSafeFrame (length f) F
-frame_safe f F frame = record {
-  safe = record {
-    offset_low = frame.offset_size.0;
-    offset_high = frame.offset_size.1;
-    ref_low = frame.ref_size.0;
-    ref_high = frame.ref_size.1;
-    room = omega (arith, frame.whole);
-  };
-  top = frame.top;
-  table = frame.table_early;
-}
+frame_safe f F frame =
+    let n = numbered frame in
+    record {
+      safe = record {
+        offset_low = n.offset_size.0;
+        offset_high = n.offset_size.1;
+        ref_low = n.ref_size.0;
+        ref_high = n.ref_size.1;
+        room = omega (arith, n.whole);
+      };
+      top = n.top;
+      table = n.table_early;
+    }
 
 -- the count before a body is one that its kind may have
 front_may : (kind : Kind) (count : ℕ) (front : List ℕ) → IsFront kind count front → MayCount kind count

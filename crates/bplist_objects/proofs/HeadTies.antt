@@ -18,6 +18,7 @@ use Rattle.bplist_objects.specs.ObjectRules.{KeepsByObject, shape_rules, body_ru
 use Rattle.bplist_objects.proofs.Fronts.{shape_has_head, one_shape}
 use Rattle.bplist_objects.specs.Safe.{ref_count}
 use Rattle.bplist_objects.proofs.AnnouncedHeads.{fronted, announced_short, something_announced}
+use Rattle.bplist_objects.proofs.FrameTies.{numbered}
 use Rattle.bplist_objects.proofs.RuleLaws.{kept_all_after}
 use Rattle.bplist_objects.proofs.References.{all_refs, each_ref}
 use Rattle.bplist_objects.proofs.ShapeLaws.{shape_kept}
@@ -61,7 +62,7 @@ module _ (f : List ℕ) (F : Frame) (n : ℕ) where
   module _ (frame : IsFrame f F) (lt : n < F.objects) where
     -- the place lies so far before the file's end that every front is in the file
     place_room : off f F n + 32 < length f
-    place_room = omega (arith, frame.offsets n lt, frame.table_late)
+    place_room = omega (arith, (numbered frame).offsets n lt, (numbered frame).table_late)
 
     -- a head that is announced, and whose rules 14 to 17 are kept, is a shape
     pub announced_shape : (head : Head) → HasHead f F n head → KeepsAll (KeepsByObject f F n) shape_rules → HasShape f F n head
@@ -79,7 +80,7 @@ module _ (f : List ℕ) (F : Frame) (n : ℕ) where
     ascii_room head h e =
         let u : unit F.ref_size head.kind ≡ 1 = ap (unit F.ref_size) e in
         let last : head.«end» ≡ head.body + head.count * 1 = h.«end» ∙ ap (λ x. head.body + head.count * x) u in
-        omega (arith, last, h.inside, frame.table_late)
+        omega (arith, last, h.inside, (numbered frame).table_late)
 
     -- rules 18 and 19 by index
     proper_kept : (head : Head) → HasShape f F n head → (head.kind ≡ kinds.Ascii → AreBelow f head.body 1 head.count 128) → (head.kind ≡ kinds.Uid → num_at f head.body head.count ≤ 4294967295) → (kind : Kind) → head.kind ≡ kind → IsProperLeaf f F kind head.count head.body

@@ -10,10 +10,10 @@ use Rattle.bplist_objects.specs.declared.head.Head.{Head}
 use Rattle.bplist_objects.specs.declared.kind.Kind.{Kind}
 use Rattle.bplist_objects.specs.declared.kind.Kind.TheVariants as kinds
 use Rattle.bplist_objects.specs.Numbers.{num_at}
-use Rattle.bplist_objects.specs.Frame.{off, trailer, header}
+use Rattle.bplist_objects.specs.Frame.{off, trailer, header, Keeps, frame_rules}
 use Rattle.bplist_objects.specs.Rules.{KeepsAll, IsFirstFault}
 use Rattle.bplist_objects.specs.Scan.{AreBelow, IsFirstNotBelow, nth_number}
-use Rattle.bplist_objects.specs.FrameRules.{Keeps, Breaks, frame_rules, IsFrameFault}
+use Rattle.bplist_objects.specs.FrameRules.{Breaks, IsFrameFault}
 use Rattle.bplist_objects.specs.Announced.{Form, plain, counted, form_of, least, greatest, Marks, IsMarker, IsLong, IsLongOf, HasHead}
 use Rattle.bplist_objects.specs.ObjectRules.{KeepsByObject, BreaksByObject, BreaksAt, IsObjectFault}
 use Rattle.bplist_objects.specs.Safe.{ref_count}
@@ -55,6 +55,18 @@ is_less a b = elim (cases_lt a b) [
   | inr h ↦ inr (λ l. omega (arith, h, l))
 ]
 
+is_le : (a b : ℕ) → Either (a ≤ b)
+is_le a b = elim (cases_lt b a) [
+  | inl l ↦ inr (λ h. omega (arith, l, h))
+  | inr h ↦ inl h
+]
+
+-- an implication is decided where both sides are
+is_implied : {A P : Type 0} → Either A → Either P → Either (A → P)
+is_implied (inr no1) d = inl (λ a. absurd (no1 a))
+is_implied (inl a) (inl p) = inl (λ _. p)
+is_implied (inl a) (inr no1) = inr (λ k. no1 (k a))
+
 -- numbers are below a bound, or there is a first one that is not
 below_or_first : (f : List ℕ) (place size count bound : ℕ) → AreBelow f place size count bound ⊎ ((i : ℕ) × IsFirstNotBelow f place size count bound i)
 below_or_first f place size count bound =
@@ -84,33 +96,26 @@ module _ (f : List ℕ) (long : 41 ≤ length f) where
   F = trailer f
 
   -- a rule that is broken at a place so far from the end
-  at_end : {P Q : Type 0} (k : ℕ) → k ≤ 41 → P ⊎ Q → P ⊎ ((object : Option ObjectNo) × (place : ℕ) × (Q × (object ≡ None) × (place + k ≡ length f)))
+  at_end : {P : Type 0} (k : ℕ) → k ≤ 41 → Either P → P ⊎ ((object : Option ObjectNo) × (place : ℕ) × ((P → ⊥) × (object ≡ None) × (place + k ≡ length f)))
   at_end k l (inl p) = inl p
-  at_end k l (inr q) = inr (None, length f - k, (q, refl, omega (arith, l, long)))
-
-  at_end_narrow : {P Q R : Type 0} (k : ℕ) → k ≤ 41 → P ⊎ (Q × R) → P ⊎ ((object : Option ObjectNo) × (place : ℕ) × (Q × R × (object ≡ None) × (place + k ≡ length f)))
-  at_end_narrow k l (inl p) = inl p
-  at_end_narrow k l (inr (q, r)) = inr (None, length f - k, (q, r, refl, omega (arith, l, long)))
+  at_end k l (inr no1) = inr (None, length f - k, (no1, refl, omega (arith, l, long)))
 
   frame_rule_decided : Decided (Keeps f) (Breaks f)
-  frame_rule_decided rules.TooLarge = elim (cases_lt 4294967295 (length f)) [
-    | inl l ↦ inr (None, length f, (l, refl, refl))
-    | inr h ↦ inl h
-  ]
+  frame_rule_decided rules.TooLarge = at_end 0 (omega arith) (is_le (length f) 4294967295)
   frame_rule_decided rules.TooShort = inl long
   frame_rule_decided rules.Magic = elim (all_or_first (λ k. slice_index f k ≡ slice_index header k) (λ k. slice_index f k ≡ slice_index header k → ⊥) (λ k. cases_eq (slice_index f k) (slice_index header k)) 8) [
     | inl all ↦ inl all
     | inr first ↦ inr (None, first.0, (record { within = first.1; wrong = first.2; before = first.3 }, refl))
   ]
-  frame_rule_decided rules.NoObjects = at_end 24 (omega arith) (low_or_high 1 F.objects)
-  frame_rule_decided rules.Top = at_end 16 (omega arith) (cases_lt F.top.0 F.objects)
-  frame_rule_decided rules.TableEarly = at_end 8 (omega arith) (low_or_high 9 F.table)
-  frame_rule_decided rules.TableLate = at_end 8 (omega arith) (cases_lt F.table (length f - 32))
-  frame_rule_decided rules.OffsetSize = at_end 26 (omega arith) (between F.offset_size 1 8)
-  frame_rule_decided rules.RefSize = at_end 25 (omega arith) (between F.ref_size 1 8)
+  frame_rule_decided rules.NoObjects = at_end 24 (omega arith) (is_le 1 F.objects)
+  frame_rule_decided rules.Top = at_end 16 (omega arith) (is_less F.top.0 F.objects)
+  frame_rule_decided rules.TableEarly = at_end 8 (omega arith) (is_le 9 F.table)
+  frame_rule_decided rules.TableLate = at_end 8 (omega arith) (is_less F.table (length f - 32))
+  frame_rule_decided rules.OffsetSize = at_end 26 (omega arith) (is_between F.offset_size 1 8)
+  frame_rule_decided rules.RefSize = at_end 25 (omega arith) (is_between F.ref_size 1 8)
   frame_rule_decided rules.Length = at_end 32 (omega arith) (cases_eq (F.table + F.objects * F.offset_size + 32) (length f))
-  frame_rule_decided rules.RefNarrow = at_end_narrow 25 (omega arith) (if_so (is_less F.ref_size 8) (cases_lt F.objects (256 ^ F.ref_size)))
-  frame_rule_decided rules.OffsetNarrow = at_end_narrow 26 (omega arith) (if_so (is_less F.offset_size 8) (cases_lt F.table (256 ^ F.offset_size)))
+  frame_rule_decided rules.RefNarrow = at_end 25 (omega arith) (is_implied (is_less F.ref_size 8) (is_less F.objects (256 ^ F.ref_size)))
+  frame_rule_decided rules.OffsetNarrow = at_end 26 (omega arith) (is_implied (is_less F.offset_size 8) (is_less F.table (256 ^ F.offset_size)))
   frame_rule_decided rules.OffsetHigh = elim (all_or_first (λ n. off f F n < F.table) (λ n. F.table ≤ off f F n) (λ n. cases_lt (off f F n) F.table) F.objects) [
     | inl all ↦ inl all
     | inr first ↦
@@ -125,7 +130,7 @@ module _ (f : List ℕ) (long : 41 ≤ length f) where
 -- a file keeps rules 1 to 13, or one of them is the first that it breaks
 pub frame_kept_or_fault : (f : List ℕ) → KeepsAll (Keeps f) frame_rules ⊎ ((fault : Fault) × IsFrameFault f fault)
 frame_kept_or_fault f = elim (cases_lt (length f) 41) [
-  | inl short ↦ inr (record { rule = rules.TooShort; object = None; place = length f }, inr (omega (arith, short), inl (refl, (short, refl, refl))))
+  | inl short ↦ inr (record { rule = rules.TooShort; object = None; place = length f }, inr (omega (arith, short), inl (refl, (λ long. omega (arith, short, long), refl, omega arith))))
   | inr long ↦ kept_or_first_fault (Keeps f) (Breaks f) (frame_rule_decided f long) frame_rules
 ]
 

@@ -1,9 +1,10 @@
 -- The definitions hold of small files.
-use Rattle.std.proofs.Common.{ℕ, zero, suc, ◌<◌, ◌≤◌, ◌+◌, List, [], ◌∷◌, true, inl, refl, arith, drop}
+use Rattle.std.proofs.Common.{◌≡◌, ℕ, zero, suc, ◌<◌, ◌≤◌, ◌+◌, List, [], ◌∷◌, slice_index, true, inl, refl, sym, ap, ◌∙◌, arith, take, get_or-take, drop}
 use Rattle.bplist_octets.specs.Octets.{num}
 use Rattle.bplist_objects.specs.declared.frame.Frame.{Frame}
 use Rattle.bplist_objects.specs.declared.kind.Kind.TheVariants as kinds
-use Rattle.bplist_objects.specs.Frame.{trailer, off, IsFrame}
+use Rattle.bplist_objects.specs.Frame.{header, trailer, off, Keeps, IsFrame}
+use Rattle.bplist_objects.specs.declared.rule.Rule.TheVariants.{Magic}
 use Rattle.bplist_objects.specs.Value.{boolean, text, leaf, array, value, no_values, dict, pair, no_pairs}
 use Rattle.bplist_objects.specs.Heads.{Content, Spells}
 use Rattle.bplist_objects.specs.Reach.{Reach}
@@ -26,6 +27,10 @@ row_array = row (162 ∷ 1 ∷ 1 ∷ 9 ∷ []) (8 ∷ 11 ∷ [])
 abbrev row_dict : List ℕ
 row_dict = row (209 ∷ 1 ∷ 2 ∷ 81 ∷ 97 ∷ 9 ∷ []) (8 ∷ 11 ∷ 13 ∷ [])
 
+-- a file that begins with the header keeps rule 3
+header_kept : (f : List ℕ) → take 8 f ≡ header → Keeps f Magic
+header_kept f e i l = sym (get_or-take 8 f i 0 l) ∙ ap (λ x. slice_index x i) e
+
 -- what all objects take bounds what the reached take
 reached_room : (f : List ℕ) (F : Frame) (t : ℕ) → F.top.0 < F.objects → AtMost f F (λ m. Reach f F m × (m < F.objects)) t → t + 8 ≤ F.table → HaveRoom f F (Reach f F)
 reached_room f F t top most room ns r d a taken =
@@ -41,20 +46,29 @@ true_offsets (suc n) h = absurd (omega arith)
 frame_true : IsFrame row_true (trailer row_true)
 unfolding num
 frame_true = record {
-  large = omega arith;
-  short = omega arith;
-  magic = refl;
   spelled = refl;
-  objects = omega arith;
-  top = omega arith;
-  table_early = omega arith;
-  table_late = omega arith;
-  offset_size = omega arith;
-  ref_size = omega arith;
-  whole = refl;
-  ref_narrow = λ _. omega arith;
-  offset_narrow = λ _. omega arith;
-  offsets = true_offsets;
+  kept = (
+    omega arith,
+    (
+      omega arith,
+      (
+        header_kept row_true refl,
+        (
+          omega arith,
+          (
+            omega arith,
+            (
+              omega arith,
+              (
+                omega arith,
+                (omega arith, (omega arith, (refl, ((λ _. omega arith), ((λ _. omega arith), (true_offsets, tt)))))),
+              ),
+            ),
+          ),
+        ),
+      ),
+    ),
+  );
 }
 
 true_0 : Spells row_true (trailer row_true) 0 (Content.leaf (boolean true))
@@ -96,20 +110,29 @@ array_offsets (suc (suc n)) h = absurd (omega arith)
 frame_array : IsFrame row_array (trailer row_array)
 unfolding num
 frame_array = record {
-  large = omega arith;
-  short = omega arith;
-  magic = refl;
   spelled = refl;
-  objects = omega arith;
-  top = omega arith;
-  table_early = omega arith;
-  table_late = omega arith;
-  offset_size = omega arith;
-  ref_size = omega arith;
-  whole = refl;
-  ref_narrow = λ _. omega arith;
-  offset_narrow = λ _. omega arith;
-  offsets = array_offsets;
+  kept = (
+    omega arith,
+    (
+      omega arith,
+      (
+        header_kept row_array refl,
+        (
+          omega arith,
+          (
+            omega arith,
+            (
+              omega arith,
+              (
+                omega arith,
+                (omega arith, (omega arith, (refl, ((λ _. omega arith), ((λ _. omega arith), (array_offsets, tt)))))),
+              ),
+            ),
+          ),
+        ),
+      ),
+    ),
+  );
 }
 
 array_0 : Spells row_array (trailer row_array) 0 (Content.array (1 ∷ 1 ∷ []))
@@ -163,20 +186,29 @@ dict_offsets (suc (suc (suc n))) h = absurd (omega arith)
 frame_dict : IsFrame row_dict (trailer row_dict)
 unfolding num
 frame_dict = record {
-  large = omega arith;
-  short = omega arith;
-  magic = refl;
   spelled = refl;
-  objects = omega arith;
-  top = omega arith;
-  table_early = omega arith;
-  table_late = omega arith;
-  offset_size = omega arith;
-  ref_size = omega arith;
-  whole = refl;
-  ref_narrow = λ _. omega arith;
-  offset_narrow = λ _. omega arith;
-  offsets = dict_offsets;
+  kept = (
+    omega arith,
+    (
+      omega arith,
+      (
+        header_kept row_dict refl,
+        (
+          omega arith,
+          (
+            omega arith,
+            (
+              omega arith,
+              (
+                omega arith,
+                (omega arith, (omega arith, (refl, ((λ _. omega arith), ((λ _. omega arith), (dict_offsets, tt)))))),
+              ),
+            ),
+          ),
+        ),
+      ),
+    ),
+  );
 }
 
 dict_0 : Spells row_dict (trailer row_dict) 0 (Content.dict (1 ∷ []) (2 ∷ []))

@@ -1,4 +1,5 @@
 pub mod Numbers
+pub mod Rules
 pub mod Frame
 pub mod Value
 pub mod Heads
@@ -7,7 +8,6 @@ pub mod Reach
 pub mod Holds
 pub mod File
 pub mod Answers
-pub mod Rules
 pub mod Scan
 pub mod FrameRules
 pub mod Trailer
