@@ -84,18 +84,13 @@ module _ (f : List ℕ) (F : Frame) (n : ℕ) where
       ap (λ (x : Head). x.body + i * width) e ∙ ap (λ k. other.body + k * width) same
 
   one_object_place : OnePlace (BreaksAt f F n)
-  one_object_place rules.OffsetLow o o' p p' b c = (b.0 ∙ sym c.0, b.1.1 ∙ sym c.1.1)
-  one_object_place rules.Marker o o' p p' b c = (b.0 ∙ sym c.0, b.1.1 ∙ sym c.1.1)
-  one_object_place rules.Count o o' p p' b c = (b.0 ∙ sym c.0, b.1.3 ∙ sym c.1.3)
-  one_object_place rules.Extent o o' p p' b c = (b.0 ∙ sym c.0, b.1.1 ∙ sym c.1.1)
   one_object_place rules.NotAscii o o' p p' (e, (head, i, has, kind, first, place)) (e', (other, j, has', kind', first', place')) =
       let same = one_not_below head other 1 (λ x. x.count) 128 i j (HasHead-unique f F n head other has has') first first' in
       (e ∙ sym e', omega (arith, same, place, place'))
-  one_object_place rules.UidLarge o o' p p' b c = (b.0 ∙ sym c.0, b.1.4 ∙ sym c.1.4)
   one_object_place rules.RefHigh o o' p p' (e, (head, i, has, first, place)) (e', (other, j, has', first', place')) =
       let same = one_not_below head other F.ref_size (λ x. ref_count x.kind x.count) F.objects i j (HasHead-unique f F n head other has has') first first' in
       (e ∙ sym e', place ∙ same ∙ sym place')
-  one_object_place _ o o' p p' b c = absurd b.1
+  one_object_place _ o o' p p' b c = (b.0 ∙ sym c.0, b.1.1 ∙ sym c.1.1)
 
   pub one_object_fault : (list : List Rule) (a b : Fault) → IsObjectFault f F n list a → IsObjectFault f F n list b → a ≡ b
   one_object_fault list = one_first_fault (KeepsByObject f F n) (BreaksAt f F n) (λ rule object place k b. kept_or_broken f F n rule place k b.1) one_object_place list

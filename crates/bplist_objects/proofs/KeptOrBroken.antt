@@ -22,26 +22,19 @@ use Rattle.bplist_objects.proofs.Lists.{Either, all_or_first}
 use Rattle.bplist_objects.proofs.HeadLaws.{kind_marked, long_marks, found_head, head_is_found}
 use Rattle.bplist_objects.proofs.BodyLaws.{HasHead-unique}
 
-low_or_high : (a b : ℕ) → (a ≤ b) ⊎ (b < a)
-low_or_high a b = elim (cases_lt b a) [
-  | inl l ↦ inr l
+is_le : (a b : ℕ) → Either (a ≤ b)
+is_le a b = elim (cases_lt b a) [
+  | inl l ↦ inr (λ h. omega (arith, l, h))
   | inr h ↦ inl h
 ]
 
-between : (a low high : ℕ) → ((low ≤ a) × (a ≤ high)) ⊎ ((a < low) ⊎ (high < a))
-between a low high = go (low_or_high low a) (low_or_high a high)
-  where
-    go : (low ≤ a) ⊎ (a < low) → (a ≤ high) ⊎ (high < a) → ((low ≤ a) × (a ≤ high)) ⊎ ((a < low) ⊎ (high < a))
-    go (inr l) h = inr (inl l)
-    go (inl l) (inr h) = inr (inr h)
-    go (inl l) (inl h) = inl (l, h)
+is_both : {P Q : Type 0} → Either P → Either Q → Either (P × Q)
+is_both (inl p) (inl q) = inl (p, q)
+is_both (inr no1) d = inr (λ b. no1 b.0)
+is_both (inl p) (inr no1) = inr (λ b. no1 b.1)
 
 is_between : (a low high : ℕ) → Either ((low ≤ a) × (a ≤ high))
-is_between a low high = elim (between a low high) [
-  | inl b ↦ inl b
-  | inr (inl l) ↦ inr (λ b. omega (arith, b.0, l))
-  | inr (inr h) ↦ inr (λ b. omega (arith, b.1, h))
-]
+is_between a low high = is_both (is_le low a) (is_le a high)
 
 -- what is kept or broken where A holds is so without it
 if_so : {A P Q : Type 0} → A ⊎ (A → ⊥) → P ⊎ Q → (A → P) ⊎ (A × Q)
@@ -53,12 +46,6 @@ is_less : (a b : ℕ) → Either (a < b)
 is_less a b = elim (cases_lt a b) [
   | inl l ↦ inl l
   | inr h ↦ inr (λ l. omega (arith, h, l))
-]
-
-is_le : (a b : ℕ) → Either (a ≤ b)
-is_le a b = elim (cases_lt b a) [
-  | inl l ↦ inr (λ h. omega (arith, l, h))
-  | inr h ↦ inl h
 ]
 
 -- an implication is decided where both sides are
@@ -172,45 +159,37 @@ module _ (f : List ℕ) (F : Frame) (n : ℕ) where
         | inr q ↦ inr (head, found_head f F n head e, q)
       ]
 
+  of_head : (P : Head → Type 0) → ((head : Head) → Either (P head)) → Either ((head : Head) → HasHead f F n head → P head)
+  of_head P each = elim (with_head P (λ head. P head → ⊥) each) [
+    | inl all ↦ inl all
+    | inr b ↦ inr (λ all. b.2 (all b.0 b.1))
+  ]
+
   abbrev o : ℕ
   o = off f F n
 
   -- a rule that is broken at this place
-  at : {P Q : Type 0} (p : ℕ) → P ⊎ Q → P ⊎ ((place : ℕ) × (Q × (place ≡ p)))
+  at : {P : Type 0} (p : ℕ) → Either P → P ⊎ ((place : ℕ) × ((P → ⊥) × (place ≡ p)))
   at p (inl k) = inl k
-  at p (inr b) = inr (p, (b, refl))
-
-  extent_decided : (IsLong (slice_index f o) → o + 1 < F.table) ⊎ (IsLong (slice_index f o) × (F.table ≤ o + 1))
-      → (((head : Head) → HasHead f F n head → head.«end» ≤ F.table) ⊎ ((head : Head) × HasHead f F n head × (F.table < head.«end»)))
-      → KeepsByObject f F n rules.Extent ⊎ ((place : ℕ) × BreaksByObject f F n rules.Extent place)
-  extent_decided (inr late) h = inr (o, (inl late, refl))
-  extent_decided (inl r) (inr late) = inr (o, (inr late, refl))
-  extent_decided (inl r) (inl all) = inl (r, all)
+  at p (inr no1) = inr (p, (no1, refl))
 
   object_rule_decided : (rule : Rule) → KeepsByObject f F n rule ⊎ ((place : ℕ) × BreaksByObject f F n rule place)
-  object_rule_decided rules.OffsetLow = at (F.table + n * F.offset_size) (low_or_high 8 o)
+  object_rule_decided rules.OffsetLow = at (F.table + n * F.offset_size) (is_le 8 o)
   object_rule_decided rules.Marker = at o (marker_decided (slice_index f o))
   object_rule_decided rules.Count =
-      elim (if_so (long_decided (slice_index f o)) (if_so (is_less (o + 1) F.table) (is_between (slice_index f (o + 1)) 16 20))) [
-        | inl k ↦ inl k
-        | inr b ↦ inr (o + 1, (b.0, b.1.0, b.1.1, refl))
-      ]
+      at (o + 1) (is_implied (long_decided (slice_index f o)) (is_implied (is_less (o + 1) F.table) (is_between (slice_index f (o + 1)) 16 20)))
   object_rule_decided rules.Extent =
-      extent_decided (if_so (long_decided (slice_index f o)) (cases_lt (o + 1) F.table))
-      (with_head (λ head. head.«end» ≤ F.table) (λ head. F.table < head.«end») (λ head. low_or_high head.«end» F.table))
+      at o (is_both (is_implied (long_decided (slice_index f o)) (is_less (o + 1) F.table))
+      (of_head (λ head. head.«end» ≤ F.table) (λ head. is_le head.«end» F.table)))
+  object_rule_decided rules.UidLarge =
+      at o (of_head (λ head. head.kind ≡ kinds.Uid → num_at f head.body head.count ≤ 4294967295)
+      (λ head. is_implied (uid_decided head.kind) (is_le (num_at f head.body head.count) 4294967295)))
   object_rule_decided rules.NotAscii =
       elim (with_head (λ head. head.kind ≡ kinds.Ascii → AreBelow f head.body 1 head.count 128)
       (λ head. (head.kind ≡ kinds.Ascii) × ((i : ℕ) × IsFirstNotBelow f head.body 1 head.count 128 i))
       (λ head. if_so (ascii_decided head.kind) (below_or_first f head.body 1 head.count 128))) [
         | inl k ↦ inl k
         | inr b ↦ inr (b.0.body + b.2.1.0, (b.0, b.2.1.0, b.1, b.2.0, b.2.1.1, refl))
-      ]
-  object_rule_decided rules.UidLarge =
-      elim (with_head (λ head. head.kind ≡ kinds.Uid → num_at f head.body head.count ≤ 4294967295)
-      (λ head. (head.kind ≡ kinds.Uid) × (4294967295 < num_at f head.body head.count))
-      (λ head. if_so (uid_decided head.kind) (low_or_high (num_at f head.body head.count) 4294967295))) [
-        | inl k ↦ inl k
-        | inr b ↦ inr (o, (b.0, b.1, b.2.0, b.2.1, refl))
       ]
   object_rule_decided rules.RefHigh =
       elim (with_head (λ head. AreBelow f head.body F.ref_size (ref_count head.kind head.count) F.objects)

@@ -63,14 +63,14 @@ module _ (f : List ℕ) (F : Frame) (n : ℕ) (far : 8 ≤ off f F n) where
 
     -- the head that is announced does not lie before the table
     pub shape_extent : F.table < head.«end» → (fault : Fault) → fault.rule ≡ Extent → fault.object ≡ Some (record { 0 = n }) → fault.place ≡ o → IsObjectFault f F n shape_rules fault
-    shape_extent l fault rule object place = inr (far, inr (marker_kept, inr (count_kept, inl (rule, (object, (inr (head, h, l), place))))))
+    shape_extent l fault rule object place = inr (far, inr (marker_kept, inr (count_kept, inl (rule, (object, ((λ k. let e = k.1 head h in omega (arith, l, e)), place))))))
 
   -- what is wrong with a long count is the first that is wrong with the object
   pub shape_long : 1 ≤ F.ref_size → (kind : Kind) → Marks (slice_index f o) kind → IsLongOf (form_of kind) (slice_index f o) → (fault : Fault) → IsLongCountFault f F.table o n fault → IsObjectFault f F n shape_rules fault
   shape_long low kind marks long fault (object, inl (rule, inside, wrong, place)) =
-      inr (far, inr ((kind, marks), inl (rule, (object, ((kind, long), inside, wrong, place)))))
+      inr (far, inr ((kind, marks), inl (rule, (object, ((λ k. wrong (k (kind, long) inside)), place)))))
   shape_long low kind marks long fault (object, inr (rule, place, inl late)) =
-      inr (far, inr ((kind, marks), inr (λ m l. absurd (omega arith), inl (rule, (object, (inl ((kind, long), late), place))))))
+      inr (far, inr ((kind, marks), inr (λ m l. absurd (omega arith), inl (rule, (object, ((λ k. let i = k.0 (kind, long) in omega (arith, late, i)), place))))))
   shape_long low kind marks long fault (object, inr (rule, place, inr (count, body, has, late))) =
       let head : Head = record { kind = kind; count = count; body = body; «end» = body + count * unit F.ref_size kind } in
       shape_extent head (announced_behind f o (form_of kind) count body long has, refl) (no_room F.table body count (unit F.ref_size kind) (unit-pos F.ref_size kind low) late) fault rule object place

@@ -4,7 +4,7 @@ use Rattle.bplist_octets.specs.Octets.{num}
 use Rattle.bplist_objects.specs.declared.frame.Frame.{Frame}
 use Rattle.bplist_objects.specs.declared.kind.Kind.TheVariants as kinds
 use Rattle.bplist_objects.specs.Frame.{header, trailer, off, Keeps, IsFrame}
-use Rattle.bplist_objects.specs.declared.rule.Rule.TheVariants.{Magic}
+use Rattle.bplist_objects.specs.declared.rule.Rule.TheVariants.{Magic, RefNarrow, OffsetNarrow}
 use Rattle.bplist_objects.specs.Value.{boolean, text, leaf, array, value, no_values, dict, pair, no_pairs}
 use Rattle.bplist_objects.specs.Heads.{Content, Spells}
 use Rattle.bplist_objects.specs.Reach.{Reach}
@@ -12,6 +12,7 @@ use Rattle.bplist_objects.specs.Extents.{HaveRoom, AtMost}
 use Rattle.bplist_objects.specs.File.{FileHolds}
 use Rattle.bplist_objects.specs.Rows.{row}
 use Rattle.bplist_objects.proofs.Lists.{all_weaker}
+use Rattle.bplist_objects.proofs.FrameTies.{Numbered, trailer_is_frame}
 use Rattle.bplist_objects.proofs.ExtentSums.{most_none, most_more, shape_extent}
 use Rattle.bplist_objects.proofs.ReachedObjects.{reach_within}
 
@@ -27,9 +28,11 @@ row_array = row (162 ∷ 1 ∷ 1 ∷ 9 ∷ []) (8 ∷ 11 ∷ [])
 abbrev row_dict : List ℕ
 row_dict = row (209 ∷ 1 ∷ 2 ∷ 81 ∷ 97 ∷ 9 ∷ []) (8 ∷ 11 ∷ 13 ∷ [])
 
--- a file that begins with the header keeps rule 3
-header_kept : (f : List ℕ) → take 8 f ≡ header → Keeps f Magic
-header_kept f e i l = sym (get_or-take 8 f i 0 l) ∙ ap (λ x. slice_index x i) e
+-- a file that begins with the header has the frame of its numbers
+small_frame : (f : List ℕ) → take 8 f ≡ header → Numbered f (trailer f) → Keeps f RefNarrow → Keeps f OffsetNarrow → IsFrame f (trailer f)
+small_frame f begins n ref offset =
+    let magic : Keeps f Magic = λ i l. sym (get_or-take 8 f i 0 l) ∙ ap (λ x. slice_index x i) begins in
+    trailer_is_frame f (n.large, (n.short, (magic, (n.objects, (n.top, (n.table_early, (n.table_late, (n.offset_size, (n.ref_size, (n.whole, (ref, (offset, (n.offsets, tt)))))))))))))
 
 -- what all objects take bounds what the reached take
 reached_room : (f : List ℕ) (F : Frame) (t : ℕ) → F.top.0 < F.objects → AtMost f F (λ m. Reach f F m × (m < F.objects)) t → t + 8 ≤ F.table → HaveRoom f F (Reach f F)
@@ -45,31 +48,19 @@ true_offsets (suc n) h = absurd (omega arith)
 
 frame_true : IsFrame row_true (trailer row_true)
 unfolding num
-frame_true = record {
-  spelled = refl;
-  kept = (
-    omega arith,
-    (
-      omega arith,
-      (
-        header_kept row_true refl,
-        (
-          omega arith,
-          (
-            omega arith,
-            (
-              omega arith,
-              (
-                omega arith,
-                (omega arith, (omega arith, (refl, ((λ _. omega arith), ((λ _. omega arith), (true_offsets, tt)))))),
-              ),
-            ),
-          ),
-        ),
-      ),
-    ),
-  );
-}
+frame_true =
+    small_frame row_true refl (record {
+      large = omega arith;
+      short = omega arith;
+      objects = omega arith;
+      top = omega arith;
+      table_early = omega arith;
+      table_late = omega arith;
+      offset_size = omega arith;
+      ref_size = omega arith;
+      whole = refl;
+      offsets = true_offsets;
+    }) (λ _. omega arith) (λ _. omega arith)
 
 true_0 : Spells row_true (trailer row_true) 0 (Content.leaf (boolean true))
 unfolding num
@@ -109,31 +100,19 @@ array_offsets (suc (suc n)) h = absurd (omega arith)
 
 frame_array : IsFrame row_array (trailer row_array)
 unfolding num
-frame_array = record {
-  spelled = refl;
-  kept = (
-    omega arith,
-    (
-      omega arith,
-      (
-        header_kept row_array refl,
-        (
-          omega arith,
-          (
-            omega arith,
-            (
-              omega arith,
-              (
-                omega arith,
-                (omega arith, (omega arith, (refl, ((λ _. omega arith), ((λ _. omega arith), (array_offsets, tt)))))),
-              ),
-            ),
-          ),
-        ),
-      ),
-    ),
-  );
-}
+frame_array =
+    small_frame row_array refl (record {
+      large = omega arith;
+      short = omega arith;
+      objects = omega arith;
+      top = omega arith;
+      table_early = omega arith;
+      table_late = omega arith;
+      offset_size = omega arith;
+      ref_size = omega arith;
+      whole = refl;
+      offsets = array_offsets;
+    }) (λ _. omega arith) (λ _. omega arith)
 
 array_0 : Spells row_array (trailer row_array) 0 (Content.array (1 ∷ 1 ∷ []))
 unfolding num
@@ -185,31 +164,19 @@ dict_offsets (suc (suc (suc n))) h = absurd (omega arith)
 
 frame_dict : IsFrame row_dict (trailer row_dict)
 unfolding num
-frame_dict = record {
-  spelled = refl;
-  kept = (
-    omega arith,
-    (
-      omega arith,
-      (
-        header_kept row_dict refl,
-        (
-          omega arith,
-          (
-            omega arith,
-            (
-              omega arith,
-              (
-                omega arith,
-                (omega arith, (omega arith, (refl, ((λ _. omega arith), ((λ _. omega arith), (dict_offsets, tt)))))),
-              ),
-            ),
-          ),
-        ),
-      ),
-    ),
-  );
-}
+frame_dict =
+    small_frame row_dict refl (record {
+      large = omega arith;
+      short = omega arith;
+      objects = omega arith;
+      top = omega arith;
+      table_early = omega arith;
+      table_late = omega arith;
+      offset_size = omega arith;
+      ref_size = omega arith;
+      whole = refl;
+      offsets = dict_offsets;
+    }) (λ _. omega arith) (λ _. omega arith)
 
 dict_0 : Spells row_dict (trailer row_dict) 0 (Content.dict (1 ∷ []) (2 ∷ []))
 unfolding num
