@@ -14,12 +14,11 @@ use Rattle.bplist_objects.specs.Frame.{off, trailer, header, Keeps, frame_rules}
 use Rattle.bplist_objects.specs.Rules.{KeepsAll, IsFirstFault}
 use Rattle.bplist_objects.specs.Scan.{AreBelow, IsFirstNotBelow, nth_number}
 use Rattle.bplist_objects.specs.FrameRules.{Breaks, IsFrameFault}
-use Rattle.bplist_objects.specs.Announced.{Form, plain, counted, form_of, least, greatest, Marks, IsMarker, IsLong, IsLongOf, HasHead}
+use Rattle.bplist_objects.specs.Announced.{Form, plain, counted, form_of, least, greatest, Marks, IsMarker, IsLong, IsLongOf, HasHead, kind_at, head_found}
 use Rattle.bplist_objects.specs.ObjectRules.{KeepsByObject, BreaksByObject, BreaksAt, IsObjectFault}
 use Rattle.bplist_objects.specs.Safe.{ref_count}
-use Rattle.bplist_objects.specs.Spelled.{kind_at, head_found}
 use Rattle.bplist_objects.proofs.Lists.{Either, all_or_first}
-use Rattle.bplist_objects.proofs.HeadLaws.{kind_marked, long_marks, found_head, head_is_found}
+use Rattle.bplist_objects.proofs.HeadLaws.{kind_marked, long_marks}
 use Rattle.bplist_objects.proofs.BodyLaws.{HasHead-unique}
 
 is_le : (a b : ℕ) → Either (a ≤ b)
@@ -153,10 +152,10 @@ module _ (f : List ℕ) (F : Frame) (n : ℕ) where
   with_head P Q each = go (head_found f F n) refl
     where
       go : (found : Option Head) → head_found f F n ≡ found → ((head : Head) → HasHead f F n head → P head) ⊎ ((head : Head) × HasHead f F n head × Q head)
-      go None e = inl (λ head h. let a = head_is_found f F n head h in cc)
+      go None e = inl (λ head h. absurd (cc (e, h)))
       go (Some head) e = elim (each head) [
-        | inl p ↦ inl (λ other k. subst P (HasHead-unique f F n head other (found_head f F n head e) k) p)
-        | inr q ↦ inr (head, found_head f F n head e, q)
+        | inl p ↦ inl (λ other k. subst P (HasHead-unique f F n head other e k) p)
+        | inr q ↦ inr (head, e, q)
       ]
 
   of_head : (P : Head → Type 0) → ((head : Head) → Either (P head)) → Either ((head : Head) → HasHead f F n head → P head)

@@ -10,15 +10,14 @@ use Rattle.bplist_objects.specs.declared.kind.Kind.{Kind}
 use Rattle.bplist_objects.specs.declared.kind.Kind.TheVariants as kinds
 use Rattle.bplist_objects.specs.Rules.{KeepsAll}
 use Rattle.bplist_objects.specs.Frame.{off}
-use Rattle.bplist_objects.specs.Heads.{unit}
-use Rattle.bplist_objects.specs.Safe.{MayCount}
-use Rattle.bplist_objects.specs.Announced.{Form, plain, counted, form_of, is_counted, Marks, IsMarker, IsLong, IsLongOf, IsCountForm, HasLongCount, AnnouncesAs, HasHead}
+use Rattle.bplist_objects.specs.Safe.{IsSaid, MayCount}
+use Rattle.bplist_objects.specs.Announced.{Form, plain, counted, form_of, is_counted, Marks, IsMarker, IsLong, IsLongOf, IsCountForm, HasLongCount, AnnouncesAs, HasHead, unit}
 use Rattle.bplist_objects.specs.ObjectRules.{KeepsByObject, IsObjectFault, shape_rules}
 use Rattle.bplist_objects.specs.Counts.{IsLongCountFault}
 use Rattle.bplist_objects.specs.Answers.{GivesFault}
 use Rattle.bplist_objects.specs.declared.fault.ObjectFault.{ObjectFault}
 use Rattle.bplist_objects.specs.declared.fault.ObjectFault.TheVariants as errors
-use Rattle.bplist_objects.proofs.HeadLaws.{long_marks, long-Announces, announced_marks}
+use Rattle.bplist_objects.proofs.HeadLaws.{long_marks, long-Announces, announced_marks, head_parts, head_announced}
 use Rattle.bplist_objects.proofs.BodyLaws.{HasHead-unique}
 
 -- a count behind a long marker is announced
@@ -48,10 +47,10 @@ module _ (f : List ℕ) (F : Frame) (n : ℕ) (far : 8 ≤ off f F n) where
 
   module _ (head : Head) (h : HasHead f F n head) where
     marker_kept : IsMarker (slice_index f o)
-    marker_kept = (head.kind, announced_marks f o (form_of head.kind) head.count head.body h.0)
+    marker_kept = (head.kind, announced_marks f o (form_of head.kind) head.count head.body (head_parts f F n head h).0)
 
     long_count : IsLong (slice_index f o) → HasLongCount f o head.count head.body
-    long_count m = long-Announces f o head.kind head.count head.body m h.0
+    long_count m = long-Announces f o head.kind head.count head.body m (head_parts f F n head h).0
 
     count_kept : KeepsByObject f F n Count
     count_kept m l = form-HasLongCount f o head.count head.body (long_count m)
@@ -59,7 +58,7 @@ module _ (f : List ℕ) (F : Frame) (n : ℕ) (far : 8 ≤ off f F n) where
     -- the head that is announced lies before the table
     pub shape_kept : head.«end» ≤ F.table → KeepsAll (KeepsByObject f F n) shape_rules
     shape_kept l =
-        (far, (marker_kept, (count_kept, ((λ m. let e = long_count m in omega arith, λ other k. subst (λ (x : Head). x.«end» ≤ F.table) (HasHead-unique f F n head other h k) l), tt))))
+        (far, (marker_kept, (count_kept, ((λ m. let e = long_count m in omega (arith, (head_parts f F n head h).1), λ other k. subst (λ (x : Head). x.«end» ≤ F.table) (HasHead-unique f F n head other h k) l), tt))))
 
     -- the head that is announced does not lie before the table
     pub shape_extent : F.table < head.«end» → (fault : Fault) → fault.rule ≡ Extent → fault.object ≡ Some (record { 0 = n }) → fault.place ≡ o → IsObjectFault f F n shape_rules fault
@@ -73,18 +72,15 @@ module _ (f : List ℕ) (F : Frame) (n : ℕ) (far : 8 ≤ off f F n) where
       inr (far, inr ((kind, marks), inr (λ m l. absurd (omega arith), inl (rule, (object, ((λ k. let i = k.0 (kind, long) in omega (arith, late, i)), place))))))
   shape_long low kind marks long fault (object, inr (rule, place, inr (count, body, has, late))) =
       let head : Head = record { kind = kind; count = count; body = body; «end» = body + count * unit F.ref_size kind } in
-      shape_extent head (announced_behind f o (form_of kind) count body long has, refl) (no_room F.table body count (unit F.ref_size kind) (unit-pos F.ref_size kind low) late) fault rule object place
+      shape_extent head (head_announced f F n head (announced_behind f o (form_of kind) count body long has, refl)) (no_room F.table body count (unit F.ref_size kind) (unit-pos F.ref_size kind low) late) fault rule object place
 
 -- a kind whose count may stand behind the marker may have any
 pub counted_may : (kind : Kind) (count : ℕ) → is_counted (form_of kind) ≡ true → MayCount kind count
-counted_may kinds.Null count h = absurd (false≢true h)
-counted_may kinds.False count h = absurd (false≢true h)
-counted_may kinds.True count h = absurd (false≢true h)
-counted_may kinds.Int count h = absurd (false≢true h)
-counted_may kinds.Real count h = absurd (false≢true h)
-counted_may kinds.Date count h = absurd (false≢true h)
-counted_may kinds.Uid count h = absurd (false≢true h)
-counted_may _ count h = tt
+counted_may kind count h = go (form_of kind) h
+  where
+    go : (form : Form) → is_counted form ≡ true → IsSaid form count
+    go (plain low high says) e = absurd (false≢true e)
+    go (counted high) e = tt
 
 -- the same of what a call answers
 pub shape_count : (f : List ℕ) (F : Frame) (n place : ℕ) (kind : Kind) (e : ObjectFault) → 1 ≤ F.ref_size → place ≡ off f F n → 8 ≤ place → IsLongOf (form_of kind) (slice_index f place) → GivesFault (IsLongCountFault f F.table place n) e → GivesFault (IsObjectFault f F n shape_rules) e

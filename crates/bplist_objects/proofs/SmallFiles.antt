@@ -1,11 +1,12 @@
 -- The definitions hold of small files.
-use Rattle.std.proofs.Common.{◌≡◌, ℕ, zero, suc, ◌<◌, ◌≤◌, ◌+◌, List, [], ◌∷◌, slice_index, true, inl, refl, sym, ap, ◌∙◌, arith, take, get_or-take, drop}
+use Rattle.std.proofs.Common.{◌≡◌, ℕ, zero, suc, ◌<◌, ◌≤◌, ◌+◌, List, [], ◌∷◌, slice_index, true, refl, sym, ap, ◌∙◌, arith, take, get_or-take}
 use Rattle.bplist_octets.specs.Octets.{num}
 use Rattle.bplist_objects.specs.declared.frame.Frame.{Frame}
 use Rattle.bplist_objects.specs.declared.kind.Kind.TheVariants as kinds
 use Rattle.bplist_objects.specs.Frame.{header, trailer, off, Keeps, IsFrame}
 use Rattle.bplist_objects.specs.declared.rule.Rule.TheVariants.{Magic, RefNarrow, OffsetNarrow}
 use Rattle.bplist_objects.specs.Value.{boolean, text, leaf, array, value, no_values, dict, pair, no_pairs}
+use Rattle.bplist_objects.specs.Announced.{kind_at, head_found}
 use Rattle.bplist_objects.specs.Heads.{Content, Spells}
 use Rattle.bplist_objects.specs.Reach.{Reach}
 use Rattle.bplist_objects.specs.Extents.{HaveRoom, AtMost}
@@ -63,10 +64,10 @@ frame_true =
     }) (λ _. omega arith) (λ _. omega arith)
 
 true_0 : Spells row_true (trailer row_true) 0 (Content.leaf (boolean true))
-unfolding num
+unfolding num head_found kind_at
 true_0 = record {
   shape = record { kind = kinds.True; count = 0; body = 9; «end» = 9 };
-  has = record { front = 9 ∷ []; rest = drop 9 row_true; low = omega arith; spelled = refl; is_front = (refl, refl); body = refl; «end» = refl; inside = omega arith };
+  has = record { low = omega arith; has = refl; within = omega arith; inside = omega arith };
   proper = tt;
   means = refl;
   refs = tt;
@@ -115,20 +116,20 @@ frame_array =
     }) (λ _. omega arith) (λ _. omega arith)
 
 array_0 : Spells row_array (trailer row_array) 0 (Content.array (1 ∷ 1 ∷ []))
-unfolding num
+unfolding num head_found kind_at
 array_0 = record {
   shape = record { kind = kinds.Array; count = 2; body = 9; «end» = 11 };
-  has = record { front = 162 ∷ []; rest = drop 9 row_array; low = omega arith; spelled = refl; is_front = inl (omega arith, refl); body = refl; «end» = refl; inside = omega arith };
+  has = record { low = omega arith; has = refl; within = omega arith; inside = omega arith };
   proper = tt;
   means = refl;
   refs = (omega arith, (omega arith, tt));
 }
 
 array_1 : Spells row_array (trailer row_array) 1 (Content.leaf (boolean true))
-unfolding num
+unfolding num head_found kind_at
 array_1 = record {
   shape = record { kind = kinds.True; count = 0; body = 12; «end» = 12 };
-  has = record { front = 9 ∷ []; rest = drop 12 row_array; low = omega arith; spelled = refl; is_front = (refl, refl); body = refl; «end» = refl; inside = omega arith };
+  has = record { low = omega arith; has = refl; within = omega arith; inside = omega arith };
   proper = tt;
   means = refl;
   refs = tt;
@@ -179,30 +180,30 @@ frame_dict =
     }) (λ _. omega arith) (λ _. omega arith)
 
 dict_0 : Spells row_dict (trailer row_dict) 0 (Content.dict (1 ∷ []) (2 ∷ []))
-unfolding num
+unfolding num head_found kind_at
 dict_0 = record {
   shape = record { kind = kinds.Dict; count = 1; body = 9; «end» = 11 };
-  has = record { front = 209 ∷ []; rest = drop 9 row_dict; low = omega arith; spelled = refl; is_front = inl (omega arith, refl); body = refl; «end» = refl; inside = omega arith };
+  has = record { low = omega arith; has = refl; within = omega arith; inside = omega arith };
   proper = tt;
   means = refl;
   refs = (omega arith, (omega arith, tt));
 }
 
 dict_1 : Spells row_dict (trailer row_dict) 1 (Content.leaf (text (97 ∷ [])))
-unfolding num
+unfolding num head_found kind_at
 dict_1 = record {
   shape = record { kind = kinds.Ascii; count = 1; body = 12; «end» = 13 };
-  has = record { front = 81 ∷ []; rest = drop 12 row_dict; low = omega arith; spelled = refl; is_front = inl (omega arith, refl); body = refl; «end» = refl; inside = omega arith };
+  has = record { low = omega arith; has = refl; within = omega arith; inside = omega arith };
   proper = (omega arith, tt);
   means = refl;
   refs = tt;
 }
 
 dict_2 : Spells row_dict (trailer row_dict) 2 (Content.leaf (boolean true))
-unfolding num
+unfolding num head_found kind_at
 dict_2 = record {
   shape = record { kind = kinds.True; count = 0; body = 14; «end» = 14 };
-  has = record { front = 9 ∷ []; rest = drop 14 row_dict; low = omega arith; spelled = refl; is_front = (refl, refl); body = refl; «end» = refl; inside = omega arith };
+  has = record { low = omega arith; has = refl; within = omega arith; inside = omega arith };
   proper = tt;
   means = refl;
   refs = tt;

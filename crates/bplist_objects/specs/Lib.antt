@@ -2,6 +2,7 @@ pub mod Numbers
 pub mod Rules
 pub mod Frame
 pub mod Value
+pub mod Announced
 pub mod Heads
 pub mod Extents
 pub mod Reach
@@ -11,7 +12,6 @@ pub mod Answers
 pub mod Scan
 pub mod FrameRules
 pub mod Trailer
-pub mod Announced
 pub mod Safe
 pub mod ObjectRules
 pub mod Counts
