@@ -1,5 +1,5 @@
 -- What is said of an object by place and index is what the definitions say.
-use Rattle.std.proofs.Common.{◌≡◌, ℕ, ◌<◌, ◌≤◌, ◌+◌, ◌*◌, ◌↔◌, List, slice_index, length, drop, refl, sym, ap, ◌∙◌, subst, arith, length-drop, get_or}
+use Rattle.std.proofs.Common.{◌≡◌, ℕ, ◌<◌, ◌≤◌, ◌+◌, ◌*◌, ◌↔◌, List, length, drop, refl, sym, ap, ◌∙◌, subst, arith, length-drop, get_or}
 use Rattle.std.specs.List.{AllByRecursion}
 use Rattle.std.proofs.lemmas.List.{length-take-le}
 use Rattle.std.proofs.lemmas.List.Elements.{recursion_from_All, All-from_get_or, All-from_recursion, All-get_or}
@@ -13,12 +13,13 @@ use Rattle.bplist_objects.specs.Frame.{off, IsFrame}
 use Rattle.bplist_objects.specs.Heads.{Content, refs, HasShape, content_at, IsProperLeaf, Spells, IsHeadOf}
 use Rattle.bplist_objects.specs.Rules.{KeepsAll}
 use Rattle.bplist_objects.specs.Scan.{AreBelow, nth_number}
-use Rattle.bplist_objects.specs.Announced.{form_of, IsLong, HasHead, unit}
+use Rattle.bplist_objects.specs.Announced.{form_of, HasHead, unit}
 use Rattle.bplist_objects.specs.ObjectRules.{KeepsByObject, shape_rules, body_rules, object_rules}
+use Rattle.bplist_objects.proofs.BodyLaws.{HasHead-unique}
 use Rattle.bplist_objects.proofs.Fronts.{one_shape}
 use Rattle.bplist_objects.specs.Safe.{ref_count}
-use Rattle.bplist_objects.proofs.AnnouncedHeads.{announced_short, something_announced}
-use Rattle.bplist_objects.proofs.HeadLaws.{head_parts, head_announced}
+use Rattle.bplist_objects.proofs.AnnouncedHeads.{announced_short}
+use Rattle.bplist_objects.proofs.HeadLaws.{head_parts}
 use Rattle.bplist_objects.proofs.FrameTies.{numbered}
 use Rattle.bplist_objects.proofs.RuleLaws.{kept_all_after}
 use Rattle.bplist_objects.proofs.References.{all_refs, each_ref}
@@ -69,7 +70,9 @@ module _ (f : List ℕ) (F : Frame) (n : ℕ) where
     pub announced_shape : (head : Head) → HasHead f F n head → KeepsAll (KeepsByObject f F n) shape_rules → HasShape f F n head
     announced_shape head h kept =
         let short = (announced_short f (off f F n) (form_of head.kind) head.count head.body (head_parts f F n head h).0).1 in
-        record { low = kept.0; has = h; within = omega (arith, place_room, short); inside = kept.1.1.1.0.1 head h }
+        let early = kept.1.1.1.0 kept.1.0 (kept.1.1.0 kept.1.0) in
+        let inside : head.«end» ≤ F.table = subst (λ (x : Head). x.«end» ≤ F.table) (HasHead-unique f F n early.0 head early.1 h) early.2 in
+        record { low = kept.0; has = h; within = omega (arith, place_room, short); inside = inside }
 
     pub shape_tie : (head : Head) → (HasHead f F n head × KeepsAll (KeepsByObject f F n) shape_rules) ↔ HasShape f F n head
     shape_tie head = ((λ h. announced_shape head h.0 h.1), λ h. (shape_announced head h, shape_keeps head h))
@@ -131,11 +134,7 @@ module _ (f : List ℕ) (F : Frame) (n : ℕ) where
 
     -- an object that keeps rules 14 to 17 has a head
     pub kept_announces : KeepsAll (KeepsByObject f F n) shape_rules → (head : Head) × HasHead f F n head
-    kept_announces kept =
-        let marker = kept.1.0 in
-        let a = something_announced f (off f F n) (form_of marker.0) marker.1 (λ l. let long : IsLong (slice_index f (off f F n)) = (marker.0, l) in kept.1.1.0 long (kept.1.1.1.0.0 long)) in
-        let head : Head = record { kind = marker.0; count = a.0; body = a.1; «end» = a.1 + a.0 * unit F.ref_size marker.0 } in
-        (head, head_announced f F n head (a.2, refl))
+    kept_announces kept = let early = kept.1.1.1.0 kept.1.0 (kept.1.1.0 kept.1.0) in (early.0, early.1)
 
     pub keeps_iff : KeepsAll (KeepsByObject f F n) object_rules ↔ ((c : Content) × Spells f F n c)
     keeps_iff = (

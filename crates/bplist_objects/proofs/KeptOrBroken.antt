@@ -1,6 +1,6 @@
 -- Each rule is kept or broken, and so either all rules are kept or there is a first fault.
-use Rattle.std.proofs.Common.{◌≡◌, ℕ, ◌<◌, ◌≤◌, ◌+◌, ◌-◌, ◌*◌, ◌^◌, ◌⊎◌, inl, inr, List, [], ◌∷◌, length, slice_index, Option, Some, None, refl, sym, subst, arith}
-use Rattle.std.proofs.lemmas.Bool.{cases_lt, cases_eq}
+use Rattle.std.proofs.Common.{◌≡◌, ℕ, ◌<◌, ◌≤◌, ◌+◌, ◌-◌, ◌*◌, ◌^◌, ◌⊎◌, inl, inr, List, [], ◌∷◌, length, slice_index, Option, Some, None, IsSome, refl, sym, subst, arith}
+use Rattle.std.proofs.lemmas.Bool.{cases_lt, cases_eq, false≢true}
 use Rattle.bplist_objects.specs.declared.rule.Rule.{Rule}
 use Rattle.bplist_objects.specs.declared.rule.Rule.TheVariants as rules
 use Rattle.bplist_objects.specs.declared.fault.Fault.{Fault}
@@ -14,11 +14,11 @@ use Rattle.bplist_objects.specs.Frame.{off, trailer, header, Keeps, frame_rules}
 use Rattle.bplist_objects.specs.Rules.{KeepsAll, IsFirstFault}
 use Rattle.bplist_objects.specs.Scan.{AreBelow, IsFirstNotBelow, nth_number}
 use Rattle.bplist_objects.specs.FrameRules.{Breaks, IsFrameFault}
-use Rattle.bplist_objects.specs.Announced.{Form, plain, counted, form_of, least, greatest, Marks, IsMarker, IsLong, IsLongOf, HasHead, kind_at, head_found}
+use Rattle.bplist_objects.specs.Announced.{form_of, least, greatest, Marks, IsMarker, HasHead, kind_at, head_found}
 use Rattle.bplist_objects.specs.ObjectRules.{KeepsByObject, BreaksByObject, BreaksAt, IsObjectFault}
 use Rattle.bplist_objects.specs.Safe.{ref_count}
 use Rattle.bplist_objects.proofs.Lists.{Either, all_or_first}
-use Rattle.bplist_objects.proofs.HeadLaws.{kind_marked, long_marks}
+use Rattle.bplist_objects.proofs.HeadLaws.{kind_marked}
 use Rattle.bplist_objects.proofs.BodyLaws.{HasHead-unique}
 
 is_le : (a b : ℕ) → Either (a ≤ b)
@@ -127,16 +127,9 @@ marker_decided m = elim (is_between m (least (form_of (kind_at m))) (greatest (f
   | inr no1 ↦ inr (λ is. no1 (subst (Marks m) (sym (kind_marked m is.0 is.1)) is.1))
 ]
 
--- a long marker is so of the kind that is found
-long_decided : (m : ℕ) → Either (IsLong m)
-long_decided m = elim (each (form_of (kind_at m))) [
-  | inl l ↦ inl (kind_at m, l)
-  | inr no1 ↦ inr (λ is. no1 (subst (λ k. IsLongOf (form_of k) m) (sym (kind_marked m is.0 (long_marks m (form_of is.0) is.1))) is.1))
-]
-  where
-    each : (form : Form) → Either (IsLongOf form m)
-    each (plain low high says) = inr (λ l. l)
-    each (counted high) = cases_eq m (16 * high + 15)
+some_decided : {X : Type 0} (o : Option X) → Either (IsSome o)
+some_decided None = inr false≢true
+some_decided (Some x) = inl refl
 
 ascii_decided : (kind : Kind) → Either (kind ≡ kinds.Ascii)
 ascii_decided kinds.Ascii = inl refl
@@ -172,14 +165,22 @@ module _ (f : List ℕ) (F : Frame) (n : ℕ) where
   at p (inl k) = inl k
   at p (inr no1) = inr (p, (no1, refl))
 
+  count_decided : Either (o + 1 < F.table → IsSome (head_found f F n))
+  count_decided = is_implied (is_less (o + 1) F.table) (some_decided (head_found f F n))
+
+  -- whether a head is announced that lies before the table
+  early_decided : (found : Option Head) → head_found f F n ≡ found → Either ((head : Head) × HasHead f F n head × (head.«end» ≤ F.table))
+  early_decided None e = inr (λ h. absurd (cc (e, h.1)))
+  early_decided (Some head) e = elim (is_le head.«end» F.table) [
+    | inl l ↦ inl (head, e, l)
+    | inr late ↦ inr (λ h. late (subst (λ (x : Head). x.«end» ≤ F.table) (HasHead-unique f F n h.0 head h.1 e) h.2))
+  ]
+
   object_rule_decided : (rule : Rule) → KeepsByObject f F n rule ⊎ ((place : ℕ) × BreaksByObject f F n rule place)
   object_rule_decided rules.OffsetLow = at (F.table + n * F.offset_size) (is_le 8 o)
   object_rule_decided rules.Marker = at o (marker_decided (slice_index f o))
-  object_rule_decided rules.Count =
-      at (o + 1) (is_implied (long_decided (slice_index f o)) (is_implied (is_less (o + 1) F.table) (is_between (slice_index f (o + 1)) 16 20)))
-  object_rule_decided rules.Extent =
-      at o (is_both (is_implied (long_decided (slice_index f o)) (is_less (o + 1) F.table))
-      (of_head (λ head. head.«end» ≤ F.table) (λ head. is_le head.«end» F.table)))
+  object_rule_decided rules.Count = at (o + 1) (is_implied (marker_decided (slice_index f o)) count_decided)
+  object_rule_decided rules.Extent = at o (is_implied (marker_decided (slice_index f o)) (is_implied count_decided (early_decided (head_found f F n) refl)))
   object_rule_decided rules.UidLarge =
       at o (of_head (λ head. head.kind ≡ kinds.Uid → num_at f head.body head.count ≤ 4294967295)
       (λ head. is_implied (uid_decided head.kind) (is_le (num_at f head.body head.count) 4294967295)))

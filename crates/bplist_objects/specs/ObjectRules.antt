@@ -1,6 +1,6 @@
 -- The rules 14 to 20 of an object by itself: how each is kept, and how it is broken and where. Source: the format comment of
 -- CFBinaryPList.c; all words, places and the order are profile.
-use Rattle.std.specs.Prelude.{◌≡◌, ℕ, ◌+◌, ◌*◌, ◌<◌, ◌≤◌, List, [], ◌∷◌, ◌++◌, slice_index, Option, Some}
+use Rattle.std.specs.Prelude.{◌≡◌, ℕ, ◌+◌, ◌*◌, ◌<◌, ◌≤◌, List, [], ◌∷◌, ◌++◌, slice_index, Option, Some, IsSome}
 use Rattle.bplist_objects.specs.declared.rule.Rule.{Rule}
 use Rattle.bplist_objects.specs.declared.rule.Rule.TheVariants.{OffsetLow, Marker, Count, Extent, NotAscii, UidLarge, RefHigh}
 use Rattle.bplist_objects.specs.declared.fault.Fault.{Fault}
@@ -13,7 +13,7 @@ use Rattle.bplist_objects.specs.Frame.{off}
 use Rattle.bplist_objects.specs.Rules.{IsFirstFault}
 use Rattle.bplist_objects.specs.Scan.{AreBelow, IsFirstNotBelow}
 use Rattle.bplist_objects.specs.Safe.{ref_count}
-use Rattle.bplist_objects.specs.Announced.{IsMarker, IsLong, IsCountForm, HasHead}
+use Rattle.bplist_objects.specs.Announced.{IsMarker, head_found, HasHead}
 
 -- rules 14 to 17 in order
 abbrev pub shape_rules : List Rule
@@ -27,16 +27,14 @@ body_rules = NotAscii ∷ UidLarge ∷ RefHigh ∷ []
 abbrev pub object_rules : List Rule
 object_rules = shape_rules ++ body_rules
 
--- object n keeps this rule
+-- object n keeps this rule, where it keeps those of marker and count before
 abbrev pub KeepsByObject : List ℕ → Frame → ℕ → Rule → Type 0
 KeepsByObject f F n OffsetLow = 8 ≤ off f F n
 KeepsByObject f F n Marker = IsMarker (slice_index f (off f F n))
-KeepsByObject f F n Count =
-    IsLong (slice_index f (off f F n)) → off f F n + 1 < F.table
-    → IsCountForm (slice_index f (off f F n + 1))
+KeepsByObject f F n Count = IsMarker (slice_index f (off f F n)) → off f F n + 1 < F.table → IsSome (head_found f F n)
 KeepsByObject f F n Extent =
-    (IsLong (slice_index f (off f F n)) → off f F n + 1 < F.table)
-    × ((head : Head) → HasHead f F n head → head.«end» ≤ F.table)
+    IsMarker (slice_index f (off f F n)) → (off f F n + 1 < F.table → IsSome (head_found f F n))
+    → (head : Head) × HasHead f F n head × (head.«end» ≤ F.table)
 KeepsByObject f F n NotAscii =
     (head : Head) → HasHead f F n head → head.kind ≡ kinds.Ascii → AreBelow f head.body 1 head.count 128
 KeepsByObject f F n UidLarge =
