@@ -9,7 +9,8 @@ use Rattle.bplist_objects.specs.Value.{int, uid}
 use Rattle.bplist_objects.specs.declared.frame.Frame.{Frame}
 use Rattle.bplist_objects.specs.declared.head.Head.{Head}
 use Rattle.bplist_objects.specs.declared.kind.Kind.{Kind}
-use Rattle.bplist_objects.specs.Heads.{Content, leaf, unit}
+use Rattle.bplist_objects.specs.Announced.{unit}
+use Rattle.bplist_objects.specs.Heads.{Content, leaf}
 use Rattle.bplist_cert.specs.CheckedFile.{CheckedFile}
 use Rattle.bplist_cert.specs.Valid.{IsVouchedBy}
 use Rattle.bplist_c.specs.declared.object.BplistBody.{BplistBody}

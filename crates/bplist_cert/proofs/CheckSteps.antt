@@ -24,6 +24,7 @@ use Rattle.bplist_objects.proofs.ExtentSums.{most_none, most_more, most_same}
 use Rattle.bplist_objects.proofs.RuleLaws.{first_fault_after, first_fault_among, kept_all_after}
 use Rattle.bplist_objects.proofs.BodyLaws.{HasHead-unique}
 use Rattle.bplist_objects.proofs.HeadTies.{kept_spells}
+use Rattle.bplist_objects.proofs.FrameTies.{numbered}
 use Rattle.bplist_cert.specs.declared.heights.Wanted.TheVariants.{Vouched, Below}
 use Rattle.bplist_cert.specs.declared.refusal.Refusal.{Refusal}
 use Rattle.bplist_cert.specs.declared.refusal.Refusal.TheVariants as refusals
@@ -192,7 +193,7 @@ vouched_inside heights count n e v = elim (cases_lt n (length heights)) [
 pub start : (f : List ℕ) (F : Frame) (certificate : Lists) (look : Look) → IsFrame f F → Running f F certificate look 0 0
 start f F certificate look frame = record {
   sums = record { objects = []; differ = tt; inside = tt; take_all = refl; most = most_none f F (IsVouchedBy certificate.heights) };
-  room = omega (arith, frame.table_early);
+  room = omega (arith, (numbered frame).table_early);
   kept = λ m lt v. absurd (omega arith);
 }
 

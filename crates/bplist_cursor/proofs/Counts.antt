@@ -6,11 +6,12 @@ use Rattle.bplist_objects.specs.Heads.{Content, refs, Spells}
 use Rattle.bplist_objects.specs.Safe.{ref_count}
 use Rattle.bplist_objects.proofs.Bounds.{frame_safe, shape_safe, refs_within}
 use Rattle.bplist_objects.proofs.References.{length-refs}
+use Rattle.bplist_objects.proofs.FrameTies.{numbered}
 
 -- fewer than 64 bits count
 pub few_refs : (f : List ℕ) (F : Frame) → IsFrame f F → (n : ℕ) (c : Content) → Spells f F n c → length (refs c) < 2 ^ 64
 few_refs f F is n c sp =
-    let large = is.large in
+    let large = (numbered is).large in
     let few = (refs_within (length f) F sp.shape (frame_safe f F is).safe (omega (arith, large)) (shape_safe f F n sp.shape sp.has)).0 in
     let same : length (refs c) ≡ ref_count sp.shape.kind sp.shape.count = ap (λ x. length (refs x)) sp.means ∙ length-refs f F sp.shape.kind sp.shape.count sp.shape.body in
     omega (arith, few, same)

@@ -8,7 +8,8 @@ use Rattle.bplist_objects.specs.declared.head.Head.{Head}
 use Rattle.bplist_objects.specs.declared.kind.Kind.{Kind}
 use Rattle.bplist_objects.specs.declared.kind.Kind.TheVariants as kinds
 use Rattle.bplist_objects.specs.Value.{Value, leaf, array, set, dict, Values, no_values, value, Pairs, no_pairs, pair, keys}
-use Rattle.bplist_objects.specs.Heads.{Content, Spells, content_at, content_of, unit}
+use Rattle.bplist_objects.specs.Announced.{unit}
+use Rattle.bplist_objects.specs.Heads.{Content, Spells, content_at, content_of}
 use Rattle.bplist_objects.specs.Holds.{Holds, HoldEach, HoldPairs}
 use Rattle.bplist_objects.specs.Units.{IsTextKind, units_of}
 use Rattle.bplist_objects.proofs.Units.{length-units_at}

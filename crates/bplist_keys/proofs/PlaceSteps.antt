@@ -4,6 +4,7 @@ use Rattle.std.proofs.lemmas.Bool.{cases_lt}
 use Rattle.bplist_objects.specs.declared.frame.Frame.{Frame}
 use Rattle.bplist_objects.specs.Frame.{off, IsFrame}
 use Rattle.bplist_objects.specs.FrameRules.{AreEntriesLow}
+use Rattle.bplist_objects.proofs.FrameTies.{numbered}
 use Rattle.bplist_keys.specs.Places.{IsKept, AreKept}
 use Rattle.bplist_keys.specs.Texts.{AreOffsets}
 
@@ -28,4 +29,4 @@ module _ (f : List ℕ) (F : Frame) (places : List ℕ) (kept : AreKept f F F.ob
   kept_offsets fits low n within = (kept n within).0 (let l = low n within in omega (arith, l))
 
   pub framed_offsets : IsFrame f F → AreOffsets f F places
-  framed_offsets frame = let l = frame.table_late in let s = frame.large in kept_offsets (omega (arith, l, s)) frame.offsets
+  framed_offsets frame = let is = numbered frame in kept_offsets (omega (arith, is.table_late, is.large)) is.offsets

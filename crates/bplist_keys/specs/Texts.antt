@@ -6,7 +6,7 @@ use Rattle.bplist_objects.specs.declared.head.Head.{Head}
 use Rattle.bplist_objects.specs.Frame.{off}
 use Rattle.bplist_objects.specs.Heads.{HasShape}
 use Rattle.bplist_objects.specs.Units.{IsTextKind, units_of}
-use Rattle.bplist_objects.specs.Spelled.{head_found}
+use Rattle.bplist_objects.specs.Announced.{head_found}
 
 -- these are the places of the objects
 abbrev pub AreOffsets : List ℕ → Frame → List ℕ → Type 0

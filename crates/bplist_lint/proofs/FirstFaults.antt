@@ -11,6 +11,7 @@ use Rattle.bplist_objects.proofs.Broken.{kept_or_broken, no_first_fault}
 use Rattle.bplist_objects.proofs.Lists.{one_number}
 use Rattle.bplist_objects.proofs.ReachedObjects.{reach_within}
 use Rattle.bplist_objects.proofs.FirstFaults.{no_frame, one_first_fault, one_frame_fault}
+use Rattle.bplist_objects.proofs.FrameTies.{numbered}
 use Rattle.bplist_cert.specs.Lists.{lists}
 use Rattle.bplist_cert.proofs.AcceptedCertificates.{broken}
 use Rattle.bplist_cert.proofs.OneFault.{by_itself, one_place}
@@ -72,10 +73,10 @@ module _ (f : List ℕ) (F : Frame) where
 
     -- where all reached objects keep their rules there is no fault of them
     reach_kept : (a : Fault) → KeepReachBelow f F F.objects → IsReachFault f F a → ⊥
-    reach_kept a kept h = no_reach_fault h.object a (kept h.object (reach_within f F frame.top h.object h.reached) h.reached) h.first
+    reach_kept a kept h = no_reach_fault h.object a (kept h.object (reach_within f F (numbered frame).top h.object h.reached) h.reached) h.first
 
     keys_kept : (a : Fault) → KeepKeysBelow f F F.objects → IsKeysFault f F a → ⊥
-    keys_kept a kept h = no_keys_fault h.object a (kept h.object (reach_within f F frame.top h.object h.reached) h.reached) h.first
+    keys_kept a kept h = no_keys_fault h.object a (kept h.object (reach_within f F (numbered frame).top h.object h.reached) h.reached) h.first
 
     objects_kept : (a : Fault) → KeepReachBelow f F F.objects → KeepKeysBelow f F F.objects → IsObjectsFault f F a → ⊥
     objects_kept a kept keys (inl h) = reach_kept a kept h

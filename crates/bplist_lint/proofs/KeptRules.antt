@@ -16,6 +16,7 @@ use Rattle.bplist_objects.proofs.Lists.{all_weaker}
 use Rattle.bplist_objects.proofs.BodyLaws.{HasHead-unique}
 use Rattle.bplist_objects.proofs.ReachedObjects.{reach_within}
 use Rattle.bplist_objects.proofs.HeadTies.{shape_announced, spells_keeps, keeps_iff}
+use Rattle.bplist_objects.proofs.FrameTies.{numbered}
 use Rattle.bplist_cert.specs.Valid.{HasKeys}
 use Rattle.bplist_cert.proofs.KeyTies.{HaveKeys, keys_from_rules, rules_from_keys}
 use Rattle.bplist_lint.specs.ReachRules.{KeepsByReach, KeepReachBelow, reach_rules}
@@ -51,12 +52,12 @@ module _ (f : List ℕ) (F : Frame) where
   module _ (frame : IsFrame f F) where
     -- a reached object that keeps rules 14 to 20 spells a content
     pub kept_spells : KeepReachBelow f F F.objects → (n : ℕ) → Reach f F n → (c : Content) × Spells f F n c
-    kept_spells kept n r = let lt = reach_within f F frame.top n r in (keeps_iff f F n frame lt).0 (own_rules n (kept n lt r))
+    kept_spells kept n r = let lt = reach_within f F (numbered frame).top n r in (keeps_iff f F n frame lt).0 (own_rules n (kept n lt r))
 
     kept_room : KeepReachBelow f F F.objects → HaveRoom f F (Reach f F)
-    kept_room kept [] r d a t = omega (arith, t, frame.table_early)
+    kept_room kept [] r d a t = omega (arith, t, (numbered frame).table_early)
     kept_room kept (n ∷ ns) r d a t = elim (cases_lt F.table (r + 8)) [
-      | inl l ↦ let g = greatest_member (Reach f F) n ns a in absurd (room_rule g.0 (kept g.0 (reach_within f F frame.top g.0 g.1.member) g.1.member) (n ∷ ns, r, d, g.1.high, t, l))
+      | inl l ↦ let g = greatest_member (Reach f F) n ns a in absurd (room_rule g.0 (kept g.0 (reach_within f F (numbered frame).top g.0 g.1.member) g.1.member) (n ∷ ns, r, d, g.1.high, t, l))
       | inr h ↦ h
     ]
 
@@ -65,7 +66,7 @@ module _ (f : List ℕ) (F : Frame) where
         let s = kept_spells kept n r in
         let head = s.1.shape in
         let there = shape_announced f F n head s.1.has in
-        let k = keys n (reach_within f F frame.top n r) r in
+        let k = keys n (reach_within f F (numbered frame).top n r) r in
         (s.0, s.1, keys_from_rules f F n head s.1.has s.0 s.1 (λ e. (k.0 head there e, k.1.0 head there e)))
 
     -- where all rules are kept and the top is founded, the file is well formed

@@ -9,8 +9,8 @@ use Rattle.bplist_objects.specs.declared.kind.Kind.{Kind}
 use Rattle.bplist_objects.specs.declared.kind.Kind.TheVariants as kinds
 use Rattle.bplist_objects.specs.declared.head.Head.{Head}
 use Rattle.bplist_objects.specs.Frame.{off}
-use Rattle.bplist_objects.specs.Heads.{Content, HasShape, Spells, unit, content_of, content_at}
-use Rattle.bplist_objects.specs.Announced.{HasHead}
+use Rattle.bplist_objects.specs.Heads.{Content, HasShape, Spells, content_of, content_at}
+use Rattle.bplist_objects.specs.Announced.{HasHead, unit}
 use Rattle.bplist_objects.specs.Extents.{HaveRoom}
 use Rattle.bplist_objects.specs.Spelled.{spelled_at}
 use Rattle.bplist_objects.proofs.Lists.{all_weaker}

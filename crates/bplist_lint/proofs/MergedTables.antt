@@ -8,6 +8,7 @@ use Rattle.bplist_objects.specs.Reach.{Reach, top, next}
 use Rattle.bplist_objects.proofs.Fronts.{one_head}
 use Rattle.bplist_objects.proofs.ExtentSums.{room_weaker}
 use Rattle.bplist_objects.proofs.Lists.{all_at, all_weaker, all_from}
+use Rattle.bplist_objects.proofs.FrameTies.{numbered}
 use Rattle.bplist_cert.specs.Valid.{IsVouchedBy, IsValid, IsVouched, HasKeys}
 use Rattle.bplist_lint.specs.Graph.{greatest}
 use Rattle.bplist_lint.specs.Least.{StandsLeast}
@@ -188,5 +189,5 @@ module _ (f : List ℕ) (F : Frame) where
   pub valid_there : IsWellFormed f F → (H : List ℕ) × IsValid f F H
   valid_there w =
       let s = founded_sound f F w.contents F.top.0 w.founded top in
-      let t = sound_tabled F.top.0 w.frame.top top s in
+      let t = sound_tabled F.top.0 (numbered w.frame).top top s in
       (t.0, record { frame = w.frame; count = t.1.length; top = t.2; room = room_weaker f F (Reach f F) (IsVouchedBy t.0) t.1.only w.room; vouched = t.1.vouched })

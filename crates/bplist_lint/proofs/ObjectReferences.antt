@@ -3,15 +3,16 @@ use Rattle.std.proofs.Common.{◌≡◌, ℕ, ◌<◌, ◌+◌, ◌-◌, min, Li
 use Rattle.std.specs.List.{AllByRecursion}
 use Rattle.std.proofs.lemmas.Bool.{cases_lt}
 use Rattle.std.proofs.lemmas.List.{nil_from_length, length-drop, get_or-drop, drop_all}
+use Rattle.std.specs.Option.{option_map_or}
 use Rattle.bplist_objects.specs.declared.frame.Frame.{Frame}
 use Rattle.bplist_objects.specs.declared.head.Head.{Head}
 use Rattle.bplist_objects.specs.declared.kind.Kind.{Kind}
 use Rattle.bplist_objects.specs.declared.kind.Kind.TheVariants as kinds
 use Rattle.bplist_objects.specs.Heads.{Content, HasShape, IsProperLeaf, Spells, content_at, refs}
 use Rattle.bplist_objects.specs.Safe.{ref_count}
-use Rattle.bplist_objects.specs.Spelled.{spelled_at, head_found, refs_found, refs_at}
+use Rattle.bplist_objects.specs.Announced.{head_found}
+use Rattle.bplist_objects.specs.Spelled.{spelled_at, refs_at}
 use Rattle.bplist_objects.proofs.Fronts.{one_shape}
-use Rattle.bplist_objects.proofs.HeadLaws.{head_is_found}
 use Rattle.bplist_objects.proofs.SpelledContents.{spells_iff}
 use Rattle.bplist_objects.proofs.References.{length-refs}
 use Rattle.bplist_objects.specs.Scan.{AreBelow, nth_number}
@@ -28,8 +29,8 @@ module _ (f : List ℕ) (F : Frame) (n : ℕ) where
   unfolding refs_at
   no_refs never = go (spelled_at f F n) refl
     where
-      go : (found : Option Content) → spelled_at f F n ≡ found → refs_found (spelled_at f F n) ≡ []
-      go None e = ap refs_found e
+      go : (found : Option Content) → spelled_at f F n ≡ found → option_map_or refs (spelled_at f F n) [] ≡ []
+      go None e = ap (λ found. option_map_or refs found []) e
       go (Some c) e = absurd (never c ((spells_iff f F n c).1 e))
 
   -- and so does one that has no shape
@@ -52,7 +53,7 @@ module _ (f : List ℕ) (F : Frame) (n : ℕ) where
 
   -- its head is found
   pub found_as : (h : Head) → HasShape f F n h → head_found f F n ≡ Some h
-  found_as h has = head_is_found f F n h (shape_announced f F n h has)
+  found_as h has = shape_announced f F n h has
 
   -- the references of an object with a shape: there are as many as the shape says, and they are the numbers that stand there
   pub record IsAs (h : Head) : Type 0 where

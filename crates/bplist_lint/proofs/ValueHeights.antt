@@ -9,10 +9,12 @@ use Rattle.bplist_objects.specs.declared.kind.Kind.TheVariants as kinds
 use Rattle.bplist_objects.specs.Frame.{IsFrame}
 use Rattle.bplist_objects.specs.Reach.{Reach, next}
 use Rattle.bplist_objects.specs.Safe.{ref_count}
-use Rattle.bplist_objects.specs.Spelled.{head_found, refs_at}
+use Rattle.bplist_objects.specs.Announced.{head_found}
+use Rattle.bplist_objects.specs.Spelled.{refs_at}
 use Rattle.bplist_objects.specs.Units.{IsTextKind}
 use Rattle.bplist_objects.proofs.HeadTies.{shape_announced}
 use Rattle.bplist_objects.proofs.ReachedObjects.{refs_iff, reach_within}
+use Rattle.bplist_objects.proofs.FrameTies.{numbered}
 use Rattle.bplist_keys.specs.Marks.{IsMarked}
 use Rattle.bplist_lint.specs.declared.object_graph.View.{View}
 use Rattle.bplist_lint.specs.declared.object_graph.View.TheVariants as views
@@ -108,7 +110,7 @@ module _ (f : List ℕ) (F : Frame) (frame : IsFrame f F) (kept : KeepReachBelow
       bare_keys : (n i : ℕ) → Reaches (refs_at f F) F.top.0 n → i < out n → (refs_at f F (slice_index (refs_at f F n) i) ≡ []) × (out n < length (refs_at f F n))
       bare_keys n i r low =
           let reach = (reach_iff f F n).0 r in
-          let within = reach_within f F frame.top n reach in
+          let within = reach_within f F (numbered frame).top n reach in
           let s = kept_spells f F frame kept n reach in
           let head = s.1.shape in
           let found = found_as f F n head s.1.has in

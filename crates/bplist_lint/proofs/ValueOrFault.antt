@@ -16,7 +16,7 @@ use Rattle.bplist_objects.specs.Reach.{Reach, top, Founded}
 use Rattle.bplist_objects.specs.Spelled.{refs_at}
 use Rattle.bplist_objects.proofs.KeptOrBroken.{frame_kept_or_fault, object_kept_or_fault}
 use Rattle.bplist_objects.proofs.ExtentSums.{shape_extent}
-use Rattle.bplist_objects.proofs.FrameTies.{trailer_is_frame}
+use Rattle.bplist_objects.proofs.FrameTies.{numbered, trailer_is_frame}
 use Rattle.bplist_objects.proofs.ReachedObjects.{refs_iff, refs_within}
 use Rattle.bplist_objects.proofs.Lists.{Either, all_or_first}
 use Rattle.bplist_objects.proofs.RuleLaws.{first_fault_after, first_fault_among, kept_all_after}
@@ -40,7 +40,7 @@ module _ (f : List ℕ) (F : Frame) (frame : IsFrame f F) where
   refs_inside n m c = refs_within f F n m ((refs_iff f F n m).1 c)
 
   reached_or_not : (n : ℕ) → Either (Reach f F n)
-  reached_or_not n = elim (reach_decided (refs_at f F) F.objects refs_inside F.top.0 frame.top n) [
+  reached_or_not n = elim (reach_decided (refs_at f F) F.objects refs_inside F.top.0 (numbered frame).top n) [
     | inl r ↦ inl ((reach_iff f F n).0 r)
     | inr no1 ↦ inr (λ r. no1 ((reach_iff f F n).1 r))
   ]
@@ -95,7 +95,7 @@ module _ (f : List ℕ) (F : Frame) (frame : IsFrame f F) where
     ]
 
   pass : (n : ℕ) → n ≤ F.objects → ((t : ℕ) × IsPassed n t) ⊎ ((fault : Fault) × IsReachFault f F fault)
-  pass zero l = inl (0, record { kept = λ m lt r. absurd (omega (arith, lt)); sums = sums_none f F (Reach f F); room = omega (arith, frame.table_early) })
+  pass zero l = inl (0, record { kept = λ m lt r. absurd (omega (arith, lt)); sums = sums_none f F (Reach f F); room = omega (arith, (numbered frame).table_early) })
   pass (suc n) l = elim (pass n (omega (arith, l))) [
     | inr fault ↦ inr fault
     | inl before ↦ elim (reached_or_not n) [
@@ -155,7 +155,7 @@ module _ (f : List ℕ) (F : Frame) (frame : IsFrame f F) where
 
     -- ---- the circle
     pub ends_or_circle : Founded f F F.top.0 ⊎ ((circle : List ℕ) × IsCircle f F circle)
-    ends_or_circle = elim (founded_or_circle (refs_at f F) F.objects refs_inside F.top.0 frame.top) [
+    ends_or_circle = elim (founded_or_circle (refs_at f F) F.objects refs_inside F.top.0 (numbered frame).top) [
       | inl is ↦ inl ((founded_iff f F (kept_spells f F frame reach) F.top.0 top).0 is)
       | inr circle ↦ inr (circle.0, (circle_iff f F (kept_spells f F frame reach) circle.0).0 circle.1)
     ]

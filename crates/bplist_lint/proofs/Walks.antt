@@ -16,7 +16,6 @@ use Rattle.bplist_objects.specs.Heads.{content_at}
 use Rattle.bplist_objects.proofs.Lists.{none_in}
 use Rattle.bplist_objects.proofs.ReachedObjects.{refs_iff, refs_spelled}
 use Rattle.bplist_objects.proofs.References.{length-refs}
-use Rattle.bplist_objects.proofs.HeadLaws.{head_is_found}
 use Rattle.bplist_objects.proofs.HeadTies.{head_tie}
 use Rattle.bplist_keys.specs.Classes.{HasNamedKeys}
 use Rattle.bplist_keys.specs.Marks.{IsMarked}
@@ -86,7 +85,7 @@ sum_as_marked g marks visited n same = sum_alike _ _ n (λ m low. ap (λ b. cond
 
 module _ (f : List ℕ) (F : Frame) where
   extent_is : (n : ℕ) (head : Head) → HasHead f F n head → extent f F n ≡ head.«end» - off f F n
-  extent_is n head has = ap (extent_by (off f F n)) (head_is_found f F n head has)
+  extent_is n head has = ap (extent_by (off f F n)) has
 
   -- ---- the beginning
   pub walking_start : F.top.0 < F.objects → (keys : List Bool) → IsWalkState f F 0 [] (set (replicate F.objects false) F.top.0 true) (replicate F.objects false) keys (record { reached = 0; used = 0; references = 0 })

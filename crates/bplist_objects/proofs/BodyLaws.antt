@@ -10,11 +10,9 @@ use Rattle.bplist_objects.specs.declared.kind.Kind.{Kind}
 use Rattle.bplist_objects.specs.declared.kind.Kind.TheVariants as kinds
 use Rattle.bplist_objects.specs.Rules.{KeepsAll}
 use Rattle.bplist_objects.specs.Answers.{GivesFault}
-use Rattle.bplist_objects.specs.Heads.{unit}
 use Rattle.bplist_objects.specs.Safe.{IsSafe, IsSafeHead, ref_count}
-use Rattle.bplist_objects.specs.Announced.{HasHead}
+use Rattle.bplist_objects.specs.Announced.{HasHead, unit}
 use Rattle.bplist_objects.specs.ObjectRules.{KeepsByObject, BreaksAt, IsObjectFault, shape_rules, body_rules, object_rules}
-use Rattle.bplist_objects.proofs.HeadLaws.{head_is_found}
 use Rattle.bplist_objects.proofs.RuleLaws.{first_fault_after}
 use Rattle.bplist_objects.proofs.ScanLaws.{block_within}
 
@@ -38,7 +36,7 @@ refs_within len from many F head safe inside few =
 module _ (f : List ℕ) (F : Frame) (n : ℕ) where
   -- at most one head
   pub HasHead-unique : (head other : Head) → HasHead f F n head → HasHead f F n other → head ≡ other
-  HasHead-unique head other h k = same_Some head other (sym (head_is_found f F n head h) ∙ head_is_found f F n other k)
+  HasHead-unique head other h k = same_Some head other (sym h ∙ k)
 
   -- rules of marker and count that are kept stand before a fault of the body
   pub object_fault_after : (e : ObjectFault) → KeepsAll (KeepsByObject f F n) shape_rules → GivesFault (IsObjectFault f F n body_rules) e → GivesFault (IsObjectFault f F n object_rules) e

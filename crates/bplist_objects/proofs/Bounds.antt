@@ -1,44 +1,45 @@
 -- What safe frames and heads bound: places of references, counts, and how many references there are.
-use Rattle.std.proofs.Common.{◌≡◌, ℕ, ◌<◌, ◌≤◌, ◌+◌, ◌*◌, ◌^◌, List, length, ap, ◌∙◌, arith}
+use Rattle.std.proofs.Common.{◌≡◌, ℕ, ◌<◌, ◌≤◌, ◌+◌, ◌*◌, ◌^◌, List, length, slice_index, ap, ◌∙◌, arith}
 use Rattle.std.proofs.Math.Nat.{mul-le-mul_left, mul-le-mul_right, mul_assoc, mul_comm}
 use Rattle.bplist_objects.specs.declared.frame.Frame.{Frame}
 use Rattle.bplist_objects.specs.declared.kind.Kind.{Kind}
 use Rattle.bplist_objects.specs.declared.kind.Kind.TheVariants as kinds
 use Rattle.bplist_objects.specs.declared.head.Head.{Head}
-use Rattle.bplist_objects.specs.Frame.{IsFrame}
-use Rattle.bplist_objects.specs.Heads.{unit, IsFront, HasShape}
-use Rattle.bplist_objects.specs.Safe.{MayCount, ref_count, IsSafe, IsSafeFrame, IsSafeHead}
+use Rattle.bplist_objects.specs.Frame.{off, IsFrame}
+use Rattle.bplist_objects.specs.Announced.{Form, plain, counted, form_of, AnnouncesAs, unit}
+use Rattle.bplist_objects.specs.Heads.{HasShape}
+use Rattle.bplist_objects.specs.Safe.{IsSaid, ref_count, IsSafe, IsSafeFrame, IsSafeHead}
 use Rattle.bplist_objects.proofs.BodyLaws.{refs_fit}
+use Rattle.bplist_objects.proofs.FrameTies.{numbered}
+use Rattle.bplist_objects.proofs.HeadLaws.{head_parts}
 use Rattle.bplist_objects.proofs.ShapeLaws.{unit-pos}
 
 -- a frame is safe
 pub frame_safe : (f : List ℕ) (F : Frame) → IsFrame f F → IsSafeFrame (length f) F
-frame_safe f F frame = record {
-  safe = record {
-    offset_low = frame.offset_size.0;
-    offset_high = frame.offset_size.1;
-    ref_low = frame.ref_size.0;
-    ref_high = frame.ref_size.1;
-    room = omega (arith, frame.whole);
-  };
-  top = frame.top;
-  table = frame.table_early;
-}
+frame_safe f F frame =
+    let n = numbered frame in
+    record {
+      safe = record {
+        offset_low = n.offset_size.0;
+        offset_high = n.offset_size.1;
+        ref_low = n.ref_size.0;
+        ref_high = n.ref_size.1;
+        room = omega (arith, n.whole);
+      };
+      top = n.top;
+      table = n.table_early;
+    }
 
--- the count before a body is one that its kind may have
-front_may : (kind : Kind) (count : ℕ) (front : List ℕ) → IsFront kind count front → MayCount kind count
-front_may kinds.Null count front i = i.0
-front_may kinds.False count front i = i.0
-front_may kinds.True count front i = i.0
-front_may kinds.Int count front i = (i.0, i.1, i.2)
-front_may kinds.Real count front i = (i.0, i.1, i.2, i.3)
-front_may kinds.Date count front i = i.0
-front_may kinds.Uid count front i = (i.0, i.1)
-front_may _ count front i = tt
+-- the count that is announced is one that its form may say
+announced_said : (f : List ℕ) (p : ℕ) (form : Form) (count body : ℕ) → AnnouncesAs f p form count body → IsSaid form count
+announced_said f p (plain low high says) count body a = (slice_index f p, a.0, a.1, a.2)
+announced_said f p (counted high) count body a = tt
 
 -- the head of an object is safe
 pub shape_safe : (f : List ℕ) (F : Frame) (n : ℕ) (head : Head) → HasShape f F n head → IsSafeHead F head
-shape_safe f F n head h = record { may = front_may head.kind head.count h.front h.is_front; body = omega (arith, h.«end»); table = h.inside }
+shape_safe f F n head h =
+    let parts = head_parts f F n head h.has in
+    record { may = announced_said f (off f F n) (form_of head.kind) head.count head.body parts.0; body = omega (arith, parts.1); table = h.inside }
 
 module _ (F : Frame) (head : Head) (safe : IsSafeHead F head) (low : 1 ≤ F.ref_size) where
   -- a body has no more items than bytes before the table

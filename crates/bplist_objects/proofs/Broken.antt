@@ -10,17 +10,11 @@ use Rattle.bplist_objects.specs.ObjectRules.{KeepsByObject, BreaksByObject, Brea
 
 -- a rule that is kept is not broken
 pub kept_or_broken : (f : List ℕ) (F : Frame) (n : ℕ) (rule : Rule) (place : ℕ) → KeepsByObject f F n rule → BreaksByObject f F n rule place → ⊥
-kept_or_broken f F n rules.OffsetLow place k b = omega (arith, b.0)
-kept_or_broken f F n rules.Marker place k b = b.0 k
-kept_or_broken f F n rules.Count place k b = b.2 (k b.0 b.1)
-kept_or_broken f F n rules.Extent place k (inl b, p) = let l = k.0 b.0 in omega arith
-kept_or_broken f F n rules.Extent place k (inr (head, has, late), p) = let l = k.1 head has in omega arith
 kept_or_broken f F n rules.NotAscii place k (head, i, has, kind, first, p) =
     let l = k head has kind i first.within in omega (arith, first.high)
-kept_or_broken f F n rules.UidLarge place k (head, has, kind, large, p) = let l = k head has kind in omega arith
 kept_or_broken f F n rules.RefHigh place k (head, i, has, first, p) =
     let l = k head has i first.within in omega (arith, first.high)
-kept_or_broken f F n _ place k b = absurd b
+kept_or_broken f F n _ place k b = b.0 k
 
 -- where all rules are kept no fault is the first
 pub no_first_fault : (keeps : Rule → Type 0) (breaks : Rule → Option ObjectNo → ℕ → Type 0) → ((rule : Rule) (object : Option ObjectNo) (place : ℕ) → keeps rule → breaks rule object place → ⊥) → (rules : List Rule) (fault : Fault) → KeepsAll keeps rules → IsFirstFault keeps breaks rules fault → ⊥

@@ -1,17 +1,17 @@
 -- A rule that is kept is not broken, a first fault is one, and where there is one the definitions say no.
-use Rattle.std.proofs.Common.{◌≡◌, ◌≢◌, ℕ, ◌<◌, ◌≤◌, ◌+◌, ◌*◌, inl, inr, List, [], ◌∷◌, slice_index, get_or-take, Option, Some, sym, ap, ◌∙◌, subst, arith}
+use Rattle.std.proofs.Common.{◌≡◌, ◌≢◌, ℕ, ◌<◌, ◌≤◌, ◌+◌, ◌*◌, inl, inr, List, [], ◌∷◌, slice_index, Option, Some, sym, ap, ◌∙◌, subst, arith}
 use Rattle.bplist_objects.specs.declared.rule.Rule.{Rule}
 use Rattle.bplist_objects.specs.declared.rule.Rule.TheVariants as rules
 use Rattle.bplist_objects.specs.declared.fault.Fault.{Fault}
 use Rattle.bplist_objects.specs.declared.frame.Frame.{Frame}
 use Rattle.bplist_objects.specs.declared.frame.ObjectNo.{ObjectNo}
 use Rattle.bplist_objects.specs.declared.head.Head.{Head}
-use Rattle.bplist_objects.specs.Frame.{off, trailer, header, IsFrame}
+use Rattle.bplist_objects.specs.Frame.{off, trailer, header, Keeps, frame_rules, IsFrame}
 use Rattle.bplist_objects.specs.Heads.{Content, HasShape, Spells}
-use Rattle.bplist_objects.specs.Rules.{KeepsAll, IsFirstFault}
+use Rattle.bplist_objects.specs.Rules.{IsFirstFault}
 use Rattle.bplist_objects.specs.Scan.{nth_number, IsFirstNotBelow}
 use Rattle.bplist_objects.specs.Safe.{ref_count}
-use Rattle.bplist_objects.specs.FrameRules.{Keeps, Breaks, frame_rules, IsFrameFault}
+use Rattle.bplist_objects.specs.FrameRules.{Breaks, IsFrameFault}
 use Rattle.bplist_objects.specs.ObjectRules.{KeepsByObject, BreaksAt, shape_rules, object_rules, IsObjectFault}
 use Rattle.bplist_objects.proofs.Lists.{one_number}
 use Rattle.bplist_objects.proofs.Broken.{kept_or_broken, no_first_fault, no_object_fault}
@@ -19,36 +19,15 @@ use Rattle.bplist_objects.proofs.BodyLaws.{HasHead-unique}
 use Rattle.bplist_objects.proofs.HeadTies.{shape_keeps, spells_keeps}
 
 -- ---- rules 1 to 13
--- a frame keeps them
-pub frame_keeps : (f : List ℕ) (F : Frame) → IsFrame f F → KeepsAll (Keeps f) frame_rules
-frame_keeps f F frame = keeps_at (subst (IsFrame f) frame.spelled frame)
-  where
-    keeps_at : IsFrame f (trailer f) → KeepsAll (Keeps f) frame_rules
-    keeps_at h = (h.large, (h.short, (same_header, (h.objects, (h.top, (h.table_early, (h.table_late, (h.offset_size, (h.ref_size, (h.whole, (h.ref_narrow, (h.offset_narrow, (h.offsets, tt)))))))))))))
-      where
-        same_header : (i : ℕ) → i < 8 → slice_index f i ≡ slice_index header i
-        same_header i l = sym (get_or-take 8 f i 0 l) ∙ ap (λ x. slice_index x i) h.magic
-
 -- a rule that is kept is not broken
 pub frame_kept_or_broken : (f : List ℕ) (rule : Rule) (object : Option ObjectNo) (place : ℕ) → Keeps f rule → Breaks f rule object place → ⊥
-frame_kept_or_broken f rules.TooLarge object place k b = omega (arith, k, b.0)
-frame_kept_or_broken f rules.TooShort object place k b = omega (arith, k, b.0)
 frame_kept_or_broken f rules.Magic object place k b = b.0.wrong (k place b.0.within)
-frame_kept_or_broken f rules.NoObjects object place k b = omega (arith, k, b.0)
-frame_kept_or_broken f rules.Top object place k b = omega (arith, k, b.0)
-frame_kept_or_broken f rules.TableEarly object place k b = omega (arith, k, b.0)
-frame_kept_or_broken f rules.TableLate object place k b = omega (arith, k, b.0)
-frame_kept_or_broken f rules.OffsetSize object place k b = omega (arith, k, b.0)
-frame_kept_or_broken f rules.RefSize object place k b = omega (arith, k, b.0)
-frame_kept_or_broken f rules.Length object place k b = b.0 k
-frame_kept_or_broken f rules.RefNarrow object place k b = let h = k b.0 in omega (arith, h, b.1)
-frame_kept_or_broken f rules.OffsetNarrow object place k b = let h = k b.0 in omega (arith, h, b.1)
 frame_kept_or_broken f rules.OffsetHigh object place k b = let h = k b.0 b.1.within in omega (arith, h, b.1.high)
-frame_kept_or_broken f _ object place k b = absurd b
+frame_kept_or_broken f _ object place k b = b.0 k
 
 -- where a rule of 1 to 13 is broken there is no frame
 pub no_frame : (f : List ℕ) (F : Frame) (fault : Fault) → IsFrameFault f fault → IsFrame f F → ⊥
-no_frame f F fault h frame = no_first_fault (Keeps f) (Breaks f) (frame_kept_or_broken f) frame_rules fault (frame_keeps f F frame) h
+no_frame f F fault h frame = no_first_fault (Keeps f) (Breaks f) (frame_kept_or_broken f) frame_rules fault frame.kept h
 
 -- ---- rules 14 to 20
 module _ (f : List ℕ) (F : Frame) (n : ℕ) where
@@ -80,25 +59,17 @@ one_first_fault keeps breaks never one (rule ∷ rest) a b (inl h) (inr k) = abs
 one_first_fault keeps breaks never one (rule ∷ rest) a b (inr h) (inl k) = absurd (never rule b.object b.place h.0 k.1)
 one_first_fault keeps breaks never one (rule ∷ rest) a b (inr h) (inr k) = one_first_fault keeps breaks never one rest a b h.1 k.1
 
+same_rest : (p p' k : ℕ) → p + k ≡ p' + k → p ≡ p'
+same_rest p p' k e = omega (arith, e)
+
 one_frame_place : (f : List ℕ) → OnePlace (Breaks f)
-one_frame_place f rules.TooLarge o o' p p' b c = (b.1 ∙ sym c.1, b.2 ∙ sym c.2)
-one_frame_place f rules.TooShort o o' p p' b c = (b.1 ∙ sym c.1, b.2 ∙ sym c.2)
 one_frame_place f rules.Magic o o' p p' b c =
     (b.1 ∙ sym c.1, one_first (λ i. slice_index f i ≢ slice_index header i) p p' b.0.wrong c.0.wrong (λ k l w. w (b.0.before k l)) (λ k l w. w (c.0.before k l)))
-one_frame_place f rules.NoObjects o o' p p' b c = (b.1 ∙ sym c.1, omega (arith, b.2, c.2))
-one_frame_place f rules.Top o o' p p' b c = (b.1 ∙ sym c.1, omega (arith, b.2, c.2))
-one_frame_place f rules.TableEarly o o' p p' b c = (b.1 ∙ sym c.1, omega (arith, b.2, c.2))
-one_frame_place f rules.TableLate o o' p p' b c = (b.1 ∙ sym c.1, omega (arith, b.2, c.2))
-one_frame_place f rules.OffsetSize o o' p p' b c = (b.1 ∙ sym c.1, omega (arith, b.2, c.2))
-one_frame_place f rules.RefSize o o' p p' b c = (b.1 ∙ sym c.1, omega (arith, b.2, c.2))
-one_frame_place f rules.Length o o' p p' b c = (b.1 ∙ sym c.1, omega (arith, b.2, c.2))
-one_frame_place f rules.RefNarrow o o' p p' b c = (b.2 ∙ sym c.2, omega (arith, b.3, c.3))
-one_frame_place f rules.OffsetNarrow o o' p p' b c = (b.2 ∙ sym c.2, omega (arith, b.3, c.3))
 one_frame_place f rules.OffsetHigh o o' p p' b c =
     let F = trailer f in
     let e : b.0 ≡ c.0 = one_first (λ n. F.table ≤ off f F n) b.0 c.0 b.1.high c.1.high (λ k l h. let low = b.1.before k l in omega (arith, low, h)) (λ k l h. let low = c.1.before k l in omega (arith, low, h)) in
     (b.2 ∙ ap (λ n. Some (record { 0 = n })) e ∙ sym c.2, b.3 ∙ ap (λ n. F.table + n * F.offset_size) e ∙ sym c.3)
-one_frame_place f _ o o' p p' b c = absurd b
+one_frame_place f rule o o' p p' b c = (b.1 ∙ sym c.1, same_rest p p' _ (b.2 ∙ sym c.2))
 
 pub one_frame_fault : (f : List ℕ) (a b : Fault) → IsFrameFault f a → IsFrameFault f b → a ≡ b
 one_frame_fault f = one_first_fault (Keeps f) (Breaks f) (frame_kept_or_broken f) (one_frame_place f) frame_rules
@@ -113,18 +84,13 @@ module _ (f : List ℕ) (F : Frame) (n : ℕ) where
       ap (λ (x : Head). x.body + i * width) e ∙ ap (λ k. other.body + k * width) same
 
   one_object_place : OnePlace (BreaksAt f F n)
-  one_object_place rules.OffsetLow o o' p p' b c = (b.0 ∙ sym c.0, b.1.1 ∙ sym c.1.1)
-  one_object_place rules.Marker o o' p p' b c = (b.0 ∙ sym c.0, b.1.1 ∙ sym c.1.1)
-  one_object_place rules.Count o o' p p' b c = (b.0 ∙ sym c.0, b.1.3 ∙ sym c.1.3)
-  one_object_place rules.Extent o o' p p' b c = (b.0 ∙ sym c.0, b.1.1 ∙ sym c.1.1)
   one_object_place rules.NotAscii o o' p p' (e, (head, i, has, kind, first, place)) (e', (other, j, has', kind', first', place')) =
       let same = one_not_below head other 1 (λ x. x.count) 128 i j (HasHead-unique f F n head other has has') first first' in
       (e ∙ sym e', omega (arith, same, place, place'))
-  one_object_place rules.UidLarge o o' p p' b c = (b.0 ∙ sym c.0, b.1.4 ∙ sym c.1.4)
   one_object_place rules.RefHigh o o' p p' (e, (head, i, has, first, place)) (e', (other, j, has', first', place')) =
       let same = one_not_below head other F.ref_size (λ x. ref_count x.kind x.count) F.objects i j (HasHead-unique f F n head other has has') first first' in
       (e ∙ sym e', place ∙ same ∙ sym place')
-  one_object_place _ o o' p p' b c = absurd b.1
+  one_object_place _ o o' p p' b c = (b.0 ∙ sym c.0, b.1.1 ∙ sym c.1.1)
 
   pub one_object_fault : (list : List Rule) (a b : Fault) → IsObjectFault f F n list a → IsObjectFault f F n list b → a ≡ b
   one_object_fault list = one_first_fault (KeepsByObject f F n) (BreaksAt f F n) (λ rule object place k b. kept_or_broken f F n rule place k b.1) one_object_place list

@@ -1,6 +1,7 @@
 -- Laws of heads: what marker and count announce is what is found there, and so at one place at most one head is announced.
 use Rattle.std.proofs.Common.{◌≡◌, ℕ, ◌+◌, ◌-◌, ◌*◌, ◌^◌, ◌<◌, ◌≤◌, Bool, true, false, ◌&&◌, nat_le, nat_lt, nat_eq, if◌then◌else◌, List, slice_index, Option, Some, None, sym, ap, ap₂, ◌∙◌, arith, refl, inl, inr, subst}
 use Rattle.std.proofs.lemmas.Bool.Decides.{nat_tests}
+use Rattle.std.specs.Option.{option_map}
 use Rattle.std.proofs.lemmas.Option.{same_Some}
 use Rattle.bplist_objects.specs.declared.frame.Frame.{Frame}
 use Rattle.bplist_objects.specs.declared.head.Head.{Head}
@@ -8,8 +9,7 @@ use Rattle.bplist_objects.specs.declared.kind.Kind.{Kind}
 use Rattle.bplist_objects.specs.declared.kind.Kind.TheVariants as kinds
 use Rattle.bplist_objects.specs.Numbers.{num_at}
 use Rattle.bplist_objects.specs.Frame.{off}
-use Rattle.bplist_objects.specs.Announced.{Form, plain, counted, form_of, least, greatest, Marks, IsLong, IsLongOf, HasLongCount, AnnouncesAs, Announces, HasHead}
-use Rattle.bplist_objects.specs.Spelled.{kind_at, long_found, count_found, head_with, head_found}
+use Rattle.bplist_objects.specs.Announced.{Form, plain, counted, form_of, least, greatest, Marks, IsLong, IsLongOf, HasLongCount, AnnouncesAs, Announces, HasHead, kind_at, long_found, count_found, head_with, head_found, unit}
 
 -- what is found under a test
 pub if_some : {X : Type 0} (t : Bool) (x y : X) → (if t then Some x else None) ≡ Some y → (t ≡ true) × (x ≡ y)
@@ -118,20 +118,24 @@ module _ (f : List ℕ) (F : Frame) (n : ℕ) where
   abbrev o : ℕ
   o = off f F n
 
-  -- a head that is found is announced
-  pub found_head : (head : Head) → head_found f F n ≡ Some head → HasHead f F n head
-  unfolding head_found
-  found_head head e = go (kind_at (slice_index f o)) (count_found f o (form_of (kind_at (slice_index f o)))) refl e
-    where
-      go : (kind : Kind) (found : Option (ℕ × ℕ)) → count_found f o (form_of kind) ≡ found → head_with f F kind found ≡ Some head → HasHead f F n head
-      go kind None s r = absurd (cc r)
-      go kind (Some x) s r = subst (HasHead f F n) (same_Some _ head r) (found_announced f o (form_of kind) x s, refl)
+  -- marker and count announce the parts of this head
+  abbrev pub HasParts : Head → Type 0
+  HasParts head = Announces f o head.kind head.count head.body × (head.«end» ≡ head.body + head.count * unit F.ref_size head.kind)
 
-  -- a head that is announced is found
-  pub head_is_found : (head : Head) → HasHead f F n head → head_found f F n ≡ Some head
+  -- those of a head that is there
+  pub head_parts : (head : Head) → HasHead f F n head → HasParts head
   unfolding head_found
-  head_is_found head h =
+  head_parts head e = go (kind_at (slice_index f o)) (count_found f o (form_of (kind_at (slice_index f o)))) refl e
+    where
+      go : (kind : Kind) (found : Option (ℕ × ℕ)) → count_found f o (form_of kind) ≡ found → option_map (head_with f F kind) found ≡ Some head → HasParts head
+      go kind None s r = absurd (cc r)
+      go kind (Some x) s r = subst HasParts (same_Some _ head r) (found_announced f o (form_of kind) x s, refl)
+
+  -- where they are announced the head is there
+  pub head_announced : (head : Head) → HasParts head → HasHead f F n head
+  unfolding head_found
+  head_announced head h =
       let kind : kind_at (slice_index f o) ≡ head.kind = kind_marked (slice_index f o) head.kind (announced_marks f o (form_of head.kind) head.count head.body h.0) in
-      ap (λ k. head_with f F k (count_found f o (form_of k))) kind
-      ∙ ap (head_with f F head.kind) (announced_found f o (form_of head.kind) head.count head.body h.0)
+      ap (λ k. option_map (head_with f F k) (count_found f o (form_of k))) kind
+      ∙ ap (option_map (head_with f F head.kind)) (announced_found f o (form_of head.kind) head.count head.body h.0)
       ∙ ap (λ x. Some (record { kind = head.kind; count = head.count; body = head.body; «end» = x })) (sym h.1)

@@ -1,5 +1,5 @@
 -- What is said of an object by place and index is what the definitions say.
-use Rattle.std.proofs.Common.{◌≡◌, ℕ, ◌<◌, ◌≤◌, ◌+◌, ◌*◌, ◌↔◌, List, slice_index, length, drop, refl, sym, ap, ◌∙◌, subst, arith, length-drop, get_or}
+use Rattle.std.proofs.Common.{◌≡◌, ℕ, ◌<◌, ◌≤◌, ◌+◌, ◌*◌, ◌↔◌, List, length, drop, refl, sym, ap, ◌∙◌, subst, arith, length-drop, get_or}
 use Rattle.std.specs.List.{AllByRecursion}
 use Rattle.std.proofs.lemmas.List.{length-take-le}
 use Rattle.std.proofs.lemmas.List.Elements.{recursion_from_All, All-from_get_or, All-from_recursion, All-get_or}
@@ -10,14 +10,17 @@ use Rattle.bplist_objects.specs.declared.kind.Kind.TheVariants as kinds
 use Rattle.bplist_objects.specs.declared.head.Head.{Head}
 use Rattle.bplist_objects.specs.Numbers.{num_at}
 use Rattle.bplist_objects.specs.Frame.{off, IsFrame}
-use Rattle.bplist_objects.specs.Heads.{Content, refs, unit, HasShape, content_at, IsProperLeaf, Spells, IsHeadOf}
+use Rattle.bplist_objects.specs.Heads.{Content, refs, HasShape, content_at, IsProperLeaf, Spells, IsHeadOf}
 use Rattle.bplist_objects.specs.Rules.{KeepsAll}
 use Rattle.bplist_objects.specs.Scan.{AreBelow, nth_number}
-use Rattle.bplist_objects.specs.Announced.{form_of, IsLong, HasHead}
+use Rattle.bplist_objects.specs.Announced.{form_of, HasHead, unit}
 use Rattle.bplist_objects.specs.ObjectRules.{KeepsByObject, shape_rules, body_rules, object_rules}
-use Rattle.bplist_objects.proofs.Fronts.{shape_has_head, one_shape}
+use Rattle.bplist_objects.proofs.BodyLaws.{HasHead-unique}
+use Rattle.bplist_objects.proofs.Fronts.{one_shape}
 use Rattle.bplist_objects.specs.Safe.{ref_count}
-use Rattle.bplist_objects.proofs.AnnouncedHeads.{fronted, announced_short, something_announced}
+use Rattle.bplist_objects.proofs.AnnouncedHeads.{announced_short}
+use Rattle.bplist_objects.proofs.HeadLaws.{head_parts}
+use Rattle.bplist_objects.proofs.FrameTies.{numbered}
 use Rattle.bplist_objects.proofs.RuleLaws.{kept_all_after}
 use Rattle.bplist_objects.proofs.References.{all_refs, each_ref}
 use Rattle.bplist_objects.proofs.ShapeLaws.{shape_kept}
@@ -45,7 +48,7 @@ module _ (f : List ℕ) (F : Frame) (n : ℕ) where
   -- ---- marker and count
   -- the head of a shape is announced
   pub shape_announced : (head : Head) → HasShape f F n head → HasHead f F n head
-  shape_announced = shape_has_head f F n
+  shape_announced head h = h.has
 
   -- an object with a shape keeps rules 14 to 17
   pub shape_keeps : (head : Head) → HasShape f F n head → KeepsAll (KeepsByObject f F n) shape_rules
@@ -61,14 +64,15 @@ module _ (f : List ℕ) (F : Frame) (n : ℕ) where
   module _ (frame : IsFrame f F) (lt : n < F.objects) where
     -- the place lies so far before the file's end that every front is in the file
     place_room : off f F n + 32 < length f
-    place_room = omega (arith, frame.offsets n lt, frame.table_late)
+    place_room = omega (arith, (numbered frame).offsets n lt, (numbered frame).table_late)
 
     -- a head that is announced, and whose rules 14 to 17 are kept, is a shape
     pub announced_shape : (head : Head) → HasHead f F n head → KeepsAll (KeepsByObject f F n) shape_rules → HasShape f F n head
     announced_shape head h kept =
-        let short = (announced_short f (off f F n) (form_of head.kind) head.count head.body h.0).1 in
-        let fr = fronted f (off f F n) head.kind head.count head.body (omega (arith, place_room)) (omega (arith, place_room, short)) h.0 in
-        record { front = fr.0; rest = fr.1; low = kept.0; spelled = fr.2; is_front = fr.3; body = fr.4; «end» = h.1; inside = kept.1.1.1.0.1 head h }
+        let short = (announced_short f (off f F n) (form_of head.kind) head.count head.body (head_parts f F n head h).0).1 in
+        let early = kept.1.1.1.0 kept.1.0 (kept.1.1.0 kept.1.0) in
+        let inside : head.«end» ≤ F.table = subst (λ (x : Head). x.«end» ≤ F.table) (HasHead-unique f F n early.0 head early.1 h) early.2 in
+        record { low = kept.0; has = h; within = omega (arith, place_room, short); inside = inside }
 
     pub shape_tie : (head : Head) → (HasHead f F n head × KeepsAll (KeepsByObject f F n) shape_rules) ↔ HasShape f F n head
     shape_tie head = ((λ h. announced_shape head h.0 h.1), λ h. (shape_announced head h, shape_keeps head h))
@@ -78,8 +82,8 @@ module _ (f : List ℕ) (F : Frame) (n : ℕ) where
     ascii_room : (head : Head) → HasShape f F n head → head.kind ≡ kinds.Ascii → head.body + head.count ≤ length f
     ascii_room head h e =
         let u : unit F.ref_size head.kind ≡ 1 = ap (unit F.ref_size) e in
-        let last : head.«end» ≡ head.body + head.count * 1 = h.«end» ∙ ap (λ x. head.body + head.count * x) u in
-        omega (arith, last, h.inside, frame.table_late)
+        let last : head.«end» ≡ head.body + head.count * 1 = (head_parts f F n head h.has).1 ∙ ap (λ x. head.body + head.count * x) u in
+        omega (arith, last, h.inside, (numbered frame).table_late)
 
     -- rules 18 and 19 by index
     proper_kept : (head : Head) → HasShape f F n head → (head.kind ≡ kinds.Ascii → AreBelow f head.body 1 head.count 128) → (head.kind ≡ kinds.Uid → num_at f head.body head.count ≤ 4294967295) → (kind : Kind) → head.kind ≡ kind → IsProperLeaf f F kind head.count head.body
@@ -130,10 +134,7 @@ module _ (f : List ℕ) (F : Frame) (n : ℕ) where
 
     -- an object that keeps rules 14 to 17 has a head
     pub kept_announces : KeepsAll (KeepsByObject f F n) shape_rules → (head : Head) × HasHead f F n head
-    kept_announces kept =
-        let marker = kept.1.0 in
-        let a = something_announced f (off f F n) (form_of marker.0) marker.1 (λ l. let long : IsLong (slice_index f (off f F n)) = (marker.0, l) in kept.1.1.0 long (kept.1.1.1.0.0 long)) in
-        (record { kind = marker.0; count = a.0; body = a.1; «end» = a.1 + a.0 * unit F.ref_size marker.0 }, (a.2, refl))
+    kept_announces kept = let early = kept.1.1.1.0 kept.1.0 (kept.1.1.0 kept.1.0) in (early.0, early.1)
 
     pub keeps_iff : KeepsAll (KeepsByObject f F n) object_rules ↔ ((c : Content) × Spells f F n c)
     keeps_iff = (

@@ -1,5 +1,5 @@
 -- Integers in two's complement, as bytes spell them and as the machine reads them.
-use Rattle.std.proofs.Common.{◌≡◌, ℕ, zero, suc, ◌*◌, ◌^◌, ◌<◌, ◌≤◌, ◌⊎◌, inl, inr, List, [], ◌∷◌, length, get_or, refl, ap, subst, arith, pos, ◌-ℤ◌}
+use Rattle.std.proofs.Common.{◌≡◌, ℕ, zero, suc, ◌-◌, ◌*◌, ◌^◌, ◌<◌, ◌≤◌, ◌⊎◌, inl, inr, List, [], ◌∷◌, length, get_or, refl, ap, subst, arith, pos, ◌-ℤ◌}
 use Rattle.std.proofs.Math.Nat.{mul-le-mul_right, pow-succ'}
 use Rattle.std.proofs.lemmas.Bool.{cases_lt, lt-ltb, le-ltb, lt-leb}
 use Rattle.std.proofs.lemmas.Int.{ints}
@@ -24,7 +24,7 @@ widths n (suc (suc (suc (suc (suc w))))) h e = absurd (omega arith)
 pub int_count : (k : Kind) (n : ℕ) → k ≡ Int → MayCount k n → (1 ≤ n) × (n ≤ 16) × ((n ≤ 4) ⊎ ((n ≡ 8) ⊎ (n ≡ 16)))
 int_count k n e may =
     let m = subst (λ k. MayCount k n) e may in
-    let w = widths n m.0 m.1 m.2 in
+    let w = widths n (m.0 - 16) (omega (arith, m.2)) m.3 in
     (w.0, elim w.1 [ inl l ↦ omega arith | inr r ↦ elim r [ inl e ↦ omega (arith, e) | inr e ↦ omega (arith, e) ] ], w.1)
 
 -- the first byte is below 128 where the number is in the lower half, and else it is not

@@ -1,6 +1,6 @@
 -- Each rule is kept or broken, and so either all rules are kept or there is a first fault.
-use Rattle.std.proofs.Common.{◌≡◌, ℕ, ◌<◌, ◌≤◌, ◌+◌, ◌-◌, ◌*◌, ◌^◌, ◌⊎◌, inl, inr, List, [], ◌∷◌, length, slice_index, Option, Some, None, refl, sym, subst, arith}
-use Rattle.std.proofs.lemmas.Bool.{cases_lt, cases_eq}
+use Rattle.std.proofs.Common.{◌≡◌, ℕ, ◌<◌, ◌≤◌, ◌+◌, ◌-◌, ◌*◌, ◌^◌, ◌⊎◌, inl, inr, List, [], ◌∷◌, length, slice_index, Option, Some, None, IsSome, refl, sym, subst, arith}
+use Rattle.std.proofs.lemmas.Bool.{cases_lt, cases_eq, false≢true}
 use Rattle.bplist_objects.specs.declared.rule.Rule.{Rule}
 use Rattle.bplist_objects.specs.declared.rule.Rule.TheVariants as rules
 use Rattle.bplist_objects.specs.declared.fault.Fault.{Fault}
@@ -10,38 +10,30 @@ use Rattle.bplist_objects.specs.declared.head.Head.{Head}
 use Rattle.bplist_objects.specs.declared.kind.Kind.{Kind}
 use Rattle.bplist_objects.specs.declared.kind.Kind.TheVariants as kinds
 use Rattle.bplist_objects.specs.Numbers.{num_at}
-use Rattle.bplist_objects.specs.Frame.{off, trailer, header}
+use Rattle.bplist_objects.specs.Frame.{off, trailer, header, Keeps, frame_rules}
 use Rattle.bplist_objects.specs.Rules.{KeepsAll, IsFirstFault}
 use Rattle.bplist_objects.specs.Scan.{AreBelow, IsFirstNotBelow, nth_number}
-use Rattle.bplist_objects.specs.FrameRules.{Keeps, Breaks, frame_rules, IsFrameFault}
-use Rattle.bplist_objects.specs.Announced.{Form, plain, counted, form_of, least, greatest, Marks, IsMarker, IsLong, IsLongOf, HasHead}
+use Rattle.bplist_objects.specs.FrameRules.{Breaks, IsFrameFault}
+use Rattle.bplist_objects.specs.Announced.{form_of, least, greatest, Marks, IsMarker, HasHead, kind_at, head_found}
 use Rattle.bplist_objects.specs.ObjectRules.{KeepsByObject, BreaksByObject, BreaksAt, IsObjectFault}
 use Rattle.bplist_objects.specs.Safe.{ref_count}
-use Rattle.bplist_objects.specs.Spelled.{kind_at, head_found}
 use Rattle.bplist_objects.proofs.Lists.{Either, all_or_first}
-use Rattle.bplist_objects.proofs.HeadLaws.{kind_marked, long_marks, found_head, head_is_found}
+use Rattle.bplist_objects.proofs.HeadLaws.{kind_marked}
 use Rattle.bplist_objects.proofs.BodyLaws.{HasHead-unique}
 
-low_or_high : (a b : ℕ) → (a ≤ b) ⊎ (b < a)
-low_or_high a b = elim (cases_lt b a) [
-  | inl l ↦ inr l
+is_le : (a b : ℕ) → Either (a ≤ b)
+is_le a b = elim (cases_lt b a) [
+  | inl l ↦ inr (λ h. omega (arith, l, h))
   | inr h ↦ inl h
 ]
 
-between : (a low high : ℕ) → ((low ≤ a) × (a ≤ high)) ⊎ ((a < low) ⊎ (high < a))
-between a low high = go (low_or_high low a) (low_or_high a high)
-  where
-    go : (low ≤ a) ⊎ (a < low) → (a ≤ high) ⊎ (high < a) → ((low ≤ a) × (a ≤ high)) ⊎ ((a < low) ⊎ (high < a))
-    go (inr l) h = inr (inl l)
-    go (inl l) (inr h) = inr (inr h)
-    go (inl l) (inl h) = inl (l, h)
+is_both : {P Q : Type 0} → Either P → Either Q → Either (P × Q)
+is_both (inl p) (inl q) = inl (p, q)
+is_both (inr no1) d = inr (λ b. no1 b.0)
+is_both (inl p) (inr no1) = inr (λ b. no1 b.1)
 
 is_between : (a low high : ℕ) → Either ((low ≤ a) × (a ≤ high))
-is_between a low high = elim (between a low high) [
-  | inl b ↦ inl b
-  | inr (inl l) ↦ inr (λ b. omega (arith, b.0, l))
-  | inr (inr h) ↦ inr (λ b. omega (arith, b.1, h))
-]
+is_between a low high = is_both (is_le low a) (is_le a high)
 
 -- what is kept or broken where A holds is so without it
 if_so : {A P Q : Type 0} → A ⊎ (A → ⊥) → P ⊎ Q → (A → P) ⊎ (A × Q)
@@ -54,6 +46,12 @@ is_less a b = elim (cases_lt a b) [
   | inl l ↦ inl l
   | inr h ↦ inr (λ l. omega (arith, h, l))
 ]
+
+-- an implication is decided where both sides are
+is_implied : {A P : Type 0} → Either A → Either P → Either (A → P)
+is_implied (inr no1) d = inl (λ a. absurd (no1 a))
+is_implied (inl a) (inl p) = inl (λ _. p)
+is_implied (inl a) (inr no1) = inr (λ k. no1 (k a))
 
 -- numbers are below a bound, or there is a first one that is not
 below_or_first : (f : List ℕ) (place size count bound : ℕ) → AreBelow f place size count bound ⊎ ((i : ℕ) × IsFirstNotBelow f place size count bound i)
@@ -84,33 +82,26 @@ module _ (f : List ℕ) (long : 41 ≤ length f) where
   F = trailer f
 
   -- a rule that is broken at a place so far from the end
-  at_end : {P Q : Type 0} (k : ℕ) → k ≤ 41 → P ⊎ Q → P ⊎ ((object : Option ObjectNo) × (place : ℕ) × (Q × (object ≡ None) × (place + k ≡ length f)))
+  at_end : {P : Type 0} (k : ℕ) → k ≤ 41 → Either P → P ⊎ ((object : Option ObjectNo) × (place : ℕ) × ((P → ⊥) × (object ≡ None) × (place + k ≡ length f)))
   at_end k l (inl p) = inl p
-  at_end k l (inr q) = inr (None, length f - k, (q, refl, omega (arith, l, long)))
-
-  at_end_narrow : {P Q R : Type 0} (k : ℕ) → k ≤ 41 → P ⊎ (Q × R) → P ⊎ ((object : Option ObjectNo) × (place : ℕ) × (Q × R × (object ≡ None) × (place + k ≡ length f)))
-  at_end_narrow k l (inl p) = inl p
-  at_end_narrow k l (inr (q, r)) = inr (None, length f - k, (q, r, refl, omega (arith, l, long)))
+  at_end k l (inr no1) = inr (None, length f - k, (no1, refl, omega (arith, l, long)))
 
   frame_rule_decided : Decided (Keeps f) (Breaks f)
-  frame_rule_decided rules.TooLarge = elim (cases_lt 4294967295 (length f)) [
-    | inl l ↦ inr (None, length f, (l, refl, refl))
-    | inr h ↦ inl h
-  ]
+  frame_rule_decided rules.TooLarge = at_end 0 (omega arith) (is_le (length f) 4294967295)
   frame_rule_decided rules.TooShort = inl long
   frame_rule_decided rules.Magic = elim (all_or_first (λ k. slice_index f k ≡ slice_index header k) (λ k. slice_index f k ≡ slice_index header k → ⊥) (λ k. cases_eq (slice_index f k) (slice_index header k)) 8) [
     | inl all ↦ inl all
     | inr first ↦ inr (None, first.0, (record { within = first.1; wrong = first.2; before = first.3 }, refl))
   ]
-  frame_rule_decided rules.NoObjects = at_end 24 (omega arith) (low_or_high 1 F.objects)
-  frame_rule_decided rules.Top = at_end 16 (omega arith) (cases_lt F.top.0 F.objects)
-  frame_rule_decided rules.TableEarly = at_end 8 (omega arith) (low_or_high 9 F.table)
-  frame_rule_decided rules.TableLate = at_end 8 (omega arith) (cases_lt F.table (length f - 32))
-  frame_rule_decided rules.OffsetSize = at_end 26 (omega arith) (between F.offset_size 1 8)
-  frame_rule_decided rules.RefSize = at_end 25 (omega arith) (between F.ref_size 1 8)
+  frame_rule_decided rules.NoObjects = at_end 24 (omega arith) (is_le 1 F.objects)
+  frame_rule_decided rules.Top = at_end 16 (omega arith) (is_less F.top.0 F.objects)
+  frame_rule_decided rules.TableEarly = at_end 8 (omega arith) (is_le 9 F.table)
+  frame_rule_decided rules.TableLate = at_end 8 (omega arith) (is_less F.table (length f - 32))
+  frame_rule_decided rules.OffsetSize = at_end 26 (omega arith) (is_between F.offset_size 1 8)
+  frame_rule_decided rules.RefSize = at_end 25 (omega arith) (is_between F.ref_size 1 8)
   frame_rule_decided rules.Length = at_end 32 (omega arith) (cases_eq (F.table + F.objects * F.offset_size + 32) (length f))
-  frame_rule_decided rules.RefNarrow = at_end_narrow 25 (omega arith) (if_so (is_less F.ref_size 8) (cases_lt F.objects (256 ^ F.ref_size)))
-  frame_rule_decided rules.OffsetNarrow = at_end_narrow 26 (omega arith) (if_so (is_less F.offset_size 8) (cases_lt F.table (256 ^ F.offset_size)))
+  frame_rule_decided rules.RefNarrow = at_end 25 (omega arith) (is_implied (is_less F.ref_size 8) (is_less F.objects (256 ^ F.ref_size)))
+  frame_rule_decided rules.OffsetNarrow = at_end 26 (omega arith) (is_implied (is_less F.offset_size 8) (is_less F.table (256 ^ F.offset_size)))
   frame_rule_decided rules.OffsetHigh = elim (all_or_first (λ n. off f F n < F.table) (λ n. F.table ≤ off f F n) (λ n. cases_lt (off f F n) F.table) F.objects) [
     | inl all ↦ inl all
     | inr first ↦
@@ -125,7 +116,7 @@ module _ (f : List ℕ) (long : 41 ≤ length f) where
 -- a file keeps rules 1 to 13, or one of them is the first that it breaks
 pub frame_kept_or_fault : (f : List ℕ) → KeepsAll (Keeps f) frame_rules ⊎ ((fault : Fault) × IsFrameFault f fault)
 frame_kept_or_fault f = elim (cases_lt (length f) 41) [
-  | inl short ↦ inr (record { rule = rules.TooShort; object = None; place = length f }, inr (omega (arith, short), inl (refl, (short, refl, refl))))
+  | inl short ↦ inr (record { rule = rules.TooShort; object = None; place = length f }, inr (omega (arith, short), inl (refl, (λ long. omega (arith, short, long), refl, omega arith))))
   | inr long ↦ kept_or_first_fault (Keeps f) (Breaks f) (frame_rule_decided f long) frame_rules
 ]
 
@@ -136,16 +127,9 @@ marker_decided m = elim (is_between m (least (form_of (kind_at m))) (greatest (f
   | inr no1 ↦ inr (λ is. no1 (subst (Marks m) (sym (kind_marked m is.0 is.1)) is.1))
 ]
 
--- a long marker is so of the kind that is found
-long_decided : (m : ℕ) → Either (IsLong m)
-long_decided m = elim (each (form_of (kind_at m))) [
-  | inl l ↦ inl (kind_at m, l)
-  | inr no1 ↦ inr (λ is. no1 (subst (λ k. IsLongOf (form_of k) m) (sym (kind_marked m is.0 (long_marks m (form_of is.0) is.1))) is.1))
-]
-  where
-    each : (form : Form) → Either (IsLongOf form m)
-    each (plain low high says) = inr (λ l. l)
-    each (counted high) = cases_eq m (16 * high + 15)
+some_decided : {X : Type 0} (o : Option X) → Either (IsSome o)
+some_decided None = inr false≢true
+some_decided (Some x) = inl refl
 
 ascii_decided : (kind : Kind) → Either (kind ≡ kinds.Ascii)
 ascii_decided kinds.Ascii = inl refl
@@ -161,51 +145,51 @@ module _ (f : List ℕ) (F : Frame) (n : ℕ) where
   with_head P Q each = go (head_found f F n) refl
     where
       go : (found : Option Head) → head_found f F n ≡ found → ((head : Head) → HasHead f F n head → P head) ⊎ ((head : Head) × HasHead f F n head × Q head)
-      go None e = inl (λ head h. let a = head_is_found f F n head h in cc)
+      go None e = inl (λ head h. absurd (cc (e, h)))
       go (Some head) e = elim (each head) [
-        | inl p ↦ inl (λ other k. subst P (HasHead-unique f F n head other (found_head f F n head e) k) p)
-        | inr q ↦ inr (head, found_head f F n head e, q)
+        | inl p ↦ inl (λ other k. subst P (HasHead-unique f F n head other e k) p)
+        | inr q ↦ inr (head, e, q)
       ]
+
+  of_head : (P : Head → Type 0) → ((head : Head) → Either (P head)) → Either ((head : Head) → HasHead f F n head → P head)
+  of_head P each = elim (with_head P (λ head. P head → ⊥) each) [
+    | inl all ↦ inl all
+    | inr b ↦ inr (λ all. b.2 (all b.0 b.1))
+  ]
 
   abbrev o : ℕ
   o = off f F n
 
   -- a rule that is broken at this place
-  at : {P Q : Type 0} (p : ℕ) → P ⊎ Q → P ⊎ ((place : ℕ) × (Q × (place ≡ p)))
+  at : {P : Type 0} (p : ℕ) → Either P → P ⊎ ((place : ℕ) × ((P → ⊥) × (place ≡ p)))
   at p (inl k) = inl k
-  at p (inr b) = inr (p, (b, refl))
+  at p (inr no1) = inr (p, (no1, refl))
 
-  extent_decided : (IsLong (slice_index f o) → o + 1 < F.table) ⊎ (IsLong (slice_index f o) × (F.table ≤ o + 1))
-      → (((head : Head) → HasHead f F n head → head.«end» ≤ F.table) ⊎ ((head : Head) × HasHead f F n head × (F.table < head.«end»)))
-      → KeepsByObject f F n rules.Extent ⊎ ((place : ℕ) × BreaksByObject f F n rules.Extent place)
-  extent_decided (inr late) h = inr (o, (inl late, refl))
-  extent_decided (inl r) (inr late) = inr (o, (inr late, refl))
-  extent_decided (inl r) (inl all) = inl (r, all)
+  count_decided : Either (o + 1 < F.table → IsSome (head_found f F n))
+  count_decided = is_implied (is_less (o + 1) F.table) (some_decided (head_found f F n))
+
+  -- whether a head is announced that lies before the table
+  early_decided : (found : Option Head) → head_found f F n ≡ found → Either ((head : Head) × HasHead f F n head × (head.«end» ≤ F.table))
+  early_decided None e = inr (λ h. absurd (cc (e, h.1)))
+  early_decided (Some head) e = elim (is_le head.«end» F.table) [
+    | inl l ↦ inl (head, e, l)
+    | inr late ↦ inr (λ h. late (subst (λ (x : Head). x.«end» ≤ F.table) (HasHead-unique f F n h.0 head h.1 e) h.2))
+  ]
 
   object_rule_decided : (rule : Rule) → KeepsByObject f F n rule ⊎ ((place : ℕ) × BreaksByObject f F n rule place)
-  object_rule_decided rules.OffsetLow = at (F.table + n * F.offset_size) (low_or_high 8 o)
+  object_rule_decided rules.OffsetLow = at (F.table + n * F.offset_size) (is_le 8 o)
   object_rule_decided rules.Marker = at o (marker_decided (slice_index f o))
-  object_rule_decided rules.Count =
-      elim (if_so (long_decided (slice_index f o)) (if_so (is_less (o + 1) F.table) (is_between (slice_index f (o + 1)) 16 20))) [
-        | inl k ↦ inl k
-        | inr b ↦ inr (o + 1, (b.0, b.1.0, b.1.1, refl))
-      ]
-  object_rule_decided rules.Extent =
-      extent_decided (if_so (long_decided (slice_index f o)) (cases_lt (o + 1) F.table))
-      (with_head (λ head. head.«end» ≤ F.table) (λ head. F.table < head.«end») (λ head. low_or_high head.«end» F.table))
+  object_rule_decided rules.Count = at (o + 1) (is_implied (marker_decided (slice_index f o)) count_decided)
+  object_rule_decided rules.Extent = at o (is_implied (marker_decided (slice_index f o)) (is_implied count_decided (early_decided (head_found f F n) refl)))
+  object_rule_decided rules.UidLarge =
+      at o (of_head (λ head. head.kind ≡ kinds.Uid → num_at f head.body head.count ≤ 4294967295)
+      (λ head. is_implied (uid_decided head.kind) (is_le (num_at f head.body head.count) 4294967295)))
   object_rule_decided rules.NotAscii =
       elim (with_head (λ head. head.kind ≡ kinds.Ascii → AreBelow f head.body 1 head.count 128)
       (λ head. (head.kind ≡ kinds.Ascii) × ((i : ℕ) × IsFirstNotBelow f head.body 1 head.count 128 i))
       (λ head. if_so (ascii_decided head.kind) (below_or_first f head.body 1 head.count 128))) [
         | inl k ↦ inl k
         | inr b ↦ inr (b.0.body + b.2.1.0, (b.0, b.2.1.0, b.1, b.2.0, b.2.1.1, refl))
-      ]
-  object_rule_decided rules.UidLarge =
-      elim (with_head (λ head. head.kind ≡ kinds.Uid → num_at f head.body head.count ≤ 4294967295)
-      (λ head. (head.kind ≡ kinds.Uid) × (4294967295 < num_at f head.body head.count))
-      (λ head. if_so (uid_decided head.kind) (low_or_high (num_at f head.body head.count) 4294967295))) [
-        | inl k ↦ inl k
-        | inr b ↦ inr (o, (b.0, b.1, b.2.0, b.2.1, refl))
       ]
   object_rule_decided rules.RefHigh =
       elim (with_head (λ head. AreBelow f head.body F.ref_size (ref_count head.kind head.count) F.objects)

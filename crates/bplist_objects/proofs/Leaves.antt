@@ -16,7 +16,7 @@ module _ (f : List ℕ) (F : Frame) where
   leaf_kind kinds.Array count body l e = cc e
   leaf_kind kinds.Set count body l e = cc e
   leaf_kind kinds.Dict count body l e = cc e
-  leaf_kind _ count body l e = tt
+  leaf_kind _ count body l e = refl
 
   pub int_value : (kind : Kind) (count body : ℕ) (i : ℤ) → Content.leaf (int i) ≡ content_of f F kind count body
       → (kind ≡ kinds.Int) × (i ≡ integer (part f body count))

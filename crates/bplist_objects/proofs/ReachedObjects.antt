@@ -1,9 +1,10 @@
 -- References, what is reached by them, and founded objects.
-use Rattle.std.proofs.Common.{◌≡◌, ℕ, ◌<◌, ◌↔◌, List, Option, Some, None, refl, sym, ap, subst, Contains}
+use Rattle.std.proofs.Common.{◌≡◌, ℕ, ◌<◌, ◌↔◌, List, [], Option, Some, None, refl, sym, ap, subst, Contains}
+use Rattle.std.specs.Option.{option_map_or}
 use Rattle.bplist_objects.specs.declared.frame.Frame.{Frame}
 use Rattle.bplist_objects.specs.Heads.{Content, refs, Spells}
 use Rattle.bplist_objects.specs.Reach.{Refs, Reach, top, next, Chain, last, more, Founded, founded}
-use Rattle.bplist_objects.specs.Spelled.{spelled_at, refs_found, refs_at}
+use Rattle.bplist_objects.specs.Spelled.{spelled_at, refs_at}
 use Rattle.bplist_objects.proofs.Lists.{all_at, none_in}
 use Rattle.bplist_objects.proofs.Fronts.{one_head}
 use Rattle.bplist_objects.proofs.SpelledContents.{spells_iff}
@@ -13,7 +14,7 @@ module _ (f : List ℕ) (F : Frame) where
   -- the references of what is spelled
   pub refs_spelled : (n : ℕ) (c : Content) → Spells f F n c → refs_at f F n ≡ refs c
   unfolding refs_at
-  refs_spelled n c s = ap refs_found ((spells_iff f F n c).0 s)
+  refs_spelled n c s = ap (λ x. option_map_or refs x []) ((spells_iff f F n c).0 s)
 
   -- an object refers to what is among them
   pub refs_iff : (n m : ℕ) → Refs f F n m ↔ Contains (refs_at f F n) m
@@ -23,7 +24,7 @@ module _ (f : List ℕ) (F : Frame) where
       from : Contains (refs_at f F n) m → Refs f F n m
       from h = go (spelled_at f F n) refl h
         where
-          go : (found : Option Content) → spelled_at f F n ≡ found → Contains (refs_found found) m → Refs f F n m
+          go : (found : Option Content) → spelled_at f F n ≡ found → Contains (option_map_or refs found []) m → Refs f F n m
           go None e k = absurd (none_in m k)
           go (Some c) e k = (c, (spells_iff f F n c).1 e, k)
 

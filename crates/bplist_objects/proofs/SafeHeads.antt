@@ -5,7 +5,7 @@ use Rattle.bplist_objects.specs.declared.frame.Frame.{Frame}
 use Rattle.bplist_objects.specs.declared.head.Head.{Head}
 use Rattle.bplist_objects.specs.declared.kind.Kind.{Kind}
 use Rattle.bplist_objects.specs.declared.kind.Kind.TheVariants as kinds
-use Rattle.bplist_objects.specs.Heads.{unit}
+use Rattle.bplist_objects.specs.Announced.{unit}
 use Rattle.bplist_objects.specs.Safe.{IsSafe, IsSafeHead, IsSafeBody}
 
 -- a wider reference takes no less

@@ -1,8 +1,8 @@
 -- How the rules of marker and count are kept and broken.
-use Rattle.std.proofs.Common.{◌≡◌, ℕ, ◌+◌, ◌*◌, ◌<◌, ◌≤◌, true, List, slice_index, Some, arith, refl, inl, inr, subst}
+use Rattle.std.proofs.Common.{◌≡◌, ℕ, ◌+◌, ◌*◌, ◌<◌, ◌≤◌, true, List, slice_index, Option, Some, None, IsSome, sym, arith, refl, inl, inr, subst}
 use Rattle.std.proofs.Math.Nat.{mul-le-mul_left}
 use Rattle.std.proofs.lemmas.Bool.{false≢true}
-use Rattle.bplist_objects.specs.declared.rule.Rule.TheVariants.{Count, Extent}
+use Rattle.bplist_objects.specs.declared.rule.Rule.TheVariants.{Extent}
 use Rattle.bplist_objects.specs.declared.fault.Fault.{Fault}
 use Rattle.bplist_objects.specs.declared.frame.Frame.{Frame}
 use Rattle.bplist_objects.specs.declared.head.Head.{Head}
@@ -10,15 +10,14 @@ use Rattle.bplist_objects.specs.declared.kind.Kind.{Kind}
 use Rattle.bplist_objects.specs.declared.kind.Kind.TheVariants as kinds
 use Rattle.bplist_objects.specs.Rules.{KeepsAll}
 use Rattle.bplist_objects.specs.Frame.{off}
-use Rattle.bplist_objects.specs.Heads.{unit}
-use Rattle.bplist_objects.specs.Safe.{MayCount}
-use Rattle.bplist_objects.specs.Announced.{Form, plain, counted, form_of, is_counted, Marks, IsMarker, IsLong, IsLongOf, IsCountForm, HasLongCount, AnnouncesAs, HasHead}
+use Rattle.bplist_objects.specs.Safe.{IsSaid, MayCount}
+use Rattle.bplist_objects.specs.Announced.{head_found, Form, plain, counted, form_of, is_counted, Marks, IsMarker, IsLongOf, IsCountForm, HasLongCount, AnnouncesAs, HasHead, unit}
 use Rattle.bplist_objects.specs.ObjectRules.{KeepsByObject, IsObjectFault, shape_rules}
 use Rattle.bplist_objects.specs.Counts.{IsLongCountFault}
 use Rattle.bplist_objects.specs.Answers.{GivesFault}
 use Rattle.bplist_objects.specs.declared.fault.ObjectFault.{ObjectFault}
 use Rattle.bplist_objects.specs.declared.fault.ObjectFault.TheVariants as errors
-use Rattle.bplist_objects.proofs.HeadLaws.{long_marks, long-Announces, announced_marks}
+use Rattle.bplist_objects.proofs.HeadLaws.{long_marks, long-Announces, announced_marks, head_parts, head_announced}
 use Rattle.bplist_objects.proofs.BodyLaws.{HasHead-unique}
 
 -- a count behind a long marker is announced
@@ -48,43 +47,56 @@ module _ (f : List ℕ) (F : Frame) (n : ℕ) (far : 8 ≤ off f F n) where
 
   module _ (head : Head) (h : HasHead f F n head) where
     marker_kept : IsMarker (slice_index f o)
-    marker_kept = (head.kind, announced_marks f o (form_of head.kind) head.count head.body h.0)
+    marker_kept = (head.kind, announced_marks f o (form_of head.kind) head.count head.body (head_parts f F n head h).0)
 
-    long_count : IsLong (slice_index f o) → HasLongCount f o head.count head.body
-    long_count m = long-Announces f o head.kind head.count head.body m h.0
-
-    count_kept : KeepsByObject f F n Count
-    count_kept m l = form-HasLongCount f o head.count head.body (long_count m)
+    head_there : IsSome (head_found f F n)
+    head_there = subst IsSome (sym h) refl
 
     -- the head that is announced lies before the table
     pub shape_kept : head.«end» ≤ F.table → KeepsAll (KeepsByObject f F n) shape_rules
-    shape_kept l =
-        (far, (marker_kept, (count_kept, ((λ m. let e = long_count m in omega arith, λ other k. subst (λ (x : Head). x.«end» ≤ F.table) (HasHead-unique f F n head other h k) l), tt))))
+    shape_kept l = (far, (marker_kept, ((λ m k. head_there), ((λ m k. (head, h, l)), tt))))
 
     -- the head that is announced does not lie before the table
     pub shape_extent : F.table < head.«end» → (fault : Fault) → fault.rule ≡ Extent → fault.object ≡ Some (record { 0 = n }) → fault.place ≡ o → IsObjectFault f F n shape_rules fault
-    shape_extent l fault rule object place = inr (far, inr (marker_kept, inr (count_kept, inl (rule, (object, (inr (head, h, l), place))))))
+    shape_extent l fault rule object place = inr (far, inr (marker_kept, inr ((λ m k. head_there), inl (rule, (object, (late, place))))))
+      where
+        late : KeepsByObject f F n Extent → ⊥
+        late k =
+            let e = k marker_kept (λ _. head_there) in
+            let before : head.«end» ≤ F.table = subst (λ (x : Head). x.«end» ≤ F.table) (HasHead-unique f F n e.0 head e.1 h) e.2 in
+            omega (arith, l, before)
+
+  -- a head behind a long marker has its count there
+  long_count : (kind : Kind) → IsLongOf (form_of kind) (slice_index f o) → (head : Head) → HasHead f F n head → HasLongCount f o head.count head.body
+  long_count kind l head h = long-Announces f o head.kind head.count head.body (kind, l) (head_parts f F n head h).0
 
   -- what is wrong with a long count is the first that is wrong with the object
   pub shape_long : 1 ≤ F.ref_size → (kind : Kind) → Marks (slice_index f o) kind → IsLongOf (form_of kind) (slice_index f o) → (fault : Fault) → IsLongCountFault f F.table o n fault → IsObjectFault f F n shape_rules fault
   shape_long low kind marks long fault (object, inl (rule, inside, wrong, place)) =
-      inr (far, inr ((kind, marks), inl (rule, (object, ((kind, long), inside, wrong, place)))))
+      inr (far, inr ((kind, marks), inl (rule, (object, ((λ k. never (head_found f F n) refl (k (kind, marks) inside)), place)))))
+    where
+      never : (found : Option Head) → head_found f F n ≡ found → IsSome found → ⊥
+      never None e h = false≢true h
+      never (Some head) e h = wrong (form-HasLongCount f o head.count head.body (long_count kind long head e))
   shape_long low kind marks long fault (object, inr (rule, place, inl late)) =
-      inr (far, inr ((kind, marks), inr (λ m l. absurd (omega arith), inl (rule, (object, (inl ((kind, long), late), place))))))
+      inr (far, inr ((kind, marks), inr (λ m l. absurd (omega arith), inl (rule, (object, (early, place))))))
+    where
+      early : KeepsByObject f F n Extent → ⊥
+      early k =
+          let e = k (kind, marks) (λ l. absurd (omega arith)) in
+          let count = long_count kind long e.0 e.1 in
+          omega (arith, late, e.2, (head_parts f F n e.0 e.1).1, count)
   shape_long low kind marks long fault (object, inr (rule, place, inr (count, body, has, late))) =
       let head : Head = record { kind = kind; count = count; body = body; «end» = body + count * unit F.ref_size kind } in
-      shape_extent head (announced_behind f o (form_of kind) count body long has, refl) (no_room F.table body count (unit F.ref_size kind) (unit-pos F.ref_size kind low) late) fault rule object place
+      shape_extent head (head_announced f F n head (announced_behind f o (form_of kind) count body long has, refl)) (no_room F.table body count (unit F.ref_size kind) (unit-pos F.ref_size kind low) late) fault rule object place
 
 -- a kind whose count may stand behind the marker may have any
 pub counted_may : (kind : Kind) (count : ℕ) → is_counted (form_of kind) ≡ true → MayCount kind count
-counted_may kinds.Null count h = absurd (false≢true h)
-counted_may kinds.False count h = absurd (false≢true h)
-counted_may kinds.True count h = absurd (false≢true h)
-counted_may kinds.Int count h = absurd (false≢true h)
-counted_may kinds.Real count h = absurd (false≢true h)
-counted_may kinds.Date count h = absurd (false≢true h)
-counted_may kinds.Uid count h = absurd (false≢true h)
-counted_may _ count h = tt
+counted_may kind count h = go (form_of kind) h
+  where
+    go : (form : Form) → is_counted form ≡ true → IsSaid form count
+    go (plain low high says) e = absurd (false≢true e)
+    go (counted high) e = tt
 
 -- the same of what a call answers
 pub shape_count : (f : List ℕ) (F : Frame) (n place : ℕ) (kind : Kind) (e : ObjectFault) → 1 ≤ F.ref_size → place ≡ off f F n → 8 ≤ place → IsLongOf (form_of kind) (slice_index f place) → GivesFault (IsLongCountFault f F.table place n) e → GivesFault (IsObjectFault f F n shape_rules) e

@@ -1,16 +1,19 @@
 -- The definitions hold of small files.
-use Rattle.std.proofs.Common.{ℕ, zero, suc, ◌<◌, ◌≤◌, ◌+◌, List, [], ◌∷◌, true, inl, refl, arith, drop}
+use Rattle.std.proofs.Common.{◌≡◌, ℕ, zero, suc, ◌<◌, ◌≤◌, ◌+◌, List, [], ◌∷◌, slice_index, true, refl, sym, ap, ◌∙◌, arith, take, get_or-take}
 use Rattle.bplist_octets.specs.Octets.{num}
 use Rattle.bplist_objects.specs.declared.frame.Frame.{Frame}
 use Rattle.bplist_objects.specs.declared.kind.Kind.TheVariants as kinds
-use Rattle.bplist_objects.specs.Frame.{trailer, off, IsFrame}
+use Rattle.bplist_objects.specs.Frame.{header, trailer, off, Keeps, IsFrame}
+use Rattle.bplist_objects.specs.declared.rule.Rule.TheVariants.{Magic, RefNarrow, OffsetNarrow}
 use Rattle.bplist_objects.specs.Value.{boolean, text, leaf, array, value, no_values, dict, pair, no_pairs}
+use Rattle.bplist_objects.specs.Announced.{kind_at, head_found}
 use Rattle.bplist_objects.specs.Heads.{Content, Spells}
 use Rattle.bplist_objects.specs.Reach.{Reach}
 use Rattle.bplist_objects.specs.Extents.{HaveRoom, AtMost}
 use Rattle.bplist_objects.specs.File.{FileHolds}
 use Rattle.bplist_objects.specs.Rows.{row}
 use Rattle.bplist_objects.proofs.Lists.{all_weaker}
+use Rattle.bplist_objects.proofs.FrameTies.{Numbered, trailer_is_frame}
 use Rattle.bplist_objects.proofs.ExtentSums.{most_none, most_more, shape_extent}
 use Rattle.bplist_objects.proofs.ReachedObjects.{reach_within}
 
@@ -26,6 +29,12 @@ row_array = row (162 ∷ 1 ∷ 1 ∷ 9 ∷ []) (8 ∷ 11 ∷ [])
 abbrev row_dict : List ℕ
 row_dict = row (209 ∷ 1 ∷ 2 ∷ 81 ∷ 97 ∷ 9 ∷ []) (8 ∷ 11 ∷ 13 ∷ [])
 
+-- a file that begins with the header has the frame of its numbers
+small_frame : (f : List ℕ) → take 8 f ≡ header → Numbered f (trailer f) → Keeps f RefNarrow → Keeps f OffsetNarrow → IsFrame f (trailer f)
+small_frame f begins n ref offset =
+    let magic : Keeps f Magic = λ i l. sym (get_or-take 8 f i 0 l) ∙ ap (λ x. slice_index x i) begins in
+    trailer_is_frame f (n.large, (n.short, (magic, (n.objects, (n.top, (n.table_early, (n.table_late, (n.offset_size, (n.ref_size, (n.whole, (ref, (offset, (n.offsets, tt)))))))))))))
+
 -- what all objects take bounds what the reached take
 reached_room : (f : List ℕ) (F : Frame) (t : ℕ) → F.top.0 < F.objects → AtMost f F (λ m. Reach f F m × (m < F.objects)) t → t + 8 ≤ F.table → HaveRoom f F (Reach f F)
 reached_room f F t top most room ns r d a taken =
@@ -40,28 +49,25 @@ true_offsets (suc n) h = absurd (omega arith)
 
 frame_true : IsFrame row_true (trailer row_true)
 unfolding num
-frame_true = record {
-  large = omega arith;
-  short = omega arith;
-  magic = refl;
-  spelled = refl;
-  objects = omega arith;
-  top = omega arith;
-  table_early = omega arith;
-  table_late = omega arith;
-  offset_size = omega arith;
-  ref_size = omega arith;
-  whole = refl;
-  ref_narrow = λ _. omega arith;
-  offset_narrow = λ _. omega arith;
-  offsets = true_offsets;
-}
+frame_true =
+    small_frame row_true refl (record {
+      large = omega arith;
+      short = omega arith;
+      objects = omega arith;
+      top = omega arith;
+      table_early = omega arith;
+      table_late = omega arith;
+      offset_size = omega arith;
+      ref_size = omega arith;
+      whole = refl;
+      offsets = true_offsets;
+    }) (λ _. omega arith) (λ _. omega arith)
 
 true_0 : Spells row_true (trailer row_true) 0 (Content.leaf (boolean true))
-unfolding num
+unfolding num head_found kind_at
 true_0 = record {
   shape = record { kind = kinds.True; count = 0; body = 9; «end» = 9 };
-  has = record { front = 9 ∷ []; rest = drop 9 row_true; low = omega arith; spelled = refl; is_front = (refl, refl); body = refl; «end» = refl; inside = omega arith };
+  has = record { low = omega arith; has = refl; within = omega arith; inside = omega arith };
   proper = tt;
   means = refl;
   refs = tt;
@@ -95,38 +101,35 @@ array_offsets (suc (suc n)) h = absurd (omega arith)
 
 frame_array : IsFrame row_array (trailer row_array)
 unfolding num
-frame_array = record {
-  large = omega arith;
-  short = omega arith;
-  magic = refl;
-  spelled = refl;
-  objects = omega arith;
-  top = omega arith;
-  table_early = omega arith;
-  table_late = omega arith;
-  offset_size = omega arith;
-  ref_size = omega arith;
-  whole = refl;
-  ref_narrow = λ _. omega arith;
-  offset_narrow = λ _. omega arith;
-  offsets = array_offsets;
-}
+frame_array =
+    small_frame row_array refl (record {
+      large = omega arith;
+      short = omega arith;
+      objects = omega arith;
+      top = omega arith;
+      table_early = omega arith;
+      table_late = omega arith;
+      offset_size = omega arith;
+      ref_size = omega arith;
+      whole = refl;
+      offsets = array_offsets;
+    }) (λ _. omega arith) (λ _. omega arith)
 
 array_0 : Spells row_array (trailer row_array) 0 (Content.array (1 ∷ 1 ∷ []))
-unfolding num
+unfolding num head_found kind_at
 array_0 = record {
   shape = record { kind = kinds.Array; count = 2; body = 9; «end» = 11 };
-  has = record { front = 162 ∷ []; rest = drop 9 row_array; low = omega arith; spelled = refl; is_front = inl (omega arith, refl); body = refl; «end» = refl; inside = omega arith };
+  has = record { low = omega arith; has = refl; within = omega arith; inside = omega arith };
   proper = tt;
   means = refl;
   refs = (omega arith, (omega arith, tt));
 }
 
 array_1 : Spells row_array (trailer row_array) 1 (Content.leaf (boolean true))
-unfolding num
+unfolding num head_found kind_at
 array_1 = record {
   shape = record { kind = kinds.True; count = 0; body = 12; «end» = 12 };
-  has = record { front = 9 ∷ []; rest = drop 12 row_array; low = omega arith; spelled = refl; is_front = (refl, refl); body = refl; «end» = refl; inside = omega arith };
+  has = record { low = omega arith; has = refl; within = omega arith; inside = omega arith };
   proper = tt;
   means = refl;
   refs = tt;
@@ -162,48 +165,45 @@ dict_offsets (suc (suc (suc n))) h = absurd (omega arith)
 
 frame_dict : IsFrame row_dict (trailer row_dict)
 unfolding num
-frame_dict = record {
-  large = omega arith;
-  short = omega arith;
-  magic = refl;
-  spelled = refl;
-  objects = omega arith;
-  top = omega arith;
-  table_early = omega arith;
-  table_late = omega arith;
-  offset_size = omega arith;
-  ref_size = omega arith;
-  whole = refl;
-  ref_narrow = λ _. omega arith;
-  offset_narrow = λ _. omega arith;
-  offsets = dict_offsets;
-}
+frame_dict =
+    small_frame row_dict refl (record {
+      large = omega arith;
+      short = omega arith;
+      objects = omega arith;
+      top = omega arith;
+      table_early = omega arith;
+      table_late = omega arith;
+      offset_size = omega arith;
+      ref_size = omega arith;
+      whole = refl;
+      offsets = dict_offsets;
+    }) (λ _. omega arith) (λ _. omega arith)
 
 dict_0 : Spells row_dict (trailer row_dict) 0 (Content.dict (1 ∷ []) (2 ∷ []))
-unfolding num
+unfolding num head_found kind_at
 dict_0 = record {
   shape = record { kind = kinds.Dict; count = 1; body = 9; «end» = 11 };
-  has = record { front = 209 ∷ []; rest = drop 9 row_dict; low = omega arith; spelled = refl; is_front = inl (omega arith, refl); body = refl; «end» = refl; inside = omega arith };
+  has = record { low = omega arith; has = refl; within = omega arith; inside = omega arith };
   proper = tt;
   means = refl;
   refs = (omega arith, (omega arith, tt));
 }
 
 dict_1 : Spells row_dict (trailer row_dict) 1 (Content.leaf (text (97 ∷ [])))
-unfolding num
+unfolding num head_found kind_at
 dict_1 = record {
   shape = record { kind = kinds.Ascii; count = 1; body = 12; «end» = 13 };
-  has = record { front = 81 ∷ []; rest = drop 12 row_dict; low = omega arith; spelled = refl; is_front = inl (omega arith, refl); body = refl; «end» = refl; inside = omega arith };
+  has = record { low = omega arith; has = refl; within = omega arith; inside = omega arith };
   proper = (omega arith, tt);
   means = refl;
   refs = tt;
 }
 
 dict_2 : Spells row_dict (trailer row_dict) 2 (Content.leaf (boolean true))
-unfolding num
+unfolding num head_found kind_at
 dict_2 = record {
   shape = record { kind = kinds.True; count = 0; body = 14; «end» = 14 };
-  has = record { front = 9 ∷ []; rest = drop 14 row_dict; low = omega arith; spelled = refl; is_front = (refl, refl); body = refl; «end» = refl; inside = omega arith };
+  has = record { low = omega arith; has = refl; within = omega arith; inside = omega arith };
   proper = tt;
   means = refl;
   refs = tt;

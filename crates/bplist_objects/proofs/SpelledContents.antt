@@ -1,7 +1,8 @@
 -- The function that finds what an object spells finds exactly that.
-use Rattle.std.proofs.Common.{◌≡◌, ℕ, ◌<◌, ◌≤◌, ◌↔◌, Bool, List, [], ◌∷◌, length, Option, Some, None, nat_lt, nat_le, if◌then◌else◌, refl, sym, ap, ◌∙◌, subst, arith, length-drop, length-append}
+use Rattle.std.proofs.Common.{◌≡◌, ℕ, ◌<◌, ◌≤◌, ◌↔◌, Bool, List, [], ◌∷◌, length, Option, Some, None, nat_lt, nat_le, if◌then◌else◌, refl, sym, ap, ◌∙◌, subst}
 use Rattle.std.specs.Bool.{Decides}
 use Rattle.std.specs.List.{AllByRecursion, list_all}
+use Rattle.std.specs.Option.{option_and_then}
 use Rattle.std.proofs.lemmas.Bool.{leb-true, le-leb}
 use Rattle.std.proofs.lemmas.Bool.Decides.{Decides-and, Decides-ltb}
 use Rattle.bplist_objects.specs.declared.frame.Frame.{Frame}
@@ -12,11 +13,9 @@ use Rattle.bplist_objects.specs.Numbers.{num_at}
 use Rattle.bplist_objects.specs.Frame.{off}
 use Rattle.bplist_octets.specs.Octets.{part}
 use Rattle.bplist_objects.specs.Heads.{Content, refs, content_at, IsProperLeaf, Spells}
-use Rattle.bplist_objects.specs.Announced.{form_of, HasHead}
-use Rattle.bplist_objects.specs.Spelled.{head_found, is_proper, is_spelled, content_found, spelled_at}
-use Rattle.bplist_objects.proofs.HeadLaws.{if_some, found_head, head_is_found}
-use Rattle.bplist_objects.proofs.AnnouncedHeads.{fronted, announced_short}
-use Rattle.bplist_objects.proofs.HeadTies.{shape_announced}
+use Rattle.bplist_objects.specs.Announced.{HasHead, head_found}
+use Rattle.bplist_objects.specs.Spelled.{is_proper, is_spelled, spelled_at}
+use Rattle.bplist_objects.proofs.HeadLaws.{if_some}
 
 -- a test of two numbers
 le_decides : (a b : ℕ) → Decides (nat_le a b) (a ≤ b)
@@ -53,14 +52,16 @@ module _ (f : List ℕ) (F : Frame) (n : ℕ) where
 
   found_spells : (head : Head) → HasHead f F n head → IsSpelled head → Spells f F n (content_at f F head)
   found_spells head h s =
-      let fr = fronted f o head.kind head.count head.body (omega (arith, (announced_short f o (form_of head.kind) head.count head.body h.0).0, s.1.0)) s.1.0 h.0 in
       record {
         shape = head;
-        has = record { front = fr.0; rest = fr.1; low = s.0; spelled = fr.2; is_front = fr.3; body = fr.4; «end» = h.1; inside = s.1.1.0 };
+        has = record { low = s.0; has = h; within = s.1.0; inside = s.1.1.0 };
         proper = s.1.1.1.0;
         means = refl;
         refs = s.1.1.1.1;
       }
+
+  abbrev content_found : Option Head → Option Content
+  content_found = option_and_then (λ head. if is_spelled f F n head then Some (content_at f F head) else None)
 
   -- an object spells a content exactly where that content is computed
   pub spells_iff : (c : Content) → Spells f F n c ↔ (spelled_at f F n ≡ Some c)
@@ -70,13 +71,11 @@ module _ (f : List ℕ) (F : Frame) (n : ℕ) where
       to : Spells f F n c → spelled_at f F n ≡ Some c
       to s =
           let head = s.shape in
-          let h = shape_announced f F n head s.has in
-          let within : head.body ≤ length f = omega (arith, (announced_short f o (form_of head.kind) head.count head.body h.0).0, s.has.body, length-drop o f, ap length s.has.spelled, length-append s.has.front s.has.rest) in
-          let rules : IsSpelled head = (s.has.low, (within, (s.has.inside, (s.proper, subst (λ x. AllByRecursion (λ m. m < F.objects) (refs x)) s.means s.refs)))) in
-          ap (content_found f F n) (head_is_found f F n head h) ∙ ap (λ t. if t then Some (content_at f F head) else None) ((spelled_decides head).1 rules) ∙ ap Some (sym s.means)
+          let rules : IsSpelled head = (s.has.low, (s.has.within, (s.has.inside, (s.proper, subst (λ x. AllByRecursion (λ m. m < F.objects) (refs x)) s.means s.refs)))) in
+          ap content_found s.has.has ∙ ap (λ t. if t then Some (content_at f F head) else None) ((spelled_decides head).1 rules) ∙ ap Some (sym s.means)
 
-      from : (found : Option Head) → head_found f F n ≡ found → content_found f F n found ≡ Some c → Spells f F n c
+      from : (found : Option Head) → head_found f F n ≡ found → content_found found ≡ Some c → Spells f F n c
       from None e r = absurd (cc r)
       from (Some head) e r =
           let t = if_some (is_spelled f F n head) (content_at f F head) c r in
-          subst (Spells f F n) t.1 (found_spells head (found_head f F n head e) ((spelled_decides head).0 t.0))
+          subst (Spells f F n) t.1 (found_spells head e ((spelled_decides head).0 t.0))

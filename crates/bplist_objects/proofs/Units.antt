@@ -7,7 +7,7 @@ use Rattle.bplist_objects.specs.declared.kind.Kind.{Kind}
 use Rattle.bplist_objects.specs.declared.kind.Kind.TheVariants as kinds
 use Rattle.bplist_objects.specs.Numbers.{num_at}
 use Rattle.bplist_objects.specs.Scan.{nth_number, AreNumbers}
-use Rattle.bplist_objects.specs.Heads.{unit}
+use Rattle.bplist_objects.specs.Announced.{unit}
 use Rattle.bplist_objects.specs.Units.{IsTextKind, units_at}
 use Rattle.bplist_objects.proofs.Parts.{num-part_one, get_or-part}
 use Rattle.bplist_objects.proofs.ScanLaws.{nth_number-behind}

@@ -1,12 +1,20 @@
--- What the marker and the count at a place announce, by place and index. Source: the format comment of CFBinaryPList.c.
-use Rattle.std.specs.Prelude.{◌≡◌, ◌⊎◌, ℕ, ◌+◌, ◌-◌, ◌*◌, ◌^◌, ◌<◌, ◌≤◌, Bool, true, false, List, slice_index}
+-- What the marker and the count at the place of an object announce. Source: the format comment of CFBinaryPList.c.
+use Rattle.std.specs.Prelude.{◌≡◌, ◌⊎◌, ℕ, ◌+◌, ◌-◌, ◌*◌, ◌^◌, ◌<◌, ◌≤◌, Bool, true, false, ◌&&◌, nat_eq, nat_lt, nat_le, if◌then◌else◌, List, [], ◌∷◌, slice_index, Option, Some, None}
+use Rattle.std.specs.Option.{option_map}
 use Rattle.bplist_objects.specs.declared.frame.Frame.{Frame}
 use Rattle.bplist_objects.specs.declared.kind.Kind.{Kind}
 use Rattle.bplist_objects.specs.declared.kind.Kind.TheVariants as kinds
 use Rattle.bplist_objects.specs.declared.head.Head.{Head}
 use Rattle.bplist_objects.specs.Numbers.{num_at}
 use Rattle.bplist_objects.specs.Frame.{off}
-use Rattle.bplist_objects.specs.Heads.{unit}
+
+-- how many bytes of the body each of the count takes
+abbrev pub unit : ℕ → Kind → ℕ
+unit ref_size kinds.Wide = 2
+unit ref_size kinds.Array = ref_size
+unit ref_size kinds.Set = ref_size
+unit ref_size kinds.Dict = 2 * ref_size
+unit ref_size _ = 1
 
 -- how markers say a count: each from the least to the greatest its own, or all with this high half in the low half, where 15 says that it follows
 pub data Form : Type 0 where
@@ -65,6 +73,52 @@ IsLong marker = (kind : Kind) × IsLongOf (form_of kind) marker
 abbrev pub IsCountForm : ℕ → Type 0
 IsCountForm form = (16 ≤ form) × (form ≤ 20)
 
+-- the kinds in the order of their markers
+abbrev pub kinds_in_order : List Kind
+kinds_in_order =
+    kinds.Null ∷ kinds.False ∷ kinds.True ∷ kinds.Int ∷ kinds.Real ∷ kinds.Date ∷ kinds.Bytes ∷ kinds.Ascii ∷ kinds.Wide ∷ kinds.Uid
+    ∷ kinds.Array ∷ kinds.Set ∷ []
+
+-- the first of these kinds that has so great a marker
+abbrev pub kind_among : ℕ → List Kind → Kind
+kind_among marker [] = kinds.Dict
+kind_among marker (kind ∷ more) = if nat_le marker (greatest (form_of kind)) then kind else kind_among marker more
+
+-- the kind of a marker, if it is one
+unfoldable pub kind_at : ℕ → Kind
+kind_at marker = kind_among marker kinds_in_order
+
+-- the count that stands behind the marker, and the place after it, if there is one
+abbrev pub long_found : List ℕ → ℕ → Option (ℕ × ℕ)
+long_found f place =
+    if nat_le 16 (slice_index f (place + 1)) && nat_le (slice_index f (place + 1)) 20
+    then Some (num_at f (place + 2) (2 ^ (slice_index f (place + 1) - 16)), place + 2 + 2 ^ (slice_index f (place + 1) - 16))
+    else None
+
+-- the count and the body that a marker of this form announces, if it is one
+abbrev pub count_found : List ℕ → ℕ → Form → Option (ℕ × ℕ)
+count_found f place (plain low high says) =
+    if nat_le low (slice_index f place) && nat_le (slice_index f place) high then Some (says (slice_index f place), place + 1) else None
+count_found f place (counted high) =
+    if nat_le (16 * high) (slice_index f place) && nat_lt (slice_index f place) (16 * high + 15)
+    then Some (slice_index f place - 16 * high, place + 1)
+    else if nat_eq (slice_index f place) (16 * high + 15) then long_found f place else None
+
+module _ (f : List ℕ) (F : Frame) where
+  -- the head of this kind with this count and body
+  abbrev pub head_with : Kind → ℕ × ℕ → Head
+  head_with kind (count, body) = record { kind = kind; count = count; body = body; end = body + count * unit F.ref_size kind }
+
+  -- the head that marker and count of object n announce, if any
+  unfoldable pub head_found : ℕ → Option Head
+  head_found n =
+      option_map (head_with (kind_at (slice_index f (off f F n)))) (count_found f (off f F n) (form_of (kind_at (slice_index f (off f F n)))))
+
+  -- marker and count of object n announce this head
+  abbrev pub HasHead : ℕ → Head → Type 0
+  HasHead n head = head_found n ≡ Some head
+
+-- ---- the same by place and index
 -- the count behind the marker, and the place after it
 abbrev pub HasLongCount : List ℕ → ℕ → ℕ → ℕ → Type 0
 HasLongCount f place count body =
@@ -82,9 +136,3 @@ AnnouncesAs f place (counted high) count body =
 -- marker and count announce this kind, count and body
 abbrev pub Announces : List ℕ → ℕ → Kind → ℕ → ℕ → Type 0
 Announces f place kind count body = AnnouncesAs f place (form_of kind) count body
-
--- marker and count of object n announce this head
-abbrev pub HasHead : List ℕ → Frame → ℕ → Head → Type 0
-HasHead f F n head =
-    Announces f (off f F n) head.kind head.count head.body
-    × (head.«end» ≡ head.body + head.count * unit F.ref_size head.kind)

@@ -1,5 +1,5 @@
 -- What a call that reads answers. Source: profile.
-use Rattle.std.specs.Prelude.{Result, Ok, Err, Bool, true, false}
+use Rattle.std.specs.Prelude.{Result, Ok, Err, MatchResult, Bool, true, false}
 use Rattle.bplist_objects.specs.declared.fault.Fault.{Fault}
 use Rattle.bplist_objects.specs.declared.fault.ObjectFault.{ObjectFault}
 use Rattle.bplist_objects.specs.declared.fault.ObjectFault.TheVariants as errors
@@ -21,8 +21,7 @@ GivesFault Q (errors.Read _) = Unit {0}
 
 -- P holds of the value, or Q of the fault unless a read failed
 abbrev pub Gives : {X : Type 0} → (X → Type 0) → (Fault → Type 0) → Result X ObjectFault → Type 0
-Gives P Q (Ok x) = P x
-Gives P Q (Err e) = GivesFault Q e
+Gives P Q result = MatchResult result P (GivesFault Q)
 
 -- no fault is answered
 abbrev pub Never : Fault → Type 0

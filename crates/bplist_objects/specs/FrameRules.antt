@@ -1,12 +1,13 @@
--- The rules 1 to 13 of a file as a whole: how each is kept, and how it is broken and where. Source: the format comment of
--- CFBinaryPList.c; the limits of rules 1, 8 and 9, all words, places and the order are profile.
-use Rattle.std.specs.Prelude.{◌≡◌, ◌≢◌, ◌⊎◌, ℕ, ◌+◌, ◌-◌, ◌*◌, ◌^◌, ◌<◌, ◌≤◌, List, [], ◌∷◌, ◌++◌, length, slice_index, Option, Some, None}
+-- How rules 1 to 13 of a file as a whole are broken, and where. Source: profile.
+use Rattle.std.specs.Prelude.{◌≡◌, ◌≢◌, ℕ, ◌+◌, ◌*◌, ◌<◌, List, [], ◌∷◌, length, slice_index, Option, Some, None}
+use denote.Enum.Declared.{tag_of}
+use Rattle.bplist_objects.specs.contracts.rule.Rule.{the_type}
 use Rattle.bplist_objects.specs.declared.rule.Rule.{Rule}
-use Rattle.bplist_objects.specs.declared.rule.Rule.TheVariants.{TooLarge, TooShort, Magic, NoObjects, Top, TableEarly, TableLate, OffsetSize, RefSize, Length, RefNarrow, OffsetNarrow, OffsetHigh}
+use Rattle.bplist_objects.specs.declared.rule.Rule.TheVariants.{Magic, OffsetHigh}
 use Rattle.bplist_objects.specs.declared.fault.Fault.{Fault}
 use Rattle.bplist_objects.specs.declared.frame.ObjectNo.{ObjectNo}
 use Rattle.bplist_objects.specs.declared.frame.Frame.{Frame}
-use Rattle.bplist_objects.specs.Frame.{header, trailer}
+use Rattle.bplist_objects.specs.Frame.{header, trailer, trailer_rules, frame_rules, Keeps}
 use Rattle.bplist_objects.specs.Rules.{KeepsAll, IsFirstFault}
 use Rattle.bplist_objects.specs.Scan.{AreBelow, IsFirstNotBelow}
 
@@ -26,62 +27,18 @@ pub record IsFirstWrong (f : List ℕ) (place : ℕ) : Type 0 where
   pub wrong : slice_index f place ≢ slice_index header place
   pub before : (i : ℕ) → i < place → slice_index f i ≡ slice_index header i
 
--- the rules of length and trailer numbers, in order
-abbrev pub number_rules : List Rule
-number_rules =
-    NoObjects ∷ Top ∷ TableEarly ∷ TableLate ∷ OffsetSize ∷ RefSize ∷ Length ∷ RefNarrow ∷ OffsetNarrow ∷ []
-
--- rules 1 to 12 in order
-abbrev pub trailer_rules : List Rule
-trailer_rules = TooLarge ∷ TooShort ∷ Magic ∷ number_rules
-
--- rules 1 to 13 in order
-abbrev pub frame_rules : List Rule
-frame_rules = trailer_rules ++ OffsetHigh ∷ []
-
--- the file keeps this rule of 1 to 13
-abbrev pub Keeps : List ℕ → Rule → Type 0
-Keeps f TooLarge = length f ≤ 4294967295
-Keeps f TooShort = 41 ≤ length f
-Keeps f Magic = (i : ℕ) → i < 8 → slice_index f i ≡ slice_index header i
-Keeps f NoObjects = 1 ≤ (trailer f).objects
-Keeps f Top = (trailer f).top.0 < (trailer f).objects
-Keeps f TableEarly = 9 ≤ (trailer f).table
-Keeps f TableLate = (trailer f).table < length f - 32
-Keeps f OffsetSize = (1 ≤ (trailer f).offset_size) × ((trailer f).offset_size ≤ 8)
-Keeps f RefSize = (1 ≤ (trailer f).ref_size) × ((trailer f).ref_size ≤ 8)
-Keeps f Length = (trailer f).table + (trailer f).objects * (trailer f).offset_size + 32 ≡ length f
-Keeps f RefNarrow = (trailer f).ref_size < 8 → (trailer f).objects < 256 ^ (trailer f).ref_size
-Keeps f OffsetNarrow = (trailer f).offset_size < 8 → (trailer f).table < 256 ^ (trailer f).offset_size
-Keeps f OffsetHigh = AreEntriesLow f (trailer f)
-Keeps f _ = Unit {0}
+-- how many bytes before the file's end each of rules 1 to 12 is broken, but for rule 3, which is at a place of its own
+abbrev pub from_end : List ℕ
+from_end = 0 ∷ 0 ∷ 0 ∷ 24 ∷ 16 ∷ 8 ∷ 8 ∷ 26 ∷ 25 ∷ 32 ∷ 25 ∷ 26 ∷ []
 
 -- the file breaks this rule of 1 to 13, for this object and at this place
 abbrev pub Breaks : List ℕ → Rule → Option ObjectNo → ℕ → Type 0
-Breaks f TooLarge object place = (4294967295 < length f) × (object ≡ None) × (place ≡ length f)
-Breaks f TooShort object place = (length f < 41) × (object ≡ None) × (place ≡ length f)
 Breaks f Magic object place = IsFirstWrong f place × (object ≡ None)
-Breaks f NoObjects object place = ((trailer f).objects < 1) × (object ≡ None) × (place + 24 ≡ length f)
-Breaks f Top object place = ((trailer f).objects ≤ (trailer f).top.0) × (object ≡ None) × (place + 16 ≡ length f)
-Breaks f TableEarly object place = ((trailer f).table < 9) × (object ≡ None) × (place + 8 ≡ length f)
-Breaks f TableLate object place = (length f - 32 ≤ (trailer f).table) × (object ≡ None) × (place + 8 ≡ length f)
-Breaks f OffsetSize object place =
-    (((trailer f).offset_size < 1) ⊎ (8 < (trailer f).offset_size)) × (object ≡ None) × (place + 26 ≡ length f)
-Breaks f RefSize object place =
-    (((trailer f).ref_size < 1) ⊎ (8 < (trailer f).ref_size)) × (object ≡ None) × (place + 25 ≡ length f)
-Breaks f Length object place =
-    ((trailer f).table + (trailer f).objects * (trailer f).offset_size + 32 ≢ length f) × (object ≡ None)
-    × (place + 32 ≡ length f)
-Breaks f RefNarrow object place =
-    ((trailer f).ref_size < 8) × (256 ^ (trailer f).ref_size ≤ (trailer f).objects) × (object ≡ None)
-    × (place + 25 ≡ length f)
-Breaks f OffsetNarrow object place =
-    ((trailer f).offset_size < 8) × (256 ^ (trailer f).offset_size ≤ (trailer f).table) × (object ≡ None)
-    × (place + 26 ≡ length f)
 Breaks f OffsetHigh object place = IsEntryFault f (trailer f) object place
-Breaks f _ object place = ⊥
+Breaks f rule object place =
+    (Keeps f rule → ⊥) × (object ≡ None) × (place + slice_index from_end (tag_of the_type rule) ≡ length f)
 
--- F is the trailer's numbers and keeps rules 1 to 12
+-- F is the trailer's numbers, and the file keeps rules 1 to 12
 abbrev pub IsTrailer : List ℕ → Frame → Type 0
 IsTrailer f F = (F ≡ trailer f) × KeepsAll (Keeps f) trailer_rules
 

@@ -1,5 +1,5 @@
 -- What holds over honest sources, and what a source means that knows its frame. Source: profile.
-use Rattle.std.specs.Prelude.{ℕ, List, [], ◌∷◌, length, IsTrue}
+use Rattle.std.specs.Prelude.{ℕ, List, [], ◌∷◌, length, get_or, IsTrue}
 use Rattle.bplist_octets.specs.Meaning.{Meaning}
 use Rattle.bplist_objects.specs.declared.frame.Frame.{Frame}
 use Rattle.bplist_objects.specs.Frame.{IsFrame}
@@ -14,14 +14,9 @@ abbrev pub frame_by : List ℕ → Frame
 frame_by (a ∷ b ∷ c ∷ d ∷ e ∷ _) = record { offset_size = a; ref_size = b; objects = c; top = record { 0 = d }; table = e }
 frame_by _ = record { offset_size = 0; ref_size = 0; objects = 0; top = record { 0 = 0 }; table = 0 }
 
--- the frame in the first of these lists
-abbrev pub frame_beside : List (List ℕ) → Frame
-frame_beside [] = frame_by []
-frame_beside (ns ∷ _) = frame_by ns
-
 -- the frame that a source holds
 abbrev pub frame_in : Meaning → Frame
-frame_in m = frame_beside m.beside
+frame_in m = frame_by (get_or m.beside 0 [])
 
 -- the meaning of a source that also holds this frame
 abbrev pub with_frame : Frame → Meaning → Meaning

@@ -1,45 +1,16 @@
--- What stands at the place of an object: its marker, its count and its body, and what they spell. Source: the format comment of
+-- What an object spells: what stands in the body of the head that its marker and count announce. Source: the format comment of
 -- CFBinaryPList.c.
-use Rattle.std.specs.Prelude.{◌≡◌, ℕ, ◌+◌, ◌*◌, ◌^◌, ◌<◌, ◌≤◌, ◌⊎◌, List, [], ◌∷◌, ◌++◌, length, drop, true, false, ⊤}
+use Rattle.std.specs.Prelude.{◌≡◌, ℕ, ◌+◌, ◌*◌, ◌<◌, ◌≤◌, List, [], ◌++◌, length, true, false, ⊤}
 use Rattle.std.specs.List.{AllByRecursion}
-use Rattle.bplist_octets.specs.Octets.{part, num}
+use Rattle.bplist_octets.specs.Octets.{part}
 use Rattle.bplist_objects.specs.declared.frame.Frame.{Frame}
 use Rattle.bplist_objects.specs.declared.kind.Kind.{Kind}
 use Rattle.bplist_objects.specs.declared.kind.Kind.TheVariants as kinds
 use Rattle.bplist_objects.specs.declared.head.Head.{Head}
 use Rattle.bplist_objects.specs.Numbers.{integer, num_at, nums_at}
 use Rattle.bplist_objects.specs.Frame.{off}
+use Rattle.bplist_objects.specs.Announced.{HasHead}
 use Rattle.bplist_objects.specs.Value.{Leaf, null, boolean, int, real, date, bytes, text, uid}
-
--- a marker of this high half with its count: in the low half, or in an integer object behind it
-abbrev pub IsCount : ℕ → ℕ → List ℕ → Type 0
-IsCount high count front =
-    ((count < 15) × (front ≡ (16 * high + count) ∷ []))
-    ⊎ ((w : ℕ) × (l : List ℕ) × (w ≤ 4) × (length l ≡ 2 ^ w) × (num l ≡ count) × (front ≡ (16 * high + 15) ∷ (16 + w) ∷ l))
-
--- what precedes the body of an object of this kind: marker, and count if the marker does not hold it
-abbrev pub IsFront : Kind → ℕ → List ℕ → Type 0
-IsFront kinds.Null count front = (count ≡ 0) × (front ≡ 0 ∷ [])
-IsFront kinds.False count front = (count ≡ 0) × (front ≡ 8 ∷ [])
-IsFront kinds.True count front = (count ≡ 0) × (front ≡ 9 ∷ [])
-IsFront kinds.Int count front = (w : ℕ) × (w ≤ 4) × (count ≡ 2 ^ w) × (front ≡ (16 + w) ∷ [])
-IsFront kinds.Real count front = (w : ℕ) × (2 ≤ w) × (w ≤ 3) × (count ≡ 2 ^ w) × (front ≡ (32 + w) ∷ [])
-IsFront kinds.Date count front = (count ≡ 8) × (front ≡ 51 ∷ [])
-IsFront kinds.Bytes count front = IsCount 4 count front
-IsFront kinds.Ascii count front = IsCount 5 count front
-IsFront kinds.Wide count front = IsCount 6 count front
-IsFront kinds.Uid count front = (1 ≤ count) × (count ≤ 16) × (front ≡ (127 + count) ∷ [])
-IsFront kinds.Array count front = IsCount 10 count front
-IsFront kinds.Set count front = IsCount 12 count front
-IsFront kinds.Dict count front = IsCount 13 count front
-
--- how many bytes of the body each of the count takes
-abbrev pub unit : ℕ → Kind → ℕ
-unit ref_size kinds.Wide = 2
-unit ref_size kinds.Array = ref_size
-unit ref_size kinds.Set = ref_size
-unit ref_size kinds.Dict = 2 * ref_size
-unit ref_size _ = 1
 
 -- what an object spells: a leaf, or a container with the numbers of its references
 pub data Content : Type 0 where
@@ -58,14 +29,10 @@ refs (dict ks ms) = ks ++ ms
 module _ (f : List ℕ) (F : Frame) where
   -- object n has this head between place 8 and the table: rules 14 to 17
   pub record HasShape (n : ℕ) (head : Head) : Type 0 where
-    pub front : List ℕ
-    pub rest : List ℕ
     pub low : 8 ≤ off f F n
-    pub spelled : drop (off f F n) f ≡ front ++ rest
-    pub is_front : IsFront head.kind head.count front
-    pub body : head.body ≡ off f F n + length front
-    pub end : head.end ≡ head.body + head.count * unit F.ref_size head.kind
-    pub inside : head.end ≤ F.table
+    pub has : HasHead f F n head
+    pub within : head.body ≤ length f
+    pub inside : head.«end» ≤ F.table
 
   -- what a body of this kind and count at this place means
   abbrev pub content_of : Kind → ℕ → ℕ → Content

@@ -1,6 +1,6 @@
 -- The rules 14 to 20 of an object by itself: how each is kept, and how it is broken and where. Source: the format comment of
 -- CFBinaryPList.c; all words, places and the order are profile.
-use Rattle.std.specs.Prelude.{◌≡◌, ◌⊎◌, ℕ, ◌+◌, ◌*◌, ◌<◌, ◌≤◌, List, [], ◌∷◌, ◌++◌, slice_index, Option, Some}
+use Rattle.std.specs.Prelude.{◌≡◌, ℕ, ◌+◌, ◌*◌, ◌<◌, ◌≤◌, List, [], ◌∷◌, ◌++◌, slice_index, Option, Some, IsSome}
 use Rattle.bplist_objects.specs.declared.rule.Rule.{Rule}
 use Rattle.bplist_objects.specs.declared.rule.Rule.TheVariants.{OffsetLow, Marker, Count, Extent, NotAscii, UidLarge, RefHigh}
 use Rattle.bplist_objects.specs.declared.fault.Fault.{Fault}
@@ -13,7 +13,7 @@ use Rattle.bplist_objects.specs.Frame.{off}
 use Rattle.bplist_objects.specs.Rules.{IsFirstFault}
 use Rattle.bplist_objects.specs.Scan.{AreBelow, IsFirstNotBelow}
 use Rattle.bplist_objects.specs.Safe.{ref_count}
-use Rattle.bplist_objects.specs.Announced.{IsMarker, IsLong, IsCountForm, HasHead}
+use Rattle.bplist_objects.specs.Announced.{IsMarker, head_found, HasHead}
 
 -- rules 14 to 17 in order
 abbrev pub shape_rules : List Rule
@@ -27,16 +27,14 @@ body_rules = NotAscii ∷ UidLarge ∷ RefHigh ∷ []
 abbrev pub object_rules : List Rule
 object_rules = shape_rules ++ body_rules
 
--- object n keeps this rule
+-- object n keeps this rule, where it keeps those of marker and count before
 abbrev pub KeepsByObject : List ℕ → Frame → ℕ → Rule → Type 0
 KeepsByObject f F n OffsetLow = 8 ≤ off f F n
 KeepsByObject f F n Marker = IsMarker (slice_index f (off f F n))
-KeepsByObject f F n Count =
-    IsLong (slice_index f (off f F n)) → off f F n + 1 < F.table
-    → IsCountForm (slice_index f (off f F n + 1))
+KeepsByObject f F n Count = IsMarker (slice_index f (off f F n)) → off f F n + 1 < F.table → IsSome (head_found f F n)
 KeepsByObject f F n Extent =
-    (IsLong (slice_index f (off f F n)) → off f F n + 1 < F.table)
-    × ((head : Head) → HasHead f F n head → head.«end» ≤ F.table)
+    IsMarker (slice_index f (off f F n)) → (off f F n + 1 < F.table → IsSome (head_found f F n))
+    → (head : Head) × HasHead f F n head × (head.«end» ≤ F.table)
 KeepsByObject f F n NotAscii =
     (head : Head) → HasHead f F n head → head.kind ≡ kinds.Ascii → AreBelow f head.body 1 head.count 128
 KeepsByObject f F n UidLarge =
@@ -47,30 +45,22 @@ KeepsByObject f F n RefHigh =
     → AreBelow f head.body F.ref_size (ref_count head.kind head.count) F.objects
 KeepsByObject f F n _ = Unit {0}
 
+-- where object n breaks a rule of 14 to 17, or rule 19
+abbrev pub place_of : List ℕ → Frame → ℕ → Rule → ℕ
+place_of f F n OffsetLow = F.table + n * F.offset_size
+place_of f F n Count = off f F n + 1
+place_of f F n _ = off f F n
+
 -- object n breaks this rule at this place
 abbrev pub BreaksByObject : List ℕ → Frame → ℕ → Rule → ℕ → Type 0
-BreaksByObject f F n OffsetLow place =
-    (off f F n < 8) × (place ≡ F.table + n * F.offset_size)
-BreaksByObject f F n Marker place =
-    (IsMarker (slice_index f (off f F n)) → ⊥) × (place ≡ off f F n)
-BreaksByObject f F n Count place =
-    IsLong (slice_index f (off f F n)) × (off f F n + 1 < F.table)
-    × (IsCountForm (slice_index f (off f F n + 1)) → ⊥) × (place ≡ off f F n + 1)
-BreaksByObject f F n Extent place =
-    ((IsLong (slice_index f (off f F n)) × (F.table ≤ off f F n + 1))
-    ⊎ ((head : Head) × HasHead f F n head × (F.table < head.«end»)))
-    × (place ≡ off f F n)
 BreaksByObject f F n NotAscii place =
     (head : Head) × (i : ℕ) × HasHead f F n head × (head.kind ≡ kinds.Ascii)
     × IsFirstNotBelow f head.body 1 head.count 128 i × (place ≡ head.body + i)
-BreaksByObject f F n UidLarge place =
-    (head : Head) × HasHead f F n head × (head.kind ≡ kinds.Uid)
-    × (4294967295 < num_at f head.body head.count) × (place ≡ off f F n)
 BreaksByObject f F n RefHigh place =
     (head : Head) × (i : ℕ) × HasHead f F n head
     × IsFirstNotBelow f head.body F.ref_size (ref_count head.kind head.count) F.objects i
     × (place ≡ head.body + i * F.ref_size)
-BreaksByObject f F n _ place = ⊥
+BreaksByObject f F n rule place = (KeepsByObject f F n rule → ⊥) × (place ≡ place_of f F n rule)
 
 -- the same, if this is the object named
 abbrev pub BreaksAt : List ℕ → Frame → ℕ → Rule → Option ObjectNo → ℕ → Type 0

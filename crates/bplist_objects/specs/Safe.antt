@@ -1,10 +1,10 @@
 -- With which frames and heads the parts of a file can be read, whatever its source gives. Source: profile.
-use Rattle.std.specs.Prelude.{◌≡◌, ℕ, ◌+◌, ◌*◌, ◌^◌, ◌<◌, ◌≤◌, List, [], ◌∷◌}
+use Rattle.std.specs.Prelude.{◌≡◌, ℕ, ◌+◌, ◌*◌, ◌<◌, ◌≤◌, List, [], ◌∷◌}
 use Rattle.bplist_objects.specs.declared.frame.Frame.{Frame}
 use Rattle.bplist_objects.specs.declared.head.Head.{Head}
 use Rattle.bplist_objects.specs.declared.kind.Kind.{Kind}
 use Rattle.bplist_objects.specs.declared.kind.Kind.TheVariants as kinds
-use Rattle.bplist_objects.specs.Heads.{unit}
+use Rattle.bplist_objects.specs.Announced.{Form, plain, counted, form_of, unit}
 
 -- frame and length allow reading: sizes are 1 to 8, the table lies within
 pub record IsSafe (len : ℕ) (frame : Frame) : Type 0 where
@@ -20,16 +20,14 @@ pub record IsSafeFrame (len : ℕ) (frame : Frame) : Type 0 where
   pub top : frame.top.0 < frame.objects
   pub table : 9 ≤ frame.table
 
+-- the counts that markers of a form may say
+abbrev pub IsSaid : Form → ℕ → Type 0
+IsSaid (plain low high says) count = (marker : ℕ) × (low ≤ marker) × (marker ≤ high) × (count ≡ says marker)
+IsSaid (counted high) count = Unit {0}
+
 -- the counts that a kind may have
 abbrev pub MayCount : Kind → ℕ → Type 0
-MayCount kinds.Null count = count ≡ 0
-MayCount kinds.False count = count ≡ 0
-MayCount kinds.True count = count ≡ 0
-MayCount kinds.Int count = (w : ℕ) × (w ≤ 4) × (count ≡ 2 ^ w)
-MayCount kinds.Real count = (w : ℕ) × (2 ≤ w) × (w ≤ 3) × (count ≡ 2 ^ w)
-MayCount kinds.Date count = count ≡ 8
-MayCount kinds.Uid count = (1 ≤ count) × (count ≤ 16)
-MayCount _ count = Unit {0}
+MayCount kind count = IsSaid (form_of kind) count
 
 -- how many references a head has
 abbrev pub ref_count : Kind → ℕ → ℕ

@@ -3,9 +3,9 @@
 ghost use Rattle.std.specs.Prelude.{◌≡◌, ℕ, ◌^◌, ◌≤◌, ◌<◌, List, length, IfOk, MatchResult};
 ghost use Rattle.bplist_octets.specs.Octets.{part, num};
 ghost use Rattle.bplist_octets.specs.Meaning.{OnlyReads, Honestly};
-ghost use Rattle.bplist_objects.specs.Frame.{trailer as spelled, IsFrame};
+ghost use Rattle.bplist_objects.specs.Frame.{trailer as spelled, Keeps, IsFrame, number_rules};
 ghost use Rattle.bplist_objects.specs.Rules.{KeepsAll, IsFirstFault};
-ghost use Rattle.bplist_objects.specs.FrameRules.{Keeps, Breaks, IsTrailer, IsTrailerFault, IsFrameFault, number_rules};
+ghost use Rattle.bplist_objects.specs.FrameRules.{Breaks, IsTrailer, IsTrailerFault, IsFrameFault};
 ghost use Rattle.bplist_objects.specs.Safe.{IsSafeFrame};
 ghost use Rattle.bplist_objects.specs.Trailer.{told};
 ghost use Rattle.bplist_objects.specs.declared.rule.Rule.TheVariants.{Magic};

@@ -1,8 +1,7 @@
 //! The kinds of objects and their markers.
 
 ghost use Rattle.std.specs.Prelude.{◌≡◌, ◌≤◌, MatchOption};
-ghost use Rattle.bplist_objects.specs.Announced.{Marks, IsMarker};
-ghost use Rattle.bplist_objects.specs.Heads.{unit};
+ghost use Rattle.bplist_objects.specs.Announced.{Marks, IsMarker, unit};
 
 /// The kind of an object.
 #[derive(Clone, Copy, Debug, PartialEq, Eq, Drop)]

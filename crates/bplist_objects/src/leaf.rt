@@ -4,7 +4,7 @@ ghost use Rattle.std.specs.Prelude.{◌≡◌, ◌⊎◌, ◌+◌, ◌*◌, ◌^
 ghost use Rattle.bplist_octets.specs.Octets.{part};
 ghost use Rattle.bplist_octets.specs.Meaning.{OnlyReads, Honestly};
 ghost use Rattle.bplist_objects.specs.Numbers.{integer, num_at};
-ghost use Rattle.bplist_objects.specs.Heads.{unit};
+ghost use Rattle.bplist_objects.specs.Announced.{unit};
 ghost use Rattle.bplist_objects.specs.Kinds.{IsLeafKind};
 ghost use Rattle.bplist_objects.specs.Safe.{IsSafeBody};
 ghost use Rattle.bplist_objects.specs.declared.kind.Kind.TheVariants.{Int, Uid};

@@ -3,7 +3,7 @@ use Rattle.std.proofs.lemmas.Bool.{false≢true}
 use Rattle.std.proofs.lemmas.Result.{IfOk-weaker}
 use Rattle.bplist_objects.specs.declared.frame.Frame.{Frame}
 use Rattle.bplist_objects.specs.Framed.{frame_in}
-use Rattle.bplist_objects.specs.Heads.{unit}
+use Rattle.bplist_objects.specs.Announced.{unit}
 use Rattle.bplist_objects.specs.ObjectRules.{KeepsByObject, BreaksAt, shape_rules, body_rules}
 use Rattle.bplist_objects.proofs.RuleLaws.{first_fault_among}
 use Rattle.bplist_objects.proofs.Units.{text_kind}

@@ -1,7 +1,7 @@
 use Rattle.std.proofs.Common.{arith, subst, ◌≤◌, ◌+◌, ◌*◌}
 use Rattle.bplist_objects.specs.declared.frame.Frame.{Frame}
 use Rattle.bplist_objects.specs.Framed.{frame_in}
-use Rattle.bplist_objects.specs.Heads.{unit}
+use Rattle.bplist_objects.specs.Announced.{unit}
 use Rattle.bplist_cursor.proofs.ObjectSteps.{bytes_form}
 use Rattle.bplist_cursor.proofs.object_sizes.leaf_form.Goals as goal
 

@@ -5,7 +5,7 @@ use Rattle.bplist_cursor.specs.Nodes.{cap}
 use Rattle.bplist_cursor.specs.Texts.{is_plain, quoted_unit}
 use Rattle.bplist_octets.specs.Octets.{part}
 use Rattle.bplist_objects.specs.Units.{units_of}
-use Rattle.bplist_objects.specs.Heads.{unit}
+use Rattle.bplist_objects.specs.Announced.{unit}
 use Rattle.bplist_objects.proofs.Units.{length-units_at}
 use Rattle.bplist_cursor.proofs.LengthSteps.{plain_more, quoted_more, plain_length, quoted_text_length}
 use Rattle.bplist_cursor.proofs.text_length.text_length.Goals.{else-plain-via-then-plain+else-head-gt0, else-plain-via-else-plain}

@@ -3,6 +3,7 @@ use Rattle.std.proofs.lemmas.Result.{err_from_is_err_and}
 use Rattle.bplist_objects.specs.declared.frame.Frame.{Frame}
 use Rattle.bplist_objects.specs.Framed.{frame_in}
 use Rattle.bplist_objects.proofs.FirstFaults.{no_shape}
+use Rattle.bplist_objects.proofs.FrameTies.{numbered}
 use Rattle.bplist_lint.proofs.KeyLists.{have_ranks}
 use Rattle.bplist_cert.proofs.AcceptedCertificates.{vouched_shape, vouched_keys}
 use Rattle.bplist_lint.proofs.ListSteps.{listed_other, listed_dict, listed_room}
@@ -28,7 +29,7 @@ returns-then-head-start-clause-exact g c = λ honest named heights starts ranked
     let o = valid.vouched n v in
     let begin : c.len-start.result ≡ length c.args.lists.now.positions.items = omega (arith, c.args.lists.now.positions.ok.0, c.len-start.ensures) in
     let fits = listed_room f F heights n starts c.args.lists.now.positions.items l v room head shape o.content o.spells c.in-Dict.is valid.frame.ref_size.0 valid.room in
-    omega (arith, fits, begin, valid.frame.table_late, valid.frame.large, c.if-head-start.true)
+    omega (arith, fits, begin, (numbered valid.frame).table_late, (numbered valid.frame).large, c.if-head-start.true)
 
 pub returns-in_err-list-in-Dict-clause-exact : goal.returns-in_err-list-in-Dict-clause-exact
 returns-in_err-list-in-Dict-clause-exact g c = λ honest named heights starts ranked given valid v room l.

@@ -2,7 +2,7 @@ use Rattle.std.proofs.Common.{◌≡◌, ◌+◌, ◌*◌, ◌-◌, ◌≤◌, �
 use Rattle.std.proofs.lemmas.Bool.{cases_lt}
 use Rattle.std.proofs.lemmas.List.{length-take-le}
 use Rattle.bplist_octets.specs.Octets.{part}
-use Rattle.bplist_objects.specs.Heads.{unit}
+use Rattle.bplist_objects.specs.Announced.{unit}
 use Rattle.bplist_objects.specs.Units.{units_of, compare_units}
 use Rattle.bplist_objects.proofs.Units.{length-units_at}
 use Rattle.bplist_objects.proofs.UnitOrder.{block_decides, block_same, lengths_decide, ne_not_equal, eq_is_equal}

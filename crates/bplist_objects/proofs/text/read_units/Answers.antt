@@ -1,5 +1,5 @@
 use Rattle.std.proofs.Common.{◌+◌, ◌*◌, ◌≤◌, arith, length, Result, Ok, Err, OnOk}
-use Rattle.bplist_objects.specs.Heads.{unit}
+use Rattle.bplist_objects.specs.Announced.{unit}
 use Rattle.bplist_objects.proofs.Units.{units_part}
 use Rattle.bplist_objects.proofs.text.read_units.Goals as goal
 
