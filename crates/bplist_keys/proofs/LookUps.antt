@@ -2,7 +2,8 @@
 use Rattle.std.proofs.Common.{◌≡◌, ◌≢◌, ℕ, ◌+◌, ◌-◌, ◌<◌, ◌≤◌, List, set, slice_index, Option, Some, None, MatchOption, IfSome, sym, ap, ◌∙◌, subst, inl, inr, arith}
 use Rattle.std.proofs.lemmas.Bool.{cases_eq}
 use Rattle.std.proofs.lemmas.List.{get_or-set_same, get_or-set_other}
-use Rattle.bplist_keys.specs.Classes.{IsFound, IsStamped, IsNew, AreApart, IsFirstAgain, AreSeen, HaveClasses}
+use Rattle.bplist_keys.specs.Classes.{IsFound, IsStamped, IsNew, AreApart, AreSeen, HaveClasses}
+use Rattle.bplist_keys.specs.Claims.{FailsAt}
 use Rattle.bplist_keys.specs.declared.class_table.Found.{Found}
 use Rattle.bplist_keys.specs.declared.class_table.Found.TheVariants.{NoText, First, Again}
 
@@ -49,15 +50,15 @@ module _ (key : ℕ → ℕ) (classes : List ℕ) (n k : ℕ) (seen : List ℕ) 
       old : (x : ℕ) → x ≢ slice_index classes (key k) - 1 → slice_index (set seen (slice_index classes (key k) - 1) (n + 1)) x ≡ slice_index seen x
       old x d = get_or-set_other seen (slice_index classes (key k) - 1) x (n + 1) 0 d
 
-      first_still : (again : Option ℕ) → MatchOption again (AreApart key classes k) (λ j. (j < k) × IsFirstAgain key classes j)
-          → MatchOption again (AreApart key classes (k + 1)) (λ j. (j < k + 1) × IsFirstAgain key classes j)
+      first_still : (again : Option ℕ) → MatchOption again (AreApart key classes k) (FailsAt (AreApart key classes) k)
+          → MatchOption again (AreApart key classes (k + 1)) (FailsAt (AreApart key classes) (k + 1))
       first_still None apart = λ i j low high. elim (cases_eq j k) [
         | inl e ↦ λ same.
             let here : slice_index classes (key i) ≡ slice_index classes (key k) = same ∙ ap (λ x. slice_index classes (key x)) e in
             found.1 (ap (λ c. slice_index seen (c - 1)) (sym here) ∙ s.stamped i (omega (arith, low, e)))
         | inr d ↦ apart i j low (omega (arith, high, d))
       ]
-      first_still (Some j) h = (omega (arith, h.0), h.1)
+      first_still (Some j) h = (omega (arith, h.0), h.1, h.2)
 
   -- a text with units that were there before
   pub seen_again : (seen' : List ℕ) (e : ℕ) → IsFound classes n (key k) seen Again seen' → MatchOption again (e ≡ k) (λ j. e ≡ j) → AreSeen key classes n seen' (k + 1) (Some e)
@@ -71,19 +72,13 @@ module _ (key : ℕ → ℕ) (classes : List ℕ) (n k : ℕ) (seen : List ℕ) 
     first = first_now again s.first which;
   })
     where
-      first_now : (again : Option ℕ) → MatchOption again (AreApart key classes k) (λ j. (j < k) × IsFirstAgain key classes j) → MatchOption again (e ≡ k) (λ j. e ≡ j)
-          → (e < k + 1) × IsFirstAgain key classes e
+      first_now : (again : Option ℕ) → MatchOption again (AreApart key classes k) (FailsAt (AreApart key classes) k) → MatchOption again (e ≡ k) (λ j. e ≡ j)
+          → FailsAt (AreApart key classes) (k + 1) e
       first_now None apart is =
-          let o = s.only (slice_index classes (key k) - 1) found.1 in (
-            omega (arith, is),
-            subst (IsFirstAgain key classes) (sym is) (record {
-              earlier = o.0;
-              order = o.1;
-              same = omega (arith, o.2, found.0);
-              before = apart;
-            }),
-          )
-      first_now (Some j) h is = (omega (arith, h.0, is), subst (IsFirstAgain key classes) (sym is) h.1)
+          let o = s.only (slice_index classes (key k) - 1) found.1 in
+          subst (FailsAt (AreApart key classes) (k + 1)) (sym is)
+          (omega arith, apart, λ more. more o.0 k o.1 (omega arith) (omega (arith, o.2, found.0)))
+      first_now (Some j) h is = subst (FailsAt (AreApart key classes) (k + 1)) (sym is) (omega (arith, h.0), h.1, h.2)
 
 -- one look at a key of dictionary n stamps with its number alone
 pub stamped_more : (classes : List ℕ) (n m : ℕ) (first seen : List ℕ) → IsStamped n first seen → (found : Found) (seen' : List ℕ) → IsFound classes n m seen found seen' → IsStamped n first seen'

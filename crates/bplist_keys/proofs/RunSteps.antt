@@ -1,7 +1,7 @@
 -- Texts that agree by a run, and runs of texts that agree.
-use Rattle.std.proofs.Common.{◌≡◌, ℕ, ◌+◌, ◌*◌, ◌<◌, ◌≤◌, inl, inr, List, length, set, slice_index, replicate, take, refl, sym, ap, subst, ◌∙◌, arith}
-use Rattle.std.proofs.lemmas.Bool.{cases_eq, cases_lt}
-use Rattle.std.proofs.lemmas.List.{ext_get_or, get_or-take, length-take-le, get_or-set_same, get_or-set_other, get_or-replicate, get_or_past, length-replicate}
+use Rattle.std.proofs.Common.{◌≡◌, ℕ, ◌+◌, ◌*◌, ◌<◌, ◌≤◌, List, length, slice_index, replicate, take, refl, sym, ap, subst, ◌∙◌, arith}
+use Rattle.std.proofs.lemmas.List.{ext_get_or, get_or-take, length-take-le}
+use Rattle.std.proofs.lemmas.List.Elements.{All-replicate}
 use Rattle.bplist_objects.specs.declared.head.Head.{Head}
 use Rattle.bplist_objects.specs.Announced.{unit}
 use Rattle.bplist_objects.specs.Scan.{nth_number}
@@ -11,7 +11,7 @@ use Rattle.bplist_objects.proofs.ScanLaws.{nth_number-behind}
 use Rattle.bplist_objects.proofs.Units.{length-units_at, nth-units_at}
 use Rattle.bplist_keys.specs.declared.runs.Run.{Run}
 use Rattle.bplist_keys.specs.Notes.{Agree}
-use Rattle.bplist_keys.specs.Runs.{IsRun, run_at, AreRuns}
+use Rattle.bplist_keys.specs.Runs.{IsRun, AreRuns}
 
 -- no run
 abbrev pub no_run : Run
@@ -21,19 +21,9 @@ no_run = record { size = 0; apart = 0; from = 0; units = 0 }
 pub agree_none : (us vs : List ℕ) (n : ℕ) → n ≤ 0 → Agree n us vs
 agree_none us vs n none = let e : 0 ≡ n = omega (arith, none) in subst (λ k. Agree k us vs) e refl
 
--- a run that is put
-pub runs_put : (f : List ℕ) (rows : List Run) (r : ℕ) (run : Run) → r < length rows → AreRuns f rows → IsRun f run → AreRuns f (set rows r run)
-runs_put f rows r run within old new i = elim (cases_eq i r) [
-  | inl e ↦ subst (λ j. IsRun f (run_at (set rows r run) j)) (sym e) (subst (IsRun f) (sym (get_or-set_same rows r run no_run within)) new)
-  | inr d ↦ subst (IsRun f) (sym (get_or-set_other rows r i run no_run d)) (old i)
-]
-
 -- a table without runs
 pub runs_none : (f : List ℕ) (n : ℕ) → AreRuns f (replicate n no_run)
-runs_none f n i = elim (cases_lt i n) [
-  | inl within ↦ subst (IsRun f) (sym (get_or-replicate n i no_run no_run within)) (λ k l. absurd (omega (arith, l)))
-  | inr past ↦ subst (IsRun f) (sym (get_or_past (replicate n no_run) i no_run (omega (arith, past, length-replicate {A = Run} n no_run)))) (λ k l. absurd (omega (arith, l)))
-]
+runs_none f n = All-replicate (IsRun f) n no_run (λ k l. absurd (omega (arith, l)))
 
 module _ (f : List ℕ) (a b : Head) (a_kind : IsTextKind a.kind) (b_kind : IsTextKind b.kind) (a_safe : IsSafeBody (length f) a) (b_safe : IsSafeBody (length f) b) where
   a_room : a.body + a.count * unit 1 a.kind ≤ length f

@@ -1,17 +1,18 @@
 -- Weights of texts.
-use Rattle.std.proofs.Common.{◌≡◌, ℕ, ◌<◌, max, List, slice_index, sym, ap, ◌∙◌, subst, arith}
+use Rattle.std.proofs.Common.{◌≡◌, ℕ, ◌<◌, max, List, [], slice_index, sym, ap, ◌∙◌, subst, arith}
+use Rattle.std.specs.Option.{option_map_or}
 use Rattle.bplist_objects.specs.declared.frame.Frame.{Frame}
 use Rattle.bplist_objects.specs.declared.head.Head.{Head}
 use Rattle.bplist_objects.specs.Units.{units_of}
 use Rattle.bplist_objects.proofs.HeadTies.{shape_announced}
 use Rattle.bplist_keys.specs.declared.weight.Weight.TheVariants.{Fingerprint, Prefix}
-use Rattle.bplist_keys.specs.Texts.{IsTextHead, units_found, text_units}
+use Rattle.bplist_keys.specs.Texts.{IsTextHead, text_units}
 use Rattle.bplist_keys.specs.Weights.{fingerprint, prefix, Weighs}
 
 module _ (f : List ℕ) (F : Frame) (m : ℕ) (key : Head) (text : IsTextHead f F m key) where
   -- the units of a text are those of its head
   pub text_units-head : text_units f F m ≡ units_of f key
-  text_units-head = ap (units_found f) (shape_announced f F m key text.0)
+  text_units-head = ap (λ found. option_map_or (units_of f) found []) (shape_announced f F m key text.0)
 
   pub weighs-fingerprint : (x : ℕ) → x ≡ fingerprint (units_of f key) → Weighs f F Fingerprint m (max x 1)
   weighs-fingerprint x is =

@@ -6,6 +6,7 @@ use Rattle.bplist_objects.specs.declared.kind.Kind.TheVariants.{Dict}
 use Rattle.bplist_objects.specs.Announced.{HasHead}
 use Rattle.bplist_objects.specs.Scan.{nth_number}
 use Rattle.bplist_keys.specs.Marks.{IsMarked}
+use Rattle.bplist_keys.specs.Claims.{FailsAt}
 use Rattle.bplist_keys.specs.Texts.{HasTextShape, text_units}
 use Rattle.bplist_keys.specs.declared.class_table.Found.{Found}
 use Rattle.bplist_keys.specs.declared.class_table.Found.TheVariants as founds
@@ -56,24 +57,17 @@ module _ (key : ℕ → ℕ) (classes : List ℕ) where
   abbrev pub HaveClasses : ℕ → Type 0
   HaveClasses count = (i : ℕ) → i < count → 0 < slice_index classes (key i)
 
-  -- key j is the first that has the class of an earlier one
-  pub record IsFirstAgain (j : ℕ) : Type 0 where
-    pub earlier : ℕ
-    pub order : earlier < j
-    pub same : slice_index classes (key earlier) ≡ slice_index classes (key j)
-    pub before : AreApart j
-
   -- the first so many keys of dictionary n have been looked at
   pub record AreSeen (n : ℕ) (seen : List ℕ) (count : ℕ) (again : Option ℕ) : Type 0 where
     pub texts : HaveClasses count
     pub stamped : (i : ℕ) → i < count → slice_index seen (slice_index classes (key i) - 1) ≡ n + 1
     pub only : (x : ℕ) → slice_index seen x ≡ n + 1 → (i : ℕ) × (i < count) × (slice_index classes (key i) ≡ x + 1)
-    pub first : MatchOption again (AreApart count) (λ j. (j < count) × IsFirstAgain j)
+    pub first : MatchOption again (AreApart count) (FailsAt AreApart count)
 
-  -- what is wrong with so many keys
+  -- what is wrong with so many keys first: one has no class, or all have one and one has that of an earlier key
   abbrev pub IsWrong : ℕ → Wrong → Type 0
-  IsWrong count (wrongs.NoText i) = (i < count) × (slice_index classes (key i) ≡ 0) × HaveClasses i
-  IsWrong count (wrongs.Again j) = (j < count) × HaveClasses count × IsFirstAgain j
+  IsWrong count (wrongs.NoText i) = FailsAt HaveClasses count i
+  IsWrong count (wrongs.Again j) = HaveClasses count × FailsAt AreApart count j
 
 -- the number of the key that is wrong
 abbrev pub wrong_key : Wrong → ℕ

@@ -1,4 +1,5 @@
 pub mod Marks
+pub mod Claims
 pub mod Order
 pub mod Texts
 pub mod Weights

@@ -12,9 +12,8 @@ use Rattle.bplist_keys.specs.Weighted.{AreOrdered}
 
 module _ (f : List ℕ) (F : Frame) (named : List Bool) (numbers : List ℕ) where
   -- exactly the named objects with the head of a text have a number above 0
-  pub record AreGiven : Type 0 where
-    pub only : (m : ℕ) → 0 < slice_index numbers m → IsMarked named m × HasTextShape f F m
-    pub all : (m : ℕ) → IsMarked named m → HasTextShape f F m → 0 < slice_index numbers m
+  abbrev pub AreGiven : Type 0
+  AreGiven = (m : ℕ) → (0 < slice_index numbers m) ↔ (IsMarked named m × HasTextShape f F m)
 
   -- besides, two numbers are equal exactly where the units are
   pub record AreClasses : Type 0 where

@@ -1,6 +1,7 @@
 -- Objects whose marker and count are those of a text, and their units. Source: the format comment of CFBinaryPList.c; that a key
 -- is looked at by these alone is profile.
-use Rattle.std.specs.Prelude.{◌≡◌, ℕ, ◌<◌, List, [], slice_index, Option, Some, None}
+use Rattle.std.specs.Prelude.{◌≡◌, ℕ, ◌<◌, List, [], slice_index}
+use Rattle.std.specs.Option.{option_map_or}
 use Rattle.bplist_objects.specs.declared.frame.Frame.{Frame}
 use Rattle.bplist_objects.specs.declared.head.Head.{Head}
 use Rattle.bplist_objects.specs.Frame.{off}
@@ -20,11 +21,6 @@ IsTextHead f F m head = HasShape f F m head × IsTextKind head.kind
 abbrev pub HasTextShape : List ℕ → Frame → ℕ → Type 0
 HasTextShape f F m = (head : Head) × IsTextHead f F m head
 
--- the units of the text with this head, if one was found
-abbrev pub units_found : List ℕ → Option Head → List ℕ
-units_found f None = []
-units_found f (Some head) = units_of f head
-
 -- the units of object m, if it has the head of a text
 abbrev pub text_units : List ℕ → Frame → ℕ → List ℕ
-text_units f F m = units_found f (head_found f F m)
+text_units f F m = option_map_or (units_of f) (head_found f F m) []
