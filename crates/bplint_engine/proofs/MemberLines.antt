@@ -1,12 +1,12 @@
 -- The lines of the members of containers.
-use Rattle.std.proofs.Common.{◌≡◌, ◌<◌, ◌+◌, ◌-◌, ◌*◌, ◌++◌, ◌∷◌, [], ◌∙◌, ℕ, zero, suc, List, length, Some, ap, append_assoc, append-nil, arith, refl, sym}
+use Rattle.std.proofs.Common.{◌≡◌, ◌<◌, ◌+◌, ◌-◌, ◌*◌, ◌++◌, ◌∷◌, [], ◌∙◌, ℕ, zero, suc, List, length, slice_get, Some, ap, append_assoc, append-nil, arith, refl, sym}
 use Rattle.bplist_objects.specs.Value.{Value, leaf, array, set, dict, text, Values, no_values, value, Pairs, no_pairs, pair, keys}
 use Rattle.bplist_cursor.specs.declared.faces.Face.{Face}
 use Rattle.bplist_cursor.specs.declared.faults.CursorFault.{CursorFault}
 use Rattle.bplist_cursor.specs.declared.faults.CursorFault.TheVariants as cursor_faults
 use Rattle.bplist_cursor.specs.Causes as cursor
-use Rattle.bplist_cursor.specs.Members.{nth_value, nth_of_pairs, member_of}
-use Rattle.bplist_cursor.specs.Replies.{count, face}
+use Rattle.bplist_cursor.specs.Members.{members, in_turn, member_of}
+use Rattle.bplist_cursor.specs.Replies.{face}
 use Rattle.bplint_engine.specs.declared.member_lines.Members.{Members}
 use Rattle.bplint_engine.specs.declared.member_lines.Members.TheVariants.{Array, Set, Dict}
 use Rattle.bplint_lines.specs.Faults.{IsExcused}
@@ -16,13 +16,13 @@ use Rattle.bplint_lines.specs.MemberNames.{bracketed, index_name, key_name}
 use Rattle.bplint_lines.specs.OutputLines.{face_line}
 
 -- each member of an array or a set is there
-item_there : (vs : Values) (n i : ℕ) → count vs ≡ n → i < n → (m : Value) × (nth_value vs i ≡ Some m)
+item_there : (vs : Values) (n i : ℕ) → length (members vs) ≡ n → i < n → (m : Value) × (slice_get (members vs) i ≡ Some m)
 item_there no_values n i e l = absurd (omega (arith, e, l))
 item_there (value v vs) n zero e l = (v, refl)
 item_there (value v vs) n (suc i) e l = item_there vs (n - 1) i (omega (arith, e)) (omega (arith, e, l))
 
 -- each key is there
-key_there : (ps : Pairs) (n j k : ℕ) → length (keys ps) ≡ n → j < n → k ≡ 2 * j → (u : List ℕ) × (nth_of_pairs ps k ≡ Some (leaf (text u)))
+key_there : (ps : Pairs) (n j k : ℕ) → length (keys ps) ≡ n → j < n → k ≡ 2 * j → (u : List ℕ) × (slice_get (in_turn ps) k ≡ Some (leaf (text u)))
 key_there no_pairs n j k e l is = absurd (omega (arith, e, l))
 key_there (pair u v ps) n zero zero e l is = (u, refl)
 key_there (pair u v ps) n zero (suc k) e l is = absurd (omega (arith, is))
@@ -32,7 +32,7 @@ key_there (pair u v ps) n (suc j) (suc (suc k)) e l is =
     key_there ps (n - 1) j k (omega (arith, e)) (omega (arith, e, l)) (omega (arith, is))
 
 -- the value of each key is there
-value_there : (ps : Pairs) (n j k : ℕ) → length (keys ps) ≡ n → j < n → k ≡ 2 * j + 1 → (m : Value) × (nth_of_pairs ps k ≡ Some m)
+value_there : (ps : Pairs) (n j k : ℕ) → length (keys ps) ≡ n → j < n → k ≡ 2 * j + 1 → (m : Value) × (slice_get (in_turn ps) k ≡ Some m)
 value_there no_pairs n j k e l is = absurd (omega (arith, e, l))
 value_there (pair u v ps) n j zero e l is = absurd (omega (arith, is))
 value_there (pair u v ps) n zero (suc zero) e l is = (v, refl)
@@ -72,7 +72,7 @@ dict_member n i (dict ps) is l =
       there.0,
       key.1,
       there.1,
-      λ path. ap (λ k. line_of_pair path i k (nth_of_pairs ps (2 * i + 1))) key.1
+      λ path. ap (λ k. line_of_pair path i k (slice_get (in_turn ps) (2 * i + 1))) key.1
           ∙ ap (λ m. line_of_pair path i (Some (leaf (text key.0))) m) there.1,
     )
 dict_member n i (leaf x) is l = absurd is
@@ -107,52 +107,51 @@ unfolding sums
 first_sums path w zero = refl
 first_sums path w (suc n) = ap (λ l. l ++ member_line path w n) (first_sums path w n)
 
-values_summed : (name : ℕ → List ℕ) (k : ℕ) (vs : Values) → sums (λ j. line_of_member (name (k + j)) (nth_value vs j)) (count vs) ≡ value_lines name k vs
+values_summed : (name : ℕ → List ℕ) (k : ℕ) (vs : Values) → sums (λ j. line_of_member (name (k + j)) (slice_get (members vs) j)) (length (members vs)) ≡ value_lines name k vs
 unfolding sums
 values_summed name k no_values = refl
 values_summed name k (value v vs) =
-    let g = λ (j : ℕ). line_of_member (name (k + j)) (nth_value (value v vs) j) in
-    let long : 1 + count vs ≡ suc (count vs) = omega arith in
+    let g = λ (j : ℕ). line_of_member (name (k + j)) (slice_get (members (value v vs)) j) in
     let none : k + 0 ≡ k = omega arith in
-    ap (sums g) long ∙ sums_front g (count vs)
-    ∙ ap (λ l. named_line (name (k + 0)) v ++ l) (sums_same (λ j. g (suc j)) (λ j. line_of_member (name (k + 1 + j)) (nth_value vs j)) (count vs)
-    (λ j. let step : k + suc j ≡ k + 1 + j = omega arith in ap (λ x. line_of_member (name x) (nth_value vs j)) step) ∙ values_summed name (k + 1) vs)
+    sums_front g (length (members vs))
+    ∙ ap (λ l. named_line (name (k + 0)) v ++ l) (sums_same (λ j. g (suc j)) (λ j. line_of_member (name (k + 1 + j)) (slice_get (members vs) j)) (length (members vs))
+    (λ j. let step : k + suc j ≡ k + 1 + j = omega arith in ap (λ x. line_of_member (name x) (slice_get (members vs) j)) step) ∙ values_summed name (k + 1) vs)
     ∙ ap (λ x. named_line (name x) v ++ value_lines name (k + 1) vs) none
 
 pairs_summed : (path : List ℕ) (k : ℕ) (ps : Pairs)
-    → sums (λ j. line_of_pair path (k + j) (nth_of_pairs ps (2 * j)) (nth_of_pairs ps (2 * j + 1))) (length (keys ps)) ≡ pair_lines path k ps
+    → sums (λ j. line_of_pair path (k + j) (slice_get (in_turn ps) (2 * j)) (slice_get (in_turn ps) (2 * j + 1))) (length (keys ps)) ≡ pair_lines path k ps
 unfolding sums
 pairs_summed path k no_pairs = refl
 pairs_summed path k (pair u v ps) =
-    let g = λ (j : ℕ). line_of_pair path (k + j) (nth_of_pairs (pair u v ps) (2 * j)) (nth_of_pairs (pair u v ps) (2 * j + 1)) in
+    let g = λ (j : ℕ). line_of_pair path (k + j) (slice_get (in_turn (pair u v ps)) (2 * j)) (slice_get (in_turn (pair u v ps)) (2 * j + 1)) in
     let none : k + 0 ≡ k = omega arith in
     sums_front g (length (keys ps))
-    ∙ ap (λ l. named_line (key_name path (k + 0) u) v ++ l) (sums_same (λ j. g (suc j)) (λ j. line_of_pair path (k + 1 + j) (nth_of_pairs ps (2 * j)) (nth_of_pairs ps (2 * j + 1)))
+    ∙ ap (λ l. named_line (key_name path (k + 0) u) v ++ l) (sums_same (λ j. g (suc j)) (λ j. line_of_pair path (k + 1 + j) (slice_get (in_turn ps) (2 * j)) (slice_get (in_turn ps) (2 * j + 1)))
     (length (keys ps)) (λ j. let step : k + suc j ≡ k + 1 + j = omega arith in
     let key : 2 * suc j ≡ suc (suc (2 * j)) = omega arith in
     let behind : 2 * suc j + 1 ≡ suc (suc (2 * j + 1)) = omega arith in
-    (λ i. line_of_pair path (step i) (nth_of_pairs (pair u v ps) (key i)) (nth_of_pairs (pair u v ps) (behind i)))) ∙ pairs_summed path (k + 1) ps)
+    (λ i. line_of_pair path (step i) (slice_get (in_turn (pair u v ps)) (key i)) (slice_get (in_turn (pair u v ps)) (behind i)))) ∙ pairs_summed path (k + 1) ps)
     ∙ ap (λ x. named_line (key_name path x u) v ++ pair_lines path (k + 1) ps) none
 
-array_lines : (path : List ℕ) (vs : Values) → first_lines path (array vs) (count vs) ≡ value_lines (index_name path) 0 vs
+array_lines : (path : List ℕ) (vs : Values) → first_lines path (array vs) (length (members vs)) ≡ value_lines (index_name path) 0 vs
 array_lines path vs =
-    first_sums path (array vs) (count vs)
-    ∙ sums_same (member_line path (array vs)) (λ j. line_of_member (index_name path (0 + j)) (nth_value vs j)) (count vs)
-    (λ j. let same : j ≡ 0 + j = omega arith in ap (λ x. line_of_member (index_name path x) (nth_value vs j)) same)
+    first_sums path (array vs) (length (members vs))
+    ∙ sums_same (member_line path (array vs)) (λ j. line_of_member (index_name path (0 + j)) (slice_get (members vs) j)) (length (members vs))
+    (λ j. let same : j ≡ 0 + j = omega arith in ap (λ x. line_of_member (index_name path x) (slice_get (members vs) j)) same)
     ∙ values_summed (index_name path) 0 vs
 
-set_lines : (path : List ℕ) (vs : Values) → first_lines path (set vs) (count vs) ≡ value_lines bracketed 0 vs
+set_lines : (path : List ℕ) (vs : Values) → first_lines path (set vs) (length (members vs)) ≡ value_lines bracketed 0 vs
 set_lines path vs =
-    first_sums path (set vs) (count vs)
-    ∙ sums_same (member_line path (set vs)) (λ j. line_of_member (bracketed (0 + j)) (nth_value vs j)) (count vs)
-    (λ j. let same : j ≡ 0 + j = omega arith in ap (λ x. line_of_member (bracketed x) (nth_value vs j)) same)
+    first_sums path (set vs) (length (members vs))
+    ∙ sums_same (member_line path (set vs)) (λ j. line_of_member (bracketed (0 + j)) (slice_get (members vs) j)) (length (members vs))
+    (λ j. let same : j ≡ 0 + j = omega arith in ap (λ x. line_of_member (bracketed x) (slice_get (members vs) j)) same)
     ∙ values_summed bracketed 0 vs
 
 dict_lines : (path : List ℕ) (ps : Pairs) → first_lines path (dict ps) (length (keys ps)) ≡ pair_lines path 0 ps
 dict_lines path ps =
     first_sums path (dict ps) (length (keys ps))
-    ∙ sums_same (member_line path (dict ps)) (λ j. line_of_pair path (0 + j) (nth_of_pairs ps (2 * j)) (nth_of_pairs ps (2 * j + 1))) (length (keys ps))
-    (λ j. let same : j ≡ 0 + j = omega arith in ap (λ x. line_of_pair path x (nth_of_pairs ps (2 * j)) (nth_of_pairs ps (2 * j + 1))) same)
+    ∙ sums_same (member_line path (dict ps)) (λ j. line_of_pair path (0 + j) (slice_get (in_turn ps) (2 * j)) (slice_get (in_turn ps) (2 * j + 1))) (length (keys ps))
+    (λ j. let same : j ≡ 0 + j = omega arith in ap (λ x. line_of_pair path x (slice_get (in_turn ps) (2 * j)) (slice_get (in_turn ps) (2 * j + 1))) same)
     ∙ pairs_summed path 0 ps
 
 -- all lines of a container
@@ -181,5 +180,5 @@ leaf_listed path (dict ps) is = absurd is
 -- the cursor met a failed read or a refused growth
 pub cursor_excused : (fault : CursorFault) → cursor.IsExcused fault → IsExcused (cursor_fault fault)
 cursor_excused (cursor_faults.Read _) h = tt
-cursor_excused cursor_faults.Changed h = absurd h
+cursor_excused cursor_faults.Changed h = absurd (h refl)
 cursor_excused cursor_faults.Memory h = tt

@@ -10,10 +10,11 @@ use Rattle.bplist_objects.proofs.Fronts.{one_head}
 use Rattle.bplist_objects.proofs.ObjectValues.{holds_one}
 use Rattle.bplist_cursor.specs.declared.reply.Query.TheVariants as queries
 use Rattle.bplist_cursor.specs.Found.{LeadTo}
-use Rattle.bplist_cursor.specs.Look.{Missing, look}
+use Rattle.bplist_cursor.specs.declared.found.Why.{Why}
+use Rattle.bplist_cursor.specs.Look.{look}
 use Rattle.bplist_cursor.specs.OldStyle.{value_text}
 use Rattle.bplist_cursor.proofs.FormlessObjects.{one_formless}
-use Rattle.bplist_ascii.specs.Printed.{FitsLimit, IsTooLong}
+use Rattle.bplist_ascii.specs.Printed.{FitsLimit}
 use Rattle.bplint_lines.specs.declared.fault.RunFault.{RunFault}
 use Rattle.bplint_lines.specs.declared.fault.RunFault.TheVariants as faults
 use Rattle.bplint_lines.specs.declared.said.Said.{Said}
@@ -33,16 +34,12 @@ same_text o t u a b = cc
 no_text : (o : Option (List ℕ)) (t : List ℕ) → o ≡ None → o ≡ Some t → ⊥
 no_text o t a b = cc
 
-not_long : (limit : ℕ) (t u : List ℕ) → t ≡ u → FitsLimit limit t → IsTooLong limit u → ⊥
-not_long limit t u e fits (inl long) = let same = ap length e in omega (arith, same, fits.0, long)
-not_long limit t u e fits (inr long) = let same = ap length e in omega (arith, same, fits.1, long)
-
-one_given : (limit : ℕ) (found : Result Value Missing) (s t : Said) (xs ys : List ℕ) → PrintGives limit found s xs → PrintGives limit found t ys → gives s xs ≡ gives t ys
+one_given : (limit : ℕ) (found : Result Value (ℕ × Why)) (s t : Said) (xs ys : List ℕ) → PrintGives limit found s xs → PrintGives limit found t ys → gives s xs ≡ gives t ys
 one_given limit (Ok w) s t xs ys (x, is, fits, all, line) (y, is', fits', all', line') =
     same_gives s t xs ys (all ∙ sym all') (line ∙ ap (λ z. z ++ 10 ∷ []) (same_text (value_text w) x y is is') ∙ sym line')
 one_given limit (Err missing) s t xs ys h k = same_gives s t xs ys (h.0 ∙ sym k.0) (h.1 ∙ sym k.1)
 
-same_value : (v w : Value) → Path (Result Value Missing) (Ok v) (Ok w) → v ≡ w
+same_value : (v w : Value) → Path (Result Value (ℕ × Why)) (Ok v) (Ok w) → v ≡ w
 same_value v w e = cc
 
 module _ (f : List ℕ) (F : Frame) (limit : ℕ) where
@@ -59,7 +56,7 @@ module _ (f : List ℕ) (F : Frame) (limit : ℕ) where
 
   not_given : (n : ℕ) (w : Value) (s : Said) (xs : List ℕ) (a : RunFault) → PrintGives limit (Ok w) s xs → PrintRefuses f F limit n w a → ⊥
   not_given n w s xs (faults.NoAsciiForm p) h k = no_text (value_text w) h.0 k.0 h.1
-  not_given n w s xs faults.TooLong h k = not_long limit h.0 k.0 (same_text (value_text w) h.0 k.0 h.1 k.1) h.2 k.2
+  not_given n w s xs faults.TooLong h k = k.2 (subst (FitsLimit limit) (same_text (value_text w) h.0 k.0 h.1 k.1) h.2)
   not_given n w s xs _ h k = k
 
   module _ (steps : List (List ℕ)) (v : Value) where

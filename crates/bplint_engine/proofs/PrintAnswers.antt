@@ -40,7 +40,7 @@ use Rattle.bplint_engine.proofs.LeftBytes.{begins_nothing, kept_self, said_as}
 pub cursor_stopped : (Says : Answer → Type 0) (most : ℕ) (old : Option (List ℕ)) (fault : CursorFault) → IsExcused fault
     → LeavesBy Says most old old (Err (cursor_fault fault))
 cursor_stopped Says most old (cursor_faults.Read _) h = begins_nothing Says most old old (kept_self old)
-cursor_stopped Says most old cursor_faults.Changed h = absurd h
+cursor_stopped Says most old cursor_faults.Changed h = absurd (h refl)
 cursor_stopped Says most old cursor_faults.Memory h = begins_nothing Says most old old (kept_self old)
 
 within : (old new : Option (List ℕ)) (s : Sending) (limit : ℕ) → s ≡ record { sent = 0; held = [] } → AtMost old new (length s.held + limit) → AtMost old new limit
@@ -113,7 +113,7 @@ at_node checked v steps node limit old new result (leads, (w, is, held)) left =
 
 -- a path leads nowhere
 pub missing_says : (f : List ℕ) (F : Frame) (limit : ℕ) (steps : List (List ℕ)) (v : Value) (step : ℕ) (why : Why) (made : Result Output RunFault)
-    → look v steps ≡ Err (record { step = step; why = why })
+    → look v steps ≡ Err (step, why)
     → IfOk made (λ output. (output.said ≡ SomeMissing) × (output.bytes.items ≡ missing_line step why ++ 10 ∷ []))
     → IfErr made (λ fault. fault ≡ faults.Memory) → Answers (PathSays f F limit steps v) made
 missing_says f F limit steps v step why (Ok output) is told _ = subst (λ r. PrintGives limit r output.said output.bytes.items) (sym is) told

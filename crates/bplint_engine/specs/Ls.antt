@@ -4,10 +4,11 @@ use Rattle.bplist_objects.specs.declared.frame.Frame.{Frame}
 use Rattle.bplist_objects.specs.Frame.{IsFrame}
 use Rattle.bplist_objects.specs.Holds.{Holds}
 use Rattle.bplist_objects.specs.Value.{Value, Values, Pairs, leaf, array, set, dict, no_values, value, no_pairs, pair, text, keys}
-use Rattle.bplist_cursor.specs.Look.{Missing, look}
-use Rattle.bplist_cursor.specs.Members.{member_of}
+use Rattle.bplist_cursor.specs.declared.found.Why.{Why}
+use Rattle.bplist_cursor.specs.Look.{look}
+use Rattle.bplist_cursor.specs.Members.{members, member_of}
 use Rattle.bplist_cursor.specs.Path.{IsPathOf}
-use Rattle.bplist_cursor.specs.Replies.{count, face}
+use Rattle.bplist_cursor.specs.Replies.{face}
 use Rattle.bplist_lint.specs.declared.answer.Lint.{Lint}
 use Rattle.bplist_lint.specs.Linted.{IsLintedBy}
 use Rattle.bplint_engine.specs.declared.member_lines.Members.{Members}
@@ -26,8 +27,8 @@ IsLeaf _ = ⊥
 
 -- the value is a container of this kind with so many members, or pairs
 abbrev pub IsContainer : Members → ℕ → Value → Type 0
-IsContainer Array n (array vs) = count vs ≡ n
-IsContainer Set n (set vs) = count vs ≡ n
+IsContainer Array n (array vs) = length (members vs) ≡ n
+IsContainer Set n (set vs) = length (members vs) ≡ n
 IsContainer Dict n (dict ps) = length (keys ps) ≡ n
 IsContainer _ n w = ⊥
 
@@ -75,9 +76,9 @@ listed path (set vs) = value_lines bracketed 0 vs
 listed path (dict ps) = pair_lines path 0 ps
 
 -- what `ls` writes of a found value, or of a path that leads nowhere
-abbrev pub ListGives : List ℕ → Result Value Missing → Said → List ℕ → Type 0
+abbrev pub ListGives : List ℕ → Result Value (ℕ × Why) → Said → List ℕ → Type 0
 ListGives path (Ok w) said bytes = (said ≡ All) × (bytes ≡ listed path w)
-ListGives path (Err missing) said bytes = (said ≡ SomeMissing) × (bytes ≡ missing_line missing.step missing.why ++ 10 ∷ [])
+ListGives path (Err missing) said bytes = (said ≡ SomeMissing) × (bytes ≡ missing_line missing.0 missing.1 ++ 10 ∷ [])
 
 -- `ls` answers the members under a path of the file's value
 abbrev pub ListSays : List ℕ → List ℕ → Answer → Type 0

@@ -8,9 +8,10 @@ use Rattle.bplist_cert.specs.Lists.{Lists}
 use Rattle.bplist_cursor.specs.declared.reply.Query.TheVariants.{Get}
 use Rattle.bplist_cursor.specs.Formless.{IsFormless}
 use Rattle.bplist_cursor.specs.Found.{LeadTo}
-use Rattle.bplist_cursor.specs.Look.{Missing, look}
+use Rattle.bplist_cursor.specs.declared.found.Why.{Why}
+use Rattle.bplist_cursor.specs.Look.{look}
 use Rattle.bplist_cursor.specs.OldStyle.{value_text}
-use Rattle.bplist_ascii.specs.Printed.{FitsLimit, IsTooLong}
+use Rattle.bplist_ascii.specs.Printed.{FitsLimit}
 use Rattle.bplint_lines.specs.declared.said.Said.{Said}
 use Rattle.bplint_lines.specs.declared.said.Said.TheVariants.{All, SomeMissing}
 use Rattle.bplint_lines.specs.declared.fault.RunFault.{RunFault}
@@ -21,17 +22,17 @@ use Rattle.bplint_lines.specs.OutputLines.{missing_line}
 use Rattle.bplint_engine.specs.CertifiedFile.{IsVouchedFor}
 
 -- what `print` writes of a found value, or of a path that leads nowhere
-abbrev pub PrintGives : ℕ → Result Value Missing → Said → List ℕ → Type 0
+abbrev pub PrintGives : ℕ → Result Value (ℕ × Why) → Said → List ℕ → Type 0
 PrintGives limit (Ok w) said bytes =
     (text : List ℕ) × (value_text w ≡ Some text) × FitsLimit limit text × (said ≡ All) × (bytes ≡ text ++ 10 ∷ [])
 PrintGives limit (Err missing) said bytes =
-    (said ≡ SomeMissing) × (bytes ≡ missing_line missing.step missing.why ++ 10 ∷ [])
+    (said ≡ SomeMissing) × (bytes ≡ missing_line missing.0 missing.1 ++ 10 ∷ [])
 
 -- nothing is written: a part of the value has no form, or the text is too long
 abbrev pub PrintRefuses : List ℕ → Frame → ℕ → ℕ → Value → RunFault → Type 0
 PrintRefuses f F limit n w (faults.NoAsciiForm part) = (value_text w ≡ None) × IsFormless f F n w part.0
 PrintRefuses f F limit n w faults.TooLong =
-    (text : List ℕ) × (value_text w ≡ Some text) × IsTooLong limit text
+    (text : List ℕ) × (value_text w ≡ Some text) × (¬ FitsLimit limit text)
 PrintRefuses f F limit n w _ = ⊥
 
 -- `print` answers the text under the path, or that it leads nowhere, or why the value there is not printed

@@ -22,7 +22,7 @@ use Rattle.bplist_cursor.specs.OldStyle.{comma, value_text, members_text, pairs_
 use Rattle.bplist_cursor.specs.Forms.{form_of_text}
 use Rattle.bplist_cursor.specs.Formless.{IsFormless, IsFirstFormless, IsFirstFormlessOf}
 use Rattle.bplist_cursor.specs.Found.{IsHeld}
-use Rattle.bplist_cursor.specs.Members.{HoldsMember, member_of, member_reference, named, node_of, nth_value, nth_of_pairs, nth_in_turn}
+use Rattle.bplist_cursor.specs.Members.{HoldsMember, member_of, member_reference, named, node_of, members, in_turn, nth_in_turn}
 use Rattle.bplist_cursor.proofs.Membership.{held_members}
 use Rattle.bplist_ascii.specs.Walks.{IsContainer, IsOfKind}
 use Rattle.bplist_ascii.specs.Searching.{places_of, HaveTexts, LeadsOn}
@@ -48,14 +48,14 @@ both_texts None rest k a b e = a refl
 both_texts (Some t) None k a b e = b refl
 both_texts (Some t) (Some r) k a b e = cc e
 
-members_have : (i : ℕ) (vs : Values) → nth_value vs i ≡ None → ((j : ℕ) → j < i → (w : Value) → nth_value vs j ≡ Some w → value_text w ≡ None → ⊥) → members_text vs ≡ None → ⊥
+members_have : (i : ℕ) (vs : Values) → slice_get (members vs) i ≡ None → ((j : ℕ) → j < i → (w : Value) → slice_get (members vs) j ≡ Some w → value_text w ≡ None → ⊥) → members_text vs ≡ None → ⊥
 members_have i no_values end texts e = cc e
 members_have zero (value v vs) end texts e = cc end
 members_have (suc i) (value v vs) end texts e =
     both_texts (value_text v) (members_text vs) (λ t r. t ++ (comma vs ++ r)) (texts 0 (omega arith) v refl)
     (members_have i vs end (λ j l. texts (suc j) (omega (arith, l)))) e
 
-pairs_have : (i : ℕ) (ps : Pairs) → nth_of_pairs ps i ≡ None → ((j : ℕ) → j < i → (w : Value) → nth_of_pairs ps j ≡ Some w → value_text w ≡ None → ⊥) → pairs_text ps ≡ None → ⊥
+pairs_have : (i : ℕ) (ps : Pairs) → slice_get (in_turn ps) i ≡ None → ((j : ℕ) → j < i → (w : Value) → slice_get (in_turn ps) j ≡ Some w → value_text w ≡ None → ⊥) → pairs_text ps ≡ None → ⊥
 pairs_have i no_pairs end texts e = cc e
 pairs_have zero (pair u v ps) end texts e = cc end
 pairs_have (suc zero) (pair u v ps) end texts e = cc end
@@ -69,7 +69,7 @@ all_have kinds.Dict (dict ps) i o end texts e = pairs_have i ps end texts (no_ma
 all_have _ _ i o end texts e = absurd o
 
 -- a key has a text
-key_has : (j : ℕ) (ps : Pairs) (w : Value) → j % 2 ≡ 0 → nth_of_pairs ps j ≡ Some w → value_text w ≡ None → ⊥
+key_has : (j : ℕ) (ps : Pairs) (w : Value) → j % 2 ≡ 0 → slice_get (in_turn ps) j ≡ Some w → value_text w ≡ None → ⊥
 key_has j no_pairs w even is e = cc is
 key_has zero (pair u v ps) w even is e =
     let same : leaf (text u) ≡ w = cc is in
@@ -107,13 +107,13 @@ texts_start _ _ o j l w is e = absurd o
 pub texts_more : (k : Kind) (v : Value) (i distance : ℕ) → IsOfKind k v → Passes k i distance → HaveTexts v i → ((w : Value) → member_of v i ≡ Some w → value_text w ≡ None → ⊥) → HaveTexts v (i + distance)
 texts_more kinds.Array (array vs) i distance o p texts here j l w is e = elim (cases_lt j i) [
   | inl below ↦ texts j below w is e
-  | inr above ↦ here w (ap (nth_value vs) (omega (arith, above, l, p)) ∙ is) e
+  | inr above ↦ here w (ap (slice_get (members vs)) (omega (arith, above, l, p)) ∙ is) e
 ]
 texts_more kinds.Dict (dict ps) i distance o (odd, p) texts here j l w is e = elim (cases_lt j i) [
   | inl below ↦ texts j below w is e
   | inr above ↦ elim (cases_lt i j) [
     | inl behind ↦ key_has j ps w (omega (arith, behind, l, p, odd)) is e
-    | inr same ↦ here w (ap (nth_of_pairs ps) (omega (arith, above, same)) ∙ is) e
+    | inr same ↦ here w (ap (slice_get (in_turn ps)) (omega (arith, above, same)) ∙ is) e
   ]
 ]
 texts_more _ _ i distance o p texts here j l w is e = absurd o
@@ -135,7 +135,7 @@ module _ (f : List ℕ) (F : Frame) where
   pub own_kind : (kind : Kind) (count body n : ℕ) (v : Value) → (kind ≡ kinds.Array → ⊥) → (kind ≡ kinds.Dict → ⊥) → ((c : Content) → Spells f F n c → c ≡ content_of f F kind count body)
       → Holds f F n v → value_text v ≡ None → IsFormless f F n v n
   own_kind kind count body n (leaf l) a d m h e = (e, refl)
-  own_kind kind count body n (set vs) a d m h e = refl
+  own_kind kind count body n (set vs) a d m h e = (e, refl)
   own_kind kind count body n (array vs) a d m h e = absurd (a (array_kind kind (m (Content.array h.0) h.1)))
     where
       array_kind : (k : Kind) → Content.array h.0 ≡ content_of f F k count body → k ≡ kinds.Array
@@ -162,8 +162,8 @@ module _ (f : List ℕ) (F : Frame) where
       subst (λ (y : Node). IsFormless f F y.object.0 v x) there (subst (λ y. IsFormless f F node.object.0 y x) same h)
 
   -- the first member without a text is the first of these
-  first_of_each : (i : ℕ) (ms : List ℕ) (vs : Values) (node : Node) (w : Value) → Some node ≡ named (slice_get ms i) → nth_value vs i ≡ Some w
-      → ((j : ℕ) → j < i → (y : Value) → nth_value vs j ≡ Some y → value_text y ≡ None → ⊥) → value_text w ≡ None → (x : ℕ) → IsFormless f F node.object.0 w x → IsFirstFormless f F ms vs x
+  first_of_each : (i : ℕ) (ms : List ℕ) (vs : Values) (node : Node) (w : Value) → Some node ≡ named (slice_get ms i) → slice_get (members vs) i ≡ Some w
+      → ((j : ℕ) → j < i → (y : Value) → slice_get (members vs) j ≡ Some y → value_text y ≡ None → ⊥) → value_text w ≡ None → (x : ℕ) → IsFormless f F node.object.0 w x → IsFirstFormless f F ms vs x
   first_of_each i [] vs node w e is texts none x h = cc e
   first_of_each i (m ∷ ms) no_values node w e is texts none x h = cc is
   first_of_each zero (m ∷ ms) (value v vs) node w e is texts none x h =
@@ -172,8 +172,8 @@ module _ (f : List ℕ) (F : Frame) where
   first_of_each (suc i) (m ∷ ms) (value v vs) node w e is texts none x h =
       match_some _ (value_text v) (texts 0 (omega arith) v refl) (first_of_each i ms vs node w e is (λ j l. texts (suc j) (omega (arith, l))) none x h)
 
-  first_of_pairs : (i : ℕ) (ks ms : List ℕ) (ps : Pairs) (node : Node) (w : Value) → Some node ≡ named (nth_in_turn ks ms i) → nth_of_pairs ps i ≡ Some w
-      → ((j : ℕ) → j < i → (y : Value) → nth_of_pairs ps j ≡ Some y → value_text y ≡ None → ⊥) → value_text w ≡ None → (x : ℕ) → IsFormless f F node.object.0 w x → IsFirstFormlessOf f F ms ps x
+  first_of_pairs : (i : ℕ) (ks ms : List ℕ) (ps : Pairs) (node : Node) (w : Value) → Some node ≡ named (nth_in_turn ks ms i) → slice_get (in_turn ps) i ≡ Some w
+      → ((j : ℕ) → j < i → (y : Value) → slice_get (in_turn ps) j ≡ Some y → value_text y ≡ None → ⊥) → value_text w ≡ None → (x : ℕ) → IsFormless f F node.object.0 w x → IsFirstFormlessOf f F ms ps x
   first_of_pairs i [] ms ps node w e is texts none x h = cc e
   first_of_pairs i (k ∷ ks) [] ps node w e is texts none x h = cc e
   first_of_pairs i (k ∷ ks) (m ∷ ms) no_pairs node w e is texts none x h = cc is

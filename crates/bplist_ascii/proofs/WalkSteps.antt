@@ -1,6 +1,6 @@
 -- What is left to write, step by step.
 use Rattle.std.proofs.Common.{◌≡◌, ◌⊎◌, inl, inr, ℕ, suc, zero, List, [], ◌∷◌, ◌++◌, ◌%◌, arith, refl, sym, ap, ◌∙◌, append_assoc, append-nil, subst, Some, None}
-use Rattle.std.specs.Prelude.{Option}
+use Rattle.std.specs.Prelude.{Option, slice_get}
 use Rattle.bplist_octets.specs.Octets.{part}
 use Rattle.bplist_objects.specs.declared.frame.Frame.{Frame}
 use Rattle.bplist_objects.specs.declared.head.Head.{Head}
@@ -13,7 +13,7 @@ use Rattle.bplist_objects.specs.Units.{units_at}
 use Rattle.bplist_cert.specs.CheckedFile.{CheckedFile}
 use Rattle.bplist_cert.specs.Valid.{IsVouchedBy}
 use Rattle.bplist_cursor.specs.declared.found.Node.{Node}
-use Rattle.bplist_cursor.specs.Members.{HoldsMember, member_of, member_reference, named, nth_value, nth_of_pairs}
+use Rattle.bplist_cursor.specs.Members.{HoldsMember, member_of, member_reference, named, members, in_turn}
 use Rattle.bplist_cursor.specs.Texts.{text_of_units, text_of_bytes}
 use Rattle.bplist_cursor.specs.OldStyle.{comma, IsFormed, AreFormed, ArePairsFormed, plain, plain_members, plain_pairs}
 use Rattle.bplist_cursor.proofs.Membership.{held_members}
@@ -25,7 +25,7 @@ use Rattle.bplist_ascii.specs.Walks.{opening_of, mark_of, closing_of, members_fr
 
 -- the text of a container from member i on
 
-members_next : (i : ℕ) (vs : Values) (w : Value) → nth_value vs i ≡ Some w → members_from i vs ≡ mark_of kinds.Array i ++ (plain w ++ members_from (suc i) vs)
+members_next : (i : ℕ) (vs : Values) (w : Value) → slice_get (members vs) i ≡ Some w → members_from i vs ≡ mark_of kinds.Array i ++ (plain w ++ members_from (suc i) vs)
 members_next i no_values w e = cc e
 members_next zero (value v vs) w e =
     let is : v ≡ w = cc e in
@@ -36,7 +36,7 @@ members_next (suc zero) (value v no_values) w e = cc e
 members_next (suc zero) (value v (value x xs)) w e = ap (λ l. 44 ∷ l) (members_next zero (value x xs) w e)
 members_next (suc (suc i)) (value v vs) w e = members_next (suc i) vs w e
 
-members_end : (i : ℕ) (vs : Values) → nth_value vs i ≡ None → members_from i vs ≡ 41 ∷ []
+members_end : (i : ℕ) (vs : Values) → slice_get (members vs) i ≡ None → members_from i vs ≡ 41 ∷ []
 members_end zero no_values e = refl
 members_end (suc i) no_values e = refl
 members_end zero (value v vs) e = cc e
@@ -44,7 +44,7 @@ members_end (suc zero) (value v no_values) e = refl
 members_end (suc zero) (value v (value x xs)) e = cc e
 members_end (suc (suc i)) (value v vs) e = members_end (suc i) vs e
 
-pairs_next : (i : ℕ) (ps : Pairs) (w : Value) → nth_of_pairs ps i ≡ Some w → pairs_from i ps ≡ mark_of kinds.Dict i ++ (plain w ++ pairs_from (suc i) ps)
+pairs_next : (i : ℕ) (ps : Pairs) (w : Value) → slice_get (in_turn ps) i ≡ Some w → pairs_from i ps ≡ mark_of kinds.Dict i ++ (plain w ++ pairs_from (suc i) ps)
 pairs_next i no_pairs w e = cc e
 pairs_next zero (pair u v ps) w e =
     let is : leaf (text u) ≡ w = cc e in
@@ -55,7 +55,7 @@ pairs_next (suc zero) (pair u v ps) w e = let is : v ≡ w = cc e in ap (λ x. 6
 pairs_next (suc (suc zero)) (pair u v ps) w e = ap (λ l. 59 ∷ l) (pairs_next zero ps w e)
 pairs_next (suc (suc (suc i))) (pair u v ps) w e = pairs_next (suc i) ps w e
 
-pairs_end : (i : ℕ) (ps : Pairs) → nth_of_pairs ps i ≡ None → pairs_from i ps ≡ closing_of kinds.Dict i
+pairs_end : (i : ℕ) (ps : Pairs) → slice_get (in_turn ps) i ≡ None → pairs_from i ps ≡ closing_of kinds.Dict i
 pairs_end zero no_pairs e = refl
 pairs_end (suc i) no_pairs e = refl
 pairs_end zero (pair u v ps) e = cc e
@@ -97,12 +97,12 @@ none_from (Some x) h = absurd (h x refl)
 
 -- a member of a value with a text has a text
 
-formed_value : (i : ℕ) (vs : Values) (w : Value) → nth_value vs i ≡ Some w → AreFormed vs → IsFormed w
+formed_value : (i : ℕ) (vs : Values) (w : Value) → slice_get (members vs) i ≡ Some w → AreFormed vs → IsFormed w
 formed_value i no_values w e h = cc e
 formed_value zero (value v vs) w e h = let is : v ≡ w = cc e in subst IsFormed is h.0
 formed_value (suc i) (value v vs) w e h = formed_value i vs w e h.1
 
-formed_of_pairs : (i : ℕ) (ps : Pairs) (w : Value) → nth_of_pairs ps i ≡ Some w → ArePairsFormed ps → IsFormed w
+formed_of_pairs : (i : ℕ) (ps : Pairs) (w : Value) → slice_get (in_turn ps) i ≡ Some w → ArePairsFormed ps → IsFormed w
 formed_of_pairs i no_pairs w e h = cc e
 formed_of_pairs zero (pair u v ps) w e h = let is : leaf (text u) ≡ w = cc e in subst IsFormed is tt
 formed_of_pairs (suc zero) (pair u v ps) w e h = let is : v ≡ w = cc e in subst IsFormed is h.0
@@ -171,7 +171,7 @@ module _ (f : List ℕ) (F : Frame) where
   shows_none _ count body v a w b r d h = h
 
   pub held_some : (o : Option Value) (node : Node) → HoldsMember f F o (Some node) → (w : Value) × (o ≡ Some w) × Holds f F node.object.0 w
-  held_some None node h = absurd h
+  held_some None node h = cc h
   held_some (Some w) node h = (w, refl, h)
 
   pub held_none : (o : Option Value) → HoldsMember f F o None → o ≡ None

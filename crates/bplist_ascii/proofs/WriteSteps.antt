@@ -183,7 +183,7 @@ print_fault_of unread.Changed = Changed
 -- a failed read is one to the printer
 pub read_unread : (e : Unread) → GivesRead {X = ⊤} (λ _. ⊤) (Err e) → IsReadFault (print_fault_of e)
 read_unread (unread.Read x) h = tt
-read_unread unread.Changed h = h
+read_unread unread.Changed h = absurd (h refl)
 
 -- of bytes of which the first were put in a first part went out
 pub adds_some : {old new : Option (List ℕ)} {s t : Sending} {r r' : ℕ} {xs whole : List ℕ} (ys : List ℕ) → Adds old new s t r r' xs → whole ≡ xs ++ ys → SendsSome old new (s.held ++ whole)

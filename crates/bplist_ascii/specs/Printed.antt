@@ -13,10 +13,6 @@ use Rattle.bplist_ascii.specs.declared.print_fault.PrintFault.TheVariants.{NoAsc
 abbrev pub FitsLimit : ℕ → List ℕ → Type 0
 FitsLimit limit text = (length text ≤ limit) × (length text < 18446744073709551615)
 
--- the text is too long
-abbrev pub IsTooLong : ℕ → List ℕ → Type 0
-IsTooLong limit text = (limit < length text) ⊎ (18446744073709551615 ≤ length text)
-
 -- the value has a text that is not too long, and that became of it
 abbrev pub HasText : Value → ℕ → (List ℕ → Type 0) → Type 0
 HasText v limit P = (t : List ℕ) × (value_text v ≡ Some t) × FitsLimit limit t × P t
@@ -28,7 +24,7 @@ module _ (nothing : Type 0) (all some : List ℕ → Type 0) (cut : List ℕ →
     abbrev pub Prints : Result (Unit {0}) PrintFault → Type 0
     Prints (Ok _) = HasText v limit all
     Prints (Err (NoAsciiForm m)) = (value_text v ≡ None) × IsFormless f F n v m.0 × nothing
-    Prints (Err TooLong) = (t : List ℕ) × (value_text v ≡ Some t) × IsTooLong limit t × nothing
+    Prints (Err TooLong) = (t : List ℕ) × (value_text v ≡ Some t) × (¬ FitsLimit limit t) × nothing
     Prints (Err (Write sent)) = HasText v limit (λ t. cut t sent)
     Prints (Err (Read _)) = ((value_text v ≡ None) × nothing) ⊎ HasText v limit some
     Prints (Err Changed) = ⊥

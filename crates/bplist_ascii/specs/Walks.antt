@@ -1,5 +1,5 @@
 -- What is left to write, where containers that are half written wait on a stack. Source: profile.
-use Rattle.std.specs.Prelude.{◌≡◌, ℕ, suc, zero, List, [], ◌∷◌, ◌++◌, Option, ⊤}
+use Rattle.std.specs.Prelude.{◌≡◌, ℕ, suc, zero, List, [], ◌∷◌, ◌++◌, Option, IsTrue, ⊤}
 use Rattle.bplist_objects.specs.declared.frame.Frame.{Frame}
 use Rattle.bplist_objects.specs.declared.head.Head.{Head}
 use Rattle.bplist_objects.specs.declared.kind.Kind.{Kind}
@@ -89,6 +89,14 @@ module _ (checked : CheckedFile) where
   abbrev pub StackLeft : List Opened → List ℕ → Type 0
   StackLeft [] left = left ≡ []
   StackLeft (o ∷ os) left = (inner outer : List ℕ) × StackLeft os inner × OpenedLeft o outer × (left ≡ inner ++ outer)
+
+  -- P holds of the text of the value that object n holds, if the source is honest and the value has a text
+  abbrev pub HonestlyPlain : ℕ → (List ℕ → Type 0) → Type 0
+  HonestlyPlain n P = IsTrue checked.source.honest → (v : Value) → IsHeld checked n v → IsFormed v → P (plain v)
+
+  -- P holds of what is left to write by the stack, if the source is honest
+  abbrev pub HonestlyLeft : List Opened → (List ℕ → Type 0) → Type 0
+  HonestlyLeft stack P = IsTrue checked.source.honest → (left : List ℕ) → StackLeft stack left → P left
 
   -- of what was left to write a first part was put in, and the rest is what is left by the stack
   pub record GoesOn (old new : Option (List ℕ)) (before after : Sending) (room room' : ℕ) (stack : List Opened) (left : List ℕ) : Type 0 where

@@ -46,6 +46,10 @@ AddFails old new before bytes (Read _) = SendsSome old new (before.held ++ bytes
 AddFails old new before bytes Memory = SendsSome old new (before.held ++ bytes)
 AddFails old new before bytes _ = ⊥
 
+-- why a text that has room was not put in
+abbrev pub FailsWithin : Option (List ℕ) → Option (List ℕ) → Sending → ℕ → List ℕ → PrintFault → Type 0
+FailsWithin old new before room text e = length text ≤ room → AddFails old new before text e
+
 -- at most what the sink held and what there was room for went out
 abbrev pub StaysWithin : Option (List ℕ) → Option (List ℕ) → Sending → ℕ → Type 0
 StaysWithin old new before room = AtMost old new (length before.held + room)

@@ -8,7 +8,7 @@ ghost use Rattle.bplist_objects.specs.Safe.{IsSafeBody};
 ghost use Rattle.bplist_objects.specs.Units.{IsTextKind, units_of};
 ghost use Rattle.bplist_objects.specs.declared.kind.Kind.TheVariants.{Bytes};
 ghost use Rattle.bplist_cursor.specs.Texts.{hex_digits, text_of_units, text_of_bytes, quoted};
-ghost use Rattle.bplist_ascii.specs.Writing.{print_read, IsReadFault, AddsText, AddFails, StaysWithin, styled, fits, is_bare_text};
+ghost use Rattle.bplist_ascii.specs.Writing.{print_read, IsReadFault, AddsText, AddFails, FailsWithin, StaysWithin, styled, fits, is_bare_text};
 ghost use Rattle.bplist_ascii.specs.declared.style.Style.TheVariants.{Bare};
 
 use crate::output::{write, write_digits, write_units};
@@ -97,9 +97,8 @@ fn write_data_body<S: Source, W: Write>(
     ensures adds { OnOk result (AddsText (W.contents out.old) (W.contents out.new) sink.old sink.new room.old room.new
         (IsTrue (S.means src.old).honest) (flat_map hex_digits (part (S.means src.old).octets head.now.body head.now.count))) }
     ensures fails { IfErr result (λ e. Honestly (S.means src.old)
-        (λ f. length (flat_map hex_digits (part f head.now.body head.now.count)) ≤ room.old
-        → AddFails (W.contents out.old) (W.contents out.new) sink.old (flat_map hex_digits (part f head.now.body
-        head.now.count)) e)) }
+        (λ f. FailsWithin (W.contents out.old) (W.contents out.new) sink.old room.old
+        (flat_map hex_digits (part f head.now.body head.now.count)) e)) }
     ensures bounded { OnErr result (StaysWithin (W.contents out.old) (W.contents out.new) sink.old room.old) }
 {
     let mut buffer = [0; PART];
@@ -128,9 +127,8 @@ pub(crate) fn write_data<S: Source, W: Write>(
     ensures adds { OnOk result (AddsText (W.contents out.old) (W.contents out.new) sink.old sink.new room.old room.new
         (IsTrue (S.means src.old).honest) (text_of_bytes (part (S.means src.old).octets head.now.body head.now.count))) }
     ensures fails { IfErr result (λ e. Honestly (S.means src.old)
-        (λ f. length (text_of_bytes (part f head.now.body head.now.count)) ≤ room.old
-        → AddFails (W.contents out.old) (W.contents out.new) sink.old (text_of_bytes (part f head.now.body
-        head.now.count)) e)) }
+        (λ f. FailsWithin (W.contents out.old) (W.contents out.new) sink.old room.old
+        (text_of_bytes (part f head.now.body head.now.count)) e)) }
     ensures bounded { OnErr result (StaysWithin (W.contents out.old) (W.contents out.new) sink.old room.old) }
     ensures falls { OnOk result (room.new < room.old) }
 {
@@ -153,8 +151,7 @@ fn write_quoted<S: Source, W: Write>(
     ensures adds { OnOk result (AddsText (W.contents out.old) (W.contents out.new) sink.old sink.new room.old room.new
         (IsTrue (S.means src.old).honest) (quoted (units_of (S.means src.old).octets head.now))) }
     ensures fails { IfErr result (λ e. Honestly (S.means src.old)
-        (λ f. length (quoted (units_of f head.now)) ≤ room.old
-        → AddFails (W.contents out.old) (W.contents out.new) sink.old (quoted (units_of f head.now)) e)) }
+        (λ f. FailsWithin (W.contents out.old) (W.contents out.new) sink.old room.old (quoted (units_of f head.now)) e)) }
     ensures bounded { OnErr result (StaysWithin (W.contents out.old) (W.contents out.new) sink.old room.old) }
     ensures falls { OnOk result (room.new < room.old) }
 {
@@ -181,8 +178,7 @@ pub(crate) fn write_text<S: Source, W: Write>(
     ensures adds { OnOk result (AddsText (W.contents out.old) (W.contents out.new) sink.old sink.new room.old room.new
         (IsTrue (S.means src.old).honest) (text_of_units (units_of (S.means src.old).octets head.now))) }
     ensures fails { IfErr result (λ e. Honestly (S.means src.old)
-        (λ f. length (text_of_units (units_of f head.now)) ≤ room.old
-        → AddFails (W.contents out.old) (W.contents out.new) sink.old (text_of_units (units_of f head.now)) e)) }
+        (λ f. FailsWithin (W.contents out.old) (W.contents out.new) sink.old room.old (text_of_units (units_of f head.now)) e)) }
     ensures bounded { OnErr result (StaysWithin (W.contents out.old) (W.contents out.new) sink.old room.old) }
     ensures falls { OnOk result (room.new < room.old) }
 {

@@ -3,7 +3,7 @@
 ghost use Rattle.std.specs.Prelude.{◌≡◌, ◌<◌, ◌≤◌, false, true, length, flat_map, OnOk, IfErr, OnErr};
 ghost use Rattle.std.specs.List.{list_all};
 ghost use Rattle.bplist_cursor.specs.Texts.{hex_digits};
-ghost use Rattle.bplist_ascii.specs.Writing.{print_read, Adds, AddFails, StaysWithin, styled, fits};
+ghost use Rattle.bplist_ascii.specs.Writing.{print_read, Adds, AddFails, FailsWithin, StaysWithin, styled, fits};
 
 use crate::print_fault::PrintFault;
 use crate::sink::Sink;
@@ -21,7 +21,7 @@ pub(crate) fn write<W: Write>(
 ) -> Result<(), PrintFault>
     ensures unread { print_read result ≡ false }
     ensures adds { OnOk result (Adds (W.contents out.old) (W.contents out.new) sink.old sink.new room.old room.new bytes.now) }
-    ensures fails { IfErr result (λ e. length bytes.now ≤ room.old → AddFails (W.contents out.old) (W.contents out.new) sink.old bytes.now e) }
+    ensures fails { IfErr result (FailsWithin (W.contents out.old) (W.contents out.new) sink.old room.old bytes.now) }
     ensures bounded { OnErr result (StaysWithin (W.contents out.old) (W.contents out.new) sink.old room.old) }
 {
     if bytes.len() as u64 > *room {
@@ -89,8 +89,8 @@ pub(crate) fn write_digits<W: Write>(
     ensures unread { print_read result ≡ false }
     ensures adds { OnOk result (Adds (W.contents out.old) (W.contents out.new) sink.old sink.new room.old room.new
         (flat_map hex_digits bytes.now)) }
-    ensures fails { IfErr result (λ e. length (flat_map hex_digits bytes.now) ≤ room.old
-        → AddFails (W.contents out.old) (W.contents out.new) sink.old (flat_map hex_digits bytes.now) e) }
+    ensures fails { IfErr result (FailsWithin (W.contents out.old) (W.contents out.new) sink.old room.old
+        (flat_map hex_digits bytes.now)) }
     ensures bounded { OnErr result (StaysWithin (W.contents out.old) (W.contents out.new) sink.old room.old) }
 {
     for byte in bytes {

@@ -1,14 +1,11 @@
 //! The walk that writes a value's text: containers that are half written wait on a stack.
 
-ghost use Rattle.std.specs.Prelude.{◌≡◌, ◌≤◌, ◌<◌, ◌++◌, [], ◌∷◌, List, ℕ, length, OnOk, IfErr, OnErr, IsTrue};
-ghost use Rattle.bplist_objects.specs.Value.{Value};
+ghost use Rattle.std.specs.Prelude.{◌≡◌, ◌<◌, ◌++◌, [], ◌∷◌, List, ℕ, OnOk, IfErr, OnErr};
 ghost use Rattle.bplist_objects.specs.Safe.{IsSafeHead};
 ghost use Rattle.bplist_cursor.specs.Kept.{Keeps};
-ghost use Rattle.bplist_cursor.specs.Found.{IsHeld};
-ghost use Rattle.bplist_cursor.specs.OldStyle.{IsFormed, plain};
-ghost use Rattle.bplist_ascii.specs.Writing.{print_read, AddsSome, TakesWithin, AddFails, StaysWithin};
+ghost use Rattle.bplist_ascii.specs.Writing.{print_read, AddsSome, TakesWithin, FailsWithin, StaysWithin};
 ghost use Rattle.bplist_ascii.specs.Sending.{Takes};
-ghost use Rattle.bplist_ascii.specs.Walks.{opening_of, mark_of, closing_of, AreSafe, StackLeft, GoesOn};
+ghost use Rattle.bplist_ascii.specs.Walks.{opening_of, mark_of, closing_of, AreSafe, HonestlyLeft, HonestlyPlain, StackLeft, GoesOn};
 
 use crate::leaves::{write_data, write_text};
 use crate::output::write;
@@ -93,12 +90,11 @@ fn begin<S: Source, W: Write>(
     requires heads { AreSafe checked.old.frame walk.old.stack.items }
     ensures reads { Keeps (print_read result) checked.old checked.new }
     ensures heads { OnOk result (AreSafe checked.old.frame walk.new.stack.items) }
-    ensures exact { OnOk result (IsTrue checked.old.source.honest → (v : Value) → IsHeld checked.old node.object.0 v → IsFormed v
-        → (left : List ℕ) → StackLeft checked.old walk.old.stack.items left
-        → GoesOn checked.old (W.contents out.old) (W.contents out.new) sink.old sink.new walk.old.room
-        walk.new.room walk.new.stack.items (plain v ++ left)) }
-    ensures fails { IfErr result (λ e. IsTrue checked.old.source.honest → (v : Value) → IsHeld checked.old node.object.0 v → IsFormed v
-        → length (plain v) ≤ walk.old.room → AddFails (W.contents out.old) (W.contents out.new) sink.old (plain v) e) }
+    ensures exact { OnOk result (HonestlyPlain checked.old node.object.0 (λ text. (left : List ℕ)
+        → StackLeft checked.old walk.old.stack.items left → GoesOn checked.old (W.contents out.old) (W.contents out.new)
+        sink.old sink.new walk.old.room walk.new.room walk.new.stack.items (text ++ left))) }
+    ensures fails { IfErr result (λ e. HonestlyPlain checked.old node.object.0
+        (λ text. FailsWithin (W.contents out.old) (W.contents out.new) sink.old walk.old.room text e)) }
     ensures adds { OnOk result (AddsSome (W.contents out.old) (W.contents out.new) sink.old sink.new walk.old.room walk.new.room) }
     ensures falls { OnOk result (walk.new.room < walk.old.room) }
     ensures bounded { OnErr result (StaysWithin (W.contents out.old) (W.contents out.new) sink.old walk.old.room) }
@@ -128,13 +124,11 @@ fn step<S: Source, W: Write>(
     requires head { IsSafeHead checked.old.frame opened.head }
     ensures reads { Keeps (print_read result) checked.old checked.new }
     ensures heads { OnOk result (AreSafe checked.old.frame walk.new.stack.items) }
-    ensures exact { OnOk result (IsTrue checked.old.source.honest → (left : List ℕ)
-        → StackLeft checked.old (walk.old.stack.items ++ opened ∷ []) left
-        → GoesOn checked.old (W.contents out.old) (W.contents out.new) sink.old sink.new walk.old.room
-        walk.new.room walk.new.stack.items left) }
-    ensures fails { IfErr result (λ e. IsTrue checked.old.source.honest → (left : List ℕ)
-        → StackLeft checked.old (walk.old.stack.items ++ opened ∷ []) left → length left ≤ walk.old.room
-        → AddFails (W.contents out.old) (W.contents out.new) sink.old left e) }
+    ensures exact { OnOk result (HonestlyLeft checked.old (walk.old.stack.items ++ opened ∷ [])
+        (GoesOn checked.old (W.contents out.old) (W.contents out.new) sink.old sink.new walk.old.room walk.new.room
+        walk.new.stack.items)) }
+    ensures fails { IfErr result (λ e. HonestlyLeft checked.old (walk.old.stack.items ++ opened ∷ [])
+        (λ left. FailsWithin (W.contents out.old) (W.contents out.new) sink.old walk.old.room left e)) }
     ensures adds { OnOk result (AddsSome (W.contents out.old) (W.contents out.new) sink.old sink.new walk.old.room walk.new.room) }
     ensures falls { OnOk result (walk.new.room < walk.old.room) }
     ensures bounded { OnErr result (StaysWithin (W.contents out.old) (W.contents out.new) sink.old walk.old.room) }
@@ -162,10 +156,10 @@ pub(crate) fn write_value<S: Source, W: Write>(
 ) -> Result<(), PrintFault>
     requires begins { walk.stack.items ≡ [] }
     ensures reads { Keeps (print_read result) checked.old checked.new }
-    ensures exact { OnOk result (IsTrue checked.old.source.honest → (v : Value) → IsHeld checked.old node.object.0 v → IsFormed v
-        → Takes (W.contents out.old) (W.contents out.new) sink.old sink.new (plain v)) }
-    ensures fails { IfErr result (λ e. IsTrue checked.old.source.honest → (v : Value) → IsHeld checked.old node.object.0 v → IsFormed v
-        → length (plain v) ≤ walk.room → AddFails (W.contents out.old) (W.contents out.new) sink.old (plain v) e) }
+    ensures exact { OnOk result (HonestlyPlain checked.old node.object.0
+        (Takes (W.contents out.old) (W.contents out.new) sink.old sink.new)) }
+    ensures fails { IfErr result (λ e. HonestlyPlain checked.old node.object.0
+        (λ text. FailsWithin (W.contents out.old) (W.contents out.new) sink.old walk.room text e)) }
     ensures adds { OnOk result (TakesWithin (W.contents out.old) (W.contents out.new) sink.old sink.new walk.room) }
     ensures bounded { OnErr result (StaysWithin (W.contents out.old) (W.contents out.new) sink.old walk.room) }
 {

@@ -10,7 +10,7 @@ use Rattle.bplist_cursor.specs.declared.faults.CursorFault.TheVariants as faults
 -- no read has failed
 pub kept_unread : (b : Bool) (old new : CheckedFile) → old.source.failures ≡ 0 → new.source.failures ≡ 0 → Keeps b old new → b ≡ false
 kept_unread false old new e d kept = refl
-kept_unread true old new e d kept = never_fails true old.source new.source e d kept.source
+kept_unread true old new e d kept = never_fails true old.source new.source e d kept.0
 
 -- so the checked file is as it was
 pub kept_same : (b : Bool) (old new : CheckedFile) → b ≡ false → Keeps b old new → new ≡ old
@@ -22,12 +22,12 @@ pub answered : {X : Type 0} (P : X → Type 0) (found : Result X CursorFault) �
     → GivesCursor P found → (x : X) × (found ≡ Ok x) × P x
 answered P (Ok x) read memory given = (x, refl, given)
 answered P (Err (faults.Read e)) read memory given = cc read
-answered P (Err faults.Changed) read memory given = absurd given
-answered P (Err faults.Memory) read memory given = absurd memory
+answered P (Err faults.Changed) read memory given = absurd (given refl)
+answered P (Err faults.Memory) read memory given = absurd (memory refl)
 
 -- there is an answer
 pub is_answered : {X : Type 0} (found : Result X CursorFault) → cursor_read found ≡ false → TakesNoMemory found → IfErr found IsExcused → IsOk found
 is_answered (Ok x) read memory excused = refl
 is_answered (Err (faults.Read e)) read memory excused = cc read
-is_answered (Err faults.Changed) read memory excused = absurd excused
-is_answered (Err faults.Memory) read memory excused = absurd memory
+is_answered (Err faults.Changed) read memory excused = absurd (excused refl)
+is_answered (Err faults.Memory) read memory excused = absurd (memory refl)

@@ -9,7 +9,7 @@ use Rattle.bplist_cursor.specs.Formless.{IsFormless}
 use Rattle.bplist_cursor.specs.Nodes.{cap}
 use Rattle.bplist_cursor.specs.OldStyle.{value_text}
 use Rattle.bplist_cursor.specs.Sizes.{Table, form_in}
-use Rattle.bplist_ascii.specs.Printed.{FitsLimit, IsTooLong}
+use Rattle.bplist_ascii.specs.Printed.{FitsLimit}
 use Rattle.bplist_ascii.specs.declared.print_fault.PrintFault.{PrintFault}
 use Rattle.bplist_ascii.specs.declared.print_fault.PrintFault.TheVariants as faults
 use Rattle.bplist_c.specs.declared.status.Status.{Status}
@@ -43,7 +43,7 @@ printed_as (Err faults.Memory) text told = Err statuses.Memory
 abbrev pub IsTextOf : List ℕ → Frame → ℕ → Value → ℕ → Result Text Status → Type 0
 IsTextOf f F n v room (Ok (Fits text)) = (value_text v ≡ Some text.items) × FitsLimit room text.items
 IsTextOf f F n v room (Ok (TooLong told)) =
-    (text : List ℕ) × (value_text v ≡ Some text) × IsTooLong room text × (told ≡ cap (length text))
+    (text : List ℕ) × (value_text v ≡ Some text) × (¬ FitsLimit room text) × (told ≡ cap (length text))
 IsTextOf f F n v room (Ok (Formless part)) = (value_text v ≡ None) × IsFormless f F n v part.0
 IsTextOf f F n v room (Err why) = why ≡ statuses.Memory
 

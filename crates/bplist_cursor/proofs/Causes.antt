@@ -1,4 +1,5 @@
 -- Why an object could not be read.
+use Rattle.std.proofs.Common.{◌≢◌, refl}
 use Rattle.bplist_objects.specs.declared.fault.ObjectFault.{ObjectFault}
 use Rattle.bplist_objects.specs.declared.fault.ObjectFault.TheVariants as errors
 use Rattle.bplist_objects.specs.Answers.{GivesFault, Never}
@@ -7,7 +8,6 @@ use Rattle.bplist_cursor.specs.declared.faults.Unread.TheVariants as unread
 use Rattle.bplist_cursor.specs.declared.faults.CursorFault.{CursorFault}
 use Rattle.bplist_cursor.specs.declared.faults.CursorFault.TheVariants as faults
 use Rattle.bplist_cursor.specs.Causes.{IsExcused}
-use Rattle.std.specs.Bool.{⊤}
 
 -- what a fault of an object is to the cursor
 abbrev pub unread_of : ObjectFault → Unread
@@ -21,15 +21,14 @@ cursor_fault_of unread.Changed = faults.Changed
 
 -- a failed read, and not Changed
 abbrev pub IsUnread : Unread → Type 0
-IsUnread (unread.Read _) = ⊤
-IsUnread unread.Changed = ⊥
+IsUnread e = e ≢ unread.Changed
 
 -- without a fault it is a failed read
 pub unread_never : (e : ObjectFault) → GivesFault Never e → IsUnread (unread_of e)
-unread_never (errors.Fault x) h = h
-unread_never (errors.Read x) h = tt
+unread_never (errors.Fault x) h = absurd h
+unread_never (errors.Read x) h = λ is. cc is
 
 -- what is not Changed to an inner call is not Changed to a caller
 pub unread_excused : (e : Unread) → IsUnread e → IsExcused (cursor_fault_of e)
-unread_excused (unread.Read x) h = tt
-unread_excused unread.Changed h = h
+unread_excused (unread.Read x) h = λ is. cc is
+unread_excused unread.Changed h = absurd (h refl)

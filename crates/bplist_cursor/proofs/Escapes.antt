@@ -1,17 +1,17 @@
 -- Path texts and their loose `~`, as lists of characters.
 use Rattle.std.proofs.Common.{◌≡◌, ◌≢◌, ◌⊎◌, inl, inr, ℕ, zero, suc, ◌<◌, ◌==◌, Bool, true, false, cond, List, [], ◌∷◌, ◌++◌, arith, length, take, drop, flat_map, refl, sym, ap, ◌∙◌, subst, append_assoc, append-nil}
-use Rattle.std.specs.Prelude.{encode_utf8_all}
+use Rattle.std.specs.Prelude.{encode_utf8_all, slice_get, Some, None}
 use Rattle.std.proofs.Math.Seq.{drop-append_seam, take-append_seam, drop-nil}
 use Rattle.std.proofs.lemmas.Bool.{cases_lt}
 use Rattle.std.proofs.lemmas.Bool.Decides.{nat_tests}
-use Rattle.bplist_cursor.specs.Path.{escaped, written, IsLoose, IsFirstLoose, IsWrongAt}
+use Rattle.bplist_cursor.specs.Path.{escaped, written, IsLoose, IsWrong, IsWrongAt}
 use Rattle.bplist_cursor.specs.Tokens.{IsClosed}
 
 pub closed-nil : IsClosed []
 closed-nil rest k low = absurd (omega (arith, low))
 
 pub closed-cons : (c : ℕ) (xs : List ℕ) → c ≢ 0x7E → IsClosed xs → IsClosed (c ∷ xs)
-closed-cons c xs other closed rest zero low loose = other loose.0
+closed-cons c xs other closed rest zero low loose = other (cc loose.0)
 closed-cons c xs other closed rest (suc k) low loose = closed rest k (omega (arith, low)) loose
 
 pub closed-append : (xs ys : List ℕ) → IsClosed xs → IsClosed ys → IsClosed (xs ++ ys)
@@ -21,7 +21,7 @@ closed-append (x ∷ xs) ys p q rest (suc k) low loose = closed-append xs ys (λ
 
 -- a `~` with `0` or `1` behind it
 pub closed_pair : (d : ℕ) (xs : List ℕ) → (d ≡ 0x30) ⊎ (d ≡ 0x31) → IsClosed xs → IsClosed (0x7E ∷ d ∷ xs)
-closed_pair d xs is closed rest zero low loose = elim is [ inl p ↦ loose.1.0 p | inr p ↦ loose.1.1 p ]
+closed_pair d xs is closed rest zero low loose = elim is [ inl p ↦ loose.1 (ap Some p) | inr p ↦ loose.2 (ap Some p) ]
 closed_pair d xs is closed rest (suc k) low loose =
     let other : d ≢ 0x7E = λ e. elim is [ inl p ↦ omega (arith, e, p) | inr p ↦ omega (arith, e, p) ] in
     closed-cons d xs other closed rest k (omega (arith, low)) loose
@@ -50,27 +50,34 @@ closed_written (t ∷ ts) xs closed =
     closed-cons 0x2F ((flat_map escaped t ++ written ts) ++ xs) (λ e. omega (arith, e))
     (subst IsClosed (sym (append_assoc (flat_map escaped t) (written ts) xs)) (closed_token t (written ts ++ xs) (closed_written ts xs closed)))
 
-pub first_loose : (cs front tail : List ℕ) → cs ≡ front ++ tail → IsClosed front → IsLoose tail → IsFirstLoose cs (length (encode_utf8_all front))
-first_loose cs front tail is closed loose = record {
+-- a loose `~` behind what has none, in characters that begin with `/`
+pub first_wrong : (cs front tail rest : List ℕ) → cs ≡ front ++ tail → cs ≡ 0x2F ∷ rest → IsClosed front → IsLoose tail → IsWrongAt cs (length (encode_utf8_all front))
+first_wrong cs front tail rest is begins closed loose = record {
   before = length front;
-  loose = subst IsLoose (sym (ap (drop (length front)) is ∙ drop-append_seam front tail)) loose;
-  first = λ k low l. closed tail k low (subst (λ xs. IsLoose (drop k xs)) is l);
+  wrong = inr (subst IsLoose (sym (ap (drop (length front)) is ∙ drop-append_seam front tail)) loose);
+  first = λ k low w. elim w [ inl other ↦ other.2 (ap (λ xs. slice_get xs 0) begins) | inr l ↦ closed tail k low (subst (λ xs. IsLoose (drop k xs)) is l) ];
   counted = ap (λ xs. length (encode_utf8_all xs)) (sym (ap (take (length front)) is ∙ take-append_seam front tail));
 }
 
 loose_within : (cs : List ℕ) (k : ℕ) → IsLoose (drop k cs) → k < length cs
-loose_within [] k loose = absurd (subst IsLoose (drop-nil k) loose)
+loose_within [] k loose = let none : None ≡ Some 0x7E = (subst IsLoose (drop-nil k) loose).0 in absurd (cc none)
 loose_within (c ∷ cs) zero loose = omega arith
 loose_within (c ∷ cs) (suc k) loose = let h = loose_within cs k loose in omega (arith, h)
 
 -- a path text has no loose `~`
-pub written_not_loose : (cs : List ℕ) (place : ℕ) (tokens : List (List ℕ)) → IsFirstLoose cs place → cs ≡ written tokens → ⊥
-written_not_loose cs place tokens f is =
+written_not_loose : (cs : List ℕ) (k : ℕ) (tokens : List (List ℕ)) → IsLoose (drop k cs) → cs ≡ written tokens → ⊥
+written_not_loose cs k tokens loose is =
     let all : cs ≡ written tokens ++ [] = is ∙ sym (append-nil (written tokens)) in
-    let low = loose_within cs f.before f.loose in
+    let low = loose_within cs k loose in
     let long = ap length all in
-    closed_written tokens [] closed-nil [] f.before (omega (arith, low, long))
-    (subst (λ xs. IsLoose (drop f.before xs)) (all ∙ sym (append-nil (written tokens ++ []))) f.loose)
+    closed_written tokens [] closed-nil [] k (omega (arith, low, long))
+    (subst (λ xs. IsLoose (drop k xs)) (all ∙ sym (append-nil (written tokens ++ []))) loose)
+
+-- and is not wrong
+pub written_not_wrong : (cs : List ℕ) (k : ℕ) (tokens : List (List ℕ)) → IsWrong cs k → cs ≡ written tokens → ⊥
+written_not_wrong cs k [] (inl other) is = let long = ap length is in omega (arith, long, other.1)
+written_not_wrong cs k (t ∷ ts) (inl other) is = other.2 (ap (λ xs. slice_get xs 0) is)
+written_not_wrong cs k tokens (inr loose) is = written_not_loose cs k tokens loose is
 
 -- the escape of one character says which it is
 
@@ -149,20 +156,13 @@ same_written (t ∷ ts) (u ∷ us) e =
     let q : ts ≡ us = same_written ts us h.1 in
     cc
 
-same_first_loose : (cs : List ℕ) (p q : ℕ) → IsFirstLoose cs p → IsFirstLoose cs q → p ≡ q
-same_first_loose cs p q f g = elim (order f.before g.before) [
-  | inl less ↦ absurd (g.first f.before less f.loose)
+-- a text is wrong at one byte
+pub same_place : (cs : List ℕ) (p q : ℕ) → IsWrongAt cs p → IsWrongAt cs q → p ≡ q
+same_place cs p q f g = elim (order f.before g.before) [
+  | inl less ↦ absurd (g.first f.before less f.wrong)
   | inr (inl is) ↦ f.counted ∙ ap (λ k. length (encode_utf8_all (take k cs))) is ∙ sym g.counted
-  | inr (inr more) ↦ absurd (f.first g.before more g.loose)
+  | inr (inr more) ↦ absurd (f.first g.before more g.wrong)
 ]
   where
     order : (m n : ℕ) → (m < n) ⊎ ((m ≡ n) ⊎ (n < m))
     order m n = elim (cases_lt m n) [ inl less ↦ inl less | inr more ↦ elim (cases_lt n m) [ inl less ↦ inr (inr less) | inr least ↦ inr (inl (omega (arith, more, least))) ] ]
-
--- a text is wrong at one byte
-pub same_place : (cs : List ℕ) (p q : ℕ) → IsWrongAt cs p → IsWrongAt cs q → p ≡ q
-same_place [] p q v w = absurd v
-same_place (c ∷ cs) p q (inl v) (inl w) = v.1 ∙ sym w.1
-same_place (c ∷ cs) p q (inl v) (inr w) = absurd (v.0 w.0)
-same_place (c ∷ cs) p q (inr v) (inl w) = absurd (w.0 v.0)
-same_place (c ∷ cs) p q (inr v) (inr w) = same_first_loose (c ∷ cs) p q v.1 w.1

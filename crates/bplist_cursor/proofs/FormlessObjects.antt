@@ -60,7 +60,7 @@ module _ (f : List ℕ) (F : Frame) where
     one_formless (array vs) n x y p q =
         let is : p.0 ≡ q.0 = cc (one_head f F n _ _ p.1 q.1) in
         one_member vs q.0 x y (subst (λ ms. IsFirstFormless f F ms vs x) is p.2) q.2
-    one_formless (set vs) n x y p q = p ∙ sym q
+    one_formless (set vs) n x y p q = p.1 ∙ sym q.1
     one_formless (dict ps) n x y p q =
         let is : p.1 ≡ q.1 = cc (one_head f F n _ _ p.2 q.2) in
         one_pair ps q.1 x y (subst (λ ms. IsFirstFormlessOf f F ms ps x) is p.3) q.3
@@ -92,7 +92,7 @@ module _ (f : List ℕ) (F : Frame) where
     pub some_formless : (v : Value) (n : ℕ) → Holds f F n v → value_text v ≡ None → (x : ℕ) × IsFormless f F n v x
     some_formless (leaf l) n h e = (n, (e, refl))
     some_formless (array vs) n h e = let r = some_member vs h.0 h.2 (map_none _ _ e) in (r.0, (h.0, h.1, r.1))
-    some_formless (set vs) n h e = (n, refl)
+    some_formless (set vs) n h e = (n, (e, refl))
     some_formless (dict ps) n h e = let r = some_pair ps h.0 h.1 h.3 (map_none _ _ e) in (r.0, (h.0, h.1, h.2, r.1))
 
     some_member : (vs : Values) (ms : List ℕ) → HoldEach f F ms vs → members_text vs ≡ None → (x : ℕ) × IsFirstFormless f F ms vs x

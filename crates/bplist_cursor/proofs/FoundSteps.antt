@@ -24,7 +24,6 @@ use Rattle.bplist_octets.proofs.Sources.{never_fails}
 use Rattle.bplist_cursor.specs.declared.faults.Unread.{Unread}
 use Rattle.bplist_cursor.specs.declared.faults.Unread.TheVariants as unread
 use Rattle.bplist_cursor.specs.declared.faults.CursorFault.{CursorFault}
-use Rattle.bplist_cursor.specs.declared.faults.CursorFault.TheVariants as faults
 use Rattle.bplist_cursor.proofs.Counts.{few_refs}
 use Rattle.bplist_cursor.proofs.StepObjects.{leads_held}
 use Rattle.bplist_cursor.proofs.StepReferences.{taken_there}
@@ -83,7 +82,7 @@ module _ (checked : CheckedFile) (is : IsChecked checked) (honest : IsTrue check
         let there = taken_there f F a.value n s m a.holds.1 b.0 b.1 b.2 in
         record {
           value = q.0;
-          led = sym (ap (λ d. look_from k a.value d) e ∙ ap (λ x. on_either x (λ w. look_from (k + 1) w (drop (suc k) steps)) (λ why. Err (record { step = k; why = why }))) q.1 ∙ ap (λ j. look_from (k + 1) q.0 (drop j steps)) z) ∙ a.led;
+          led = sym (ap (λ d. look_from k a.value d) e ∙ ap (λ x. on_either x (λ w. look_from (k + 1) w (drop (suc k) steps)) (λ why. Err (k, why))) q.1 ∙ ap (λ j. look_from (k + 1) q.0 (drop j steps)) z) ∙ a.led;
           holds = (lower_vouched n m b.0 a.holds.0 b.1 there, q.2);
           leads = λ j l. a.leads j (subst (λ d. LeadTo f F n d j) (sym e) (m, b, subst (λ i. LeadTo f F m (drop i steps) j) (sym z) l));
           spent = λ keyed has.
@@ -93,8 +92,8 @@ module _ (checked : CheckedFile) (is : IsChecked checked) (honest : IsTrue check
               omega (arith, old, rise, sum);
         }
 
-    pub off : (y : Why) → stepped a.value s ≡ Err y → look v steps ≡ Err (record { step = k; why = y })
-    off y x = sym a.led ∙ ap (λ d. look_from k a.value d) e ∙ ap (λ x. on_either x (λ w. look_from (k + 1) w (drop (suc k) steps)) (λ why. Err (record { step = k; why = why }))) x
+    pub off : (y : Why) → stepped a.value s ≡ Err y → look v steps ≡ Err (k, y)
+    off y x = sym a.led ∙ ap (λ d. look_from k a.value d) e ∙ ap (λ x. on_either x (λ w. look_from (k + 1) w (drop (suc k) steps)) (λ why. Err (k, why))) x
 
     pub spent_off : (y : Why) → stepped a.value s ≡ Err y → RisesAtMost checked made more (halvings_at a.value) → RisesAtMost checked before more (halvings v steps)
     spent_off y x rises keyed has =
@@ -112,14 +111,11 @@ module _ (checked : CheckedFile) (is : IsChecked checked) (honest : IsTrue check
 
   -- why nothing was read, where the answer for any value of the object says it
   pub unread_for : (n : ℕ) → IsVouchedBy heights n → (e : Unread) → ((v : Value) → Holds f F n v → IsUnread e) → IsUnread e
-  unread_for n vouched (unread.Read x) h = tt
-  unread_for n vouched unread.Changed h = absurd (not_there (value_there n vouched) (λ p. h p.0 p.1))
+  unread_for n vouched e h = λ is. not_there (value_there n vouched) (λ p. h p.0 p.1 is)
 
   -- and why there is no answer
   pub excused_for : (n : ℕ) → IsVouchedBy heights n → (e : CursorFault) → ((v : Value) → Holds f F n v → IsExcused e) → IsExcused e
-  excused_for n vouched (faults.Read x) h = tt
-  excused_for n vouched faults.Changed h = absurd (not_there (value_there n vouched) (λ p. h p.0 p.1))
-  excused_for n vouched faults.Memory h = tt
+  excused_for n vouched e h = λ is. not_there (value_there n vouched) (λ p. h p.0 p.1 is)
 
   -- what holds of the answer for any value of the object holds of it without one
   pub quiet : (n : ℕ) → IsVouchedBy heights n → {X : Type 0} (P : Value → X → Type 0) (r : Result X CursorFault)
@@ -130,7 +126,7 @@ module _ (checked : CheckedFile) (is : IsChecked checked) (honest : IsTrue check
 -- a source without failures has not failed
 pub never_read : (old new : CheckedFile) (e : Unread) → Keeps (read_failed {X = ⊤} (Err e)) old new → new.source.failures ≡ 0 → IsUnread e → ⊥
 never_read old new (unread.Read x) k z h =
-    let before : old.source.failures ≡ 0 = omega (arith, k.source.rises, z) in
-    let no_read : true ≡ false = never_fails true old.source new.source before z k.source in
+    let before : old.source.failures ≡ 0 = omega (arith, k.0.rises, z) in
+    let no_read : true ≡ false = never_fails true old.source new.source before z k.0 in
     cc no_read
-never_read old new unread.Changed k z h = h
+never_read old new unread.Changed k z h = h refl

@@ -56,6 +56,6 @@ module _ (f : List ℕ) (F : Frame) where
 
 -- the reply of a value is that of what the query's path leads to
 pub reply_found : (v w : Value) (query : Query) → look v (steps_in query) ≡ Ok w → reply v query ≡ reply_at w query
-reply_found v w (queries.Get steps) e = ap (λ r. on_either r (λ w. replies.Face (face w)) (λ m. replies.Missing m.step m.why)) e
-reply_found v w (queries.Keys steps) e = ap (λ r. on_either r keys_reply (λ m. replies.Missing m.step m.why)) e
-reply_found v w (queries.Size steps) e = ap (λ r. on_either r (λ w. replies.Size (cap (nodes w))) (λ m. replies.Missing m.step m.why)) e
+reply_found v w (queries.Get steps) e = ap (λ r. on_either r (λ w. replies.Face (face w)) (λ m. replies.Missing m.0 m.1)) e
+reply_found v w (queries.Keys steps) e = ap (λ r. on_either r keys_reply (λ m. replies.Missing m.0 m.1)) e
+reply_found v w (queries.Size steps) e = ap (λ r. on_either r (λ w. replies.Size (cap (nodes w))) (λ m. replies.Missing m.0 m.1)) e

@@ -12,7 +12,7 @@ use Rattle.bplist_objects.specs.Heads.{Content, Spells, content_of, refs}
 use Rattle.bplist_objects.specs.Holds.{Holds, HoldEach, HoldPairs}
 use Rattle.bplist_objects.specs.Safe.{ref_count}
 use Rattle.bplist_objects.proofs.References.{length-nums_at, length-refs, as_many}
-use Rattle.bplist_cursor.specs.Members.{nth_value, nth_of_pairs, member_of, nth_in_turn, member_reference, named, node_of, IsNumberOf, HoldsMember}
+use Rattle.bplist_cursor.specs.Members.{members, in_turn, member_of, nth_in_turn, member_reference, named, node_of, IsNumberOf, HoldsMember}
 
 -- a number is even or odd
 halves : (i : ℕ) → (j : ℕ) × ((i ≡ 2 * j) ⊎ (i ≡ 2 * j + 1))
@@ -126,15 +126,15 @@ module _ (f : List ℕ) (F : Frame) where
       → named (nth_in_turn ks ms i) ≡ Some (node_of (slice_index ms j))
   node_of_value ks ms n i j s e l = ap named (value_in_turn ks ms i j (keys_and_values ks ms n s) e l)
 
-  hold_each : (ms : List ℕ) (vs : Values) (i : ℕ) → HoldEach f F ms vs → HoldsMember f F (nth_value vs i) (named (slice_get ms i))
-  hold_each [] no_values i h = tt
+  hold_each : (ms : List ℕ) (vs : Values) (i : ℕ) → HoldEach f F ms vs → HoldsMember f F (slice_get (members vs) i) (named (slice_get ms i))
+  hold_each [] no_values i h = refl
   hold_each [] (value v vs) i h = absurd h
   hold_each (m ∷ ms) no_values i h = absurd h
   hold_each (m ∷ ms) (value v vs) zero h = h.0
   hold_each (m ∷ ms) (value v vs) (suc i) h = hold_each ms vs i h.1
 
-  hold_pairs : (ks ms : List ℕ) (ps : Pairs) (i : ℕ) → HoldPairs f F ks ms ps → HoldsMember f F (nth_of_pairs ps i) (named (nth_in_turn ks ms i))
-  hold_pairs [] [] no_pairs i h = tt
+  hold_pairs : (ks ms : List ℕ) (ps : Pairs) (i : ℕ) → HoldPairs f F ks ms ps → HoldsMember f F (slice_get (in_turn ps) i) (named (nth_in_turn ks ms i))
+  hold_pairs [] [] no_pairs i h = refl
   hold_pairs [] [] (pair u v ps) i h = absurd h
   hold_pairs [] (m ∷ ms) ps i h = absurd h
   hold_pairs (k ∷ ks) [] ps i h = absurd h
@@ -146,7 +146,7 @@ module _ (f : List ℕ) (F : Frame) where
   -- the objects of the references for members hold the members of the value
   pub held_members : (v : Value) (n : ℕ) → Holds f F n v
       → (c : Content) × Spells f F n c × ((i : ℕ) → HoldsMember f F (member_of v i) (named (member_reference c i)))
-  held_members (leaf l) n h = (Content.leaf l, h, λ i. tt)
+  held_members (leaf l) n h = (Content.leaf l, h, λ i. refl)
   held_members (array vs) n h = (Content.array h.0, h.1, λ i. hold_each h.0 vs i h.2)
   held_members (set vs) n h = (Content.set h.0, h.1, λ i. hold_each h.0 vs i h.2)
   held_members (dict ps) n h = (Content.dict h.0 h.1, h.2, λ i. hold_pairs h.0 h.1 ps i h.3)

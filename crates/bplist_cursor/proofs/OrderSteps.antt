@@ -19,7 +19,6 @@ use Rattle.bplist_cert.proofs.VouchedObjects.{object_holds, references_lower}
 use Rattle.bplist_cursor.specs.declared.measures.Size.{Size}
 use Rattle.bplist_cursor.specs.Sizes.{Table, size_of, size_in, IsSized, AreMeasures}
 use Rattle.bplist_cursor.specs.declared.faults.CursorFault.{CursorFault}
-use Rattle.bplist_cursor.specs.declared.faults.CursorFault.TheVariants as fault
 use Rattle.bplist_cursor.specs.Causes.{IsExcused}
 use Rattle.bplist_cursor.specs.ObjectSizes.{AreVouched, IsOrder, IsEmpty, AreSet}
 
@@ -139,6 +138,4 @@ empty_table sizes n is k = ap (λ t. size_in t k) is ∙ elim (cases_lt k n) [
 ]
 
 pub excused_prop : (e : CursorFault) → IsProp (IsExcused e)
-excused_prop (fault.Read e) = Prim.hlevel props
-excused_prop fault.Changed = Prim.hlevel props
-excused_prop fault.Memory = Prim.hlevel props
+excused_prop e = Prim.hlevel props

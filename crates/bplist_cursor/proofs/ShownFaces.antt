@@ -15,7 +15,8 @@ use Rattle.bplist_objects.specs.Units.{IsTextKind, units_of}
 use Rattle.bplist_objects.proofs.Units.{length-units_at}
 use Rattle.bplist_objects.proofs.References.{length-nums_at}
 use Rattle.bplist_cursor.specs.declared.faces.Face.TheVariants as faces
-use Rattle.bplist_cursor.specs.Replies.{face, count}
+use Rattle.bplist_cursor.specs.Replies.{face}
+use Rattle.bplist_cursor.specs.Members.{members}
 use Rattle.bplist_cursor.specs.Shown.{content_face}
 
 -- all units of a text are its units
@@ -42,7 +43,7 @@ module _ (f : List ℕ) (F : Frame) where
   pub dict_face : (head : Head) → head.kind ≡ kinds.Dict → faces.Dict head.count ≡ content_face (content_at f F head)
   dict_face head e = ap faces.Dict (sym (length-nums_at f head.body F.ref_size head.count)) ∙ face_by_kind head kinds.Dict e
 
-  count_each : (ms : List ℕ) (vs : Values) → HoldEach f F ms vs → length ms ≡ count vs
+  count_each : (ms : List ℕ) (vs : Values) → HoldEach f F ms vs → length ms ≡ length (members vs)
   count_each [] no_values h = refl
   count_each [] (value v vs) h = absurd h
   count_each (m ∷ ms) no_values h = absurd h

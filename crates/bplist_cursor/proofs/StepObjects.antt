@@ -1,5 +1,7 @@
 -- The reference taken for a step names an object that holds what the step leads to.
-use Rattle.std.proofs.Common.{◌≡◌, ◌≢◌, ℕ, zero, suc, ◌<◌, ◌+◌, ◌^◌, List, [], ◌∷◌, length, slice_index, Bool, true, false, if◌then◌else◌, Option, Some, None, Ok, ok_or, refl, sym, ap, ◌∙◌, subst, arith, Contains}
+use Rattle.std.proofs.Common.{◌≡◌, ◌≢◌, ℕ, zero, suc, ◌<◌, ◌+◌, ◌^◌, List, [], ◌∷◌, length, slice_index, Bool, true, false, cond, Option, Some, None, Ok, ok_or, refl, sym, ap, ◌∙◌, subst, arith, Contains}
+use Rattle.std.specs.Prelude.{option_map}
+use Rattle.std.specs.List.{find, enumerate_from}
 use Rattle.std.specs.Str.{bytes_eq}
 use Rattle.std.specs.Fmt.{decimal}
 use Rattle.std.proofs.lemmas.Fmt.{decimal_injective}
@@ -8,7 +10,8 @@ use Rattle.bplist_objects.specs.declared.frame.Frame.{Frame}
 use Rattle.bplist_objects.specs.Value.{text, Value, leaf, array, set, dict, Values, no_values, value, Pairs, no_pairs, pair, keys}
 use Rattle.bplist_objects.specs.Heads.{Content, Spells, refs}
 use Rattle.bplist_objects.specs.Holds.{Holds, HoldEach, HoldPairs, AreDistinct}
-use Rattle.bplist_cursor.specs.Look.{value_at, member_at, stepped}
+use Rattle.bplist_cursor.specs.Look.{stepped}
+use Rattle.bplist_cursor.specs.Members.{members, entries}
 use Rattle.bplist_cursor.specs.declared.found.Why.{Why}
 use Rattle.bplist_cursor.specs.declared.found.Why.TheVariants as why
 use Rattle.bplist_cursor.specs.Leads.{IsTaken, Leads}
@@ -27,6 +30,22 @@ other_is u s h = not_true (bytes_eq u s) (λ e. h ((bytes_eq-Decides u s).0 e))
 
 distinct_rest : (u : List ℕ) (us : List (List ℕ)) → AreDistinct (u ∷ us) → AreDistinct us
 distinct_rest u us h = λ i j d l b. h (suc i) (suc j) d (omega arith) (omega arith)
+
+-- the value of the first key with these units
+abbrev pub value_at : List ℕ → Pairs → Option Value
+value_at s ps = option_map (λ e. e.1) (find (λ e. bytes_eq e.0 s) (entries ps))
+
+-- the member at the index that these units spell, where the first has this index
+abbrev pub member_at : List ℕ → ℕ → Values → Option Value
+member_at s i vs = option_map (λ e. e.1) (find (λ e. bytes_eq (decimal e.0) s) (enumerate_from i (members vs)))
+
+-- the same of one pair more, by the test of its key
+abbrev value_by : List ℕ → Value → List ℕ → Pairs → Bool → Option Value
+value_by u v s ps b = option_map (λ e. e.1) (cond b (Some (u, v)) (find (λ e. bytes_eq e.0 s) (entries ps)))
+
+-- and of one member more, by that of its index
+abbrev member_by : ℕ → Value → List ℕ → Values → Bool → Option Value
+member_by i v s vs b = option_map (λ e. e.1) (cond b (Some (i, v)) (find (λ e. bytes_eq (decimal e.0) s) (enumerate_from (i + 1) (members vs))))
 
 module _ (f : List ℕ) (F : Frame) (one : OneHead f F) where
   abbrev Gives : Option Value → ℕ → Type 0
@@ -57,12 +76,12 @@ module _ (f : List ℕ) (F : Frame) (one : OneHead f F) where
   by_key (pair u v ps) (k ∷ ks) [] s h d i l sp = absurd h
   by_key (pair u v ps) (k ∷ ks) (m ∷ ms) s h d zero l sp =
       let e : u ≡ s = cc (one k _ _ h.0 sp) in
-      (v, ap (λ b. if b then Some v else value_at s ps) (same_is u s e), h.1)
+      (v, ap (value_by u v s ps) (same_is u s e), h.1)
   by_key (pair u v ps) (k ∷ ks) (m ∷ ms) s h d (suc i) l sp =
       let r = by_key ps ks ms s h.2 (distinct_rest u (keys ps) d) i (omega arith) sp in
       let c = key_there ps ks ms s h.2 i (omega arith) sp in
       let ne : u ≢ s = λ e. d 0 (suc c.0) s (omega arith) (omega (arith, c.1)) (e ∙ sym c.2) in
-      (r.0, ap (λ b. if b then Some v else value_at s ps) (other_is u s ne) ∙ r.1, r.2)
+      (r.0, ap (value_by u v s ps) (other_is u s ne) ∙ r.1, r.2)
 
   -- the member whose place the step spells; j is the place of the first
   by_place : (vs : Values) (ms : List ℕ) (s : List ℕ) (j : ℕ) → HoldEach f F ms vs → j + length ms < 2 ^ 64 → (i : ℕ) → i < length ms → decimal (j + i) ≡ s → Gives (member_at s j vs) (slice_index ms i)
@@ -71,12 +90,12 @@ module _ (f : List ℕ) (F : Frame) (one : OneHead f F) where
   by_place (value v vs) [] s j h b i l e = absurd h
   by_place (value v vs) (m ∷ ms) s j h b zero l e =
       let z : j ≡ j + 0 = omega arith in
-      (v, ap (λ b. if b then Some v else member_at s (j + 1) vs) (same_is (decimal j) s (ap decimal z ∙ e)), h.0)
+      (v, ap (member_by j v s vs) (same_is (decimal j) s (ap decimal z ∙ e)), h.0)
   by_place (value v vs) (m ∷ ms) s j h b (suc i) l e =
       let z : j + 1 + i ≡ j + suc i = omega arith in
       let r = by_place vs ms s (j + 1) h.1 (omega arith) i (omega arith) (ap decimal z ∙ e) in
       let ne : decimal j ≢ s = λ d. let q = decimal_injective j (j + suc i) (omega arith) (omega arith) (d ∙ sym e) in omega arith in
-      (r.0, ap (λ b. if b then Some v else member_at s (j + 1) vs) (other_is (decimal j) s ne) ∙ r.1, r.2)
+      (r.0, ap (member_by j v s vs) (other_is (decimal j) s ne) ∙ r.1, r.2)
 
   -- the object of the reference taken for a step holds what the step leads to
   pub leads_held : (v : Value) (n : ℕ) (s : List ℕ) (m : ℕ) → Holds f F n v → ((h : Content) → Spells f F n h → length (refs h) < 2 ^ 64) → Leads f F n s m → (w : Value) × (stepped v s ≡ Ok w) × Holds f F m w
@@ -103,10 +122,10 @@ module _ (f : List ℕ) (F : Frame) (one : OneHead f F) where
       go : (value_at s ps ≡ Some w → (i : ℕ) × (i < length ks) × Spells f F (slice_index ks i) (Content.leaf (text s)) × Holds f F (slice_index ms i) w) → (b : Bool) → bytes_eq u s ≡ b → (i : ℕ) × (i < length (k ∷ ks)) × Spells f F (slice_index (k ∷ ks) i) (Content.leaf (text s)) × Holds f F (slice_index (m ∷ ms) i) w
       go again true t =
           let us : u ≡ s = (bytes_eq-Decides u s).0 t in
-          let vw : v ≡ w = cc (ap (λ b. if b then Some v else value_at s ps) (sym t) ∙ e) in
+          let vw : v ≡ w = cc (ap (value_by u v s ps) (sym t) ∙ e) in
           (0, omega arith, subst (λ x. Spells f F k (Content.leaf (text x))) us h.0, subst (λ x. Holds f F m x) vw h.1)
       go again false t =
-          let r = again (ap (λ b. if b then Some v else value_at s ps) (sym t) ∙ e) in
+          let r = again (ap (value_by u v s ps) (sym t) ∙ e) in
           (suc r.0, omega (arith, r.1), r.2, r.3)
 
   from_place : (vs : Values) (ms : List ℕ) (s : List ℕ) (j : ℕ) (w : Value) → HoldEach f F ms vs → member_at s j vs ≡ Some w → (i : ℕ) × (i < length ms) × (decimal (j + i) ≡ s) × Holds f F (slice_index ms i) w
@@ -117,10 +136,10 @@ module _ (f : List ℕ) (F : Frame) (one : OneHead f F) where
       go : (member_at s (j + 1) vs ≡ Some w → (i : ℕ) × (i < length ms) × (decimal (j + 1 + i) ≡ s) × Holds f F (slice_index ms i) w) → (b : Bool) → bytes_eq (decimal j) s ≡ b → (i : ℕ) × (i < length (m ∷ ms)) × (decimal (j + i) ≡ s) × Holds f F (slice_index (m ∷ ms) i) w
       go again true t =
           let z : j + 0 ≡ j = omega arith in
-          let vw : v ≡ w = cc (ap (λ b. if b then Some v else member_at s (j + 1) vs) (sym t) ∙ e) in
+          let vw : v ≡ w = cc (ap (member_by j v s vs) (sym t) ∙ e) in
           (0, omega arith, ap decimal z ∙ (bytes_eq-Decides (decimal j) s).0 t, subst (λ x. Holds f F m x) vw h.0)
       go again false t =
-          let r = again (ap (λ b. if b then Some v else member_at s (j + 1) vs) (sym t) ∙ e) in
+          let r = again (ap (member_by j v s vs) (sym t) ∙ e) in
           let z : j + suc r.0 ≡ j + 1 + r.0 = omega arith in
           (suc r.0, omega (arith, r.1), ap decimal z ∙ r.2, r.3)
 

@@ -9,9 +9,9 @@ use Rattle.bplist_objects.proofs.Fronts.{one_head}
 use Rattle.bplist_objects.proofs.Lists.{all_at}
 use Rattle.bplist_cursor.specs.declared.found.Why.{Why}
 use Rattle.bplist_cursor.specs.declared.found.Why.TheVariants as why
-use Rattle.bplist_cursor.specs.Look.{stepped, value_at, member_at}
+use Rattle.bplist_cursor.specs.Look.{stepped}
 use Rattle.bplist_cursor.specs.Leads.{IsTaken, HasTextKeys, why_of}
-use Rattle.bplist_cursor.proofs.StepObjects.{step_leads}
+use Rattle.bplist_cursor.proofs.StepObjects.{value_at, member_at, step_leads}
 
 there : (xs : List ℕ) (i : ℕ) → i < length xs → Contains xs (slice_index xs i)
 there [] i l = absurd (omega arith)

@@ -1,6 +1,6 @@
 -- What is read of a path text.
 use Rattle.std.proofs.Common.{◌≡◌, ◌≢◌, ◌⊎◌, inl, inr, ℕ, ◌+◌, Bool, true, false, List, [], ◌∷◌, ◌++◌, arith, length, map, flat_map, refl, sym, ap, ◌∙◌, subst, append_assoc, append-nil, IsTrue}
-use Rattle.std.specs.Prelude.{encode_utf8_all, encode_utf8}
+use Rattle.std.specs.Prelude.{encode_utf8_all, encode_utf8, Some}
 use Rattle.std.specs.Str.{chars}
 use Rattle.std.specs.Str.Iter.{char_indices_rest, char_indices_offset}
 use Rattle.std.specs.declared.str.CharIndices.{CharIndices}
@@ -8,12 +8,12 @@ use Rattle.std.specs.Char.Escape.{encode_utf16}
 use Rattle.std.proofs.lemmas.List.{length-append, map-append}
 use Rattle.std.proofs.lemmas.Grind.{flat_map-append}
 use Rattle.std.proofs.lemmas.Str.{chars_past_char, IsUtf8-past_char, chars-nil, encodes-append}
-use Rattle.bplist_cursor.specs.Path.{escaped, units, written, IsPathOf, IsNoEscape, IsLoose, IsFirstLoose, IsWrongAt, IsNoPath}
+use Rattle.bplist_cursor.specs.Path.{escaped, units, written, IsPathOf, IsLoose, IsWrongAt, IsNoPath}
 use Rattle.bplist_cursor.specs.Tokens.{IsReadable, Reads, IsClosed, MeetsLoose, left, slash}
 use Rattle.bplist_cursor.specs.PathFaults.{OnText}
 use Rattle.bplist_cursor.specs.declared.path.PathFault.{PathFault}
 use Rattle.bplist_cursor.specs.declared.path.PathFault.TheVariants.{Text, Memory}
-use Rattle.bplist_cursor.proofs.Escapes.{closed-nil, closed-append, closed_written, closed-cons, first_loose, written_not_loose, same_first}
+use Rattle.bplist_cursor.proofs.Escapes.{closed-nil, closed-append, closed_written, closed-cons, first_wrong, written_not_wrong}
 
 -- a token in a path text, with its `/`
 abbrev written_token : List ℕ → List ℕ
@@ -73,11 +73,13 @@ meets_later s t front place p closed m = record {
       omega (arith, a, b, long);
 }
 
-pub no_escape_end : (xs : List ℕ) → xs ≡ [] → IsNoEscape xs
-no_escape_end xs e = subst IsNoEscape (sym e) tt
+-- a `~` at the end
+pub loose_end : (c : ℕ) (xs : List ℕ) → c ≡ 0x7E → xs ≡ [] → IsLoose (c ∷ xs)
+loose_end c xs is e = subst (λ l. IsLoose (c ∷ l)) (sym e) (ap Some is, λ h. cc h, λ h. cc h)
 
-pub no_escape_at : (xs : List ℕ) (d : ℕ) (ys : List ℕ) → xs ≡ d ∷ ys → d ≢ 0x30 → d ≢ 0x31 → IsNoEscape xs
-no_escape_at xs d ys e m n = subst IsNoEscape (sym e) (m, n)
+-- and one before another character
+pub loose_before : (c : ℕ) (xs : List ℕ) (d : ℕ) (ys : List ℕ) → c ≡ 0x7E → xs ≡ d ∷ ys → d ≢ 0x30 → d ≢ 0x31 → IsLoose (c ∷ xs)
+loose_before c xs d ys is e m n = subst (λ l. IsLoose (c ∷ l)) (sym e) (ap Some is, λ h. m (cc h), λ h. n (cc h))
 
 -- a `~` that stands here
 pub meets_now : (s t : CharIndices) (c place : ℕ) → Reads s t (c ∷ []) → place ≡ char_indices_offset s → IsLoose (c ∷ left t) → MeetsLoose s place
@@ -167,16 +169,15 @@ parsing_ends text s steps p = (
 pub empty_text : (text : List ℕ) (s : CharIndices) → char_indices_rest s ≡ text → length (char_indices_rest s) ≡ 0 → IsPathOf text []
 empty_text text s is none = ([], ap chars (sym is) ∙ left_none s none, refl)
 
-not_begun_written : (c : ℕ) (cs : List ℕ) (tokens : List (List ℕ)) → c ≢ 0x2F → c ∷ cs ≡ written tokens → ⊥
-not_begun_written c cs [] other e = cc
-not_begun_written c cs (t ∷ ts) other e = other (same_first _ _ _ _ e)
+-- a text that is wrong spells no steps
+no_path : (text : List ℕ) (place : ℕ) → IsWrongAt (chars text) place → IsNoPath text place
+no_path text place at = record { wrong = at; none = λ steps (tokens, spelled, _). written_not_wrong (chars text) at.before tokens at.wrong spelled }
 
 -- a path text is empty or begins with `/`
 pub not_begun : (text : List ℕ) (c : ℕ) (cs : List ℕ) → chars text ≡ c ∷ cs → c ≢ 0x2F → IsNoPath text 0
-not_begun text c cs is other = record {
-  wrong = subst (λ l. IsWrongAt l 0) (sym is) (inl (other, refl));
-  none = λ steps (tokens, spelled, _). not_begun_written c cs tokens other (sym is ∙ spelled);
-}
+not_begun text c cs is other =
+    let here : IsWrongAt (c ∷ cs) 0 = record { before = 0; wrong = inl (refl, omega arith, λ e. other (cc e)); first = λ k low w. omega (arith, low); counted = refl } in
+    no_path text 0 (subst (λ l. IsWrongAt l 0) (sym is) here)
 
 -- a token with a loose `~`
 pub not_read : (text : List ℕ) (s : CharIndices) (steps : List (List ℕ)) (place : ℕ) → IsParsing text s true steps → MeetsLoose s place → IsNoPath text place
@@ -190,13 +191,9 @@ not_read text s steps place p m =
     let long : length (encode_utf8_all front) ≡ length (encode_utf8_all (written p.tokens ++ 0x2F ∷ [])) + length (encode_utf8_all m.front) =
     ap length (encodes-append (written p.tokens ++ 0x2F ∷ []) m.front) ∙ length-append (encode_utf8_all (written p.tokens ++ 0x2F ∷ [])) (encode_utf8_all m.front) in
     omega (arith, a, b, long) in
-    let first : IsFirstLoose (chars text) place = subst (IsFirstLoose (chars text)) (sym at) (first_loose (chars text) front m.tail all closed m.loose) in
     let begun = begins p.tokens (m.front ++ m.tail) in
     let is : chars text ≡ 0x2F ∷ begun.0 = all ∙ append_assoc (written p.tokens ++ 0x2F ∷ []) m.front m.tail ∙ begun.1 in
-    record {
-      wrong = subst (λ l. IsWrongAt l place) (sym is) (inr (refl, subst (λ l. IsFirstLoose l place) is first));
-      none = λ steps' (tokens, spelled, _). written_not_loose (chars text) place tokens first spelled;
-    }
+    no_path text place (subst (IsWrongAt (chars text)) (sym at) (first_wrong (chars text) front m.tail begun.0 all is closed m.loose))
   where
     begins : (tokens : List (List ℕ)) (xs : List ℕ) → (ys : List ℕ) × ((written tokens ++ 0x2F ∷ []) ++ xs ≡ 0x2F ∷ ys)
     begins [] xs = (xs, refl)

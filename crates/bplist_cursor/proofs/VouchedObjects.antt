@@ -10,13 +10,10 @@ use Rattle.bplist_objects.proofs.Fronts.{one_head}
 use Rattle.bplist_cert.specs.CheckedFile.{CheckedFile, IsChecked}
 use Rattle.bplist_cert.specs.Valid.{IsVouchedBy}
 use Rattle.bplist_cursor.specs.declared.faults.CursorFault.{CursorFault}
-use Rattle.bplist_cursor.specs.declared.faults.CursorFault.TheVariants as faults
 use Rattle.bplist_cursor.specs.Causes.{GivesCursor, IsExcused}
 
 excused : (e : CursorFault) → ((IsExcused e → ⊥) → ⊥) → IsExcused e
-excused (faults.Read x) h = tt
-excused faults.Changed h = h (λ x. x)
-excused faults.Memory h = tt
+excused e h = λ is. h (λ no. no is)
 
 pub gives_weaker : {X : Type 0} (P Q : X → Type 0) (r : Result X CursorFault) → ((x : X) → P x → Q x) → GivesCursor P r → GivesCursor Q r
 gives_weaker P Q (Ok x) on h = on x h

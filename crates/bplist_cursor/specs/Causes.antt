@@ -1,5 +1,5 @@
 -- What a call of the cursor answers. Source: profile.
-use Rattle.std.specs.Prelude.{Result, MatchResult, Ok, Err, Bool, true, false, ⊤}
+use Rattle.std.specs.Prelude.{◌≢◌, Result, MatchResult, Err, Bool, true, false}
 use Rattle.bplist_cursor.specs.declared.faults.Unread.{Unread}
 use Rattle.bplist_cursor.specs.declared.faults.Unread.TheVariants as unread
 use Rattle.bplist_cursor.specs.declared.faults.CursorFault.{CursorFault}
@@ -15,16 +15,13 @@ abbrev pub cursor_read : {X : Type 0} → Result X CursorFault → Bool
 cursor_read (Err (faults.Read _)) = true
 cursor_read _ = false
 
--- P holds of what was read, nothing is said of a failed read, and the file has not changed
+-- P holds of what was read, or the fault is not `Changed`
 abbrev pub GivesRead : {X : Type 0} → (X → Type 0) → Result X Unread → Type 0
-GivesRead P (Ok x) = P x
-GivesRead P (Err (unread.Read _)) = ⊤
-GivesRead P (Err unread.Changed) = ⊥
+GivesRead P answer = MatchResult answer P (λ fault. fault ≢ unread.Changed)
 
 -- the fault is not `Changed`
 abbrev pub IsExcused : CursorFault → Type 0
-IsExcused faults.Changed = ⊥
-IsExcused _ = ⊤
+IsExcused fault = fault ≢ faults.Changed
 
 -- P holds of the answer, or the fault is not `Changed`
 abbrev pub GivesCursor : {X : Type 0} → (X → Type 0) → Result X CursorFault → Type 0
@@ -32,5 +29,4 @@ GivesCursor P answer = MatchResult answer P IsExcused
 
 -- the answer is no refused growth
 abbrev pub TakesNoMemory : {X : Type 0} → Result X CursorFault → Type 0
-TakesNoMemory (Err faults.Memory) = ⊥
-TakesNoMemory _ = ⊤
+TakesNoMemory answer = answer ≢ Err faults.Memory

@@ -1,7 +1,7 @@
 -- Which object keeps a value from having a text. Source: profile.
 use Rattle.std.specs.Prelude.{◌≡◌, ℕ, List, ◌∷◌, None, MatchOption}
 use Rattle.bplist_objects.specs.declared.frame.Frame.{Frame}
-use Rattle.bplist_objects.specs.Value.{Value, leaf, array, set, dict, Values, value, Pairs, pair}
+use Rattle.bplist_objects.specs.Value.{Value, array, dict, Values, value, Pairs, pair}
 use Rattle.bplist_objects.specs.Heads.{Content, Spells}
 use Rattle.bplist_cursor.specs.OldStyle.{value_text}
 
@@ -9,10 +9,9 @@ module _ (f : List ℕ) (F : Frame) where
   abbrev mutual
     -- object n holds this value, which has no text because of x, the first such object in writing order
     pub IsFormless : ℕ → Value → ℕ → Type 0
-    IsFormless n (leaf l) x = (value_text (leaf l) ≡ None) × (x ≡ n)
-    IsFormless n (set vs) x = x ≡ n
     IsFormless n (array vs) x = (ms : List ℕ) × Spells f F n (Content.array ms) × IsFirstFormless ms vs x
     IsFormless n (dict ps) x = (ks ms : List ℕ) × Spells f F n (Content.dict ks ms) × IsFirstFormlessOf ms ps x
+    IsFormless n v x = (value_text v ≡ None) × (x ≡ n)
 
     -- the same of the first member without a text
     pub IsFirstFormless : List ℕ → Values → ℕ → Type 0

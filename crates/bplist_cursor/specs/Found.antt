@@ -31,7 +31,7 @@ abbrev pub IsFound : CheckedFile → Value → List (List ℕ) → Found → Typ
 IsFound checked v steps (At node) =
     LeadTo checked.source.octets checked.frame checked.frame.top.0 steps node.object.0
     × ((w : Value) × (look v steps ≡ Ok w) × IsHeld checked node.object.0 w)
-IsFound checked v steps (Missing k y) = look v steps ≡ Err (record { step = k; why = y })
+IsFound checked v steps (Missing k y) = look v steps ≡ Err (k, y)
 
 -- the table has the sizes of the values that the objects of the checked file hold
 abbrev pub AreMeasuresOf : CheckedFile → Table → Type 0

@@ -1,5 +1,6 @@
 -- Looking up a key by halving a sorted key list. Source: profile.
-use Rattle.std.specs.Prelude.{◌≡◌, ℕ, zero, suc, ◌+◌, ◌^◌, ◌<◌, ◌≤◌, ltb, List, [], ◌∷◌, length, slice_index, if◌then◌else◌, Option, Some, None}
+use Rattle.std.specs.Prelude.{◌≡◌, ℕ, ◌+◌, ◌<◌, ◌≤◌, List, [], ◌∷◌, length, slice_index, Option, Some, None}
+use Rattle.std.specs.Int.Digits.{digits_of}
 use Rattle.std.specs.declared.cmp.Ordering.{Ordering}
 use Rattle.std.specs.declared.cmp.Ordering.TheVariants.{Less}
 use Rattle.bplist_objects.specs.declared.frame.Frame.{Frame}
@@ -14,10 +15,9 @@ use Rattle.bplist_cursor.specs.Look.{stepped, on_either}
 use Rattle.bplist_cursor.specs.declared.faults.Unread.{Unread}
 use Rattle.bplist_cursor.specs.declared.faults.Unread.TheVariants.{Changed}
 
--- the number of binary digits: the least d with n below 2^d
+-- the number of binary digits
 abbrev pub digits_2 : ℕ → ℕ
-digits_2 zero = 0
-digits_2 (suc n) = if ltb (suc n) (2 ^ digits_2 n) then digits_2 n else suc (digits_2 n)
+digits_2 n = length (digits_of 2 n)
 
 -- so many comparisons suffice for a step at an object with this kind and count
 abbrev pub halvings_of : Kind → ℕ → ℕ

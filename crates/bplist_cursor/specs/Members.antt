@@ -1,5 +1,5 @@
 -- The members of a value in their order: of a dictionary each key before its value. Source: profile.
-use Rattle.std.specs.Prelude.{◌≡◌, ℕ, zero, suc, ◌+◌, ◌*◌, List, [], ◌∷◌, zip, flat_map, slice_get, option_map, Option, Some, None, ⊤}
+use Rattle.std.specs.Prelude.{◌≡◌, ℕ, ◌+◌, ◌*◌, List, [], ◌∷◌, zip, flat_map, slice_get, option_map, Option, None, MatchOption, IsSomeAnd}
 use Rattle.bplist_objects.specs.declared.frame.Frame.{Frame}
 use Rattle.bplist_objects.specs.declared.kind.Kind.{Kind}
 use Rattle.bplist_objects.specs.declared.kind.Kind.TheVariants.{Dict}
@@ -8,25 +8,26 @@ use Rattle.bplist_objects.specs.Heads.{Content, refs}
 use Rattle.bplist_objects.specs.Holds.{Holds}
 use Rattle.bplist_cursor.specs.declared.found.Node.{Node}
 
--- value number i
-abbrev pub nth_value : Values → ℕ → Option Value
-nth_value no_values i = None
-nth_value (value v vs) zero = Some v
-nth_value (value v vs) (suc i) = nth_value vs i
+-- values as a list
+abbrev pub members : Values → List Value
+members no_values = []
+members (value v vs) = v ∷ members vs
 
--- number 2j is key j, 2j + 1 is value j
-abbrev pub nth_of_pairs : Pairs → ℕ → Option Value
-nth_of_pairs no_pairs i = None
-nth_of_pairs (pair u v ps) zero = Some (leaf (text u))
-nth_of_pairs (pair u v ps) (suc zero) = Some v
-nth_of_pairs (pair u v ps) (suc (suc i)) = nth_of_pairs ps i
+-- pairs as a list: the units of each key, and its value
+abbrev pub entries : Pairs → List (List ℕ × Value)
+entries no_pairs = []
+entries (pair u v ps) = (u, v) ∷ entries ps
+
+-- the keys and values of pairs: number 2j is key j, and 2j + 1 is value j
+abbrev pub in_turn : Pairs → List Value
+in_turn ps = flat_map (λ entry. leaf (text entry.0) ∷ entry.1 ∷ []) (entries ps)
 
 -- member i of a value; a leaf has none
 abbrev pub member_of : Value → ℕ → Option Value
 member_of (leaf l) i = None
-member_of (array vs) i = nth_value vs i
-member_of (set vs) i = nth_value vs i
-member_of (dict ps) i = nth_of_pairs ps i
+member_of (array vs) i = slice_get (members vs) i
+member_of (set vs) i = slice_get (members vs) i
+member_of (dict ps) i = slice_get (in_turn ps) i
 
 -- the object that the reference for member i names: of a dictionary each key before its value
 abbrev pub member_reference : Content → ℕ → Option ℕ
@@ -53,6 +54,4 @@ IsNumberOf _ count i k = k ≡ i
 module _ (f : List ℕ) (F : Frame) where
   -- the node's object holds the member, or neither exists
   abbrev pub HoldsMember : Option Value → Option Node → Type 0
-  HoldsMember (Some w) (Some node) = Holds f F node.object.0 w
-  HoldsMember None None = ⊤
-  HoldsMember _ _ = ⊥
+  HoldsMember member node = MatchOption member (node ≡ None) (λ w. IsSomeAnd node (λ n. Holds f F n.object.0 w))

@@ -1,5 +1,5 @@
 -- Path texts, as lists of characters. Source: RFC 6901, sections 3 and 4; the places of wrong texts are profile.
-use Rattle.std.specs.Prelude.{◌≡◌, ◌≢◌, ◌⊎◌, ◌==◌, ℕ, ◌<◌, List, [], ◌∷◌, length, take, drop, map, flat_map, ⊤, if◌then◌else◌, encode_utf8_all}
+use Rattle.std.specs.Prelude.{◌≡◌, ◌≢◌, ◌⊎◌, ◌==◌, ℕ, ◌<◌, List, [], ◌∷◌, length, take, drop, map, flat_map, slice_get, Some, if◌then◌else◌, encode_utf8_all}
 use Rattle.std.specs.Str.{chars}
 use Rattle.std.specs.Char.Escape.{encode_utf16}
 
@@ -19,27 +19,20 @@ units token = flat_map encode_utf16 token
 abbrev pub IsPathOf : List ℕ → List (List ℕ) → Type 0
 IsPathOf text steps = (tokens : List (List ℕ)) × (chars text ≡ written tokens) × (steps ≡ map (flat_map encode_utf16) tokens)
 
--- neither `0` nor `1`
-abbrev pub IsNoEscape : List ℕ → Type 0
-IsNoEscape [] = ⊤
-IsNoEscape (c ∷ cs) = (c ≢ 0x30) × (c ≢ 0x31)
-
 -- the characters begin with a `~` that neither `0` nor `1` follows
 abbrev pub IsLoose : List ℕ → Type 0
-IsLoose [] = ⊥
-IsLoose (c ∷ cs) = (c ≡ 0x7E) × IsNoEscape cs
+IsLoose cs = (slice_get cs 0 ≡ Some 0x7E) × (slice_get cs 1 ≢ Some 0x30) × (slice_get cs 1 ≢ Some 0x31)
 
--- the first such `~` is at this byte
-pub record IsFirstLoose (cs : List ℕ) (place : ℕ) : Type 0 where
+-- character k is wrong: it is the first and no `/`, or begins a loose `~`
+abbrev pub IsWrong : List ℕ → ℕ → Type 0
+IsWrong cs k = ((k ≡ 0) × (0 < length cs) × (slice_get cs 0 ≢ Some 0x2F)) ⊎ IsLoose (drop k cs)
+
+-- the first wrong character begins at this byte
+pub record IsWrongAt (cs : List ℕ) (place : ℕ) : Type 0 where
   pub before : ℕ
-  pub loose : IsLoose (drop before cs)
-  pub first : (k : ℕ) → k < before → ¬ IsLoose (drop k cs)
+  pub wrong : IsWrong cs before
+  pub first : (k : ℕ) → k < before → ¬ IsWrong cs k
   pub counted : place ≡ length (encode_utf8_all (take before cs))
-
--- the text is wrong at this byte: it does not begin with `/`, or has such a `~`
-abbrev pub IsWrongAt : List ℕ → ℕ → Type 0
-IsWrongAt [] place = ⊥
-IsWrongAt (c ∷ cs) place = ((c ≢ 0x2F) × (place ≡ 0)) ⊎ ((c ≡ 0x2F) × IsFirstLoose (c ∷ cs) place)
 
 -- the text is wrong at this byte, and spells no steps
 pub record IsNoPath (text : List ℕ) (place : ℕ) : Type 0 where

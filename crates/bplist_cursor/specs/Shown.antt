@@ -1,13 +1,14 @@
 -- What an object shows of the value that it holds. Source: profile.
 use Rattle.std.specs.Prelude.{ℕ, ◌*◌, ◌<◌, length, ⊤}
+use Rattle.bplist_objects.specs.Value.{Value}
 use Rattle.bplist_objects.specs.Heads.{Content, leaf, array, set, dict}
 use Rattle.bplist_cursor.specs.declared.faces.Face.{Face}
 use Rattle.bplist_cursor.specs.declared.faces.Face.TheVariants as faces
-use Rattle.bplist_cursor.specs.Replies.{leaf_face}
+use Rattle.bplist_cursor.specs.Replies.{face}
 
 -- the face of an object with this content
 abbrev pub content_face : Content → Face
-content_face (leaf l) = leaf_face l
+content_face (leaf l) = face (Value.leaf l)
 content_face (array ms) = faces.Array (length ms)
 content_face (set ms) = faces.Set (length ms)
 content_face (dict ks ms) = faces.Dict (length ks)

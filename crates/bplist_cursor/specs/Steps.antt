@@ -1,8 +1,10 @@
 -- Where one step goes, from function to function. Source: profile.
 use Rattle.std.specs.Prelude.{◌≡◌, ℕ, ◌<◌, List, length, slice_index, MatchOption, Option, Err, ⊤}
 use Rattle.bplist_objects.specs.declared.frame.Frame.{Frame}
+use Rattle.bplist_objects.specs.declared.head.Head.{Head}
 use Rattle.bplist_objects.specs.Value.{Value, text}
-use Rattle.bplist_objects.specs.Heads.{Content, Spells, leaf, refs}
+use Rattle.bplist_objects.specs.Heads.{Content, Spells, leaf, dict, refs, content_at}
+use Rattle.bplist_cert.specs.CheckedFile.{CheckedFile, HonestlyChecked}
 use Rattle.bplist_cursor.specs.Look.{stepped}
 use Rattle.bplist_cursor.specs.Leads.{IsTaken, Leads, why_of}
 use Rattle.bplist_cursor.specs.declared.path_step.Place.{Place}
@@ -39,3 +41,9 @@ module _ (f : List ℕ) (F : Frame) where
   abbrev pub IsPlace : Content → List ℕ → Place → Type 0
   IsPlace h s (place.Of i) = IsTaken f F h s (slice_index (refs h) i)
   IsPlace h s (place.Nowhere y) = ((m : ℕ) → IsTaken f F h s m → ⊥) × (y ≡ why_of h)
+
+-- P holds of the keys of a dictionary with this head, if the source is honest and they are texts
+abbrev pub HonestlyKeyed : CheckedFile → Head → (List ℕ → Frame → List ℕ → Type 0) → Type 0
+HonestlyKeyed checked head P =
+    HonestlyChecked checked (λ f F. (n : ℕ) (ks ms : List ℕ) → Spells f F n (dict ks ms) → dict ks ms ≡ content_at f F head
+    → HaveTexts f F ks → P f F ks)

@@ -12,7 +12,7 @@ ghost use Rattle.bplist_cert.specs.Lists.{Keyed};
 ghost use Rattle.bplist_cert.specs.Valid.{IsVouchedBy};
 ghost use Rattle.bplist_cursor.specs.Causes.{GivesRead, read_failed};
 ghost use Rattle.bplist_cursor.specs.Kept.{Keeps};
-ghost use Rattle.bplist_cursor.specs.Steps.{HaveTexts, IsKeyPlace};
+ghost use Rattle.bplist_cursor.specs.Steps.{HaveTexts, HonestlyKeyed, IsKeyPlace};
 ghost use Rattle.bplist_cursor.specs.KeySearch.{digits_2, IsCompared, IsKeyList, RisesAtMost, ListStarts, IsUnlisted};
 
 use crate::checked_objects::{head_in, reference_in};
@@ -52,8 +52,7 @@ fn walk_keys<S: Source>(
     requires head { IsSafeHead checked.old.frame head.now }
     requires is_dict { head.now.kind ≡ Dict }
     ensures reads { Keeps (read_failed result) checked.old checked.new }
-    ensures exact { HonestlyChecked checked.old (λ f F. (n : ℕ) (ks ms : List ℕ) → Spells f F n (dict ks ms)
-        → dict ks ms ≡ content_at f F head.now → HaveTexts f F ks → GivesRead (IsKeyPlace f F ks units.now) result) }
+    ensures exact { HonestlyKeyed checked.old head.now (λ f F ks. GivesRead (IsKeyPlace f F ks units.now) result) }
     ensures inside { IfOk result (λ o. IfSome o (λ i. i < head.now.count)) }
 {
     for i in 0..head.count {
@@ -85,10 +84,8 @@ fn compare_listed<S: Source>(
     requires head { IsSafeHead checked.old.frame head.now }
     requires is_dict { head.now.kind ≡ Dict }
     ensures reads { Keeps (read_failed result) checked.old checked.new }
-    ensures exact { HonestlyChecked checked.old (λ f F. (n : ℕ) (ks ms : List ℕ) → Spells f F n (dict ks ms)
-        → dict ks ms ≡ content_at f F head.now → HaveTexts f F ks → (keyed : Keyed)
-        → checked.old.certificate.keys ≡ Some keyed → at < length keyed.positions
-        → slice_index keyed.positions at < length ks
+    ensures exact { HonestlyKeyed checked.old head.now (λ f F ks. (keyed : Keyed) → checked.old.certificate.keys ≡ Some keyed
+        → at < length keyed.positions → slice_index keyed.positions at < length ks
         → GivesRead (IsCompared f F ks (slice_index keyed.positions at) units.now) result) }
     ensures inside { IfOk result (λ found. found.0 < head.now.count) }
     ensures made { made.new ≤ made.old + 1 }
@@ -116,10 +113,8 @@ fn search_keys<S: Source>(
     requires is_dict { head.now.kind ≡ Dict }
     requires room { start + head.now.count < 2 ^ 64 }
     ensures reads { Keeps (read_failed result) checked.old checked.new }
-    ensures exact { HonestlyChecked checked.old (λ f F. (n : ℕ) (ks ms : List ℕ) → Spells f F n (dict ks ms)
-        → dict ks ms ≡ content_at f F head.now → HaveTexts f F ks → (keyed : Keyed)
-        → checked.old.certificate.keys ≡ Some keyed → start + length ks ≤ length keyed.positions
-        → IsKeyList f F ks (part keyed.positions start (length ks))
+    ensures exact { HonestlyKeyed checked.old head.now (λ f F ks. (keyed : Keyed) → checked.old.certificate.keys ≡ Some keyed
+        → start + length ks ≤ length keyed.positions → IsKeyList f F ks (part keyed.positions start (length ks))
         → GivesRead (IsKeyPlace f F ks units.now) result) }
     ensures inside { IfOk result (λ o. IfSome o (λ i. i < head.now.count)) }
     ensures bound { made.new ≤ made.old + digits_2 head.now.count }

@@ -4,7 +4,7 @@ use Rattle.bplist_cursor.specs.Forms.{form_of}
 use Rattle.bplist_cursor.specs.OldStyle.{value_text}
 use Rattle.bplist_cursor.proofs.TextParts.{text_formed}
 use Rattle.bplist_ascii.specs.Sending.{Takes}
-use Rattle.bplist_ascii.specs.Printed.{IsTooLong}
+use Rattle.bplist_ascii.specs.Printed.{FitsLimit}
 use Rattle.bplist_ascii.proofs.SearchSteps.{no_text_of, text_of_length}
 use Rattle.bplist_ascii.proofs.PrintSteps.{read_prints, walk_fails}
 use Rattle.std.proofs.KnownBytes.{Keeps-refl}
@@ -37,7 +37,7 @@ returns-then-length-limit-clause-exact g c = λ honest vouched v h.
     let both : Some (Length c.in-Some-Length.length) ≡ Some (form_of v) = ap Some (sym c.in-Some-Length.field-0-is) ∙ c.in-Some-Length.ensures ∙ form in
     let t = text_of_length (value_text v) c.in-Some-Length.length (cc both) in
     let capped = t.2 in
-    let long : IsTooLong c.args.limit t.0 = elim c.then-length-limit.either [ inl a ↦ inl (omega (arith, a, capped)) | inr b ↦ inr (omega (arith, b, capped)) ] in
+    let long : ¬ FitsLimit c.args.limit t.0 = λ fits. elim c.then-length-limit.either [ inl a ↦ omega (arith, a, capped, fits.0) | inr b ↦ omega (arith, b, capped, fits.1) ] in
     (t.0, t.1, long, (Keeps-refl (g.W.Write.contents c.args.out.now), refl))
 
 pub returns-in_err-write_value-in-Some-Length-clause-exact : goal.returns-in_err-write_value-in-Some-Length-clause-exact

@@ -6,7 +6,7 @@ use Rattle.bplist_cursor.proofs.Keys.{dict_counts, key_ref}
 use Rattle.bplist_cursor.proofs.key_search.compare_listed.Goals as goal
 
 pub returns-in_default-clause-exact : goal.returns-in_default-clause-exact
-returns-in_default-clause-exact g c = λ honest n ks ms s e t keyed is room within. c.in_default.not-Some _ (c.position_of.ensures keyed is room)
+returns-in_default-clause-exact g c = λ honest n ks ms s e t keyed is room within. absurd (c.in_default.not-Some _ (c.position_of.ensures keyed is room))
 
 pub returns-then-i-head-clause-exact : goal.returns-then-i-head-clause-exact
 returns-then-i-head-clause-exact g c = λ honest n ks ms s e t keyed is room within.

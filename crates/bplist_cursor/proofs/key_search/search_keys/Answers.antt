@@ -4,7 +4,7 @@ use Rattle.bplist_octets.specs.Octets.{part}
 use Rattle.bplist_objects.specs.Value.{text}
 use Rattle.bplist_objects.specs.Heads.{Spells, leaf}
 use Rattle.bplist_cursor.specs.KeySearch.{digits_2}
-use Rattle.bplist_cursor.proofs.BinaryDigits.{halved_digits}
+use Rattle.bplist_cursor.proofs.BinaryDigits.{some_digits, halved_digits}
 use Rattle.bplist_cursor.proofs.Keys.{dict_counts, begin_search, go_left, go_right, none_left, list_at, position_below, compared_text}
 use Rattle.bplist_objects.proofs.UnitOrder.{compare_units-equal}
 use Rattle.bplist_cursor.proofs.key_search.search_keys.Goals as goal
@@ -15,7 +15,7 @@ loop-low-init g c = record {
   order = omega arith;
   high = omega arith;
   bound = (let z : c.args.head.now.count - 0 ≡ c.args.head.now.count = omega arith in let d = ap digits_2 z in omega (arith, d));
-  searching = λ n ks ms s e keyed honest t is room list.
+  searching = λ honest n ks ms s e t keyed is room list.
       begin_search c.args.checked.now.source.octets c.args.checked.now.frame ks _ c.args.units.now c.args.head.now.count
       (dict_counts c.args.checked.now.source.octets c.args.checked.now.frame c.args.head.now ks ms e).0;
 }
@@ -40,7 +40,7 @@ loop-low-preserved-in-Less g c = record {
   bound =
       (let less = halved_digits (c.loop-low.high - (c.loop-low.low + (c.loop-low.high - c.loop-low.low) / 2 + 1)) (c.loop-low.high - c.loop-low.low) (omega (arith, c.loop-low-test.true)) (omega (arith, c.loop-low-test.true)) in
       omega (arith, less, c.loop-low.invariant.bound, c.in_ok-i.ensures.made));
-  searching = λ n ks ms s e keyed honest t is room list.
+  searching = λ honest n ks ms s e t keyed is room list.
       let f = c.args.checked.now.source.octets in
       let F = c.args.checked.now.frame in
       let part_list = part keyed.positions c.args.start (length ks) in
@@ -51,7 +51,7 @@ loop-low-preserved-in-Less g c = record {
       let told = (rw c.loop-low.invariant.same at c.in_ok-i.ensures.exact) honest n ks ms s e t keyed is (omega (arith, room, within)) below in
       let x = compared_text f F ks keyed.positions c.args.start middle list within c.args.units.now (c.in_ok-i.i, c.in_ok-i.order) t told in
       go_right f F ks part_list c.args.units.now list c.loop-low.low c.loop-low.high middle within x.0 x.1
-      (c.loop-low.invariant.searching n ks ms s e keyed honest t is room list) (sym x.2 ∙ c.in-Less.is);
+      (c.loop-low.invariant.searching honest n ks ms s e t keyed is room list) (sym x.2 ∙ c.in-Less.is);
 }
 
 pub returns-in-Equal-clause-exact : goal.returns-in-Equal-clause-exact
@@ -80,7 +80,7 @@ loop-low-preserved g c = record {
   bound =
       (let less = halved_digits (c.loop-low.low + (c.loop-low.high - c.loop-low.low) / 2 - c.loop-low.low) (c.loop-low.high - c.loop-low.low) (omega (arith, c.loop-low-test.true)) (omega (arith, c.loop-low-test.true)) in
       omega (arith, less, c.loop-low.invariant.bound, c.in_ok-i.ensures.made));
-  searching = λ n ks ms s e keyed honest t is room list.
+  searching = λ honest n ks ms s e t keyed is room list.
       let f = c.args.checked.now.source.octets in
       let F = c.args.checked.now.frame in
       let part_list = part keyed.positions c.args.start (length ks) in
@@ -91,10 +91,20 @@ loop-low-preserved g c = record {
       let told = (rw c.loop-low.invariant.same at c.in_ok-i.ensures.exact) honest n ks ms s e t keyed is (omega (arith, room, within)) below in
       let x = compared_text f F ks keyed.positions c.args.start middle list within c.args.units.now (c.in_ok-i.i, c.in_ok-i.order) t told in
       go_left f F ks part_list c.args.units.now list c.loop-low.low c.loop-low.high middle within x.0 x.1
-      (c.loop-low.invariant.searching n ks ms s e keyed honest t is room list) (sym x.2 ∙ c.in-Greater.is);
+      (c.loop-low.invariant.searching honest n ks ms s e t keyed is room list) (sym x.2 ∙ c.in-Greater.is);
 }
 
 pub returns-clause-exact : goal.returns-clause-exact
 returns-clause-exact g c = λ honest n ks ms s e t keyed is room list i l u.
     none_left c.args.checked.now.source.octets c.args.checked.now.frame ks _ c.args.units.now list t c.loop-low.low c.loop-low.high
-    (c.loop-low.invariant.searching n ks ms s e keyed honest t is room list) (omega (arith, c.loop-low-test.false)) i l u
+    (c.loop-low.invariant.searching honest n ks ms s e t keyed is room list) (omega (arith, c.loop-low-test.false)) i l u
+
+pub returns-in_err-i-clause-bound : goal.returns-in_err-i-clause-bound
+returns-in_err-i-clause-bound g c =
+    let some = some_digits (c.loop-low.high - c.loop-low.low) (omega (arith, c.loop-low-test.true)) in
+    omega (arith, some, c.loop-low.invariant.bound, c.in_err-i.ensures.made)
+
+pub returns-in-Equal-clause-bound : goal.returns-in-Equal-clause-bound
+returns-in-Equal-clause-bound g c =
+    let some = some_digits (c.loop-low.high - c.loop-low.low) (omega (arith, c.loop-low-test.true)) in
+    omega (arith, some, c.loop-low.invariant.bound, c.in_ok-i.ensures.made)

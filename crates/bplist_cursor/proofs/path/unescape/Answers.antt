@@ -1,10 +1,10 @@
 use Rattle.std.proofs.Common.{[], ◌∷◌, arith, sym, ap, subst}
 use Rattle.bplist_cursor.specs.Tokens.{Reads}
-use Rattle.bplist_cursor.proofs.TokenSteps.{reads_char, left_none, no_escape_end, no_escape_at}
+use Rattle.bplist_cursor.proofs.TokenSteps.{reads_char, left_none, loose_end, loose_before}
 use Rattle.bplist_cursor.proofs.path.unescape.Goals as goal
 
 pub returns-in_err-digit : goal.returns-in_err-digit
-returns-in_err-digit c = rw c.from_residual.ensures (c.if-c-ne126.false, no_escape_end _ (left_none c.args.rest.now c.in_err-digit.ensures.steps.0))
+returns-in_err-digit c = rw c.from_residual.ensures (loose_end _ _ c.if-c-ne126.false (left_none c.args.rest.now c.in_err-digit.ensures.steps.0))
 
 pub returns-in-0 : goal.returns-in-0
 returns-in-0 c = (
@@ -25,4 +25,4 @@ returns-in-1 c = (
 pub returns-in_default : goal.returns-in_default
 returns-in_default c =
     let read = reads_char c.args.rest.now c.next.new.self _ c.requires.readable c.in_ok-digit.ensures.steps.1 c.in_ok-digit.ensures.steps.2 in
-    (c.if-c-ne126.false, no_escape_at _ c.in_ok-digit.digit _ read.read (λ e. omega (arith, e, c.in_default)) (λ e. omega (arith, e, c.in_default)))
+    (loose_before _ _ c.in_ok-digit.digit _ c.if-c-ne126.false read.read (λ e. omega (arith, e, c.in_default)) (λ e. omega (arith, e, c.in_default)))
