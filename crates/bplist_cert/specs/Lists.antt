@@ -1,10 +1,19 @@
 -- Certificates as their lists. Source: profile.
-use Rattle.std.specs.Prelude.{◌≡◌, ℕ, ◌^◌, ◌<◌, List, length, slice_index, Option, Some, None, ⊤}
+use Rattle.std.specs.Prelude.{◌≡◌, ℕ, ◌+◌, ◌^◌, ◌<◌, ◌≤◌, List, length, slice_index, Option, Some, None, ⊤}
+use Rattle.bplist_octets.specs.Octets.{part}
 
 -- the key lists of version 2: where each dictionary's list starts, and the positions of its keys
 pub record Keyed : Type 0 where
   pub starts : List ℕ
   pub positions : List ℕ
+
+-- the key list of object n, of so many positions, is complete
+abbrev pub IsWhole : Keyed → ℕ → ℕ → Type 0
+IsWhole keyed n count = slice_index keyed.starts n + count ≤ length keyed.positions
+
+-- the key list of object n
+abbrev pub list_of : Keyed → ℕ → ℕ → List ℕ
+list_of keyed n count = part keyed.positions (slice_index keyed.starts n) count
 
 -- a height for each object, and in version 2 the key lists
 pub record Lists : Type 0 where
