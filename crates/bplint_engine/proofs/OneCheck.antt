@@ -6,11 +6,11 @@ use Rattle.std.proofs.Math.Logic.{∥∥₁_elim}
 use Rattle.bplist_objects.specs.declared.fault.Fault.{Fault}
 use Rattle.bplist_objects.specs.declared.frame.Frame.{Frame}
 use Rattle.bplist_objects.specs.Frame.{trailer}
-use Rattle.bplist_cert.specs.Encoding.{octets_of, IsOctetsFault}
+use Rattle.bplist_cert.specs.Encoding.{octets_of}
 use Rattle.bplist_cert.specs.Lists.{Lists, IsCertificate}
 use Rattle.bplist_cert.specs.PairFault.{IsPairFault}
 use Rattle.bplist_cert.proofs.AcceptedCertificates.{fault_refutes}
-use Rattle.bplist_cert.proofs.CertificateBytes.{octets_once, magic_kept, length_kept}
+use Rattle.bplist_cert.proofs.CertificateBytes.{octets_once, octets_kept, one_octets_fault}
 use Rattle.bplist_cert.proofs.OneFault.{one_pair_fault}
 use Rattle.bplint_lines.specs.declared.fault.RunFault.TheVariants as faults
 use Rattle.bplint_lines.specs.Answers.{Answer, gives, refuses}
@@ -18,17 +18,6 @@ use Rattle.bplint_engine.specs.Check.{CheckSays}
 use Rattle.bplint_lines.specs.OutputLines.{check_line}
 use Rattle.bplint_engine.specs.CertifiedFile.{IsVouchedFor, IsVouchingFault}
 use Rattle.bplint_engine.proofs.EqualAnswers.{same_gives}
-
--- ---- the bytes of a certificate
-octets_kept : (cert : List ℕ) (lists : Lists) (a : Fault) → IsCertificate lists → cert ≡ octets_of lists → IsOctetsFault cert a → ⊥
-octets_kept cert lists a is spelled (inl h) = h.0 (magic_kept cert lists spelled)
-octets_kept cert lists a is spelled (inr h) = h.1 (length_kept cert lists is spelled)
-
-one_octets_fault : (cert : List ℕ) (a b : Fault) → IsOctetsFault cert a → IsOctetsFault cert b → a ≡ b
-one_octets_fault cert a b (inl h) (inl k) = h.1 ∙ sym k.1
-one_octets_fault cert a b (inl h) (inr k) = absurd (h.0 k.0)
-one_octets_fault cert a b (inr h) (inl k) = absurd (k.0 h.0)
-one_octets_fault cert a b (inr h) (inr k) = h.2 ∙ sym k.2
 
 module _ (f cert : List ℕ) where
   pub same_lists : (l m : Lists) → IsCertificate l → IsCertificate m → cert ≡ octets_of l → cert ≡ octets_of m → l ≡ m

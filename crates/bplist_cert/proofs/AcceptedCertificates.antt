@@ -1,5 +1,5 @@
 -- The rules of the check are kept exactly where the certificate is accepted.
-use Rattle.std.proofs.Common.{◌≡◌, ℕ, suc, ◌<◌, inl, inr, List, [], ◌∷◌, ◌++◌, length, drop, slice_index, slice_index_or, Option, Some, None, Less, refl, sym, ap, ap₂, ◌∙◌, subst, arith}
+use Rattle.std.proofs.Common.{◌≡◌, ℕ, suc, ◌<◌, ◌≤◌, ◌⊎◌, inl, inr, List, [], length, drop, slice_index, slice_index_or, Option, Some, None, IfSome, MatchOption, Less, refl, sym, ap, ap₂, ◌∙◌, subst, arith}
 use Rattle.std.specs.List.{AllByRecursion}
 use Rattle.std.proofs.lemmas.List.{length-take-le, length-drop}
 use Rattle.std.proofs.lemmas.List.Elements.{recursion_from_All, All-from_get_or, All-from_recursion, All-get_or}
@@ -22,35 +22,26 @@ use Rattle.bplist_objects.specs.Extents.{IsOverfull}
 use Rattle.bplist_objects.specs.Units.{compare_units}
 use Rattle.bplist_objects.proofs.Lists.{all_weaker}
 use Rattle.bplist_objects.proofs.BodyLaws.{HasHead-unique}
-use Rattle.bplist_objects.proofs.Broken.{kept_or_broken, no_first_fault}
+use Rattle.bplist_objects.proofs.Broken.{no_first_fault, no_object_fault}
 use Rattle.bplist_objects.proofs.References.{length-nums_at, all_refs, each_ref}
 use Rattle.bplist_objects.proofs.HeadTies.{kept_announces, kept_spells, spells_keeps, shape_announced}
 use Rattle.bplist_objects.proofs.FirstFaults.{no_frame}
-use Rattle.bplist_cert.specs.Lists.{Keyed, Lists, lists}
+use Rattle.bplist_cert.specs.Lists.{Keyed, Lists, lists, list_of}
 use Rattle.bplist_cert.specs.Valid.{IsVouchedBy, IsVouched, IsValid}
 use Rattle.bplist_cert.specs.Sorted.{IsSorted, HasSortedKeys, AreListed, IsAccepted}
 use Rattle.bplist_cert.specs.Heights.{ref}
 use Rattle.bplist_cert.specs.Looks.{AreSeen}
 use Rattle.bplist_cert.specs.Keys.{HaveTexts, KeysDiffer, AreInOrder}
-use Rattle.bplist_cert.specs.CheckRules.{KeepsByCheck, BreaksByCheck, BreaksAtCheck, HasOrder, BreaksOrder, KeepsLast, check_rules, vouched_rules, last_rule, list_of}
-use Rattle.bplist_cert.specs.PairFault.{IsKept, IsCertFault, IsPairFault}
-use Rattle.bplist_objects.proofs.RuleLaws.{kept_all_after}
-use Rattle.bplist_cert.proofs.CheckSteps.{vouched_inside, last_kept}
+use Rattle.bplist_cert.specs.CheckRules.{Asks, KeepsByCheck, BreaksByCheck, BreaksAtCheck, KeepsCheck, IsCheckFault, HasOrder, BreaksOrder, KeepsLast, vouched_rules, last_rule}
+use Rattle.bplist_cert.specs.PairFault.{IsKept, IsVouchedFault, IsCountFault, IsPairFault}
+use Rattle.bplist_cert.proofs.CheckSteps.{vouched_inside, key_count, last_kept}
 use Rattle.bplist_cert.proofs.KeyTies.{HaveKeys, keys_from_rules, rules_from_keys}
 use Rattle.bplist_cert.proofs.TextKeys.{key_refs, texts_are, units_at_key, ordered_differ}
-
-keeps_front : (keeps : Rule → Type 0) (xs ys : List Rule) → KeepsAll keeps (xs ++ ys) → KeepsAll keeps xs
-keeps_front keeps [] ys k = tt
-keeps_front keeps (x ∷ xs) ys k = (k.0, keeps_front keeps xs ys k.1)
-
-keeps_behind : (keeps : Rule → Type 0) (xs ys : List Rule) → KeepsAll keeps (xs ++ ys) → KeepsAll keeps ys
-keeps_behind keeps [] ys k = k
-keeps_behind keeps (x ∷ xs) ys k = keeps_behind keeps xs ys k.1
 
 -- the rule of keys beside rule 21, by a head
 last_by : (f : List ℕ) (F : Frame) (heights : List ℕ) (keys : Option Keyed) (n : ℕ) (head : Head) → HasHead f F n head → head.kind ≡ kinds.Dict
     → KeepsByCheck f F (lists heights keys) n (last_rule keys) → KeepsLast f F keys n head
-last_by f F heights None n head has kind k = k head has kind
+last_by f F heights None n head has kind k = subst (KeysDiffer f F head) (key_count head kind) (k head has kind)
 last_by f F heights (Some keyed) n head has kind k = k head has kind
 
 -- keys differ where the rule is kept
@@ -64,12 +55,12 @@ dict_refs f F kinds.Dict count body ks ms e = (refl, cc e)
 dict_refs f F _ count body ks ms e = absurd (cc e)
 
 -- ---- what is kept is accepted
-module _ (f : List ℕ) (F : Frame) (heights : List ℕ) (keys : Option Keyed) (n : ℕ) (frame : IsFrame f F) (lt : n < F.objects) (kept : KeepsAll (KeepsByCheck f F (lists heights keys) n) (check_rules keys)) where
+module _ (f : List ℕ) (F : Frame) (heights : List ℕ) (keys : Option Keyed) (n : ℕ) (frame : IsFrame f F) (lt : n < F.objects) (kept : KeepsCheck f F (lists heights keys) n) where
   own : KeepsAll (KeepsByObject f F n) object_rules
-  own = keeps_front (KeepsByCheck f F (lists heights keys) n) object_rules (vouched_rules keys) kept
+  own = kept.0
 
   rest : KeepsAll (KeepsByCheck f F (lists heights keys) n) (vouched_rules keys)
-  rest = keeps_behind (KeepsByCheck f F (lists heights keys) n) object_rules (vouched_rules keys) kept
+  rest = kept.1
 
   there : (head : Head) × HasHead f F n head
   there = kept_announces f F n frame lt (own.0, (own.1.0, (own.1.1.0, (own.1.1.1.0, tt))))
@@ -86,7 +77,7 @@ module _ (f : List ℕ) (F : Frame) (heights : List ℕ) (keys : Option Keyed) (
         spells = spells.1;
         lower = all_refs f F (λ m. IsVouchedBy heights m × (slice_index heights m < slice_index heights n)) head.kind head.count head.body (λ i l. (met i l, low i l));
         keys = keys_from_rules f F n head spells.0 (content_at f F head) spells.1 (λ kind.
-            let texts = rest.1.1.1.0 head has kind in
+            let texts = subst (HaveTexts f F head) (key_count head kind) (rest.1.1.1.0 head has kind) in
             (texts, last_differs f F keys n head texts (last_by f F heights keys n head has kind rest.1.1.1.1.0)));
       }
 
@@ -112,16 +103,16 @@ sorted f F head list all texts order =
 
 -- the lists of vouched dictionaries
 listed : (f : List ℕ) (F : Frame) (heights : List ℕ) (keys : Option Keyed) → IsFrame f F → length heights ≡ F.objects
-    → ((n : ℕ) → n < F.objects → IsVouchedBy heights n → KeepsAll (KeepsByCheck f F (lists heights keys) n) (check_rules keys)) → AreListed f F heights keys
+    → ((n : ℕ) → n < F.objects → IsVouchedBy heights n → KeepsCheck f F (lists heights keys) n) → AreListed f F heights keys
 listed f F heights None frame all kept = tt
 listed f F heights (Some keyed) frame all kept = λ n ks ms v s.
     let lt = vouched_inside heights F.objects n all v in
     let k = kept n lt v in
     let head = s.shape in
     let has = shape_announced f F n head s.has in
-    let more = keeps_behind (KeepsByCheck f F (lists heights (Some keyed)) n) object_rules (vouched_rules (Some keyed)) k in
+    let more = k.1 in
     let is = dict_refs f F head.kind head.count head.body ks ms s.means in
-    let texts = more.1.1.1.0 head has is.0 in
+    let texts = subst (HaveTexts f F head) (key_count head is.0) (more.1.1.1.0 head has is.0) in
     let order = more.1.1.1.1.0 head has is.0 in
     let many = length-nums_at f head.body F.ref_size head.count in
     let whole : length (list_of keyed n head.count) ≡ head.count = length-take-le head.count (drop (slice_index keyed.starts n) keyed.positions) (omega (arith, length-drop (slice_index keyed.starts n) keyed.positions, order.0)) in
@@ -186,8 +177,7 @@ valid_seen f F heights valid n lt v =
     record {
       own = spells_keeps f F n valid.frame lt o.content o.spells;
       room = not_overfull f F heights valid n v;
-      vouched = λ head has i l. (lower_at f F heights valid n v head has i l).0;
-      lower = λ head has i l. (lower_at f F heights valid n v head has i l).1;
+      lower = lower_at f F heights valid n v;
     }
 
 -- a sorted list is in order
@@ -220,7 +210,7 @@ last_there f F heights (Some keyed) valid listed n v head has kind =
     let many = length-nums_at f head.body F.ref_size head.count in
     (omega (arith, sorted.0, many), in_order f F head (list_of keyed n head.count) (subst (λ c. IsSorted f F (key_refs f F head) (part keyed.positions (slice_index keyed.starts n) c)) many sorted.1))
 
-pub keeps_all : (f : List ℕ) (F : Frame) (certificate : Lists) → IsAccepted f F certificate → (n : ℕ) → IsVouchedBy certificate.heights n → KeepsAll (KeepsByCheck f F certificate n) (check_rules certificate.keys)
+pub keeps_all : (f : List ℕ) (F : Frame) (certificate : Lists) → IsAccepted f F certificate → (n : ℕ) → IsVouchedBy certificate.heights n → KeepsCheck f F certificate n
 keeps_all f F certificate a n v =
     let heights = certificate.heights in
     let keys = certificate.keys in
@@ -229,35 +219,50 @@ keeps_all f F certificate a n v =
     let seen = valid_seen f F heights valid n lt v in
     let spells = (valid.vouched n v).spells in
     let head = spells.shape in
-    let has = shape_announced f F n head spells.has in
-    kept_all_after (KeepsByCheck f F certificate n) object_rules (vouched_rules keys) seen.own (
-      seen.room,
+    let has = shape_announced f F n head spells.has in (
+      seen.own,
       (
-        seen.vouched,
+        seen.room,
         (
-          seen.lower,
+          λ other h i l. (seen.lower other h i l).0,
           (
-            λ other h kind. (vouched_keys f F heights valid n v other h kind).0,
-            (last_kept f F heights keys n head has (λ kind. last_there f F heights keys valid a.listed n v head has kind), tt),
+            λ other h i l. (seen.lower other h i l).1,
+            (
+              λ other h kind. subst (HaveTexts f F other) (sym (key_count other kind)) (vouched_keys f F heights valid n v other h kind).0,
+              (last_kept f F heights keys n head has (λ kind. last_there f F heights keys valid a.listed n v head has kind), tt),
+            ),
           ),
         ),
       ),
     )
 
 -- ---- what is kept is not broken
-order_broken : (f : List ℕ) (F : Frame) (count : ℕ) (keys : Option Keyed) (n : ℕ) (head : Head) (place : ℕ) → HasOrder f F keys n head → BreaksOrder f F count keys n head place → ⊥
+order_broken : (f : List ℕ) (F : Frame) (count : ℕ) (keys : Option Keyed) (n : ℕ) (head : Head) (place : ℕ)
+    → IfSome keys (λ keyed. HasOrder f F keyed n head) → MatchOption keys ⊥ (λ keyed. BreaksOrder f F count keyed n head place) → ⊥
 order_broken f F count None n head place k b = b
 order_broken f F count (Some keyed) n head place k (inl (short, p)) = omega (arith, k.0, short)
-order_broken f F count (Some keyed) n head place k (inr (whole, (j, first, p))) = first.wrong (k.1 j first.within)
+order_broken f F count (Some keyed) n head place k (inr (whole, (j, first, p))) = first.2 (λ i l. k.1 i (omega (arith, l, first.0)))
+
+-- what a rule asks of references it asks of fewer
+pub fewer : (f : List ℕ) (F : Frame) (certificate : Lists) (n : ℕ) (rule : Rule) (head : Head) (m many : ℕ) → m ≤ many → Asks f F certificate n rule head many → Asks f F certificate n rule head m
+fewer f F certificate n rules.ChildNotVouched head m many few a = λ k l. a k (omega (arith, few, l))
+fewer f F certificate n rules.HeightNotLess head m many few a = λ k l. a k (omega (arith, few, l))
+fewer f F certificate n rules.KeyKind head m many few a = λ dict k l. a dict k (omega (arith, few, l))
+fewer f F certificate n rules.KeyTwice head m many few a = λ dict i j low l. a dict i j low (omega (arith, few, l))
+fewer f F certificate n _ head m many few a = tt
 
 pub broken : (f : List ℕ) (F : Frame) (certificate : Lists) (n : ℕ) (rule : Rule) (place : ℕ) → KeepsByCheck f F certificate n rule → BreaksByCheck f F certificate n rule place → ⊥
 broken f F certificate n rules.Overfull place k b = k b.0
-broken f F certificate n rules.ChildNotVouched place k (head, i, has, first, p) = first.unmet (k head has i first.within)
-broken f F certificate n rules.HeightNotLess place k (head, i, has, first, p) = first.unmet (k head has i first.within)
-broken f F certificate n rules.KeyKind place k (head, i, has, kind, first, p) = let t = k head has kind i first.within in first.none t.0 t.1
-broken f F certificate n rules.KeyTwice place k (head, i, has, kind, first, p) = k head has kind first.earlier i first.order first.within first.first first.second first.is_first first.is_second first.same
 broken f F certificate n rules.KeyOrder place k (head, has, kind, b) = order_broken f F (length certificate.heights) certificate.keys n head place (k head has kind) b
-broken f F certificate n rule place k b = kept_or_broken f F n rule place k b
+broken f F certificate n rule place k b =
+    b.3.2 (fewer f F certificate n rule b.0 (suc b.1) (ref_count b.0.kind b.0.count) (omega (arith, b.3.0)) (k b.0 b.2))
+
+-- a vouched object that keeps all rules has no fault
+pub no_check_fault : (f : List ℕ) (F : Frame) (certificate : Lists) (n : ℕ) (fault : Fault) → KeepsCheck f F certificate n → IsCheckFault f F certificate n fault → ⊥
+no_check_fault f F certificate n fault k (inl h) = no_object_fault f F n object_rules fault k.0 h
+no_check_fault f F certificate n fault k (inr h) =
+    no_first_fault (KeepsByCheck f F certificate n) (BreaksAtCheck f F certificate n) (λ rule object place k b. broken f F certificate n rule place k b.1)
+    (vouched_rules certificate.keys) fault k.1 h.1
 
 -- where a fault of the pair is found the certificate is not accepted
 pub fault_refutes : (f : List ℕ) (F : Frame) (certificate : Lists) (fault : Fault) → IsPairFault f certificate fault → IsAccepted f F certificate → ⊥
@@ -266,9 +271,8 @@ fault_refutes f F certificate fault (inr (G, frame, h)) a =
     let same : F ≡ G = a.valid.frame.spelled ∙ sym frame.spelled in
     by G (subst (λ H. IsAccepted f H certificate) same a) h
   where
-    by : (G : Frame) → IsAccepted f G certificate → IsCertFault f G certificate fault → ⊥
-    by G b (inl c) = c.0 b.valid.count
-    by G b (inr (inl c)) = omega (arith, c.1, b.valid.top)
-    by G b (inr (inr c)) =
-        no_first_fault (KeepsByCheck f G certificate c.2.object) (BreaksAtCheck f G certificate c.2.object) (λ rule object place k x. broken f G certificate c.2.object rule place k x.1)
-        (check_rules certificate.keys) fault (keeps_all f G certificate b c.2.object c.2.vouched) c.2.first
+    by : (G : Frame) → IsAccepted f G certificate
+        → IsCountFault G certificate.heights fault ⊎ ((length certificate.heights ≡ G.objects) × IsVouchedBy certificate.heights G.top.0 × IsVouchedFault f G certificate fault) → ⊥
+    by G b (inl (inl c)) = c.0 b.valid.count
+    by G b (inl (inr c)) = omega (arith, c.1, b.valid.top)
+    by G b (inr c) = no_check_fault f G certificate c.2.object fault (keeps_all f G certificate b c.2.object c.2.vouched) c.2.first

@@ -26,8 +26,8 @@ module _ (f : List ℕ) (F : Frame) (heights : List ℕ) (head : Head) (wanted :
   -- the first reference of the block that is not is the first of all
   pub unmet_there : AreNext → AreMet f F heights head wanted done → done + length refs ≤ ref_count head.kind head.count
       → (i : ℕ) → IsFirstUnmetBy heights wanted refs i → IsFirstUnmet f F heights head wanted (done + i)
-  unmet_there next met few i first = record {
-    within = omega (arith, few, first.within);
-    unmet = λ meets. first.unmet (subst (λ m. Meets wanted (slice_index heights m)) (sym (next i first.within)) meets);
-    before = met_more next met i (omega (arith, first.within)) first.before;
-  }
+  unmet_there next met few i first = (
+    omega (arith, few, first.within),
+    met_more next met i (omega (arith, first.within)) first.before,
+    λ more. first.unmet (subst (λ m. Meets wanted (slice_index heights m)) (sym (next i first.within)) (more (done + i) (omega arith))),
+  )

@@ -1,12 +1,13 @@
 -- Laws of the bytes of certificates.
-use Rattle.std.proofs.Common.{◌≡◌, inl, inr, ℕ, suc, ◌+◌, ◌*◌, ◌^◌, ◌<◌, ◌≤◌, List, [], ◌∷◌, ◌++◌, length, get_or, take, drop, Option, Some, None, refl, sym, ap, ◌∙◌, subst, arith}
+use Rattle.std.proofs.Common.{◌≡◌, inl, inr, Bool, true, false, is_some, ℕ, suc, ◌+◌, ◌*◌, ◌^◌, ◌<◌, ◌≤◌, List, [], ◌∷◌, ◌++◌, length, get_or, take, drop, Option, Some, None, refl, sym, ap, ◌∙◌, subst, arith}
 use Rattle.std.specs.Int.{bytes_high_first}
 use Rattle.std.proofs.lemmas.List.{append_cancel_left, length-append, take-append-drop, drop-drop, take_at, drop_at}
 use Rattle.bplist_octets.specs.Octets.{part, num}
 use Rattle.bplist_octets.proofs.Spelled.{num-lt}
 use Rattle.bplist_objects.proofs.Units.{length-part}
 use Rattle.bplist_cert.specs.Lists.{Keyed, Lists, lists, AreWords, AreKeyed, HasStarts, HasCount, IsCertificate}
-use Rattle.bplist_cert.specs.Encoding.{plain_magic, keyed_magic, magic, words, key_words, octets_of, told, HasMagic, HasLength}
+use Rattle.bplist_cert.specs.Encoding.{magic, words, key_words, octets_of, told, Fits, IsOctetsFault}
+use Rattle.bplist_objects.specs.declared.fault.Fault.{Fault}
 use Rattle.bplist_cert.proofs.NumberBytes.{AreBytes, num-bytes, bytes-num, length-bytes, length-words, part-low}
 
 -- equal lists whose fronts are of one length
@@ -48,12 +49,12 @@ keyed_once a b l p q e =
 
 once : (h i : List ℕ) (j k : Option Keyed) → IsCertificate (lists h j) → IsCertificate (lists i k) → octets_of (lists h j) ≡ octets_of (lists i k) → lists h j ≡ lists i k
 once h i None None p q e =
-    let r = heights_once (lists h None) (lists i None) p q (append_cancel_left plain_magic (behind (lists h None)) (behind (lists i None)) e) in
+    let r = heights_once (lists h None) (lists i None) p q (append_cancel_left (magic false) (behind (lists h None)) (behind (lists i None)) e) in
     ap (λ x. lists x None) r.0
 once h i None (Some k) p q e = absurd (omega (arith, ap (λ xs. get_or xs 7 0) e))
 once h i (Some j) None p q e = absurd (omega (arith, ap (λ xs. get_or xs 7 0) e))
 once h i (Some j) (Some k) p q e =
-    let r = heights_once (lists h (Some j)) (lists i (Some k)) p q (append_cancel_left keyed_magic (behind (lists h (Some j))) (behind (lists i (Some k))) e) in
+    let r = heights_once (lists h (Some j)) (lists i (Some k)) p q (append_cancel_left (magic true) (behind (lists h (Some j))) (behind (lists i (Some k))) e) in
     let l : length j.starts ≡ length k.starts = p.starts ∙ ap length r.0 ∙ sym q.starts in
     ap (λ x. lists x (Some j)) r.0 ∙ ap (λ x. lists i (Some x)) (keyed_once j k l p.keys q.keys r.1)
 
@@ -87,7 +88,7 @@ starts_fit heights None count n h = tt
 starts_fit heights (Some k) count n h = h ∙ sym n
 
 -- the parts of a certificate are its bytes
-pub whole : (octets heights : List ℕ) (keys : Option Keyed) (count : ℕ) → AreBytes octets → take 8 octets ≡ magic keys → 16 + 4 * count ≤ length octets → count ≡ told octets
+pub whole : (octets heights : List ℕ) (keys : Option Keyed) (count : ℕ) → AreBytes octets → take 8 octets ≡ magic (is_some keys) → 16 + 4 * count ≤ length octets → count ≡ told octets
     → AreWords heights → AreKeyed keys → HasCount keys count → part octets 16 (4 * count) ≡ words heights → drop (16 + 4 * count) octets ≡ key_words keys
     → IsCertificate (lists heights keys) × (octets ≡ octets_of (lists heights keys))
 whole octets heights keys count low front len e p q starts w v =
@@ -96,9 +97,9 @@ whole octets heights keys count low front len e p q starts w v =
     drop-part octets 16 (4 * count) ∙ ap (λ ys. ys ++ drop (16 + 4 * count) octets) w ∙ ap (λ ys. words heights ++ ys) v in
     let most : num (part octets 8 8) < 2 ^ 64 = rw (length-part octets 8 8 (omega arith)) at (num-lt (part octets 8 8) (part-low octets 8 8 low)) in (
       record { count = omega (arith, n, e, most); heights = p; keys = q; starts = starts_fit heights keys count n starts },
-      head_of octets (magic keys) count low (omega arith) front e
-          ∙ ap (λ m. magic keys ++ (bytes_high_first 8 m ++ drop 16 octets)) (sym n)
-          ∙ ap (λ ys. magic keys ++ (bytes_high_first 8 (length heights) ++ ys)) rest,
+      head_of octets (magic (is_some keys)) count low (omega arith) front e
+          ∙ ap (λ m. magic (is_some keys) ++ (bytes_high_first 8 m ++ drop 16 octets)) (sym n)
+          ∙ ap (λ ys. magic (is_some keys) ++ (bytes_high_first 8 (length heights) ++ ys)) rest,
     )
 
 -- the number that a certificate's bytes tell is that of its heights
@@ -114,11 +115,11 @@ length_behind h j =
     let d = length-words h in
     omega (arith, a, b, c, d)
 
-length_of : (h : List ℕ) (j : Option Keyed) → IsCertificate (lists h j) → HasLength (octets_of (lists h j))
+length_of : (h : List ℕ) (j : Option Keyed) → IsCertificate (lists h j) → Fits (is_some j) (told (octets_of (lists h j))) (length (octets_of (lists h j)))
 length_of h None p =
     let t = told_is h None p in
     let l = length_behind h None in
-    inl (refl, omega (arith, t, l))
+    omega (arith, t, l)
 length_of h (Some k) p =
     let t = told_is h (Some k) p in
     let l = length_behind h (Some k) in
@@ -126,15 +127,34 @@ length_of h (Some k) p =
     let b = length-words k.starts in
     let c = length-words k.positions in
     let s = p.starts in
-    inr (refl, omega (arith, t, l, a, b, c, s), omega (arith, l, a, b, c, s))
+    (omega (arith, t, l, a, b, c, s), omega (arith, l, a, b, c, s))
 
-magic_is : (h : List ℕ) (j : Option Keyed) → HasMagic (octets_of (lists h j))
-magic_is h None = inl refl
-magic_is h (Some k) = inr refl
+magic_of : (h : List ℕ) (j : Option Keyed) → take 8 (octets_of (lists h j)) ≡ magic (is_some j)
+magic_of h None = refl
+magic_of h (Some k) = refl
+
+one_magic : (x y : Bool) → magic x ≡ magic y → x ≡ y
+one_magic false false e = refl
+one_magic true true e = refl
+one_magic false true e = absurd (omega (arith, ap (λ xs. get_or xs 7 0) e))
+one_magic true false e = absurd (omega (arith, ap (λ xs. get_or xs 7 0) e))
 
 -- the bytes of a certificate keep rules 24 and 25
-pub magic_kept : (octets : List ℕ) (c : Lists) → octets ≡ octets_of c → HasMagic octets
-magic_kept octets c e = subst HasMagic (sym e) (magic_is c.heights c.keys)
+pub octets_kept : (octets : List ℕ) (c : Lists) (a : Fault) → IsCertificate c → octets ≡ octets_of c → IsOctetsFault octets a → ⊥
+octets_kept octets c a p e (inl h) = h.0 (is_some c.keys) (ap (take 8) e ∙ magic_of c.heights c.keys)
+octets_kept octets c a p e (inr (keyed, is, never, _)) =
+    let fits = subst (λ xs. Fits (is_some c.keys) (told xs) (length xs)) (sym e) (length_of c.heights c.keys p) in
+    let same : is_some c.keys ≡ keyed = one_magic (is_some c.keys) keyed (sym (magic_of c.heights c.keys) ∙ sym (ap (take 8) e) ∙ is) in
+    never (subst (λ k. Fits k (told octets) (length octets)) same fits)
 
-pub length_kept : (octets : List ℕ) (c : Lists) → IsCertificate c → octets ≡ octets_of c → HasLength octets
-length_kept octets c p e = subst HasLength (sym e) (length_of c.heights c.keys p)
+-- the first broken rule of 24 and 25 is one
+pub one_octets_fault : (octets : List ℕ) (a b : Fault) → IsOctetsFault octets a → IsOctetsFault octets b → a ≡ b
+one_octets_fault octets a b (inl h) (inl k) = h.1 ∙ sym k.1
+one_octets_fault octets a b (inl h) (inr k) = absurd (h.0 k.0 k.1)
+one_octets_fault octets a b (inr h) (inl k) = absurd (k.0 h.0 h.1)
+one_octets_fault octets a b (inr h) (inr k) = h.3 ∙ sym k.3
+
+-- there are at least the heights
+pub long_enough : (keyed : Bool) (count len : ℕ) → Fits keyed count len → 16 + 4 * count ≤ len
+long_enough false count len h = omega arith
+long_enough true count len h = omega (arith, h.0)

@@ -1,5 +1,5 @@
 -- One vouched object after the other.
-use Rattle.std.proofs.Common.{◌≡◌, ℕ, suc, ◌<◌, ◌≤◌, ◌+◌, ◌-◌, ◌⊎◌, inl, inr, List, [], ◌∷◌, length, slice_index, Result, Ok, Err, Option, Some, None, refl, sym, ◌∙◌, subst, arith}
+use Rattle.std.proofs.Common.{◌≡◌, ℕ, suc, ◌<◌, ◌≤◌, ◌+◌, ◌-◌, ◌*◌, min, ◌⊎◌, inl, inr, List, [], ◌∷◌, length, slice_index, Result, Ok, Err, Option, Some, None, refl, sym, ap, ◌∙◌, subst, arith}
 use Rattle.std.proofs.lemmas.Bool.{cases_lt}
 use Rattle.std.proofs.lemmas.List.{get_or_past}
 use Rattle.bplist_objects.specs.declared.rule.Rule.{Rule}
@@ -16,12 +16,11 @@ use Rattle.bplist_objects.specs.Safe.{ref_count}
 use Rattle.bplist_objects.specs.Answers.{GivesFault, Never}
 use Rattle.bplist_objects.specs.Announced.{HasHead}
 use Rattle.bplist_objects.specs.FrameRules.{IsFrameFault}
-use Rattle.bplist_objects.specs.Rules.{KeepsAll}
-use Rattle.bplist_objects.specs.ObjectRules.{KeepsByObject, IsObjectFault, object_rules}
+use Rattle.bplist_objects.specs.Rules.{KeepsAll, IsFirstFault}
+use Rattle.bplist_objects.specs.ObjectRules.{KeepsByObject, BreaksAt, IsObjectFault, object_rules}
 use Rattle.bplist_objects.specs.Extents.{HasExtent, IsOverfull}
 use Rattle.bplist_objects.proofs.Lists.{all_weaker, all_at}
 use Rattle.bplist_objects.proofs.ExtentSums.{most_none, most_more, most_same}
-use Rattle.bplist_objects.proofs.RuleLaws.{first_fault_after, first_fault_among, kept_all_after}
 use Rattle.bplist_objects.proofs.BodyLaws.{HasHead-unique}
 use Rattle.bplist_objects.proofs.HeadTies.{kept_spells}
 use Rattle.bplist_objects.proofs.FrameTies.{numbered}
@@ -31,8 +30,9 @@ use Rattle.bplist_cert.specs.declared.refusal.Refusal.TheVariants as refusals
 use Rattle.bplist_cert.specs.Lists.{Keyed, Lists, lists, HasStarts, HasCount}
 use Rattle.bplist_cert.specs.Valid.{IsVouchedBy}
 use Rattle.bplist_cert.specs.Heights.{AreMet, IsHeightFault}
-use Rattle.bplist_cert.specs.Keys.{HaveTexts, KeysDiffer}
-use Rattle.bplist_cert.specs.CheckRules.{KeepsByCheck, BreaksAtCheck, IsCheckFault, check_rules, vouched_rules, last_rule, HasOrder, KeepsLast, IsLastFault}
+use Rattle.bplist_keys.specs.Claims.{FailsAt}
+use Rattle.bplist_cert.specs.Keys.{HaveTexts, KeysDiffer, IsKeylessFault}
+use Rattle.bplist_cert.specs.CheckRules.{Asks, KeepsByCheck, BreaksAtCheck, KeepsCheck, IsCheckFault, vouched_rules, last_rule, HasOrder, KeepsLast, IsLastFault}
 use Rattle.bplist_cert.specs.declared.checker.Look.{Look}
 use Rattle.bplist_cert.specs.declared.checker.Look.TheVariants.{Quick, Exact}
 use Rattle.bplist_cert.specs.Looks.{IsSeen, AreSeen, IsShown, IsShownFault}
@@ -40,15 +40,37 @@ use Rattle.bplist_cert.specs.KeyClasses.{HasGoodKeys, BreaksKeys, IsFirstKeysFau
 use Rattle.bplist_cert.specs.PairFault.{Sums, IsHeld, Running, IsWalkFault, IsSeenFault, IsVouchedFault, IsPairFault}
 use Rattle.bplist_cert.specs.Refusals.{GivesRefusal, Judges, refusal_of}
 
+-- the first references of a dictionary are those to its keys
+pub key_count : (head : Head) → head.kind ≡ kinds.Dict → min (ref_count head.kind head.count) head.count ≡ head.count
+key_count head dict =
+    let two : ref_count head.kind head.count ≡ 2 * head.count = ap (λ k. ref_count k head.count) dict in
+    omega (arith, two)
+
+-- a claim about the keys fails at the same number as one about the references
+keys_fail : (head : Head) → head.kind ≡ kinds.Dict → (Claim : ℕ → Type 0) → ((m n : ℕ) → m ≤ n → Claim n → Claim m) → (i : ℕ) → FailsAt Claim head.count i
+    → FailsAt (λ many. head.kind ≡ kinds.Dict → Claim (min many head.count)) (ref_count head.kind head.count) i
+keys_fail head dict Claim fewer i (within, before, never) =
+    let two : ref_count head.kind head.count ≡ 2 * head.count = ap (λ k. ref_count k head.count) dict in (
+      omega (arith, within, two),
+      λ _. fewer (min i head.count) i (omega arith) before,
+      λ more. never (fewer (suc i) (min (suc i) head.count) (omega (arith, within)) (more dict)),
+    )
+
+-- all heads of an object are this one
+any_head : (f : List ℕ) (F : Frame) (n : ℕ) (head : Head) → HasHead f F n head → (Claim : Head → ℕ → Type 0) → Claim head (ref_count head.kind head.count)
+    → (other : Head) → HasHead f F n other → Claim other (ref_count other.kind other.count)
+any_head f F n head has Claim here other h = subst (λ (x : Head). Claim x (ref_count x.kind x.count)) (HasHead-unique f F n head other has h) here
+
 -- the rule of keys beside rule 21, by the head
 pub last_kept : (f : List ℕ) (F : Frame) (heights : List ℕ) (keys : Option Keyed) (n : ℕ) (head : Head) → HasHead f F n head → (head.kind ≡ kinds.Dict → KeepsLast f F keys n head)
     → KeepsByCheck f F (lists heights keys) n (last_rule keys)
-last_kept f F heights None n head has v = λ other h. subst (λ (x : Head). x.kind ≡ kinds.Dict → KeysDiffer f F x x.count) (HasHead-unique f F n head other has h) v
-last_kept f F heights (Some keyed) n head has v = λ other h. subst (λ (x : Head). x.kind ≡ kinds.Dict → HasOrder f F (Some keyed) n x) (HasHead-unique f F n head other has h) v
+last_kept f F heights None n head has v = any_head f F n head has (Asks f F (lists heights None) n rules.KeyTwice) (λ dict. subst (KeysDiffer f F head) (sym (key_count head dict)) (v dict))
+last_kept f F heights (Some keyed) n head has v = λ other h. subst (λ (x : Head). x.kind ≡ kinds.Dict → HasOrder f F keyed n x) (HasHead-unique f F n head other has h) v
 
 last_broken : (f : List ℕ) (F : Frame) (heights : List ℕ) (keys : Option Keyed) (n : ℕ) (head : Head) → HasHead f F n head → head.kind ≡ kinds.Dict → (fault : Fault)
     → IsLastFault f F (length heights) keys n head fault → (fault.rule ≡ last_rule keys) × BreaksAtCheck f F (lists heights keys) n (last_rule keys) fault.object fault.place
-last_broken f F heights None n head has kind fault (rule, object, (i, first, place)) = (rule, (object, (head, i, has, kind, first, place)))
+last_broken f F heights None n head has kind fault (rule, object, (i, first, place)) =
+    (rule, (object, (head, i, has, keys_fail head kind (KeysDiffer f F head) (λ m k few d i j lt l. d i j lt (omega (arith, few, l))) i first, place)))
 last_broken f F heights (Some keyed) n head has kind fault (rule, object, broken) = (rule, (object, (head, has, kind, broken)))
 
 -- there are as many starts as objects
@@ -64,11 +86,11 @@ module _ (f : List ℕ) (F : Frame) (heights : List ℕ) (keys : Option Keyed) (
   Breaks rule object place = BreaksAtCheck f F (lists heights keys) n rule object place
 
   abbrev Broken : Fault → Type 0
-  Broken fault = IsCheckFault f F (lists heights keys) n (check_rules keys) fault
+  Broken fault = IsCheckFault f F (lists heights keys) n fault
 
   -- a fault of the object by itself
   pub object_fault : (e : ObjectFault) → GivesFault (IsObjectFault f F n object_rules) e → GivesRefusal Broken (refusal_of e)
-  object_fault (errors.Fault fault) h = first_fault_among Keeps Breaks object_rules (vouched_rules keys) fault h
+  object_fault (errors.Fault fault) h = inl h
   object_fault (errors.Read r) h = tt
 
   module _ (frame : IsFrame f F) (lt : n < F.objects) (head : Head) (has : HasHead f F n head) (kept : KeepsAll (KeepsByObject f F n) object_rules) (vouched : IsVouchedBy heights n) (t : ℕ) (sums : Sums f F heights n t) where
@@ -93,8 +115,7 @@ module _ (f : List ℕ) (F : Frame) (heights : List ℕ) (keys : Option Keyed) (
     -- the sum is too large
     pub overfull_fault : (fault : Fault) → fault.rule ≡ rules.Overfull → fault.object ≡ Some (record { 0 = n }) → fault.place ≡ off f F n → F.table < now + 8 → Broken fault
     overfull_fault fault rule object place large =
-        first_fault_after Keeps Breaks object_rules (vouched_rules keys) fault kept
-        (inl (rule, (object, ((more.objects, now, more.differ, all_weaker _ _ (λ k p. (p.0, omega (arith, p.1))) more.objects more.inside, more.take_all, large), place))))
+        inr (kept, inl (rule, (object, ((more.objects, now, more.differ, all_weaker _ _ (λ k p. (p.0, omega (arith, p.1))) more.objects more.inside, more.take_all, large), place))))
 
     module _ (room : now + 8 ≤ F.table) where
       not_overfull : IsOverfull f F (IsVouchedBy heights) n → ⊥
@@ -102,23 +123,17 @@ module _ (f : List ℕ) (F : Frame) (heights : List ℕ) (keys : Option Keyed) (
           let b = more.most ns r d (all_weaker _ _ (λ k p. (p.0, omega (arith, p.1))) ns a) w in
           omega (arith, b, large)
 
-      vouched_any : AreMet f F heights head Vouched (ref_count head.kind head.count) → Keeps rules.ChildNotVouched
-      vouched_any v other h = subst (λ (x : Head). AreMet f F heights x Vouched (ref_count x.kind x.count)) (HasHead-unique f F n head other has h) v
-
-      lower_any : AreMet f F heights head (Below (slice_index heights n)) (ref_count head.kind head.count) → Keeps rules.HeightNotLess
-      lower_any v other h = subst (λ (x : Head). AreMet f F heights x (Below (slice_index heights n)) (ref_count x.kind x.count)) (HasHead-unique f F n head other has h) v
-
-      texts_any : (head.kind ≡ kinds.Dict → HaveTexts f F head head.count) → Keeps rules.KeyKind
-      texts_any v other h = subst (λ (x : Head). x.kind ≡ kinds.Dict → HaveTexts f F x x.count) (HasHead-unique f F n head other has h) v
+      -- what a rule asks by this head
+      by_head : (rule : Rule) → Asks f F (lists heights keys) n rule head (ref_count head.kind head.count)
+          → (other : Head) → HasHead f F n other → Asks f F (lists heights keys) n rule other (ref_count other.kind other.count)
+      by_head rule = any_head f F n head has (Asks f F (lists heights keys) n rule)
 
       -- a fault of the heights
       pub heights_fault : (e : ObjectFault) → GivesFault (IsHeightFault f F heights n head) e → GivesRefusal Broken (refusal_of e)
       heights_fault (errors.Fault fault) (inl (rule, object, (i, first, place))) =
-          first_fault_after Keeps Breaks object_rules (vouched_rules keys) fault kept
-          (inr (not_overfull, inl (rule, (object, (head, i, has, first, place)))))
+          inr (kept, inr (not_overfull, inl (rule, (object, (head, i, has, first, place)))))
       heights_fault (errors.Fault fault) (inr (met, (rule, object, (i, first, place)))) =
-          first_fault_after Keeps Breaks object_rules (vouched_rules keys) fault kept
-          (inr (not_overfull, inr (vouched_any met, inl (rule, (object, (head, i, has, first, place))))))
+          inr (kept, inr (not_overfull, inr (by_head rules.ChildNotVouched met, inl (rule, (object, (head, i, has, first, place))))))
       heights_fault (errors.Read r) h = tt
 
       module _ (met : AreMet f F heights head Vouched (ref_count head.kind head.count)) (low : AreMet f F heights head (Below (slice_index heights n)) (ref_count head.kind head.count)) where
@@ -127,7 +142,11 @@ module _ (f : List ℕ) (F : Frame) (heights : List ℕ) (keys : Option Keyed) (
         seen = record {
           sums = more;
           room = room;
-          kept = record { own = kept; room = not_overfull; vouched = vouched_any met; lower = lower_any low };
+          kept = record {
+            own = kept;
+            room = not_overfull;
+            lower = λ other h k lt. (by_head rules.ChildNotVouched met other h k lt, by_head rules.HeightNotLess low other h k lt);
+          };
         }
 
         -- the object keeps all rules
@@ -135,7 +154,22 @@ module _ (f : List ℕ) (F : Frame) (heights : List ℕ) (keys : Option Keyed) (
         held last = record {
           sums = more;
           room = room;
-          kept = kept_all_after Keeps object_rules (vouched_rules keys) kept (not_overfull, (vouched_any met, (lower_any low, (texts_any (λ kind. (last kind).0), (last_kept f F heights keys n head has (λ kind. (last kind).1), tt)))));
+          kept = (
+            kept,
+            (
+              not_overfull,
+              (
+                by_head rules.ChildNotVouched met,
+                (
+                  by_head rules.HeightNotLess low,
+                  (
+                    by_head rules.KeyKind (λ kind. subst (HaveTexts f F head) (sym (key_count head kind)) (last kind).0),
+                    (last_kept f F heights keys n head has (λ kind. (last kind).1), tt),
+                  ),
+                ),
+              ),
+            ),
+          );
         }
 
   none_more : (IsVouchedBy heights n → ⊥) → (t : ℕ) → Sums f F heights n t → Sums f F heights (suc n) t
@@ -199,43 +233,45 @@ start f F certificate look frame = record {
 
 good_kept : (f : List ℕ) (F : Frame) (heights : List ℕ) (keys : Option Keyed) (n : ℕ) → HasGoodKeys f F keys n
     → KeepsByCheck f F (lists heights keys) n rules.KeyKind × KeepsByCheck f F (lists heights keys) n (last_rule keys)
-good_kept f F heights None n good = (λ head has dict. (good head has dict).0, λ head has dict. (good head has dict).1)
-good_kept f F heights (Some keyed) n good = (λ head has dict. (good head has dict).0, λ head has dict. (good head has dict).1)
+good_kept f F heights None n good = (
+  λ head has dict. subst (HaveTexts f F head) (sym (key_count head dict)) (good head has dict).0,
+  λ head has dict. subst (KeysDiffer f F head) (sym (key_count head dict)) (good head has dict).1,
+)
+good_kept f F heights (Some keyed) n good =
+    (λ head has dict. subst (HaveTexts f F head) (sym (key_count head dict)) (good head has dict).0, λ head has dict. (good head has dict).1)
+
+-- where each rule that is broken names an object, the first fault does
+names_object : (keeps : Rule → Type 0) (breaks : Rule → Option ObjectNo → ℕ → Type 0) (o : Option ObjectNo) → ((rule : Rule) (object : Option ObjectNo) (place : ℕ) → breaks rule object place → object ≡ o)
+    → (rules : List Rule) (fault : Fault) → IsFirstFault keeps breaks rules fault → fault.object ≡ o
+names_object keeps breaks o names [] fault h = absurd h
+names_object keeps breaks o names (rule ∷ rules) fault (inl h) = names rule fault.object fault.place h.1
+names_object keeps breaks o names (rule ∷ rules) fault (inr h) = names_object keeps breaks o names rules fault h.1
 
 -- the fault of an object names it
-fault_object : (f : List ℕ) (F : Frame) (certificate : Lists) (n : ℕ) (rules : List Rule) (fault : Fault) → IsCheckFault f F certificate n rules fault → fault.object ≡ Some (record { 0 = n })
-fault_object f F certificate n [] fault h = absurd h
-fault_object f F certificate n (rule ∷ rules) fault (inl h) = h.1.0
-fault_object f F certificate n (rule ∷ rules) fault (inr h) = fault_object f F certificate n rules fault h.1
+fault_object : (f : List ℕ) (F : Frame) (certificate : Lists) (n : ℕ) (fault : Fault) → IsCheckFault f F certificate n fault → fault.object ≡ Some (record { 0 = n })
+fault_object f F certificate n fault (inl h) = names_object (KeepsByObject f F n) (BreaksAt f F n) (Some (record { 0 = n })) (λ rule object place b. b.0) object_rules fault h
+fault_object f F certificate n fault (inr h) =
+    names_object (KeepsByCheck f F certificate n) (BreaksAtCheck f F certificate n) (Some (record { 0 = n })) (λ rule object place b. b.0) (vouched_rules certificate.keys) fault h.1
 
 module _ (f : List ℕ) (F : Frame) (heights : List ℕ) (keys : Option Keyed) where
   module _ (n : ℕ) (s : IsSeen f F heights n) where
     -- a seen object with good keys keeps all rules
-    pub good_keeps : HasGoodKeys f F keys n → KeepsAll (KeepsByCheck f F (lists heights keys) n) (check_rules keys)
+    pub good_keeps : HasGoodKeys f F keys n → KeepsCheck f F (lists heights keys) n
     good_keeps good =
         let k = good_kept f F heights keys n good in
-        kept_all_after (KeepsByCheck f F (lists heights keys) n) object_rules (vouched_rules keys) s.own (s.room, (s.vouched, (s.lower, (k.0, (k.1, tt)))))
+        (s.own, (s.room, ((λ head has i l. (s.lower head has i l).0), ((λ head has i l. (s.lower head has i l).1), (k.0, (k.1, tt))))))
 
     -- the first fault of its keys is its first
-    pub keys_break : (fault : Fault) → BreaksKeys f F (length heights) keys n fault → IsCheckFault f F (lists heights keys) n (check_rules keys) fault
-    keys_break fault (head, has, (kind, inl (rule, object, (i, first, place)))) =
-        first_fault_after (KeepsByCheck f F (lists heights keys) n) (BreaksAtCheck f F (lists heights keys) n) object_rules (vouched_rules keys) fault s.own
-        (inr (s.room, inr (s.vouched, inr (s.lower, inl (rule, (object, (head, i, has, kind, first, place)))))))
-    keys_break fault (head, has, (kind, inr (texts, last))) =
-        first_fault_after (KeepsByCheck f F (lists heights keys) n) (BreaksAtCheck f F (lists heights keys) n) object_rules (vouched_rules keys) fault s.own
-        (inr (
-          s.room,
-          inr (
-            s.vouched,
-            inr (
-              s.lower,
-              inr (
-                λ other h. subst (λ (x : Head). x.kind ≡ kinds.Dict → HaveTexts f F x x.count) (HasHead-unique f F n head other has h) (λ _. texts),
-                inl (last_broken f F heights keys n head has kind fault last),
-              ),
-            ),
-          ),
-        ))
+    pub keys_break : (fault : Fault) → BreaksKeys f F (length heights) keys n fault → IsCheckFault f F (lists heights keys) n fault
+    keys_break fault (head, has, (kind, keys_fault)) =
+        inr (s.own, inr (s.room, inr ((λ head has i l. (s.lower head has i l).0), inr ((λ head has i l. (s.lower head has i l).1), by keys_fault))))
+      where
+        by : IsKeylessFault f F n head fault ⊎ (HaveTexts f F head head.count × IsLastFault f F (length heights) keys n head fault)
+            → IsFirstFault (KeepsByCheck f F (lists heights keys) n) (BreaksAtCheck f F (lists heights keys) n) (rules.KeyKind ∷ last_rule keys ∷ []) fault
+        by (inl (rule, object, (i, first, place))) =
+            inl (rule, (object, (head, i, has, keys_fail head kind (HaveTexts f F head) (λ m k few t i l. t i (omega (arith, few, l))) i first, place)))
+        by (inr (texts, last)) =
+            inr (any_head f F n head has (Asks f F (lists heights keys) n rules.KeyKind) (λ _. subst (HaveTexts f F head) (sym (key_count head kind)) texts), inl (last_broken f F heights keys n head has kind fault last))
 
   -- where all vouched objects are seen, and their keys are good, they keep all rules
   pub all_good : (t : ℕ) → Running f F (lists heights keys) Quick F.objects t → ((n : ℕ) → n < F.objects → IsVouchedBy heights n → HasGoodKeys f F keys n) → Running f F (lists heights keys) Exact F.objects t
@@ -257,7 +293,7 @@ module _ (f : List ℕ) (F : Frame) (heights : List ℕ) (keys : Option Keyed) w
 
     -- it names its object, which is one
     pub seen_object : (s : IsSeenFault f F (lists heights keys) fault) → fault.object ≡ Some (record { 0 = s.object })
-    seen_object s = fault_object f F (lists heights keys) s.object (check_rules keys) fault s.first
+    seen_object s = fault_object f F (lists heights keys) s.object fault s.first
 
 -- a fault of the file as a whole
 pub frame_fault : (f : List ℕ) (certificate : Lists) (e : ObjectFault) → GivesFault (IsFrameFault f) e → GivesRefusal (IsPairFault f certificate) (refusal_of e)

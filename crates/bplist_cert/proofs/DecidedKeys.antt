@@ -14,9 +14,10 @@ use Rattle.bplist_objects.proofs.HeadTies.{kept_announces}
 use Rattle.bplist_objects.proofs.UnitOrder.{compare_units-cases, compare_units-less, compare_units-not_less}
 use Rattle.bplist_cert.specs.Heights.{ref}
 use Rattle.bplist_cert.specs.Keys.{IsText, IsKey, HaveTexts, IsFirstKeyless, KeysDiffer, IsFirstTwice}
-use Rattle.bplist_cert.specs.Keys.{IsInOrder, AreInOrder, IsFirstUnordered}
+use Rattle.bplist_cert.specs.Keys.{AreInOrder}
+use Rattle.bplist_keys.specs.Claims.{FailsAt}
 use Rattle.bplist_cert.proofs.Texts.{text_there, no_text, other_kind}
-use Rattle.bplist_cert.proofs.OrderedLists.{text_once}
+use Rattle.bplist_cert.proofs.OrderedLists.{text_once, IsInOrder}
 
 pub dict_decided : (kind : Kind) → Either (kind ≡ kinds.Dict)
 dict_decided kinds.Dict = inl refl
@@ -65,7 +66,7 @@ module _ (f : List ℕ) (F : Frame) (frame : IsFrame f F) where
     pub texts_or_first : HaveTexts f F head head.count ⊎ ((i : ℕ) × IsFirstKeyless f F head i)
     texts_or_first = elim (all_or_first Text (λ i. Text i → ⊥) (λ i. is_text (ref f F head i)) head.count) [
       | inl all ↦ inl all
-      | inr (i, within, none, before) ↦ inr (i, record { within = within; none = λ key is. none (key, is); before = before })
+      | inr (i, within, none, before) ↦ inr (i, (within, before, λ more. none (more i (omega arith))))
     ]
       where
         Text : ℕ → Type 0
@@ -112,17 +113,7 @@ module _ (f : List ℕ) (F : Frame) (frame : IsFrame f F) where
       | inl all ↦ inl (λ i j l within. all j within i l)
       | inr (j, within, (second, is_second, (i, order, (first, is_first, same), _)), before) ↦ inr (
         j,
-        record {
-          within = within;
-          earlier = i;
-          order = order;
-          first = first;
-          second = second;
-          is_first = is_first;
-          is_second = is_second;
-          same = same;
-          before = λ a b l low. before b low a l;
-        },
+        (within, λ a b l low. before b low a l, λ more. more i j order (omega arith) first second is_first is_second same),
       )
     ]
 
@@ -160,8 +151,8 @@ module _ (f : List ℕ) (F : Frame) (frame : IsFrame f F) where
         | inl low ↦ after_decided j low
       ]
 
-      pub order_or_first : AreInOrder f F head list head.count ⊎ ((j : ℕ) × IsFirstUnordered f F head list j)
+      pub order_or_first : AreInOrder f F head list head.count ⊎ ((j : ℕ) × FailsAt (AreInOrder f F head list) head.count j)
       order_or_first = elim (all_or_first InOrder (λ j. InOrder j → ⊥) order_decided head.count) [
         | inl all ↦ inl all
-        | inr (j, within, wrong, before) ↦ inr (j, record { within = within; wrong = wrong; before = before })
+        | inr (j, within, wrong, before) ↦ inr (j, (within, before, λ more. wrong (more j (omega arith))))
       ]

@@ -21,12 +21,12 @@ use Rattle.bplist_objects.proofs.HeadTies.{kept_announces}
 use Rattle.bplist_cert.specs.declared.heights.Wanted.{Wanted}
 use Rattle.bplist_cert.specs.declared.heights.Wanted.TheVariants.{Vouched, Below, VouchedBelow}
 use Rattle.bplist_cert.specs.declared.checker.Look.TheVariants.{Exact}
-use Rattle.bplist_cert.specs.Lists.{Keyed, Lists, lists}
+use Rattle.bplist_cert.specs.Lists.{Keyed, Lists, lists, list_of}
 use Rattle.bplist_cert.specs.Valid.{IsVouchedBy}
 use Rattle.bplist_cert.specs.Heights.{ref, Meets, AreMet, IsFirstUnmet, IsHeightFault}
 use Rattle.bplist_cert.specs.Keys.{HaveTexts}
-use Rattle.bplist_cert.specs.CheckRules.{KeepsLast, IsLastFault, IsKeysFault, IsCheckFault, check_rules, list_of}
-use Rattle.bplist_cert.specs.PairFault.{Sums, IsHeld, Running, IsVouchedFault, IsCertFault, IsPairFault}
+use Rattle.bplist_cert.specs.CheckRules.{KeepsLast, IsLastFault, IsKeysFault, IsCheckFault}
+use Rattle.bplist_cert.specs.PairFault.{Sums, IsHeld, Running, IsVouchedFault, IsCountFault, IsPairFault}
 use Rattle.bplist_cert.specs.Sorted.{IsAccepted}
 use Rattle.bplist_cert.proofs.CheckSteps.{object_fault, overfull_fault, heights_fault, keys_break, seen, held, held_more, passed, start}
 use Rattle.bplist_cert.proofs.AcceptedCertificates.{accepted}
@@ -62,7 +62,7 @@ module _ (f : List ℕ) (F : Frame) where
     met_or_first : (wanted : Wanted) → AllMet wanted ⊎ ((i : ℕ) × IsFirstUnmet f F heights head wanted i)
     met_or_first wanted = elim (all_or_first Met (λ i. Met i → ⊥) met_decided (ref_count head.kind head.count)) [
       | inl all ↦ inl all
-      | inr (i, within, unmet, before) ↦ inr (i, record { within = within; unmet = unmet; before = before })
+      | inr (i, within, unmet, before) ↦ inr (i, (within, before, λ more. unmet (more i (omega arith))))
     ]
       where
         Met : ℕ → Type 0
@@ -125,7 +125,7 @@ module _ (f : List ℕ) (F : Frame) where
         abbrev HeldOrFault : Type 0
         HeldOrFault =
             ((u : ℕ) × IsHeld f F certificate Exact n u)
-            ⊎ ((fault : Fault) × IsCheckFault f F certificate n (check_rules keys) fault)
+            ⊎ ((fault : Fault) × IsCheckFault f F certificate n fault)
 
         module _ (head : Head) (has : HasHead f F n head) (kept : KeepsAll (KeepsByObject f F n) object_rules) where
           -- what the vouched objects take with it
@@ -175,13 +175,13 @@ module _ (f : List ℕ) (F : Frame) where
       ]
 
       -- ---- rules 26 and 27, and then the vouched objects
-      accepted_or_fault : IsAccepted f F certificate ⊎ ((fault : Fault) × IsCertFault f F certificate fault)
+      accepted_or_fault : IsAccepted f F certificate ⊎ ((fault : Fault) × (IsCountFault F heights fault ⊎ ((length heights ≡ F.objects) × IsVouchedBy heights F.top.0 × IsVouchedFault f F certificate fault)))
       accepted_or_fault = elim (cases_eq (length heights) F.objects) [
-        | inr other ↦ inr (record { rule = rules.CertCount; object = None; place = 8 }, inl (other, refl))
+        | inr other ↦ inr (record { rule = rules.CertCount; object = None; place = 8 }, inl (inl (other, refl)))
         | inl count ↦ elim (cases_lt (slice_index heights F.top.0) 1) [
-          | inl low ↦ inr (fault_at rules.TopNotVouched F.top.0 (16 + 4 * F.top.0), inr (inl (count, omega (arith, low), refl)))
+          | inl low ↦ inr (fault_at rules.TopNotVouched F.top.0 (16 + 4 * F.top.0), inl (inr (count, omega (arith, low), refl)))
           | inr top ↦ elim (running_or_fault F.objects (omega arith)) [
-            | inr (fault, h) ↦ inr (fault, inr (inr (count, top, h)))
+            | inr (fault, h) ↦ inr (fault, inr (count, top, h))
             | inl (total, running) ↦
                 inl (accepted f F certificate (record { framed = frame; count = count; top = top; total = total; running = running }))
           ]

@@ -14,7 +14,9 @@ use Rattle.bplist_objects.proofs.BodyLaws.{HasHead-unique}
 use Rattle.bplist_objects.proofs.HeadTies.{shape_announced}
 use Rattle.bplist_keys.specs.Texts.{text_units}
 use Rattle.bplist_keys.specs.Ranks.{AreClasses}
-use Rattle.bplist_keys.specs.Classes.{HasNamedKeys, AreClassed, HaveClasses, AreApart, IsFirstAgain}
+use Rattle.bplist_keys.specs.Classes.{HasNamedKeys, AreClassed, HaveClasses, AreApart}
+use Rattle.bplist_keys.specs.Claims.{FailsAt}
+use Rattle.bplist_keys.proofs.ClaimLaws.{fails_too}
 use Rattle.bplist_keys.proofs.RankLaws.{none_marked}
 use Rattle.bplist_keys.proofs.WeightSteps.{text_units-head}
 use Rattle.bplist_cert.specs.Heights.{ref}
@@ -52,8 +54,8 @@ module _ (f : List ℕ) (F : Frame) where
   -- the classes of the named are those of the keys
   pub keys_classed : (named : List Bool) (classes : List ℕ) (n : ℕ) → AreClasses f F named classes → HasNamedKeys f F named n → (head : Head) → HasHead f F n head → head.kind ≡ Dict → AreClassed f F classes head
   keys_classed named classes n are named_keys head has dict = record {
-    only = λ k low some. (are.given.only (ref f F head k) some).1;
-    all = λ k low shape. are.given.all (ref f F head k) (named_keys head has dict k low) shape;
+    only = λ k low some. ((are.given (ref f F head k)).0 some).1;
+    all = λ k low shape. (are.given (ref f F head k)).1 (named_keys head has dict k low, shape);
     same = λ i j _ _. are.same (ref f F head i) (ref f F head j);
   }
 
@@ -77,7 +79,7 @@ module _ (f : List ℕ) (F : Frame) where
 
   -- keys that are texts, and a key list
   pub order_given : (count : ℕ) (keyed : Keyed) (n : ℕ) (head : Head) → head.kind ≡ Dict → HaveTexts f F head head.count → (r : Result (Unit {0}) ObjectFault)
-      → Gives (λ _. HasOrder f F (Some keyed) n head) (IsOrderFault f F count (Some keyed) n head) r → Gives (λ _. HaveTexts f F head head.count × HasOrder f F (Some keyed) n head) (IsKeysFault f F count (Some keyed) n head) r
+      → Gives (λ _. HasOrder f F keyed n head) (IsOrderFault f F count keyed n head) r → Gives (λ _. HaveTexts f F head head.count × HasOrder f F keyed n head) (IsKeysFault f F count (Some keyed) n head) r
   order_given count keyed n head dict texts (Ok x) h = (texts, h)
   order_given count keyed n head dict texts (Err (errors.Fault fault)) h = (dict, inr (texts, h))
   order_given count keyed n head dict texts (Err (errors.Read r)) h = tt
@@ -87,15 +89,14 @@ module _ (f : List ℕ) (F : Frame) where
     key_vouched : (k : ℕ) → k < head.count → IsVouchedBy heights (ref f F head k)
     key_vouched k low =
         let two : ref_count head.kind head.count ≡ 2 * head.count = ap (λ x. ref_count x head.count) dict in
-        seen.vouched head has k (omega (arith, low, two))
+        (seen.lower head has k (omega (arith, low, two))).0
 
     -- an object of height 1 has no keys
     pub no_keys : slice_index heights n ≤ 1 → (k : ℕ) → k < head.count → ⊥
     no_keys least k low =
         let two : ref_count head.kind head.count ≡ 2 * head.count = ap (λ x. ref_count x head.count) dict in
-        let v = key_vouched k low in
         let l = seen.lower head has k (omega (arith, low, two)) in
-        omega (arith, least, v, l)
+        omega (arith, least, l.0, l.1)
 
   pub named_low : (heights : List ℕ) (named : List Bool) (n : ℕ) → IsSeen f F heights n → slice_index heights n ≤ 1 → HasNamedKeys f F named n
   named_low heights named n seen least head has dict k low = absurd (no_keys heights n seen head has dict least k low)
@@ -128,23 +129,23 @@ module _ (f : List ℕ) (F : Frame) where
         let j_low : j < head.count = omega (arith, few, high) in
         apart i j low high ((classed.same i j i_low j_low (class_at i i_low a is_a) (class_at j j_low b is_b)).1 (units_at i a is_a ∙ same ∙ sym (units_at j b is_b)))
 
-    -- the first class that comes again is that of the first key that comes twice
-    pub again_twice : HaveTexts f F head head.count → (j : ℕ) → j < head.count → IsFirstAgain (ref f F head) classes j → IsFirstTwice f F head j
-    again_twice texts j low again =
-        let i_low : again.earlier < head.count = omega (arith, low, again.order) in
-        let a = texts again.earlier i_low in
-        let b = texts j low in
-        record {
-          within = low;
-          earlier = again.earlier;
-          order = again.order;
-          first = a.0;
-          second = b.0;
-          is_first = a.1;
-          is_second = b.1;
-          same = sym (units_at again.earlier a.0 a.1) ∙ (classed.same again.earlier j i_low low (class_at again.earlier i_low a.0 a.1) (class_at j low b.0 b.1)).0 again.same ∙ units_at j b.0 b.1;
-          before = apart_differ j (omega (arith, low)) again.before;
-        }
+    -- texts have classes
+    pub texts_classed : (count : ℕ) → count ≤ head.count → HaveTexts f F head count → HaveClasses (ref f F head) classes count
+    texts_classed count few texts k low = let t = texts k low in class_at k (omega (arith, few, low)) t.0 t.1
+
+    module _ (texts : HaveTexts f F head head.count) where
+      differ_apart : (count : ℕ) → count ≤ head.count → KeysDiffer f F head count → AreApart (ref f F head) classes count
+      differ_apart count few differ i j low high same =
+          let i_low : i < head.count = omega (arith, few, low, high) in
+          let j_low : j < head.count = omega (arith, few, high) in
+          let a = texts i i_low in
+          let b = texts j j_low in
+          differ i j low high a.0 b.0 a.1 b.1
+          (sym (units_at i a.0 a.1) ∙ (classed.same i j i_low j_low (class_at i i_low a.0 a.1) (class_at j j_low b.0 b.1)).0 same ∙ units_at j b.0 b.1)
+
+      -- the first class that comes again is that of the first key that comes twice
+      pub again_twice : (j : ℕ) → FailsAt (AreApart (ref f F head) classes) head.count j → IsFirstTwice f F head j
+      again_twice = fails_too (AreApart (ref f F head) classes) (KeysDiffer f F head) head.count apart_differ differ_apart
 
     module _ (framed : IsFrame f F) (sound : KeysAreSound f F head) (inside : (k : ℕ) → k < head.count → ref f F head k < F.objects) where
       -- keys with a class are texts

@@ -12,9 +12,8 @@ use Rattle.bplist_objects.proofs.UnitOrder.{compare_units-self, compare_units-le
 use Rattle.bplist_keys.specs.Texts.{HasTextShape, text_units}
 use Rattle.bplist_keys.proofs.WeightSteps.{text_units-head}
 use Rattle.bplist_cert.specs.Heights.{ref}
-use Rattle.bplist_cert.specs.Lists.{Keyed}
+use Rattle.bplist_cert.specs.Lists.{Keyed, IsWhole}
 use Rattle.bplist_cert.specs.Looks.{IsSeen}
-use Rattle.bplist_cert.specs.CheckRules.{IsWhole}
 use Rattle.bplist_cert.specs.Keys.{HaveTexts, AreInOrder}
 use Rattle.bplist_cert.specs.KeyClasses.{KeysAreSound, HasGoodKeys}
 use Rattle.bplist_cert.specs.declared.key_lists.ReadKey.{ReadKey}

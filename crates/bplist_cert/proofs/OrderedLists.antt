@@ -1,11 +1,11 @@
 -- Key lists whose keys ascend.
-use Rattle.std.proofs.Common.{◌≡◌, ℕ, suc, ◌+◌, ◌<◌, ◌≤◌, ◌⊎◌, inl, inr, List, slice_index, Option, Some, None, Bool, true, false, sym, ap₂, ◌∙◌, subst, arith}
+use Rattle.std.proofs.Common.{◌≡◌, ℕ, suc, ◌+◌, ◌<◌, ◌≤◌, ◌⊎◌, inl, inr, List, slice_index, Option, Some, None, Bool, true, false, Less, sym, ap₂, ◌∙◌, subst, arith}
 use Rattle.std.proofs.lemmas.Bool.{cases_lt, false≢true}
 use Rattle.bplist_objects.specs.declared.frame.Frame.{Frame}
 use Rattle.bplist_objects.specs.declared.head.Head.{Head}
 use Rattle.bplist_objects.specs.Units.{units_of, compare_units}
 use Rattle.bplist_objects.proofs.Fronts.{one_shape}
-use Rattle.bplist_cert.specs.Keys.{IsText, IsKey, IsInOrder, AreInOrder, ComesAfter}
+use Rattle.bplist_cert.specs.Keys.{IsText, IsKey, AreInOrder, ComesAfter}
 
 -- a text has one head
 pub text_once : (f : List ℕ) (F : Frame) (m : ℕ) (a b : Head) → IsText f F m a → IsText f F m b → a ≡ b
@@ -17,8 +17,15 @@ module _ (f : List ℕ) (F : Frame) (head : Head) (list : List ℕ) where
   IsBefore j None = j ≡ 0
   IsBefore j (Some last) = (i : ℕ) × (suc i ≡ j) × IsKey f F head (slice_index list i) last
 
+  -- number j of the list is a position, whose key comes after the one before
+  abbrev pub IsInOrder : ℕ → Type 0
+  IsInOrder j =
+      (slice_index list j < head.count)
+      × ((i : ℕ) (a b : Head) → suc i ≡ j → IsKey f F head (slice_index list i) a → IsKey f F head (slice_index list j) b
+      → compare_units (units_of f a) (units_of f b) ≡ Less)
+
   pub in_order : (j : ℕ) (before : Option Head) → IsBefore j before → (key : Head) → IsKey f F head (slice_index list j) key → slice_index list j < head.count
-      → (after : Bool) → ComesAfter f before key after → after ≡ true → IsInOrder f F head list j
+      → (after : Bool) → ComesAfter f before key after → after ≡ true → IsInOrder j
   in_order j None first key is lt after c e = (lt, λ i a b next x y. absurd (omega (arith, first, next)))
   in_order j (Some last) (i, next, is_last) key is lt after c e = (
     lt,
@@ -30,14 +37,14 @@ module _ (f : List ℕ) (F : Frame) (head : Head) (list : List ℕ) where
   )
 
   pub out_of_order : (j : ℕ) (before : Option Head) → IsBefore j before → (key : Head) → IsKey f F head (slice_index list j) key
-      → (after : Bool) → ComesAfter f before key after → after ≡ false → IsInOrder f F head list j → ⊥
+      → (after : Bool) → ComesAfter f before key after → after ≡ false → IsInOrder j → ⊥
   out_of_order j None first key is after c e o = false≢true (sym e ∙ c)
   out_of_order j (Some last) (i, next, is_last) key is after c e o =
       false≢true (sym e ∙ c.1 (o.1 i last key next is_last is))
 
-  pub order_more : (j : ℕ) → AreInOrder f F head list j → IsInOrder f F head list j → AreInOrder f F head list (j + 1)
+  pub order_more : (j : ℕ) → AreInOrder f F head list j → IsInOrder j → AreInOrder f F head list (j + 1)
   order_more j so here k lt = go (cases_lt k j)
     where
-      go : (k < j) ⊎ (j ≤ k) → IsInOrder f F head list k
+      go : (k < j) ⊎ (j ≤ k) → IsInOrder k
       go (inl a) = so k a
-      go (inr b) = let e : j ≡ k = omega (arith, b, lt) in subst (IsInOrder f F head list) e here
+      go (inr b) = let e : j ≡ k = omega (arith, b, lt) in subst IsInOrder e here

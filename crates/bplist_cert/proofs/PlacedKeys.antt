@@ -48,8 +48,10 @@ module _ (f : List ℕ) (F : Frame) (head : Head) (done : ℕ) (refs : List ℕ)
 
   -- the first object of the block that is no text is the first such key of all
   pub keyless_there : done + length refs ≤ head.count → (i : ℕ) → IsFirstOther f F refs i → IsFirstKeyless f F head (done + i)
-  keyless_there few i first = record {
-    within = omega (arith, few, first.within);
-    none = λ key is. first.none key (subst (λ m. IsText f F m key) (sym (are i first.within)) is);
-    before = keys_more i (omega (arith, first.within)) first.before;
-  }
+  keyless_there few i first = (
+    omega (arith, few, first.within),
+    keys_more i (omega (arith, first.within)) first.before,
+    λ more.
+        let key = more (done + i) (omega arith) in
+        first.none key.0 (subst (λ m. IsText f F m key.0) (sym (are i first.within)) key.1),
+  )

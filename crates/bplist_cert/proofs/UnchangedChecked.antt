@@ -1,10 +1,10 @@
 -- A call that only reads a checked file leaves frame and certificate.
-use Rattle.std.proofs.Common.{◌≡◌, [], slice_index, slice_index_or, drop, Option, Some, None, Bool, true, false, refl, ap, ap₂, arith}
+use Rattle.std.proofs.Common.{◌≡◌, ℕ, List, [], ◌++◌, slice_index, slice_index_or, drop, Option, Some, None, Bool, true, false, refl, ap, ap₂, arith}
 use Rattle.bplist_octets.specs.Meaning.{Meaning, OnlyReads}
 use Rattle.bplist_objects.specs.declared.frame.Frame.{Frame}
 use Rattle.bplist_objects.specs.Safe.{frame_numbers}
 use Rattle.bplist_cert.specs.Lists.{Keyed}
-use Rattle.bplist_cert.specs.CheckedFile.{CheckedFile, meaning_of, starts_in, positions_in, version_in}
+use Rattle.bplist_cert.specs.CheckedFile.{CheckedFile, meaning_of, key_numbers}
 
 frame_same : (a b : Frame) → frame_numbers a ≡ frame_numbers b → a ≡ b
 frame_same a b e =
@@ -15,18 +15,22 @@ frame_same a b e =
     let o = ap (λ xs. slice_index xs 4) e in
     λ i. record { offset_size = s i; ref_size = r i; objects = n i; top = record { 0 = t i }; table = o i }
 
-keys_same : (j k : Option Keyed) → starts_in j ≡ starts_in k → positions_in j ≡ positions_in k → version_in j ≡ version_in k → j ≡ k
-keys_same None None s p v = refl
-keys_same None (Some k) s p v = absurd (omega (arith, ap (λ xs. slice_index xs 0) v))
-keys_same (Some j) None s p v = absurd (omega (arith, ap (λ xs. slice_index xs 0) v))
-keys_same (Some j) (Some k) s p v = ap₂ (λ x y. Some (record { starts = x; positions = y })) s p
+keys_same : (j k : Option Keyed) (xs ys : List (List ℕ)) → key_numbers j ++ xs ≡ key_numbers k ++ ys → (j ≡ k) × (xs ≡ ys)
+keys_same None None xs ys e = (refl, ap (λ zs. drop 1 zs) e)
+keys_same None (Some k) xs ys e = absurd (omega (arith, ap (λ zs. slice_index (slice_index_or zs 0 []) 0) e))
+keys_same (Some j) None xs ys e = absurd (omega (arith, ap (λ zs. slice_index (slice_index_or zs 0 []) 0) e))
+keys_same (Some j) (Some k) xs ys e = (
+  ap₂ (λ x y. Some (record { starts = x; positions = y })) (ap (λ zs. slice_index_or zs 1 []) e) (ap (λ zs. slice_index_or zs 2 []) e),
+  ap (λ zs. drop 3 zs) e,
+)
 
 beside_same : (old new : CheckedFile) → (meaning_of new).beside ≡ (meaning_of old).beside → (new.source.beside ≡ old.source.beside) × (new.frame ≡ old.frame) × (new.certificate ≡ old.certificate)
 beside_same old new e =
     let frame = frame_same new.frame old.frame (ap (λ xs. slice_index_or xs 0 []) e) in
     let heights : new.certificate.heights ≡ old.certificate.heights = ap (λ xs. slice_index_or xs 1 []) e in
-    let keys = keys_same new.certificate.keys old.certificate.keys (ap (λ xs. slice_index_or xs 2 []) e) (ap (λ xs. slice_index_or xs 3 []) e) (ap (λ xs. slice_index_or xs 4 []) e) in
-    (ap (λ xs. drop 5 xs) e, frame, λ i. record { heights = heights i; keys = keys i })
+    let rest = keys_same new.certificate.keys old.certificate.keys new.source.beside old.source.beside (ap (λ xs. drop 2 xs) e) in
+    let keys = rest.0 in
+    (rest.1, frame, λ i. record { heights = heights i; keys = keys i })
 
 pub stays : (failed : Bool) (old new : CheckedFile) → OnlyReads failed (meaning_of old) (meaning_of new)
     → OnlyReads failed old.source new.source × (new.frame ≡ old.frame) × (new.certificate ≡ old.certificate)

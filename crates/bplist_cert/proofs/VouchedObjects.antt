@@ -103,7 +103,7 @@ module _ (f : List ℕ) (F : Frame) (heights : List ℕ) (valid : IsValid f F he
   file_holds =
       let top = held f F heights valid.vouched F.top.0 valid.top in
       let whole : FileHolds f top.0 = record { frame = F; is = valid.frame; holds = top.1; room = room_weaker f F (IsVouchedBy heights) (Reach f F) reached_vouched valid.room } in
-      record { value = top.0; holds = whole; one = λ w h. one_value_of_file f w top.0 h whole }
+      (top.0, whole, λ w h. one_value_of_file f w top.0 h whole)
 
   -- each reached object spells a content
   pub reached_spells : (n : ℕ) → Reach f F n → (c : Content) × Spells f F n c

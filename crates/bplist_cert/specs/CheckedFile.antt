@@ -1,5 +1,5 @@
 -- A file with a certificate that the check has accepted. Source: profile.
-use Rattle.std.specs.Prelude.{◌≡◌, ℕ, IsTrue, List, [], ◌∷◌, length, Option, Some, None}
+use Rattle.std.specs.Prelude.{◌≡◌, ℕ, IsTrue, List, [], ◌∷◌, ◌++◌, length, Option, Some, None}
 use Rattle.bplist_octets.specs.Meaning.{Meaning}
 use Rattle.bplist_objects.specs.declared.frame.Frame.{Frame}
 use Rattle.bplist_objects.specs.Frame.{IsFrame}
@@ -20,26 +20,15 @@ pub record IsChecked (checked : CheckedFile) : Type 0 where
   pub framed : IsTrue checked.source.honest → IsFrame checked.source.octets checked.frame
   pub accepted : IsTrue checked.source.honest → ∥ IsAccepted checked.source.octets checked.frame checked.certificate ∥₁
 
--- the starts, none in version 1
-abbrev pub starts_in : Option Keyed → List ℕ
-starts_in None = []
-starts_in (Some keyed) = keyed.starts
-
--- the positions, none in version 1
-abbrev pub positions_in : Option Keyed → List ℕ
-positions_in None = []
-positions_in (Some keyed) = keyed.positions
-
--- the version, as a list of one number
-abbrev pub version_in : Option Keyed → List ℕ
-version_in None = 1 ∷ []
-version_in (Some keyed) = 2 ∷ []
+-- key lists as lists of numbers, behind the version as a list of one
+abbrev pub key_numbers : Option Keyed → List (List ℕ)
+key_numbers None = (1 ∷ []) ∷ []
+key_numbers (Some keyed) = (2 ∷ []) ∷ keyed.starts ∷ keyed.positions ∷ []
 
 -- as a source: what its source means, with frame and certificate beside it
 abbrev pub meaning_of : CheckedFile → Meaning
 meaning_of checked = record checked.source {
-  beside = frame_numbers checked.frame ∷ checked.certificate.heights ∷ starts_in checked.certificate.keys
-      ∷ positions_in checked.certificate.keys ∷ version_in checked.certificate.keys ∷ checked.source.beside;
+  beside = frame_numbers checked.frame ∷ checked.certificate.heights ∷ (key_numbers checked.certificate.keys ++ checked.source.beside);
 }
 
 -- P holds of the bytes and the frame, if the source is honest

@@ -1,7 +1,8 @@
 -- The bytes of a certificate. Source: profile.
-use Rattle.std.specs.Prelude.{◌≡◌, ◌⊎◌, ℕ, ◌+◌, ◌*◌, ◌%◌, ◌≤◌, List, [], ◌∷◌, ◌++◌, length, take, Option, Some, None, ⊤}
+use Rattle.std.specs.Prelude.{◌≡◌, ◌≢◌, ◌⊎◌, ℕ, ◌+◌, ◌*◌, ◌%◌, ◌≤◌, Bool, true, false, List, [], ◌++◌, length, take, codes, Option, None, is_some, ⊤}
 use Rattle.std.specs.List.{flat_map}
 use Rattle.std.specs.Int.{bytes_high_first}
+use Rattle.std.specs.Option.{option_map_or}
 use Rattle.bplist_octets.specs.Octets.{part, num}
 use Rattle.bplist_objects.specs.declared.fault.Fault.{Fault}
 use Rattle.bplist_objects.specs.declared.rule.Rule.TheVariants as rules
@@ -9,60 +10,39 @@ use Rattle.bplist_cert.specs.declared.certificate.CertRefusal.{CertRefusal}
 use Rattle.bplist_cert.specs.declared.certificate.CertRefusal.TheVariants as refusals
 use Rattle.bplist_cert.specs.Lists.{Keyed, Lists}
 
--- `bplcert1`
-abbrev pub plain_magic : List ℕ
-plain_magic = 98 ∷ 112 ∷ 108 ∷ 99 ∷ 101 ∷ 114 ∷ 116 ∷ 49 ∷ []
-
--- `bplcert2`
-abbrev pub keyed_magic : List ℕ
-keyed_magic = 98 ∷ 112 ∷ 108 ∷ 99 ∷ 101 ∷ 114 ∷ 116 ∷ 50 ∷ []
-
--- the magic of a version
-abbrev pub magic : Option Keyed → List ℕ
-magic None = plain_magic
-magic (Some keyed) = keyed_magic
+-- what a certificate begins with, without key lists and with them
+abbrev pub magic : Bool → List ℕ
+magic false = codes "bplcert1"
+magic true = codes "bplcert2"
 
 -- numbers in 4 bytes each
 abbrev pub words : List ℕ → List ℕ
 words xs = flat_map (bytes_high_first 4) xs
 
--- the key lists, in version 2
+-- the key lists, if there are some
 abbrev pub key_words : Option Keyed → List ℕ
-key_words None = []
-key_words (Some keyed) = words keyed.starts ++ words keyed.positions
+key_words keys = option_map_or (λ (keyed : Keyed). words keyed.starts ++ words keyed.positions) keys []
 
 -- the bytes of a certificate: magic, number of heights, heights, and in version 2 starts and positions
 abbrev pub octets_of : Lists → List ℕ
 octets_of lists =
-    magic lists.keys ++ (bytes_high_first 8 (length lists.heights) ++ (words lists.heights ++ key_words lists.keys))
+    magic (is_some lists.keys) ++ (bytes_high_first 8 (length lists.heights) ++ (words lists.heights ++ key_words lists.keys))
 
 -- the number of heights, as the bytes tell it
 abbrev pub told : List ℕ → ℕ
 told octets = num (part octets 8 8)
 
--- rule 24: the magic is that of a version
-abbrev pub HasMagic : List ℕ → Type 0
-HasMagic octets = (take 8 octets ≡ plain_magic) ⊎ (take 8 octets ≡ keyed_magic)
+-- a certificate of so many heights, without key lists or with them, can have so many bytes
+abbrev pub Fits : Bool → ℕ → ℕ → Type 0
+Fits false count len = len ≡ 16 + 4 * count
+Fits true count len = (16 + 8 * count ≤ len) × (len % 4 ≡ 0)
 
--- rule 25: there are as many bytes as version and number of heights ask for
-abbrev pub HasLength : List ℕ → Type 0
-HasLength octets =
-    ((take 8 octets ≡ plain_magic) × (length octets ≡ 16 + 4 * told octets))
-    ⊎ ((take 8 octets ≡ keyed_magic) × (16 + 8 * told octets ≤ length octets) × (length octets % 4 ≡ 0))
-
--- the fault of rule 24, at place 0
-abbrev pub IsMagicFault : List ℕ → Fault → Type 0
-IsMagicFault octets fault =
-    (HasMagic octets → ⊥) × (fault ≡ record { rule = rules.CertMagic; object = None; place = 0 })
-
--- the fault of rule 25, whose place is the number of bytes
-abbrev pub IsLengthFault : List ℕ → Fault → Type 0
-IsLengthFault octets fault =
-    HasMagic octets × (HasLength octets → ⊥) × (fault ≡ record { rule = rules.CertLength; object = None; place = length octets })
-
--- the first broken rule of 24 and 25
+-- the first broken rule of 24 and 25: there is no magic, at place 0, or another number of bytes, which is the place
 abbrev pub IsOctetsFault : List ℕ → Fault → Type 0
-IsOctetsFault octets fault = IsMagicFault octets fault ⊎ IsLengthFault octets fault
+IsOctetsFault octets fault =
+    (((keyed : Bool) → take 8 octets ≢ magic keyed) × (fault ≡ record { rule = rules.CertMagic; object = None; place = 0 }))
+    ⊎ ((keyed : Bool) × (take 8 octets ≡ magic keyed) × (Fits keyed (told octets) (length octets) → ⊥)
+    × (fault ≡ record { rule = rules.CertLength; object = None; place = length octets }))
 
 -- bytes are refused by the first broken rule of 24 and 25, or because memory was refused
 abbrev pub IsCertRefusal : List ℕ → CertRefusal → Type 0

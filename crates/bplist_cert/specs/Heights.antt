@@ -7,6 +7,7 @@ use Rattle.bplist_objects.specs.declared.frame.Frame.{Frame}
 use Rattle.bplist_objects.specs.declared.head.Head.{Head}
 use Rattle.bplist_objects.specs.Safe.{ref_count}
 use Rattle.bplist_objects.specs.Scan.{nth_number}
+use Rattle.bplist_keys.specs.Claims.{FailsAt}
 use Rattle.bplist_cert.specs.declared.heights.Wanted.{Wanted}
 use Rattle.bplist_cert.specs.declared.heights.Wanted.TheVariants.{Vouched, Below, VouchedBelow}
 
@@ -31,10 +32,8 @@ AreLower f F heights n head =
     × AreMet f F heights head (Below (slice_index heights n)) (ref_count head.kind head.count)
 
 -- reference i is the first whose height is not as wanted
-pub record IsFirstUnmet (f : List ℕ) (F : Frame) (heights : List ℕ) (head : Head) (wanted : Wanted) (i : ℕ) : Type 0 where
-  pub within : i < ref_count head.kind head.count
-  pub unmet : Meets wanted (slice_index heights (ref f F head i)) → ⊥
-  pub before : AreMet f F heights head wanted i
+abbrev pub IsFirstUnmet : List ℕ → Frame → List ℕ → Head → Wanted → ℕ → Type 0
+IsFirstUnmet f F heights head wanted i = FailsAt (AreMet f F heights head wanted) (ref_count head.kind head.count) i
 
 -- the same of references by a list of their numbers
 abbrev pub AreMetBy : List ℕ → Wanted → List ℕ → ℕ → Type 0

@@ -8,6 +8,7 @@ use Rattle.bplist_objects.specs.declared.frame.Frame.{Frame}
 use Rattle.bplist_objects.specs.declared.head.Head.{Head}
 use Rattle.bplist_objects.specs.Heads.{IsHeadOf}
 use Rattle.bplist_objects.specs.Units.{IsTextKind, units_of, compare_units}
+use Rattle.bplist_keys.specs.Claims.{FailsAt}
 use Rattle.bplist_cert.specs.Heights.{ref}
 
 -- object m spells a text with this head
@@ -25,10 +26,8 @@ abbrev pub HaveTexts : List ℕ → Frame → Head → ℕ → Type 0
 HaveTexts f F head count = (k : ℕ) → k < count → (key : Head) × IsKey f F head k key
 
 -- key i is the first that is no text
-pub record IsFirstKeyless (f : List ℕ) (F : Frame) (head : Head) (i : ℕ) : Type 0 where
-  pub within : i < head.count
-  pub none : (key : Head) → IsKey f F head i key → ⊥
-  pub before : HaveTexts f F head i
+abbrev pub IsFirstKeyless : List ℕ → Frame → Head → ℕ → Type 0
+IsFirstKeyless f F head i = FailsAt (HaveTexts f F head) head.count i
 
 -- the first `count` keys have different units
 abbrev pub KeysDiffer : List ℕ → Frame → Head → ℕ → Type 0
@@ -36,33 +35,15 @@ KeysDiffer f F head count =
     (i j : ℕ) → i < j → j < count → (a b : Head) → IsKey f F head i a → IsKey f F head j b → units_of f a ≢ units_of f b
 
 -- key j is the first equal to an earlier key
-pub record IsFirstTwice (f : List ℕ) (F : Frame) (head : Head) (j : ℕ) : Type 0 where
-  pub within : j < head.count
-  pub earlier : ℕ
-  pub order : earlier < j
-  pub first : Head
-  pub second : Head
-  pub is_first : IsKey f F head earlier first
-  pub is_second : IsKey f F head j second
-  pub same : units_of f first ≡ units_of f second
-  pub before : KeysDiffer f F head j
+abbrev pub IsFirstTwice : List ℕ → Frame → Head → ℕ → Type 0
+IsFirstTwice f F head j = FailsAt (KeysDiffer f F head) head.count j
 
--- number i of a key list is a position, whose key comes after the one before
-abbrev pub IsInOrder : List ℕ → Frame → Head → List ℕ → ℕ → Type 0
-IsInOrder f F head list j =
-    (slice_index list j < head.count)
+-- the first `count` numbers of a key list are positions, each of a key that comes after the one before
+abbrev pub AreInOrder : List ℕ → Frame → Head → List ℕ → ℕ → Type 0
+AreInOrder f F head list count =
+    (j : ℕ) → j < count → (slice_index list j < head.count)
     × ((i : ℕ) (a b : Head) → suc i ≡ j → IsKey f F head (slice_index list i) a → IsKey f F head (slice_index list j) b
     → compare_units (units_of f a) (units_of f b) ≡ Less)
-
--- the first `count` numbers of a key list are in order
-abbrev pub AreInOrder : List ℕ → Frame → Head → List ℕ → ℕ → Type 0
-AreInOrder f F head list count = (j : ℕ) → j < count → IsInOrder f F head list j
-
--- number j of a key list is the first that is not in order
-pub record IsFirstUnordered (f : List ℕ) (F : Frame) (head : Head) (list : List ℕ) (j : ℕ) : Type 0 where
-  pub within : j < head.count
-  pub wrong : IsInOrder f F head list j → ⊥
-  pub before : AreInOrder f F head list j
 
 -- the answer says whether a key comes after the one before, if there is one
 abbrev pub ComesAfter : List ℕ → Option Head → Head → Bool → Type 0

@@ -1,10 +1,19 @@
 -- Certificates as their lists. Source: profile.
-use Rattle.std.specs.Prelude.{◌≡◌, ℕ, ◌^◌, ◌<◌, List, length, slice_index, Option, Some, None, ⊤}
+use Rattle.std.specs.Prelude.{◌≡◌, ℕ, ◌+◌, ◌^◌, ◌<◌, ◌≤◌, List, length, slice_index, Option, IfSome}
+use Rattle.bplist_octets.specs.Octets.{part}
 
 -- the key lists of version 2: where each dictionary's list starts, and the positions of its keys
 pub record Keyed : Type 0 where
   pub starts : List ℕ
   pub positions : List ℕ
+
+-- the key list of object n, of so many positions, is complete
+abbrev pub IsWhole : Keyed → ℕ → ℕ → Type 0
+IsWhole keyed n count = slice_index keyed.starts n + count ≤ length keyed.positions
+
+-- the key list of object n
+abbrev pub list_of : Keyed → ℕ → ℕ → List ℕ
+list_of keyed n count = part keyed.positions (slice_index keyed.starts n) count
 
 -- a height for each object, and in version 2 the key lists
 pub record Lists : Type 0 where
@@ -17,13 +26,11 @@ lists heights keys = record { heights = heights; keys = keys }
 
 -- there is a start for each height
 abbrev pub HasStarts : List ℕ → Option Keyed → Type 0
-HasStarts heights None = ⊤
-HasStarts heights (Some keyed) = length keyed.starts ≡ length heights
+HasStarts heights keys = IfSome keys (λ keyed. length keyed.starts ≡ length heights)
 
 -- in version 2 there are so many starts
 abbrev pub HasCount : Option Keyed → ℕ → Type 0
-HasCount None count = ⊤
-HasCount (Some keyed) count = length keyed.starts ≡ count
+HasCount keys count = IfSome keys (λ keyed. length keyed.starts ≡ count)
 
 -- these are numbers of 32 bits
 abbrev pub AreWords : List ℕ → Type 0
@@ -31,12 +38,11 @@ AreWords xs = (k : ℕ) → slice_index xs k < 2 ^ 32
 
 -- starts and positions are numbers of 32 bits
 abbrev pub AreKeyed : Option Keyed → Type 0
-AreKeyed None = ⊤
-AreKeyed (Some keyed) = AreWords keyed.starts × AreWords keyed.positions
+AreKeyed keys = IfSome keys (λ keyed. AreWords keyed.starts × AreWords keyed.positions)
 
 -- the lists that a certificate can have
-pub record IsCertificate (lists : Lists) : Type 0 where
-  pub count : length lists.heights < 2 ^ 64
-  pub heights : AreWords lists.heights
-  pub keys : AreKeyed lists.keys
-  pub starts : HasStarts lists.heights lists.keys
+pub record IsCertificate (certificate : Lists) : Type 0 where
+  pub count : length certificate.heights < 2 ^ 64
+  pub heights : AreWords certificate.heights
+  pub keys : AreKeyed certificate.keys
+  pub starts : HasStarts certificate.heights certificate.keys

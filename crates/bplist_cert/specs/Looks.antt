@@ -8,20 +8,19 @@ use Rattle.bplist_objects.specs.Extents.{IsOverfull}
 use Rattle.bplist_objects.specs.Rules.{KeepsAll}
 use Rattle.bplist_objects.specs.ObjectRules.{KeepsByObject, object_rules}
 use Rattle.bplist_objects.specs.Safe.{ref_count}
-use Rattle.bplist_cert.specs.declared.heights.Wanted.TheVariants.{Vouched, Below}
 use Rattle.bplist_cert.specs.declared.checker.Look.{Look}
 use Rattle.bplist_cert.specs.declared.checker.Look.TheVariants.{Quick, Exact}
 use Rattle.bplist_cert.specs.Lists.{Lists}
 use Rattle.bplist_cert.specs.Valid.{IsVouchedBy}
-use Rattle.bplist_cert.specs.Heights.{AreMet}
-use Rattle.bplist_cert.specs.CheckRules.{KeepsByCheck, IsCheckFault, check_rules}
+use Rattle.bplist_cert.specs.Heights.{ref}
+use Rattle.bplist_cert.specs.CheckRules.{KeepsCheck, IsCheckFault}
 
 -- vouched object n keeps the rules before those of keys
 pub record IsSeen (f : List ℕ) (F : Frame) (heights : List ℕ) (n : ℕ) : Type 0 where
   pub own : KeepsAll (KeepsByObject f F n) object_rules
   pub room : IsOverfull f F (IsVouchedBy heights) n → ⊥
-  pub vouched : (head : Head) → HasHead f F n head → AreMet f F heights head Vouched (ref_count head.kind head.count)
-  pub lower : (head : Head) → HasHead f F n head → AreMet f F heights head (Below (slice_index heights n)) (ref_count head.kind head.count)
+  pub lower : (head : Head) → HasHead f F n head → (k : ℕ) → k < ref_count head.kind head.count
+      → IsVouchedBy heights (ref f F head k) × (slice_index heights (ref f F head k) < slice_index heights n)
 
 -- each vouched object below n does
 abbrev pub AreSeen : List ℕ → Frame → List ℕ → ℕ → Type 0
@@ -31,9 +30,9 @@ module _ (f : List ℕ) (F : Frame) (certificate : Lists) where
   -- what a look shows of vouched object n
   abbrev pub IsShown : Look → ℕ → Type 0
   IsShown Quick n = IsSeen f F certificate.heights n
-  IsShown Exact n = KeepsAll (KeepsByCheck f F certificate n) (check_rules certificate.keys)
+  IsShown Exact n = KeepsCheck f F certificate n
 
   -- a look at vouched object n finds this fault: an exact one the first, a quick one any
   abbrev pub IsShownFault : Look → ℕ → Fault → Type 0
   IsShownFault Quick n fault = Unit {0}
-  IsShownFault Exact n fault = IsCheckFault f F certificate n (check_rules certificate.keys) fault
+  IsShownFault Exact n fault = IsCheckFault f F certificate n fault

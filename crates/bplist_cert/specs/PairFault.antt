@@ -6,28 +6,21 @@ use Rattle.bplist_objects.specs.declared.fault.Fault.{Fault}
 use Rattle.bplist_objects.specs.declared.frame.Frame.{Frame}
 use Rattle.bplist_objects.specs.Frame.{IsFrame}
 use Rattle.bplist_objects.specs.FrameRules.{IsFrameFault}
-use Rattle.bplist_objects.specs.Rules.{KeepsAll}
 use Rattle.bplist_objects.specs.Reach.{Differ}
 use Rattle.bplist_objects.specs.Extents.{TakeOctets, AtMost}
 use Rattle.bplist_cert.specs.Lists.{Lists}
 use Rattle.bplist_cert.specs.Valid.{IsVouchedBy}
-use Rattle.bplist_cert.specs.CheckRules.{KeepsByCheck, IsCheckFault, check_rules}
+use Rattle.bplist_cert.specs.CheckRules.{KeepsCheck, IsCheckFault}
 use Rattle.bplist_cert.specs.declared.checker.Look.{Look}
 use Rattle.bplist_cert.specs.declared.checker.Look.TheVariants.{Quick, Exact}
 use Rattle.bplist_cert.specs.Looks.{IsShown, AreSeen}
-
--- the vouched objects below n keep all rules
-abbrev pub KeepBelow : List ℕ → Frame → Lists → ℕ → Type 0
-KeepBelow f F certificate n =
-    (m : ℕ) → m < n → IsVouchedBy certificate.heights m
-    → KeepsAll (KeepsByCheck f F certificate m) (check_rules certificate.keys)
 
 -- the first fault of the least vouched object that has one
 pub record IsVouchedFault (f : List ℕ) (F : Frame) (certificate : Lists) (fault : Fault) : Type 0 where
   pub object : ℕ
   pub vouched : IsVouchedBy certificate.heights object
-  pub first : IsCheckFault f F certificate object (check_rules certificate.keys) fault
-  pub least : KeepBelow f F certificate object
+  pub first : IsCheckFault f F certificate object fault
+  pub least : (m : ℕ) → m < object → IsVouchedBy certificate.heights m → KeepsCheck f F certificate m
 
 -- together the vouched objects below n take t bytes
 pub record Sums (f : List ℕ) (F : Frame) (heights : List ℕ) (n t : ℕ) : Type 0 where
@@ -53,7 +46,7 @@ pub record Running (f : List ℕ) (F : Frame) (certificate : Lists) (look : Look
 pub record IsSeenFault (f : List ℕ) (F : Frame) (certificate : Lists) (fault : Fault) : Type 0 where
   pub object : ℕ
   pub vouched : IsVouchedBy certificate.heights object
-  pub first : IsCheckFault f F certificate object (check_rules certificate.keys) fault
+  pub first : IsCheckFault f F certificate object fault
   pub seen : AreSeen f F certificate.heights object
 
 -- the fault that a walk over the vouched objects ends in, in which keys are not looked at: by exact looks the first, by quick ones any
@@ -69,26 +62,17 @@ pub record IsKept (f : List ℕ) (F : Frame) (certificate : Lists) : Type 0 wher
   pub total : ℕ
   pub running : Running f F certificate Exact F.objects total
 
--- rule 26: there are not as many heights as objects
+-- the first broken rule of 26 and 27: there are not as many heights as objects, or the top's is 0
 abbrev pub IsCountFault : Frame → List ℕ → Fault → Type 0
 IsCountFault F heights fault =
-    (length heights ≢ F.objects) × (fault ≡ record { rule = rules.CertCount; object = None; place = 8 })
+    ((length heights ≢ F.objects) × (fault ≡ record { rule = rules.CertCount; object = None; place = 8 }))
+    ⊎ ((length heights ≡ F.objects) × (slice_index heights F.top.0 ≡ 0)
+    × (fault ≡ record { rule = rules.TopNotVouched; object = Some F.top; place = 16 + 4 * F.top.0 }))
 
--- rule 27: the top's height is 0
-abbrev pub IsTopFault : Frame → List ℕ → Fault → Type 0
-IsTopFault F heights fault =
-    (length heights ≡ F.objects) × (slice_index heights F.top.0 ≡ 0)
-    × (fault ≡ record { rule = rules.TopNotVouched; object = Some F.top; place = 16 + 4 * F.top.0 })
-
--- the first fault of a certificate for a file with this frame
-abbrev pub IsCertFault : List ℕ → Frame → Lists → Fault → Type 0
-IsCertFault f F certificate fault =
-    IsCountFault F certificate.heights fault
-    ⊎ IsTopFault F certificate.heights fault
-    ⊎ ((length certificate.heights ≡ F.objects) × IsVouchedBy certificate.heights F.top.0
-    × IsVouchedFault f F certificate fault)
-
--- the first fault of file and certificate: rules 1 to 13, 26, 27, then the vouched objects
+-- the first fault of file and certificate: rules 1 to 13, 26 and 27, then the vouched objects
 abbrev pub IsPairFault : List ℕ → Lists → Fault → Type 0
 IsPairFault f certificate fault =
-    IsFrameFault f fault ⊎ ((F : Frame) × IsFrame f F × IsCertFault f F certificate fault)
+    IsFrameFault f fault
+    ⊎ ((F : Frame) × IsFrame f F
+    × (IsCountFault F certificate.heights fault
+    ⊎ ((length certificate.heights ≡ F.objects) × IsVouchedBy certificate.heights F.top.0 × IsVouchedFault f F certificate fault)))

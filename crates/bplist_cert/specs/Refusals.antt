@@ -1,5 +1,5 @@
 -- What a refusal of the check says. Source: profile.
-use Rattle.std.specs.Prelude.{◌≡◌, Bool, true, false, Result, Ok, Err, Option, None}
+use Rattle.std.specs.Prelude.{◌≡◌, Bool, true, false, Result, Ok, Err, MatchResult, Option, None}
 use Rattle.bplist_objects.specs.declared.fault.Fault.{Fault}
 use Rattle.bplist_objects.specs.declared.fault.ObjectFault.{ObjectFault}
 use Rattle.bplist_objects.specs.declared.fault.ObjectFault.TheVariants as errors
@@ -22,13 +22,11 @@ refused_read (Err refusal) = is_read refusal
 -- Q holds of the fault, unless a read failed or memory was refused
 abbrev pub GivesRefusal : (Fault → Type 0) → Refusal → Type 0
 GivesRefusal Q (refusals.Fault fault) = Q fault
-GivesRefusal Q (refusals.Read _) = Unit {0}
-GivesRefusal Q refusals.Memory = Unit {0}
+GivesRefusal Q _ = Unit {0}
 
 -- P holds of the value, or Q of the fault unless a read failed or memory was refused
 abbrev pub Judges : {X : Type 0} → (X → Type 0) → (Fault → Type 0) → Result X Refusal → Type 0
-Judges P Q (Ok x) = P x
-Judges P Q (Err refusal) = GivesRefusal Q refusal
+Judges P Q result = MatchResult result P (GivesRefusal Q)
 
 -- a growth may be refused only in version 1
 abbrev pub MayRefuse : Option Keyed → Refusal → Type 0

@@ -4,7 +4,7 @@ use Rattle.std.specs.List.{AllByRecursion, AllZip}
 use Rattle.bplist_objects.specs.declared.frame.Frame.{Frame}
 use Rattle.bplist_objects.specs.Frame.{IsFrame}
 use Rattle.bplist_objects.specs.Value.{Value, text}
-use Rattle.bplist_objects.specs.Heads.{Content, leaf, array, set, dict, refs, Spells}
+use Rattle.bplist_objects.specs.Heads.{Content, leaf, dict, refs, Spells}
 use Rattle.bplist_objects.specs.Extents.{HaveRoom}
 use Rattle.bplist_objects.specs.Holds.{AreDistinct}
 use Rattle.bplist_objects.specs.File.{FileHolds}
@@ -25,9 +25,7 @@ module _ (f : List ℕ) (F : Frame) where
   -- the keys of a dictionary are different texts
   abbrev pub HasKeys : Content → Type 0
   HasKeys (dict ks ms) = (us : List (List ℕ)) × AreKeys ks us
-  HasKeys (leaf l) = ⊤
-  HasKeys (array ms) = ⊤
-  HasKeys (set ms) = ⊤
+  HasKeys content = ⊤
 
   -- what holds of an object with a height
   pub record IsVouched (heights : List ℕ) (n : ℕ) : Type 0 where
@@ -45,7 +43,5 @@ pub record IsValid (f : List ℕ) (F : Frame) (heights : List ℕ) : Type 0 wher
   pub vouched : (n : ℕ) → IsVouchedBy heights n → IsVouched f F heights n
 
 -- the file holds exactly one value
-pub record HoldsOneValue (f : List ℕ) : Type 0 where
-  pub value : Value
-  pub holds : FileHolds f value
-  pub one : (w : Value) → FileHolds f w → w ≡ value
+abbrev pub HoldsOneValue : List ℕ → Type 0
+HoldsOneValue f = (value : Value) × FileHolds f value × ((w : Value) → FileHolds f w → w ≡ value)

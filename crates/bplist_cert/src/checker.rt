@@ -1,6 +1,6 @@
 //! The check of a certificate against a file.
 
-ghost use Rattle.std.specs.Prelude.{◌≡◌, ◌+◌, ◌≤◌, ◌<◌, ℕ, suc, length, slice_index, IfOk, IfErr, IfSome, MatchResult, Some, None, ◌⊎◌};
+ghost use Rattle.std.specs.Prelude.{◌≡◌, ◌+◌, ◌≤◌, ◌<◌, ℕ, suc, length, slice_index, IfOk, IfErr, IfSome, MatchResult, Some, None};
 ghost use Rattle.bplist_octets.specs.Meaning.{OnlyReads, Honestly};
 ghost use Rattle.bplist_objects.specs.Framed.{frame_in, HonestlyIn};
 ghost use Rattle.bplist_objects.specs.Frame.{off};
@@ -15,7 +15,7 @@ ghost use Rattle.bplist_cert.specs.Heights.{AreLower};
 ghost use Rattle.bplist_cert.specs.Looks.{IsShownFault, AreSeen};
 ghost use Rattle.bplist_cert.specs.KeyClasses.{HasGoodKeys, IsFirstKeysFault};
 ghost use Rattle.bplist_cert.specs.declared.checker.Look.TheVariants.{Quick as quick, Exact as exact};
-ghost use Rattle.bplist_cert.specs.PairFault.{Sums, IsHeld, Running, IsWalkFault, IsSeenFault, IsVouchedFault, IsCountFault, IsTopFault, IsKept, IsPairFault};
+ghost use Rattle.bplist_cert.specs.PairFault.{Sums, IsHeld, Running, IsWalkFault, IsSeenFault, IsVouchedFault, IsCountFault, IsKept, IsPairFault};
 ghost use Rattle.bplist_cert.specs.Refusals.{Judges, GivesRefusal, is_read, refused_read, MayRefuse};
 ghost use Rattle.bplist_cert.specs.Sorted.{IsAccepted};
 ghost use Rattle.bplist_objects.specs.Answers.{Never, read_failed};
@@ -326,7 +326,7 @@ fn check_count(frame: &Frame, heights: &[u32]) -> Result<(), Fault>
     requires { frame.now.top.0 < frame.now.objects }
     ensures { MatchResult result
         (λ _. (length heights.now ≡ frame.now.objects) × IsVouchedBy heights.now frame.now.top.0)
-        (λ fault. IsCountFault frame.now heights.now fault ⊎ IsTopFault frame.now heights.now fault) }
+        (IsCountFault frame.now heights.now) }
 {
     if heights.len() as u64 != frame.objects as u64 {
         return Err(Fault {

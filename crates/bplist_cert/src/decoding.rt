@@ -1,11 +1,11 @@
 //! Certificates from bytes.
 
-ghost use Rattle.std.specs.Prelude.{◌≡◌, ◌+◌, ◌*◌, ◌≤◌, length, take, drop, IfOk, MatchResult, ◌↔◌, ◌%◌, IsTrue, ⊤};
+ghost use Rattle.std.specs.Prelude.{◌≡◌, ◌+◌, ◌*◌, ◌≤◌, length, take, drop, IfOk, MatchResult, ◌↔◌, ◌%◌, IsTrue, is_some, ⊤};
 ghost use Rattle.bplist_cert.specs.declared.certificate.CertRefusal.TheVariants.{Memory};
 ghost use Rattle.bplist_octets.specs.Octets.{part};
 ghost use Rattle.bplist_cert.specs.Lists.{Lists, IsCertificate, AreWords, AreKeyed, HasCount};
-ghost use Rattle.bplist_cert.specs.Encoding.{octets_of, magic, words, key_words, told, IsMagicFault, IsLengthFault, IsCertRefusal};
-ghost use Rattle.bplist_cert.specs.Versions.{magic_of, FitsVersion};
+ghost use Rattle.bplist_cert.specs.Encoding.{octets_of, magic, words, key_words, told, Fits, IsOctetsFault, IsCertRefusal};
+ghost use Rattle.bplist_cert.specs.Versions.{is_keyed};
 
 use crate::certificate::{CertRefusal, Certificate, KeyLists};
 use crate::encoding::{KEYED_MAGIC, PLAIN_MAGIC};
@@ -41,7 +41,7 @@ impl Certificate {
 
 /// The version that the magic tells.
 fn version_of(octets: &[u8]) -> Result<Version, Fault>
-    ensures { MatchResult result (λ version. take 8 octets.now ≡ magic_of version) (IsMagicFault octets.now) }
+    ensures { MatchResult result (λ version. take 8 octets.now ≡ magic (is_keyed version)) (IsOctetsFault octets.now) }
 {
     if octets.starts_with(&PLAIN_MAGIC) {
         return Ok(Version::Plain);
@@ -58,10 +58,10 @@ fn version_of(octets: &[u8]) -> Result<Version, Fault>
 
 /// The number of heights, where the bytes are as many as it asks for.
 fn count_of(octets: &[u8], version: Version) -> Result<usize, Fault>
-    requires { take 8 octets.now ≡ magic_of version }
+    requires { take 8 octets.now ≡ magic (is_keyed version) }
     ensures { MatchResult result
-        (λ count. (count ≡ told octets.now) × FitsVersion version count (length octets.now))
-        (IsLengthFault octets.now) }
+        (λ count. (count ≡ told octets.now) × Fits (is_keyed version) count (length octets.now))
+        (IsOctetsFault octets.now) }
 {
     let len = octets.len();
     if len >= 16 {
@@ -79,7 +79,7 @@ fn count_of(octets: &[u8], version: Version) -> Result<usize, Fault>
 
 /// Whether a certificate of this version with `count` heights can have `len` bytes.
 fn fits(version: Version, count: u64, len: usize) -> bool
-    ensures { IsTrue result ↔ FitsVersion version count len }
+    ensures { IsTrue result ↔ Fits (is_keyed version) count len }
 {
     match version {
         Version::Plain => len as u128 == 16 + 4 * count as u128,
@@ -94,8 +94,8 @@ fn read_keys(
     version: Version,
     count: usize,
 ) -> Result<Option<KeyLists>, AllocError>
-    requires { FitsVersion version count (length octets.now) }
-    ensures version { IfOk result (λ keys. magic keys ≡ magic_of version) }
+    requires { Fits (is_keyed version) count (length octets.now) }
+    ensures version { IfOk result (λ keys. is_some keys ≡ is_keyed version) }
     ensures spelled { IfOk result (λ keys. drop (16 + 4 * count) octets.now ≡ key_words keys) }
     ensures keyed { IfOk result (λ keys. AreKeyed keys) }
     ensures starts { IfOk result (λ keys. HasCount keys count) }

@@ -1,6 +1,6 @@
 //! The bytes of a certificate.
 
-ghost use Rattle.std.specs.Prelude.{◌≡◌, ◌++◌, IfOk, OnOk};
+ghost use Rattle.std.specs.Prelude.{◌≡◌, ◌++◌, IfOk, OnOk, is_some};
 ghost use Rattle.bplist_cert.specs.Lists.{IsCertificate, AreWords, AreKeyed};
 ghost use Rattle.bplist_cert.specs.Encoding.{octets_of, words, key_words, magic};
 
@@ -44,7 +44,7 @@ impl Certificate {
 
 /// The magic of a certificate's version.
 fn magic_of(keys: &Option<KeyLists>) -> [u8; 8]
-    ensures { result ≡ magic keys.now }
+    ensures { result ≡ magic (is_some keys.now) }
 {
     match keys {
         None => PLAIN_MAGIC,

@@ -13,8 +13,8 @@ ghost use Rattle.bplist_objects.specs.declared.head.Head.{Head as head};
 ghost use Rattle.bplist_objects.specs.declared.kind.Kind.TheVariants.{Dict};
 ghost use Rattle.bplist_keys.specs.Texts.{HasTextShape, IsTextHead};
 ghost use Rattle.bplist_cert.specs.Heights.{ref};
-ghost use Rattle.bplist_cert.specs.Lists.{lists};
-ghost use Rattle.bplist_cert.specs.CheckRules.{IsWhole, list_of, HasOrder, IsKeysFault};
+ghost use Rattle.bplist_cert.specs.Lists.{lists, IsWhole, list_of};
+ghost use Rattle.bplist_cert.specs.CheckRules.{HasOrder, IsKeysFault};
 ghost use Rattle.bplist_cert.specs.Keys.{HaveTexts, AreInOrder};
 ghost use Rattle.bplist_cert.specs.KeyClasses.{KeysAreSound, HasGoodKeys, BreaksKeys, IsFirstKeysFault};
 ghost use Rattle.bplist_cert.specs.KeyPairs.{AreFewKeys, IsPlaced, Ascends, AreKnown, HaveTextShapes, Follows, IsReadKey, IsSafeKey};
@@ -246,7 +246,7 @@ fn has_good_list<P: Framed>(
     ensures reads { OnlyReads (is_err result) (P.means src.old) (P.means src.new) }
     ensures exact { HonestlyIn (P.means src.old) (λ f F. AreKnown f F pairs.old
         → IfOk result (λ good. AreKnown f F pairs.new
-        × (IsTrue good → HaveTextShapes f F head.now × HasOrder f F (Some keys.now) n.0 head.now))) }
+        × (IsTrue good → HaveTextShapes f F head.now × HasOrder f F keys.now n.0 head.now))) }
 {
     match key_list(keys, n.0, head.count) {
         None => Ok(false),
@@ -275,7 +275,7 @@ fn check_list<P: Framed>(
         → OnOk result (AreKnown f F look.new.pairs × AreLow f look.new.low.rows)) }
     ensures exact { HonestlyIn (P.means src.old) (λ f F. AreKnown f F look.old.pairs → AreLow f look.old.low.rows
         → (seen.now.bound ≡ F.objects → HaveTextShapes f F head.now → HaveTexts f F head.now head.now.count)
-        → Gives (λ _. HaveTexts f F head.now head.now.count × HasOrder f F (Some keys.now) n.0 head.now)
+        → Gives (λ _. HaveTexts f F head.now head.now.count × HasOrder f F keys.now n.0 head.now)
         (IsKeysFault f F F.objects (Some keys.now) n.0 head.now) result) }
 {
     let good = has_good_list(src, keys, n, head, &mut look.pairs)?;

@@ -11,3 +11,4 @@ pub mod RankLaws
 pub mod LookUps
 pub mod PlaceSteps
 pub mod RunSteps
+pub mod ClaimLaws

@@ -1,6 +1,6 @@
-use Rattle.std.proofs.Common.{refl, arith}
+use Rattle.std.proofs.Common.{suc, refl, arith}
 use Rattle.bplist_objects.specs.Framed.{frame_in}
-use Rattle.bplist_cert.proofs.KeyClasses.{classed_texts, apart_differ, again_twice, class_at}
+use Rattle.bplist_cert.proofs.KeyClasses.{classed_texts, apart_differ, again_twice, texts_classed}
 use Rattle.bplist_cert.proofs.key_classes.class_fault.Goals as goal
 
 pub returns-in-None-clause-texts : goal.returns-in-None-clause-texts
@@ -19,12 +19,10 @@ pub returns-in-Some-NoText-clause-exact : goal.returns-in-Some-NoText-clause-exa
 returns-in-Some-NoText-clause-exact g c = λ honest low classed texts.
     let m = g.P.Source.means c.args.src.now in
     let found = (rw (c.in-Some-NoText.is, c.in-Some-NoText.field-0-is) at c.in_ok-first_wrong.ensures.exact) honest low in
-    let text = texts c.in-Some-NoText.i found.0 in
-    let some = class_at m.octets (frame_in m) c.args.head.now c.args.table.now.classes.table.items classed c.in-Some-NoText.i found.0 text.0 text.1 in
-    absurd (omega (arith, some, found.1))
+    absurd (found.2 (texts_classed m.octets (frame_in m) c.args.head.now c.args.table.now.classes.table.items classed (suc c.in-Some-NoText.i) (omega (arith, found.0)) (λ k l. texts k (omega (arith, l, found.0)))))
 
 pub returns-in-Some-Again-clause-exact : goal.returns-in-Some-Again-clause-exact
 returns-in-Some-Again-clause-exact g c = λ honest low classed texts.
     let m = g.P.Source.means c.args.src.now in
     let found = (rw (c.in-Some-Again.is, c.in-Some-Again.field-0-is) at c.in_ok-first_wrong.ensures.exact) honest low in
-    (refl, refl, (c.in-Some-Again.i, again_twice m.octets (frame_in m) c.args.head.now c.args.table.now.classes.table.items classed texts c.in-Some-Again.i found.0 found.2, rw c.in_ok-first_wrong.ensures.reads at c.ref_place.ensures))
+    (refl, refl, (c.in-Some-Again.i, again_twice m.octets (frame_in m) c.args.head.now c.args.table.now.classes.table.items classed texts c.in-Some-Again.i found.1, rw c.in_ok-first_wrong.ensures.reads at c.ref_place.ensures))

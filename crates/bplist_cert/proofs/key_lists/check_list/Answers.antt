@@ -1,5 +1,7 @@
-use Rattle.std.proofs.Common.{◌∙◌}
+use Rattle.std.proofs.Common.{◌∙◌, inl}
+use Rattle.std.proofs.lemmas.Result.{err_from_is_err_and}
 use Rattle.bplist_objects.specs.Framed.{frame_in}
+use Rattle.bplist_cert.proofs.CheckSteps.{given_weaker}
 use Rattle.bplist_cert.proofs.KeyClasses.{on_ok_always, order_given}
 use Rattle.bplist_cert.proofs.key_lists.check_list.Goals as goal
 
@@ -10,6 +12,12 @@ pub returns-then-is_whole-clause-exact : goal.returns-then-is_whole-clause-exact
 returns-then-is_whole-clause-exact g c = λ honest known low shapes.
     let good = (c.in_ok-good.ensures.exact honest known).1 c.if-good.true in
     (shapes (c.is_whole.ensures.0 c.if-is_whole.true ∙ c.requires.all) good.0, good.1)
+
+pub returns-in_err-check_texts-clause-exact : goal.returns-in_err-check_texts-clause-exact
+returns-in_err-check_texts-clause-exact g c = λ honest known low shapes.
+    let p = err_from_is_err_and c.from_residual-in_err-check_texts.result c.from_residual-in_err-check_texts.ensures.1 in
+    let texts = (rw c.in_ok-good.ensures.reads at c.in_err-check_texts.ensures.exact) honest low in
+    rw (p.1, p.2) (given_weaker _ _ c.in_err-check_texts.field-0.0 (λ fault h. (c.requires.dict, inl h)) texts)
 
 pub returns-then-good-2-clause-known : goal.returns-then-good-2-clause-known
 returns-then-good-2-clause-known g c = λ honest known low.

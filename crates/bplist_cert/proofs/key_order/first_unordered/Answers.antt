@@ -4,6 +4,13 @@ use Rattle.bplist_objects.specs.Framed.{frame_in}
 use Rattle.bplist_cert.proofs.OrderedLists.{in_order, out_of_order, order_more}
 use Rattle.bplist_cert.proofs.key_order.first_unordered.Goals as goal
 
+pub returns-then-position-head-clause-exact : goal.returns-then-position-head-clause-exact
+returns-then-position-head-clause-exact g c = λ honest runs texts. (
+  omega (arith, c.loop-j-test.true, c.requires.whole),
+  c.loop-j.invariant.ordered honest runs texts,
+  λ more. let low = (more c.loop-j.j (omega arith)).0 in omega (arith, low, c.if-position-head.true),
+)
+
 pub returns-in_default-clause-exact : goal.returns-in_default-clause-exact
 returns-in_default-clause-exact g c = λ honest runs texts.
     absurd ((rw (c.loop-j.invariant.same, c.in_default.is) at c.in_ok-key.ensures.exact) honest texts)
@@ -21,12 +28,12 @@ returns-then-not-branch-clause-exact g c = λ honest runs texts.
     let f = (g.P.Source.means c.args.src.now).octets in
     let F : Frame = frame_in (g.P.Source.means c.args.src.now) in
     let key = (rw (c.loop-j.invariant.same, c.in-Some.is) at c.in_ok-key.ensures.exact) honest texts in
-    let after = (rw (c.in_ok-key.ensures.reads, c.loop-j.invariant.same) at c.in_ok-comes_after.ensures.value) honest (c.loop-j.invariant.runs honest runs) in
-    record {
-      within = omega (arith, c.loop-j-test.true, c.requires.whole);
-      wrong = out_of_order f F c.args.head.now c.args.list.now c.loop-j.j c.loop-j.before (c.loop-j.invariant.last honest texts) c.in-Some.key key c.in_ok-comes_after.field-0 after c.if-not-branch.true;
-      before = c.loop-j.invariant.ordered honest runs texts;
-    }
+    let after = (rw (c.in_ok-key.ensures.reads, c.loop-j.invariant.same) at c.in_ok-comes_after.ensures.value) honest (c.loop-j.invariant.runs honest runs) in (
+      omega (arith, c.loop-j-test.true, c.requires.whole),
+      c.loop-j.invariant.ordered honest runs texts,
+      λ more. out_of_order f F c.args.head.now c.args.list.now c.loop-j.j c.loop-j.before (c.loop-j.invariant.last honest texts) c.in-Some.key key c.in_ok-comes_after.field-0 after c.if-not-branch.true
+          (more c.loop-j.j (omega arith)),
+    )
 
 pub loop-j-preserved : goal.loop-j-preserved
 loop-j-preserved g c = record {
