@@ -22,7 +22,7 @@ use Rattle.bplist_cursor.specs.OldStyle.{comma, value_text, members_text, pairs_
 use Rattle.bplist_cursor.specs.Forms.{form_of_text}
 use Rattle.bplist_cursor.specs.Formless.{IsFormless, IsFirstFormless, IsFirstFormlessOf}
 use Rattle.bplist_cursor.specs.Found.{IsHeld}
-use Rattle.bplist_cursor.specs.Members.{HoldsMember, member_of, member_reference, named, node_of, members, in_turn, nth_in_turn}
+use Rattle.bplist_cursor.specs.Members.{HoldsMember, member_of, member_reference, named, node_of, members, in_turn}
 use Rattle.bplist_cursor.proofs.Membership.{held_members}
 use Rattle.bplist_ascii.specs.Walks.{IsContainer, IsOfKind}
 use Rattle.bplist_ascii.specs.Searching.{places_of, HaveTexts, LeadsOn}
@@ -172,7 +172,7 @@ module _ (f : List ℕ) (F : Frame) where
   first_of_each (suc i) (m ∷ ms) (value v vs) node w e is texts none x h =
       match_some _ (value_text v) (texts 0 (omega arith) v refl) (first_of_each i ms vs node w e is (λ j l. texts (suc j) (omega (arith, l))) none x h)
 
-  first_of_pairs : (i : ℕ) (ks ms : List ℕ) (ps : Pairs) (node : Node) (w : Value) → Some node ≡ named (nth_in_turn ks ms i) → slice_get (in_turn ps) i ≡ Some w
+  first_of_pairs : (i : ℕ) (ks ms : List ℕ) (ps : Pairs) (node : Node) (w : Value) → Some node ≡ named (member_reference (Content.dict ks ms) i) → slice_get (in_turn ps) i ≡ Some w
       → ((j : ℕ) → j < i → (y : Value) → slice_get (in_turn ps) j ≡ Some y → value_text y ≡ None → ⊥) → value_text w ≡ None → (x : ℕ) → IsFormless f F node.object.0 w x → IsFirstFormlessOf f F ms ps x
   first_of_pairs i [] ms ps node w e is texts none x h = cc e
   first_of_pairs i (k ∷ ks) [] ps node w e is texts none x h = cc e
@@ -197,7 +197,7 @@ all_of P [] i node a e = cc e
 all_of P (m ∷ ms) zero node a e = let there : node_of m ≡ node = cc e in subst (λ (y : Node). P y.object.0) there a.0
 all_of P (m ∷ ms) (suc i) node a e = all_of P ms i node a.1 e
 
-all_in_turn : (P : ℕ → Type 0) (ks ms : List ℕ) (i : ℕ) (node : Node) → AllByRecursion P ks → AllByRecursion P ms → Some node ≡ named (nth_in_turn ks ms i) → P node.object.0
+all_in_turn : (P : ℕ → Type 0) (ks ms : List ℕ) (i : ℕ) (node : Node) → AllByRecursion P ks → AllByRecursion P ms → Some node ≡ named (member_reference (Content.dict ks ms) i) → P node.object.0
 all_in_turn P [] ms i node a b e = cc e
 all_in_turn P (k ∷ ks) [] i node a b e = cc e
 all_in_turn P (k ∷ ks) (m ∷ ms) zero node a b e = let there : node_of k ≡ node = cc e in subst (λ (y : Node). P y.object.0) there a.0

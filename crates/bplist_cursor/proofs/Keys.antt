@@ -1,8 +1,9 @@
 -- The references of a dictionary, and the search for a key.
-use Rattle.std.proofs.Common.{arith, ◌≡◌, ◌<◌, ◌≤◌, ◌+◌, inl, inr, ℕ, zero, suc, length, List, [], ◌∷◌, ◌++◌, slice_index, refl, sym, ap, ◌∙◌, subst, Ordering, Less, Equal, Greater, Bool, IsTrue, ◌↔◌}
+use Rattle.std.proofs.Common.{arith, ◌≡◌, ◌<◌, ◌≤◌, ◌+◌, ◌-◌, inl, inr, ℕ, length, List, slice_index, refl, sym, ap, ◌∙◌, subst, Ordering, Less, Equal, Greater, Bool, IsTrue, ◌↔◌}
 use Rattle.std.specs.Bool.{◌==◌}
 use Rattle.std.specs.Ordering.{ordering_index}
 use Rattle.std.proofs.lemmas.Bool.{cases_lt}
+use Rattle.std.proofs.lemmas.List.{get_or_append_left, get_or-append_right}
 use Rattle.bplist_objects.specs.declared.frame.Frame.{Frame}
 use Rattle.bplist_objects.specs.declared.head.Head.{Head}
 use Rattle.bplist_objects.specs.declared.kind.Kind.{Kind}
@@ -31,22 +32,13 @@ told_equal Less us vs b e is = (λ t. cc (t, is), λ same. let self = (compare_u
 told_equal Equal us vs b e is = (λ t. (compare_units-equal_iff us vs).0 (sym e), λ same. is)
 told_equal Greater us vs b e is = (λ t. cc (t, is), λ same. let self = (compare_units-equal_iff us vs).1 same in cc (self, e))
 
-slice_front : (xs ys : List ℕ) (i : ℕ) → i < length xs → slice_index (xs ++ ys) i ≡ slice_index xs i
-slice_front [] ys i l = absurd (omega arith)
-slice_front (x ∷ xs) ys zero l = refl
-slice_front (x ∷ xs) ys (suc i) l = slice_front xs ys i (omega arith)
-
-slice_behind : (xs ys : List ℕ) (i : ℕ) → slice_index (xs ++ ys) (length xs + i) ≡ slice_index ys i
-slice_behind [] ys i = let z : 0 + i ≡ i = omega arith in ap (slice_index ys) z
-slice_behind (x ∷ xs) ys i = let z : length (x ∷ xs) + i ≡ suc (length xs + i) = omega arith in ap (slice_index (x ∷ (xs ++ ys))) z ∙ slice_behind xs ys i
-
 -- reference i of a dictionary is key i
 pub key_ref : (ks ms : List ℕ) (i : ℕ) → i < length ks → slice_index (refs (dict ks ms)) i ≡ slice_index ks i
-key_ref ks ms i l = slice_front ks ms i l
+key_ref ks ms i l = get_or_append_left ks ms 0 i l
 
 -- and behind the keys reference i is value i
 pub value_ref : (ks ms : List ℕ) (c i : ℕ) → length ks ≡ c → slice_index (refs (dict ks ms)) (c + i) ≡ slice_index ms i
-value_ref ks ms c i e = ap (λ n. slice_index (ks ++ ms) (n + i)) (sym e) ∙ slice_behind ks ms i
+value_ref ks ms c i e = let at : (c + i) - c ≡ i = omega arith in get_or-append_right ks ms c (c + i) 0 e (omega arith) ∙ ap (slice_index ms) at
 
 -- number j of a part of the positions
 pub list_at : (positions : List ℕ) (start count j : ℕ) → j < count → slice_index (part positions start count) j ≡ slice_index positions (start + j)

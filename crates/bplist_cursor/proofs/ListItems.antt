@@ -1,6 +1,5 @@
 -- One item more of a list that is made item by item.
 use Rattle.std.proofs.Common.{arith, ◌≡◌, ◌<◌, ℕ, zero, suc, ◌+◌, List, [], ◌∷◌, ◌++◌, map, take, length, slice_index_or, refl, sym, ap, ◌∙◌}
-use Rattle.std.specs.List.{AllZip}
 
 take_more : {A : Type 0} (xs : List A) (k : ℕ) (d : A) → k < length xs → take (suc k) xs ≡ take k xs ++ slice_index_or xs k d ∷ []
 take_more [] k d l = absurd (omega arith)
@@ -23,14 +22,3 @@ pub asked : {A B : Type 0} (q : A → B) (xs : List B) (qs : List A) (k : ℕ) (
 asked q xs qs k x d l e h =
     let z : suc k ≡ k + 1 = omega arith in
     ap (λ l. l ++ x ∷ []) e ∙ ap (λ y. map q (take k qs) ++ y ∷ []) h ∙ sym (map_more q qs k d l) ∙ ap (λ j. map q (take j qs)) z
-
-pub take_whole : {A : Type 0} (xs : List A) → take (length xs) xs ≡ xs
-take_whole [] = refl
-take_whole (x ∷ xs) = ap (λ l. x ∷ l) (take_whole xs)
-
--- paired lists are as long as each other
-pub zip_long : {A B : Type 0} (R : A → B → Type 0) (xs : List A) (ys : List B) → AllZip R xs ys → length xs ≡ length ys
-zip_long R [] [] a = refl
-zip_long R [] (y ∷ ys) a = absurd a
-zip_long R (x ∷ xs) [] a = absurd a
-zip_long R (x ∷ xs) (y ∷ ys) a = ap suc (zip_long R xs ys a.1)

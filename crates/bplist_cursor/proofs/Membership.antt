@@ -12,7 +12,7 @@ use Rattle.bplist_objects.specs.Heads.{Content, Spells, content_of, refs}
 use Rattle.bplist_objects.specs.Holds.{Holds, HoldEach, HoldPairs}
 use Rattle.bplist_objects.specs.Safe.{ref_count}
 use Rattle.bplist_objects.proofs.References.{length-nums_at, length-refs, as_many}
-use Rattle.bplist_cursor.specs.Members.{members, in_turn, member_of, nth_in_turn, member_reference, named, node_of, IsNumberOf, HoldsMember}
+use Rattle.bplist_cursor.specs.Members.{members, in_turn, member_of, member_reference, named, node_of, IsNumberOf, HoldsMember}
 
 -- a number is even or odd
 halves : (i : ℕ) → (j : ℕ) × ((i ≡ 2 * j) ⊎ (i ≡ 2 * j + 1))
@@ -22,7 +22,7 @@ halves i = elim (cases_lt (i % 2) 1) [
 ]
 
 -- an even number names a key
-key_in_turn : (ks ms : List ℕ) (i j : ℕ) → length ks ≡ length ms → i ≡ 2 * j → j < length ks → nth_in_turn ks ms i ≡ Some (slice_index ks j)
+key_in_turn : (ks ms : List ℕ) (i j : ℕ) → length ks ≡ length ms → i ≡ 2 * j → j < length ks → member_reference (Content.dict ks ms) i ≡ Some (slice_index ks j)
 key_in_turn [] ms i j same e l = absurd (omega (arith, l))
 key_in_turn (k ∷ ks) [] i j same e l = absurd (omega (arith, same))
 key_in_turn (k ∷ ks) (m ∷ ms) zero zero same e l = refl
@@ -32,7 +32,7 @@ key_in_turn (k ∷ ks) (m ∷ ms) (suc zero) (suc j) same e l = absurd (omega (a
 key_in_turn (k ∷ ks) (m ∷ ms) (suc (suc i)) (suc j) same e l = key_in_turn ks ms i j (omega (arith, same)) (omega (arith, e)) (omega (arith, l))
 
 -- an odd number names a value
-value_in_turn : (ks ms : List ℕ) (i j : ℕ) → length ks ≡ length ms → i ≡ 2 * j + 1 → j < length ms → nth_in_turn ks ms i ≡ Some (slice_index ms j)
+value_in_turn : (ks ms : List ℕ) (i j : ℕ) → length ks ≡ length ms → i ≡ 2 * j + 1 → j < length ms → member_reference (Content.dict ks ms) i ≡ Some (slice_index ms j)
 value_in_turn [] ms i j same e l = absurd (omega (arith, l, same))
 value_in_turn (k ∷ ks) [] i j same e l = absurd (omega (arith, l))
 value_in_turn (k ∷ ks) (m ∷ ms) zero j same e l = absurd (omega (arith, e))
@@ -41,7 +41,7 @@ value_in_turn (k ∷ ks) (m ∷ ms) (suc (suc i)) zero same e l = absurd (omega 
 value_in_turn (k ∷ ks) (m ∷ ms) (suc zero) (suc j) same e l = absurd (omega (arith, e))
 value_in_turn (k ∷ ks) (m ∷ ms) (suc (suc i)) (suc j) same e l = value_in_turn ks ms i j (omega (arith, same)) (omega (arith, e)) (omega (arith, l))
 
-none_in_turn : (ks ms : List ℕ) (i : ℕ) → length ks ≡ length ms → length ks + length ms ≤ i → nth_in_turn ks ms i ≡ None
+none_in_turn : (ks ms : List ℕ) (i : ℕ) → length ks ≡ length ms → length ks + length ms ≤ i → member_reference (Content.dict ks ms) i ≡ None
 none_in_turn [] ms i same l = refl
 none_in_turn (k ∷ ks) [] i same l = refl
 none_in_turn (k ∷ ks) (m ∷ ms) zero same l = absurd (omega (arith, l))
@@ -54,10 +54,10 @@ module _ (f : List ℕ) (F : Frame) where
   in_order xs count i k len l e = slice_get-get_or xs i 0 (omega (arith, len, l)) ∙ ap (λ n. Some (slice_index xs n)) (sym e)
 
   in_pairs : (ks ms : List ℕ) (count i k : ℕ) → length ks ≡ count → length ms ≡ count → i < 2 * count → IsNumberOf kinds.Dict count i k
-      → nth_in_turn ks ms i ≡ Some (slice_index (ks ++ ms) k)
+      → member_reference (Content.dict ks ms) i ≡ Some (slice_index (ks ++ ms) k)
   in_pairs ks ms count i k lk lm l number = go (halves i)
     where
-      go : (j : ℕ) × ((i ≡ 2 * j) ⊎ (i ≡ 2 * j + 1)) → nth_in_turn ks ms i ≡ Some (slice_index (ks ++ ms) k)
+      go : (j : ℕ) × ((i ≡ 2 * j) ⊎ (i ≡ 2 * j + 1)) → member_reference (Content.dict ks ms) i ≡ Some (slice_index (ks ++ ms) k)
       go (j, inl even) =
           let is = number.0 j even in
           let within : j < length ks = omega (arith, even, l, lk) in
@@ -119,11 +119,11 @@ module _ (f : List ℕ) (F : Frame) where
   keys_and_values ks ms n s = let count = as_many f F s.shape.kind s.shape.count s.shape.body ks ms s.means in count.0 ∙ sym count.1
 
   pub node_of_key : (ks ms : List ℕ) (n i j : ℕ) → Spells f F n (Content.dict ks ms) → i ≡ 2 * j → j < length ks
-      → named (nth_in_turn ks ms i) ≡ Some (node_of (slice_index ks j))
+      → named (member_reference (Content.dict ks ms) i) ≡ Some (node_of (slice_index ks j))
   node_of_key ks ms n i j s e l = ap named (key_in_turn ks ms i j (keys_and_values ks ms n s) e l)
 
   pub node_of_value : (ks ms : List ℕ) (n i j : ℕ) → Spells f F n (Content.dict ks ms) → i ≡ 2 * j + 1 → j < length ms
-      → named (nth_in_turn ks ms i) ≡ Some (node_of (slice_index ms j))
+      → named (member_reference (Content.dict ks ms) i) ≡ Some (node_of (slice_index ms j))
   node_of_value ks ms n i j s e l = ap named (value_in_turn ks ms i j (keys_and_values ks ms n s) e l)
 
   hold_each : (ms : List ℕ) (vs : Values) (i : ℕ) → HoldEach f F ms vs → HoldsMember f F (slice_get (members vs) i) (named (slice_get ms i))
@@ -133,7 +133,7 @@ module _ (f : List ℕ) (F : Frame) where
   hold_each (m ∷ ms) (value v vs) zero h = h.0
   hold_each (m ∷ ms) (value v vs) (suc i) h = hold_each ms vs i h.1
 
-  hold_pairs : (ks ms : List ℕ) (ps : Pairs) (i : ℕ) → HoldPairs f F ks ms ps → HoldsMember f F (slice_get (in_turn ps) i) (named (nth_in_turn ks ms i))
+  hold_pairs : (ks ms : List ℕ) (ps : Pairs) (i : ℕ) → HoldPairs f F ks ms ps → HoldsMember f F (slice_get (in_turn ps) i) (named (member_reference (Content.dict ks ms) i))
   hold_pairs [] [] no_pairs i h = refl
   hold_pairs [] [] (pair u v ps) i h = absurd h
   hold_pairs [] (m ∷ ms) ps i h = absurd h

@@ -37,13 +37,6 @@ module _ (f : List ℕ) (F : Frame) where
       ∙ ap (λ x. form_of_text (leaf_text x)) same
   bytes_form _ c at n l k within e is = cc k
 
-  -- an object that holds a value spells something
-  pub content_held : (v : Value) (n : ℕ) → Holds f F n v → (x : Content) × Spells f F n x
-  content_held (leaf l) n h = (Content.leaf l, h)
-  content_held (array vs) n h = (Content.array h.0, h.1)
-  content_held (set vs) n h = (Content.set h.0, h.1)
-  content_held (dict ps) n h = (Content.dict h.0 h.1, h.2)
-
   -- a container
   abbrev pub IsContainer : Kind → Type 0
   IsContainer k = (k ≡ kinds.Array) ⊎ (k ≡ kinds.Set) ⊎ (k ≡ kinds.Dict)

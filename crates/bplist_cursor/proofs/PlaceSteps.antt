@@ -1,12 +1,12 @@
 -- The reference that is taken for a step.
-use Rattle.std.proofs.Common.{arith, ◌≡◌, ◌≢◌, ◌<◌, ℕ, suc, length, ◌+◌, ◌*◌, List, [], ◌∷◌, slice_index, Option, Some, None, refl, sym, ap, ◌∙◌, subst}
+use Rattle.std.proofs.Common.{arith, ◌≡◌, ◌≢◌, ◌<◌, ℕ, ◌+◌, ◌*◌, List, slice_index, Option, Some, None, refl, sym, ap, ◌∙◌, subst}
 use Rattle.std.specs.Fmt.{decimal}
 use Rattle.bplist_objects.specs.declared.frame.Frame.{Frame}
-use Rattle.bplist_objects.specs.Value.{Leaf, Value, keys, leaf, array, set, dict, Pairs, no_pairs, pair}
+use Rattle.bplist_objects.specs.Value.{Leaf, Value, leaf, array, set, dict}
 use Rattle.bplist_objects.specs.Numbers.{nums_at}
 use Rattle.bplist_objects.specs.Heads as H
 use Rattle.bplist_objects.specs.Heads.{Spells}
-use Rattle.bplist_objects.specs.Holds.{Holds, HoldPairs}
+use Rattle.bplist_objects.specs.Holds.{Holds}
 use Rattle.bplist_cursor.specs.Leads.{IsTaken, HasTextKeys, why_of}
 use Rattle.bplist_objects.proofs.References.{length-nums_at, as_many, dict_parts}
 use Rattle.bplist_objects.specs.declared.head.Head.{Head}
@@ -16,6 +16,7 @@ use Rattle.bplist_objects.specs.declared.kind.Kind.TheVariants as kinds
 use Rattle.bplist_cursor.specs.Steps.{HaveTexts, IsKeyPlace, IsPlace}
 use Rattle.bplist_cursor.specs.declared.found.Why.TheVariants as why
 use Rattle.bplist_cursor.specs.declared.path_step.Place.TheVariants as place
+use Rattle.bplist_cursor.proofs.Counts.{pair_counts}
 use Rattle.bplist_cursor.proofs.Keys.{value_ref}
 
 module _ (f : List ℕ) (F : Frame) where
@@ -66,17 +67,6 @@ module _ (f : List ℕ) (F : Frame) where
       let n = length-nums_at f head.body F.ref_size head.count in
       subst (λ x. ((m : ℕ) → IsTaken f F x s m → ⊥) × (why.NoIndex ≡ why_of x)) (array_is h head d e) (λ m q. none q.0 (omega (arith, n, q.1)) q.2, refl)
 
-  -- a dictionary has as many keys as pairs
-  pub pair_count : (ps : Pairs) (ks ms : List ℕ) → HoldPairs f F ks ms ps → length ks ≡ length (keys ps)
-  pair_count no_pairs [] [] h = refl
-  pair_count no_pairs [] (m ∷ ms) h = absurd h
-  pair_count no_pairs (k ∷ ks) [] h = absurd h
-  pair_count no_pairs (k ∷ ks) (m ∷ ms) h = absurd h
-  pair_count (pair u v ps) [] [] h = absurd h
-  pair_count (pair u v ps) [] (m ∷ ms) h = absurd h
-  pair_count (pair u v ps) (k ∷ ks) [] h = absurd h
-  pair_count (pair u v ps) (k ∷ ks) (m ∷ ms) h = ap suc (pair_count ps ks ms h.2)
-
   -- so many comparisons suffice for the value as for the head
   pub same_halvings : (v : Value) (n : ℕ) (head : Head) → Holds f F n v → ((content : H.Content) → Spells f F n content → content ≡ H.content_at f F head) → halvings_of head.kind head.count ≡ halvings_at v
   same_halvings (leaf l) n head o e = leaf_halvings head.kind head.count head.body l (e _ o)
@@ -98,5 +88,5 @@ module _ (f : List ℕ) (F : Frame) where
       let is = e _ o.2 in
       let parts = dict_parts f F head.kind head.count head.body o.0 o.1 is in
       let counts = as_many f F head.kind head.count head.body o.0 o.1 is in
-      let many = pair_count ps o.0 o.1 o.3 in
+      let many = (pair_counts f F o.0 o.1 ps o.3).0 in
       ap (λ kind. halvings_of kind head.count) parts.0 ∙ ap digits_2 (sym counts.0 ∙ many)

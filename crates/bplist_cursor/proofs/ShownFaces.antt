@@ -1,5 +1,5 @@
 -- What an object shows, by its head and by the value that it holds.
-use Rattle.std.proofs.Common.{◌≡◌, ◌≤◌, ◌+◌, ◌*◌, ℕ, suc, List, [], ◌∷◌, ◌++◌, length, take, refl, sym, ap, ◌∙◌, arith}
+use Rattle.std.proofs.Common.{◌≡◌, ◌≤◌, ◌+◌, ◌*◌, ℕ, List, [], ◌∷◌, ◌++◌, length, take, refl, sym, ap, ◌∙◌, arith}
 use Rattle.std.proofs.lemmas.List.{take_all}
 use lib.Seq.{take-append-le}
 use Rattle.bplist_octets.specs.Octets.{part}
@@ -7,10 +7,10 @@ use Rattle.bplist_objects.specs.declared.frame.Frame.{Frame}
 use Rattle.bplist_objects.specs.declared.head.Head.{Head}
 use Rattle.bplist_objects.specs.declared.kind.Kind.{Kind}
 use Rattle.bplist_objects.specs.declared.kind.Kind.TheVariants as kinds
-use Rattle.bplist_objects.specs.Value.{Value, leaf, array, set, dict, Values, no_values, value, Pairs, no_pairs, pair, keys}
+use Rattle.bplist_objects.specs.Value.{Value, leaf, array, set, dict, Values, no_values, value}
 use Rattle.bplist_objects.specs.Announced.{unit}
 use Rattle.bplist_objects.specs.Heads.{Content, Spells, content_at, content_of}
-use Rattle.bplist_objects.specs.Holds.{Holds, HoldEach, HoldPairs}
+use Rattle.bplist_objects.specs.Holds.{Holds, HoldEach}
 use Rattle.bplist_objects.specs.Units.{IsTextKind, units_of}
 use Rattle.bplist_objects.proofs.Units.{length-units_at}
 use Rattle.bplist_objects.proofs.References.{length-nums_at}
@@ -18,6 +18,7 @@ use Rattle.bplist_cursor.specs.declared.faces.Face.TheVariants as faces
 use Rattle.bplist_cursor.specs.Replies.{face}
 use Rattle.bplist_cursor.specs.Members.{members}
 use Rattle.bplist_cursor.specs.Shown.{content_face}
+use Rattle.bplist_cursor.proofs.Counts.{pair_counts}
 
 -- all units of a text are its units
 pub all_units : (f : List ℕ) (head : Head) (n : ℕ) → IsTextKind head.kind → head.body + head.count * unit 1 head.kind ≤ length f → n ≡ head.count
@@ -49,17 +50,9 @@ module _ (f : List ℕ) (F : Frame) where
   count_each (m ∷ ms) no_values h = absurd h
   count_each (m ∷ ms) (value v vs) h = let e = count_each ms vs h.1 in omega (arith, e)
 
-  count_pairs : (ks ms : List ℕ) (ps : Pairs) → HoldPairs f F ks ms ps → length ks ≡ length (keys ps)
-  count_pairs [] [] no_pairs h = refl
-  count_pairs [] [] (pair u v ps) h = absurd h
-  count_pairs [] (m ∷ ms) ps h = absurd h
-  count_pairs (k ∷ ks) [] ps h = absurd h
-  count_pairs (k ∷ ks) (m ∷ ms) no_pairs h = absurd h
-  count_pairs (k ∷ ks) (m ∷ ms) (pair u v ps) h = ap suc (count_pairs ks ms ps h.2)
-
   -- what an object that holds a value spells has the face of the value
   pub held_face : (v : Value) (n : ℕ) → Holds f F n v → (c : Content) × Spells f F n c × (content_face c ≡ face v)
   held_face (leaf l) n h = (Content.leaf l, h, refl)
   held_face (array vs) n h = let e = count_each h.0 vs h.2 in (Content.array h.0, h.1, ap faces.Array e)
   held_face (set vs) n h = let e = count_each h.0 vs h.2 in (Content.set h.0, h.1, ap faces.Set e)
-  held_face (dict ps) n h = let e = count_pairs h.0 h.1 ps h.3 in (Content.dict h.0 h.1, h.2, ap faces.Dict e)
+  held_face (dict ps) n h = let e = (pair_counts f F h.0 h.1 ps h.3).0 in (Content.dict h.0 h.1, h.2, ap faces.Dict e)

@@ -14,6 +14,7 @@ use Rattle.bplist_cursor.specs.Nodes.{cap, nodes_of, nodes_of_pairs}
 use Rattle.bplist_cursor.specs.Texts.{text_of_units}
 use Rattle.bplist_cursor.specs.OldStyle.{comma, value_text, members_text, pairs_text}
 use Rattle.bplist_cursor.specs.Forms.{form_of_text, joined}
+use Rattle.bplist_cursor.proofs.Counts.{pair_counts}
 use Rattle.bplist_cursor.specs.Sizes.{size_of, both, size_in, added, no_size, size_of_members, size_of_keys, size_of_values, IsSized}
 
 -- forms are joined in any grouping
@@ -202,21 +203,11 @@ enclosed_pairs : (front back : ℕ) (o : Option (List ℕ)) (x y : Form) (n : �
 enclosed_pairs front back o x y n e =
     joined-assoc (Length (cap (n + 2))) x y ∙ enclosed front back o (joined x y) n (e ∙ joined-assoc (Length (cap n)) x y)
 
-pub keys_held : (f : List ℕ) (F : Frame) (ps : Pairs) (ks ms : List ℕ) → HoldPairs f F ks ms ps → length (keys ps) ≡ length ks
-keys_held f F no_pairs [] [] h = refl
-keys_held f F no_pairs [] (m ∷ ms) h = absurd h
-keys_held f F no_pairs (k ∷ ks) [] h = absurd h
-keys_held f F no_pairs (k ∷ ks) (m ∷ ms) h = absurd h
-keys_held f F (pair u v ps) [] [] h = absurd h
-keys_held f F (pair u v ps) [] (m ∷ ms) h = absurd h
-keys_held f F (pair u v ps) (k ∷ ks) [] h = absurd h
-keys_held f F (pair u v ps) (k ∷ ks) (m ∷ ms) h = omega (arith, keys_held f F ps ks ms h.2)
-
 -- the size of a dictionary with these pairs
 pub dict_size : (f : List ℕ) (F : Frame) (ps : Pairs) (ks ms : List ℕ) → HoldPairs f F ks ms ps
     → both (both (record { nodes = 1; form = Length (cap (2 * length ks + 2)) }) (size_of_keys ps)) (size_of_values ps) ≡ size_of (dict ps)
 dict_size f F ps ks ms h =
-    let same : 2 * length (keys ps) + 2 ≡ 2 * length ks + 2 = omega (arith, keys_held f F ps ks ms h) in
+    let same : 2 * length (keys ps) + 2 ≡ 2 * length ks + 2 = omega (arith, (pair_counts f F ks ms ps h).0) in
     same_size _ _ (omega (arith, nodes_of_both ps))
     (ap (λ n. joined (joined (Length (cap n)) (size_of_keys ps).form) (size_of_values ps).form) (sym same)
     ∙ enclosed_pairs 0x7B 0x7D (pairs_text ps) (size_of_keys ps).form (size_of_values ps).form (2 * length (keys ps)) (pairs_form ps))

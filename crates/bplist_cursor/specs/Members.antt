@@ -34,10 +34,6 @@ abbrev pub member_reference : Content → ℕ → Option ℕ
 member_reference (Content.dict ks ms) i = slice_get (flat_map (λ pair. pair.0 ∷ pair.1 ∷ []) (zip ks ms)) i
 member_reference content i = slice_get (refs content) i
 
--- number 2j is key j, and 2j + 1 is value j
-abbrev pub nth_in_turn : List ℕ → List ℕ → ℕ → Option ℕ
-nth_in_turn ks ms i = member_reference (Content.dict ks ms) i
-
 -- the node of an object
 abbrev pub node_of : ℕ → Node
 node_of n = record { object = record { 0 = n } }

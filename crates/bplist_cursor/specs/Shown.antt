@@ -1,5 +1,5 @@
 -- What an object shows of the value that it holds. Source: profile.
-use Rattle.std.specs.Prelude.{ℕ, ◌*◌, ◌<◌, length, ⊤}
+use Rattle.std.specs.Prelude.{◌≡◌, ℕ, ◌*◌, ◌<◌, length}
 use Rattle.bplist_objects.specs.Value.{Value}
 use Rattle.bplist_objects.specs.Heads.{Content, leaf, array, set, dict}
 use Rattle.bplist_cursor.specs.declared.faces.Face.{Face}
@@ -15,7 +15,4 @@ content_face (dict ks ms) = faces.Dict (length ks)
 
 -- fewer references than so many bytes
 abbrev pub HasRoom : ℕ → Face → Type 0
-HasRoom len (faces.Array count) = count < len
-HasRoom len (faces.Set count) = count < len
-HasRoom len (faces.Dict count) = 2 * count < len
-HasRoom len _ = ⊤
+HasRoom len shown = (n : ℕ) → (shown ≡ faces.Array n → n < len) × (shown ≡ faces.Set n → n < len) × (shown ≡ faces.Dict n → 2 * n < len)

@@ -13,8 +13,7 @@ is_plain u = (nat_le 0x30 u && nat_le u 0x39) || ((nat_le 0x41 u && nat_le u 0x5
 -- a unit inside quotes: `\"`, `\\`, `\n`, the character, or `\U` and four hexadecimal digits
 abbrev pub quoted_unit : ℕ → List ℕ
 quoted_unit u =
-    if u == 0x22 then 0x5C ∷ 0x22 ∷ []
-    else if u == 0x5C then 0x5C ∷ 0x5C ∷ []
+    if u == 0x22 || u == 0x5C then 0x5C ∷ u ∷ []
     else if u == 0x0A then 0x5C ∷ 0x6E ∷ []
     else if nat_le 0x20 u && nat_le u 0x7E then u ∷ []
     else 0x5C ∷ 0x55 ∷ (hex_digits (u / 256) ++ hex_digits (u % 256))

@@ -5,7 +5,8 @@ use Rattle.bplist_objects.specs.Framed.{frame_in}
 use Rattle.bplist_objects.specs.Heads.{refs, content_at}
 use Rattle.bplist_cursor.specs.Sizes.{size_of, added}
 use Rattle.bplist_cursor.proofs.Causes.{unread_never}
-use Rattle.bplist_cursor.proofs.ObjectSteps.{content_held, container_total, leaf_total}
+use Rattle.bplist_cursor.proofs.StepReferences.{content_of_value}
+use Rattle.bplist_cursor.proofs.ObjectSteps.{container_total, leaf_total}
 use Rattle.bplist_cursor.proofs.object_sizes.size_of_object.Goals as goal
 
 pub returns-in_err-head-clause-exact : goal.returns-in_err-head-clause-exact
@@ -13,7 +14,7 @@ returns-in_err-head-clause-exact g c = λ honest v h sized.
     let m = g.P.Source.means c.args.src.now in
     let framed = c.frame-frame.ensures.framed.framed honest in
     let p = err_from_is_err_and c.from_residual.result c.from_residual.ensures.1 in
-    let x = content_held m.octets (frame_in m) v c.args.n.0 h in
+    let x = content_of_value m.octets (frame_in m) v c.args.n.0 h in
     rw (p.1, p.2) (unread_never c.in_err-head.field-0.0 ((rw c.frame-frame.ensures.frame at c.in_err-head.ensures.shaped) honest framed x.1.shape x.1.has))
 
 pub returns-in-Array-clause-exact : goal.returns-in-Array-clause-exact
