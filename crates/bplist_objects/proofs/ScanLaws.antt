@@ -3,7 +3,7 @@ use Rattle.std.proofs.Common.{◌≡◌, ℕ, ◌+◌, ◌-◌, ◌*◌, ◌<◌
 use Rattle.std.proofs.Math.Nat.{add-mul, mul-le-mul_right}
 use Rattle.std.proofs.lemmas.Nat.{row_fits}
 use Rattle.std.proofs.lemmas.Bool.{cases_lt}
-use Rattle.std.proofs.lemmas.List.{length-take-le, get_or_append_left, get_or-append_right}
+use Rattle.std.proofs.lemmas.List.{length-append, length-take-le, get_or_append_left, get_or-append_right}
 use Rattle.bplist_octets.specs.Octets.{part, num, AreLow, IsFirstHigh}
 use Rattle.bplist_objects.specs.Numbers.{num_at}
 use Rattle.bplist_objects.specs.Scan.{nth_number, AreNumbers, AreBelow, IsFirstNotBelow}
@@ -67,6 +67,10 @@ module _ (f block : List ℕ) (place size done now : ℕ) (e : block ≡ part f 
     high = subst (λ x. bound ≤ x) (nth_number-block i h.within) h.high;
     before = below-block bound i (let l = h.within in omega arith) before h.before;
   }
+
+-- the front of low bytes is low
+pub low_front : (xs rest : List ℕ) → AreLow (xs ++ rest) → AreLow xs
+low_front xs rest low k h = subst (λ x. x < 128) (get_or_append_left xs rest 0 k h) (low k (omega (arith, length-append xs rest)))
 
 -- bytes by index are numbers of one byte
 byte_nth : (f : List ℕ) (k : ℕ) → k < length f → nth_number f 0 1 k ≡ get_or f k 0

@@ -11,7 +11,7 @@ ghost use Rattle.bplist_objects.specs.Counts.{IsLongCountFault};
 use crate::fault::{ObjectFault, broken};
 use crate::frame::ObjectNo;
 use crate::kind::Kind;
-use crate::numbers::{number_in, octet_in, wide_in};
+use crate::numbers::{octet_in, wide_in};
 use crate::rule::Rule;
 use bplist_octets::{ReadFault, Source};
 
@@ -31,24 +31,30 @@ fn power_of_2(w: u8) -> u8
     }
 }
 
-/// The number that the `size` bytes from `place` on spell. Most counts have one byte, which takes no buffer.
+/// The count behind the marker at `place`, where it has one byte, as most have: that and the marker of the count are one read.
 #[inline(always)]
-fn spelled_count<S: Source>(src: &mut S, place: u64, size: u8) -> Result<u128, ReadFault>
-    requires low { 1 ≤ size }
-    requires high { size ≤ 16 }
-    requires within { place + size ≤ length (S.means src.old).octets }
+fn octet_count<S: Source>(src: &mut S, table: u64, place: u64) -> Result<Option<u8>, ReadFault>
+    requires inside { place < table }
+    requires within { table ≤ length (S.means src.old).octets }
     ensures reads { OnlyReads (is_err result) (S.means src.old) (S.means src.new) }
-    ensures value { IfOk result (λ x. Honestly (S.means src.old) (λ f. x ≡ num_at f place size)) }
+    ensures exact { IfOk result (λ found. Honestly (S.means src.old)
+        (λ f. IfSome found (λ count. HasLongCount f place count (place + 3)))) }
+    ensures room { IfOk result (λ found. IfSome found (λ _. place + 3 ≤ table)) }
 {
-    match size {
-        1 => Ok(number_in(src, place, 1)? as u128),
-        _ => wide_in(src, place, size),
+    if table - place < 3 {
+        return Ok(None);
     }
+    let mut octets = [0u8; 2];
+    src.read_at(place + 1, &mut octets)?;
+    if octets[0] != 0x10 {
+        return Ok(None);
+    }
+    Ok(Some(octets[1]))
 }
 
 /// The count that stands behind the marker at `place`, and the first place after it, where the table is not nearer than
-/// the count says, as each of it takes a byte at least.
-pub(crate) fn long_count<S: Source>(
+/// the count says.
+fn count_behind<S: Source>(
     src: &mut S,
     table: u64,
     place: u64,
@@ -72,12 +78,33 @@ pub(crate) fn long_count<S: Source>(
     if table - place - 2 < size as u64 {
         return Err(broken(Rule::Extent, n, place));
     }
-    let count = spelled_count(src, place + 2, size)?;
+    let count = wide_in(src, place + 2, size)?;
     let body = place + 2 + size as u64;
     if count > (table - body) as u128 {
         return Err(broken(Rule::Extent, n, place));
     }
     Ok((count as u64, body))
+}
+
+/// The same, where the table is not nearer than the count says either, as each of it takes a byte at least.
+#[inline(always)]
+pub(crate) fn long_count<S: Source>(
+    src: &mut S,
+    table: u64,
+    place: u64,
+    n: ObjectNo,
+) -> Result<(u64, u64), ObjectFault>
+    requires inside { place < table }
+    requires within { table ≤ length (S.means src.old).octets }
+    ensures reads { OnlyReads (read_failed result) (S.means src.old) (S.means src.new) }
+    ensures exact { Honestly (S.means src.old) (λ f. Gives
+        (λ found. HasLongCount f place found.0 found.1) (IsLongCountFault f table place n.0) result) }
+    ensures safe { IfOk result (λ found. (place < found.1) × (found.1 ≤ table)) }
+{
+    match octet_count(src, table, place)? {
+        Some(count) => Ok((count as u64, place + 3)),
+        None => count_behind(src, table, place, n),
+    }
 }
 
 /// The count of an object of a kind whose marker says all.

@@ -36,6 +36,7 @@ pub struct Head {
 }
 
 /// The head of object `n`, whose place is known, where its marker is one of this kind and says that the count stands behind it.
+#[inline(always)]
 fn long_shape<S: Source>(
     src: &mut S,
     frame: &Frame,

@@ -38,20 +38,24 @@ pub enum Kind {
 pub(crate) fn kind_of(marker: u8) -> Option<Kind>
     ensures { MatchOption result (IsMarker marker → ⊥) (Marks marker) }
 {
-    match marker {
-        0x00 => Some(Kind::Null),
-        0x08 => Some(Kind::False),
-        0x09 => Some(Kind::True),
-        0x10..=0x14 => Some(Kind::Int),
-        0x22 | 0x23 => Some(Kind::Real),
-        0x33 => Some(Kind::Date),
-        0x40..=0x4f => Some(Kind::Bytes),
-        0x50..=0x5f => Some(Kind::Ascii),
-        0x60..=0x6f => Some(Kind::Wide),
-        0x80..=0x8f => Some(Kind::Uid),
-        0xa0..=0xaf => Some(Kind::Array),
-        0xc0..=0xcf => Some(Kind::Set),
-        0xd0..=0xdf => Some(Kind::Dict),
+    // By the high half first: each kind but the first ones has halves of its own, so that one jump tells it.
+    match marker / 16 {
+        0x0 => match marker {
+            0x00 => Some(Kind::Null),
+            0x08 => Some(Kind::False),
+            0x09 => Some(Kind::True),
+            _ => None,
+        },
+        0x1 if marker <= 0x14 => Some(Kind::Int),
+        0x2 if marker == 0x22 || marker == 0x23 => Some(Kind::Real),
+        0x3 if marker == 0x33 => Some(Kind::Date),
+        0x4 => Some(Kind::Bytes),
+        0x5 => Some(Kind::Ascii),
+        0x6 => Some(Kind::Wide),
+        0x8 => Some(Kind::Uid),
+        0xa => Some(Kind::Array),
+        0xc => Some(Kind::Set),
+        0xd => Some(Kind::Dict),
         _ => None,
     }
 }

@@ -21,6 +21,9 @@ pub(crate) const FEW: u64 = 32;
 /// How many bytes a few numbers have at most.
 pub(crate) const FEW_BYTES: usize = 256;
 
+/// How many bytes the numbers have at most that are read by way of the smallest buffer.
+const FEWEST_BYTES: usize = 64;
+
 /// The number that the `size` bytes from `place` on spell.
 #[inline(always)]
 pub(crate) fn number_in<S: Source>(src: &mut S, place: u64, size: u8) -> Result<u64, ReadFault>
@@ -118,16 +121,22 @@ fn read_block<S: Source>(
     Ok(())
 }
 
-/// Fills `into` with a few numbers, by one read.
-fn read_few<S: Source>(src: &mut S, place: u64, size: u8, into: &mut [u64]) -> Result<(), ReadFault>
+/// Fills `into` with a few numbers, by one read, where their bytes have room in a buffer of so many.
+fn read_few<const ROOM: usize, S: Source>(
+    src: &mut S,
+    place: u64,
+    size: u8,
+    into: &mut [u64],
+) -> Result<(), ReadFault>
     requires low { 1 ≤ size }
     requires high { size ≤ 8 }
-    requires few { length into.old ≤ 32 }
+    requires few { length into.old * size ≤ ROOM }
+    requires room { ROOM ≤ 256 }
     requires within { place + length into.old * size ≤ length (S.means src.old).octets }
     ensures reads { OnlyReads (is_err result) (S.means src.old) (S.means src.new) }
     ensures numbers { OnOk result (Honestly (S.means src.old) (λ f. AreNumbers f place size into.new)) }
 {
-    let mut buffer = [0u8; FEW_BYTES];
+    let mut buffer = [0u8; ROOM];
     let block = &mut buffer[..into.len() * size as usize];
     read_block(src, place, size, block, into)
 }
@@ -172,9 +181,15 @@ pub(crate) fn numbers_in<S: Source>(
     ensures reads { OnlyReads (is_err result) (S.means src.old) (S.means src.new) }
     ensures numbers { OnOk result (Honestly (S.means src.old) (λ f. AreNumbers f place size into.new)) }
 {
-    match into.len() as u64 {
-        0 => Ok(()),
-        1..=FEW => read_few(src, place, size, into),
-        _ => read_many(src, place, size, into),
+    let count = into.len();
+    if count == 0 {
+        return Ok(());
     }
+    if count > FEW as usize {
+        return read_many(src, place, size, into);
+    }
+    if count * size as usize <= FEWEST_BYTES {
+        return read_few::<FEWEST_BYTES, S>(src, place, size, into);
+    }
+    read_few::<FEW_BYTES, S>(src, place, size, into)
 }

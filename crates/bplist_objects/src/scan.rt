@@ -1,11 +1,43 @@
 //! The first of many numbers of one size, or of many bytes, that is not below a bound, by blocks.
 
-ghost use Rattle.std.specs.Prelude.{◌≡◌, ◌+◌, ◌*◌, ◌≤◌, ◌<◌, length, IfOk, IfSome, MatchOption, is_err};
+ghost use Rattle.std.specs.Prelude.{◌≡◌, ◌+◌, ◌*◌, ◌≤◌, ◌<◌, length, IsTrue, IfOk, IfSome, MatchOption, is_err};
 ghost use Rattle.bplist_octets.specs.Meaning.{OnlyReads, Honestly};
 ghost use Rattle.bplist_objects.specs.Scan.{AreBelow, IsFirstNotBelow};
 
 use crate::numbers::{BLOCK, BLOCK_BYTES, FEW, FEW_BYTES, part_of};
 use bplist_octets::{ReadFault, Source, first_high, sized};
+
+/// Whether each number of a block is below the bound. There is no way out of the loop, so that it takes several at a time.
+#[inline(always)]
+fn is_block_below(block: &[u8], size: usize, count: usize, bound: u64) -> bool
+    requires low { 1 ≤ size }
+    requires high { size ≤ 8 }
+    requires room { length block.now ≡ count * size }
+    ensures { IsTrue result → AreBelow block.now 0 size count bound }
+{
+    let mut below = true;
+    for i in 0..count {
+        if bound <= sized(part_of(block, i * size, size)) {
+            below = false;
+        }
+    }
+    below
+}
+
+/// The same, where each usual size has a loop of its own, in which the size is known.
+fn are_below(block: &[u8], size: usize, count: usize, bound: u64) -> bool
+    requires low { 1 ≤ size }
+    requires high { size ≤ 8 }
+    requires room { length block.now ≡ count * size }
+    ensures { IsTrue result → AreBelow block.now 0 size count bound }
+{
+    match size {
+        1 => is_block_below(block, 1, count, bound),
+        2 => is_block_below(block, 2, count, bound),
+        4 => is_block_below(block, 4, count, bound),
+        _ => is_block_below(block, size, count, bound),
+    }
+}
 
 /// The first of the numbers of a block that is not below the bound.
 fn first_in_block(block: &[u8], size: usize, count: usize, bound: u64) -> Option<usize>
@@ -14,6 +46,9 @@ fn first_in_block(block: &[u8], size: usize, count: usize, bound: u64) -> Option
     requires room { length block.now ≡ count * size }
     ensures { MatchOption result (AreBelow block.now 0 size count bound) (IsFirstNotBelow block.now 0 size count bound) }
 {
+    if are_below(block, size, count, bound) {
+        return None;
+    }
     for i in 0..count {
         if sized(part_of(block, i * size, size)) >= bound {
             return Some(i);
@@ -155,6 +190,28 @@ fn search_part<S: Source>(
     }
 }
 
+/// The first byte of a short text that is 128 or more. What the text leaves of the buffer is 0, so that all of it is looked at.
+#[inline(always)]
+fn first_high_of_short<S: Source>(
+    src: &mut S,
+    place: u64,
+    count: u64,
+) -> Result<Option<u64>, ReadFault>
+    requires short { count ≤ 64 }
+    requires within { place + count ≤ length (S.means src.old).octets }
+    ensures reads { OnlyReads (is_err result) (S.means src.old) (S.means src.new) }
+    ensures found { IfOk result (λ found. Honestly (S.means src.old)
+        (λ f. MatchOption found (AreBelow f place 1 count 128) (IsFirstNotBelow f place 1 count 128))) }
+    ensures inside { IfOk result (λ found. IfSome found (λ i. i < count)) }
+{
+    let mut buffer = [0u8; SHORT_TEXT];
+    src.read_at(place, &mut buffer[..count as usize])?;
+    match first_high(&buffer) {
+        None => Ok(None),
+        Some(_) => search_part(src, place, count, 0, &mut buffer[..count as usize]),
+    }
+}
+
 /// The first of `count` bytes from `place` on that is 128 or more: its number among them. The bytes lie in the source. An
 /// error is a failed read.
 pub fn first_high_in<S: Source>(
@@ -169,8 +226,7 @@ pub fn first_high_in<S: Source>(
     ensures inside { IfOk result (λ found. IfSome found (λ i. i < count)) }
 {
     if count <= SHORT_TEXT as u64 {
-        let mut buffer = [0u8; SHORT_TEXT];
-        return search_part(src, place, count, 0, &mut buffer[..count as usize]);
+        return first_high_of_short(src, place, count);
     }
     let mut buffer = [0u8; TEXT_PART];
     let mut done = 0u64;

@@ -44,6 +44,9 @@ pub fn first_high(l: &[u8]) -> Option<usize>
     ensures { MatchOption result (AreLow l.now) (IsFirstHigh l.now) }
 {
     let front = low_front(l);
+    if front == l.len() {
+        return None;
+    }
     let (_, rest) = l.split_at(front);
     if rest.len() < GROUP && is_rest_low(rest) {
         return None;

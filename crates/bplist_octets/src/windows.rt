@@ -75,9 +75,9 @@ fn hold<S: Source>(source: &mut S, pane: &mut Pane, at: u64, count: usize) -> Re
     Ok(())
 }
 
-/// A pane that has `count` bytes from place `at` on. Where none has them it is one that ends at the multiple of 8,192 below,
-/// as who reads forward leaves that one, and where there is none the one that was taken longest ago.
-fn choose(panes: &[Pane], at: u64, count: usize) -> usize
+/// The pane that moves to place `at`: one that ends at the multiple of 8,192 below, as who reads forward leaves that one, and
+/// where there is none the one that was taken longest ago.
+fn oldest(panes: &[Pane], at: u64) -> usize
     requires { 0 < length panes.now }
     ensures { result < length panes.now }
 {
@@ -85,9 +85,6 @@ fn choose(panes: &[Pane], at: u64, count: usize) -> usize
     let mut oldest = 0;
     let mut least = u64::MAX;
     for (k, pane) in panes.iter().enumerate() {
-        if offset_in(pane.start, pane.filled, at, count).is_some() {
-            return k;
-        }
         let taken = if ends_at(pane, start) { 0 } else { pane.taken };
         if taken < least {
             oldest = k;
@@ -95,6 +92,19 @@ fn choose(panes: &[Pane], at: u64, count: usize) -> usize
         }
     }
     oldest
+}
+
+/// A pane that has `count` bytes from place `at` on, and where none has them the one that moves there.
+fn choose(panes: &[Pane], at: u64, count: usize) -> usize
+    requires { 0 < length panes.now }
+    ensures { result < length panes.now }
+{
+    for (k, pane) in panes.iter().enumerate() {
+        if offset_in(pane.start, pane.filled, at, count).is_some() {
+            return k;
+        }
+    }
+    oldest(panes, at)
 }
 
 /// Empties panes that may hold bytes of another source.

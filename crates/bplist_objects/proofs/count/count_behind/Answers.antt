@@ -1,6 +1,6 @@
 use Rattle.std.proofs.Common.{◌≡◌, ◌-◌, ◌+◌, ◌^◌, ap, refl, inr, subst, arith, slice_index}
 use Rattle.bplist_objects.specs.Numbers.{num_at}
-use Rattle.bplist_objects.proofs.count.long_count.Goals as goal
+use Rattle.bplist_objects.proofs.count.count_behind.Goals as goal
 
 pub returns-then-table-place-clause-exact : goal.returns-then-table-place-clause-exact
 returns-then-table-place-clause-exact g c = λ honest.
