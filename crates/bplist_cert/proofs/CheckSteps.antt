@@ -20,7 +20,7 @@ use Rattle.bplist_objects.specs.Rules.{KeepsAll, IsFirstFault}
 use Rattle.bplist_objects.specs.ObjectRules.{KeepsByObject, BreaksAt, IsObjectFault, object_rules}
 use Rattle.bplist_objects.specs.Extents.{HasExtent, IsOverfull}
 use Rattle.bplist_objects.proofs.Lists.{all_weaker, all_at}
-use Rattle.bplist_objects.proofs.ExtentSums.{most_none, most_more, most_same}
+use Rattle.bplist_objects.proofs.ExtentSums.{most_none, most_more, most_same, shape_extent}
 use Rattle.bplist_objects.proofs.BodyLaws.{HasHead-unique}
 use Rattle.bplist_objects.proofs.HeadTies.{kept_spells}
 use Rattle.bplist_objects.proofs.FrameTies.{numbered}
@@ -98,7 +98,7 @@ module _ (f : List ℕ) (F : Frame) (heights : List ℕ) (keys : Option Keyed) (
     now = t + (head.«end» - off f F n)
 
     extent : HasExtent f F n (head.«end» - off f F n)
-    extent = let spells = kept_spells f F n frame lt head has kept in (head, spells.0, omega (arith, spells.0.body, spells.0.«end»))
+    extent = shape_extent f F n head (kept_spells f F n frame lt head has kept).0
 
     -- with the object, the running sum
     more : Sums f F heights (suc n) now

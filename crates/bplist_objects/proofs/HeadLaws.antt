@@ -1,7 +1,8 @@
 -- Laws of heads: what marker and count announce is what is found there, and so at one place at most one head is announced.
-use Rattle.std.proofs.Common.{◌≡◌, ℕ, ◌+◌, ◌-◌, ◌*◌, ◌^◌, ◌<◌, ◌≤◌, Bool, true, false, ◌&&◌, nat_le, nat_lt, nat_eq, if◌then◌else◌, List, slice_index, Option, Some, None, sym, ap, ap₂, ◌∙◌, arith, refl, inl, inr, subst}
+use Rattle.std.proofs.Common.{◌≡◌, ℕ, ◌+◌, ◌-◌, ◌*◌, ◌^◌, ◌<◌, ◌≤◌, Bool, true, false, ◌&&◌, nat_le, nat_eq, if◌then◌else◌, List, [], ◌∷◌, slice_index, Option, Some, None, IsSome, find, sym, ap, ap₂, ◌∙◌, arith, refl, inl, inr, subst}
 use Rattle.std.proofs.lemmas.Bool.Decides.{nat_tests}
-use Rattle.std.specs.Option.{option_map}
+use Rattle.std.proofs.lemmas.Bool.{false≢true}
+use Rattle.std.specs.Option.{option_map, option_and_then}
 use Rattle.std.proofs.lemmas.Option.{same_Some}
 use Rattle.bplist_objects.specs.declared.frame.Frame.{Frame}
 use Rattle.bplist_objects.specs.declared.head.Head.{Head}
@@ -9,7 +10,7 @@ use Rattle.bplist_objects.specs.declared.kind.Kind.{Kind}
 use Rattle.bplist_objects.specs.declared.kind.Kind.TheVariants as kinds
 use Rattle.bplist_objects.specs.Numbers.{num_at}
 use Rattle.bplist_objects.specs.Frame.{off}
-use Rattle.bplist_objects.specs.Announced.{Form, plain, counted, form_of, least, greatest, Marks, IsLong, IsLongOf, HasLongCount, AnnouncesAs, Announces, HasHead, kind_at, long_found, count_found, head_with, head_found, unit}
+use Rattle.bplist_objects.specs.Announced.{Form, plain, counted, form_of, least, greatest, is_of, all_kinds, Marks, IsMarker, IsLong, IsLongOf, HasLongCount, AnnouncesAs, Announces, HasHead, kind_at, long_found, count_found, head_with, head_found, unit}
 
 -- what is found under a test
 pub if_some : {X : Type 0} (t : Bool) (x y : X) → (if t then Some x else None) ≡ Some y → (t ≡ true) × (x ≡ y)
@@ -17,8 +18,22 @@ if_some true x y e = (refl, same_Some x y e)
 if_some false x y e = absurd (cc e)
 
 -- ---- the kind
+-- what is found passes the test
+find_passes : {X : Type 0} (test : X → Bool) (xs : List X) (x : X) → find test xs ≡ Some x → test x ≡ true
+find_passes test [] x e = absurd (cc e)
+find_passes test (y ∷ ys) x e = go (test y) refl e (find_passes test ys x)
+  where
+    go : (t : Bool) → test y ≡ t → (if t then Some y else find test ys) ≡ Some x → (find test ys ≡ Some x → test x ≡ true) → test x ≡ true
+    go true s r more = subst (λ z. test z ≡ true) (same_Some y x r) s
+    go false s r more = more r
+
+-- what a test of a form says
+of_form : (form : Form) (m : ℕ) → is_of form m ≡ true → (least form ≤ m) × (m ≤ greatest form)
+of_form (plain low high says) m t = grind (arith, nat_tests)
+of_form (counted high) m t = grind (arith, nat_tests)
+
 -- a marker is of the kind that is found
-pub kind_marked : (m : ℕ) (kind : Kind) → Marks m kind → kind_at m ≡ kind
+pub kind_marked : (m : ℕ) (kind : Kind) → Marks m kind → kind_at m ≡ Some kind
 unfolding kind_at
 kind_marked m kinds.Null h = grind (arith, nat_tests)
 kind_marked m kinds.False h = grind (arith, nat_tests)
@@ -33,6 +48,21 @@ kind_marked m kinds.Uid h = grind (arith, nat_tests)
 kind_marked m kinds.Array h = grind (arith, nat_tests)
 kind_marked m kinds.Set h = grind (arith, nat_tests)
 kind_marked m kinds.Dict h = grind (arith, nat_tests)
+
+pub marked_kind : (m : ℕ) (kind : Kind) → kind_at m ≡ Some kind → Marks m kind
+unfolding kind_at
+marked_kind m kind e = of_form (form_of kind) m (find_passes (λ k. is_of (form_of k) m) all_kinds kind e)
+
+-- a byte is a marker exactly where it is one of a kind
+pub marker_marks : (m : ℕ) → IsMarker m → (kind : Kind) × Marks m kind
+marker_marks m is = go (kind_at m) refl is
+  where
+    go : (found : Option Kind) → kind_at m ≡ found → IsSome found → (kind : Kind) × Marks m kind
+    go None e h = absurd (false≢true h)
+    go (Some kind) e h = (kind, marked_kind m kind e)
+
+pub marks_marker : (m : ℕ) (kind : Kind) → Marks m kind → IsMarker m
+marks_marker m kind h = subst IsSome (sym (kind_marked m kind h)) refl
 
 -- a marker that says that its count follows is one
 pub long_marks : (m : ℕ) (form : Form) → IsLongOf form m → (least form ≤ m) × (m ≤ greatest form)
@@ -55,7 +85,7 @@ module _ (f : List ℕ) (p : ℕ) where
   -- what a long marker announces has its count behind the marker
   pub long-Announces : (kind : Kind) (count body : ℕ) → IsLong m → Announces f p kind count body → HasLongCount f p count body
   long-Announces kind count body (other, l) a =
-      let same : other ≡ kind = sym (kind_marked m other (long_marks m (form_of other) l)) ∙ kind_marked m kind (announced_marks (form_of kind) count body a) in
+      let same : other ≡ kind = same_Some other kind (sym (kind_marked m other (long_marks m (form_of other) l)) ∙ kind_marked m kind (announced_marks (form_of kind) count body a)) in
       go (form_of kind) (subst (λ k. IsLongOf (form_of k) m) same l) a
     where
       go : (form : Form) → IsLongOf form m → AnnouncesAs f p form count body → HasLongCount f p count body
@@ -79,39 +109,33 @@ module _ (f : List ℕ) (p : ℕ) where
 
   -- what is announced is found
   announced_found : (form : Form) (count body : ℕ) → AnnouncesAs f p form count body → count_found f p form ≡ Some (count, body)
-  announced_found (plain low high says) count body (l, h, c, b) =
-      let t : (nat_le low m && nat_le m high) ≡ true = grind (arith, nat_tests) in
-      if_true _ t (ap₂ (λ x y. Some (x, y)) (sym c) (sym b))
+  announced_found (plain low high says) count body (l, h, c, b) = ap₂ (λ x y. Some (x, y)) (sym c) (sym b)
   announced_found (counted high) count body (inl (low, at, b)) =
-      let t : (nat_le (16 * high) m && nat_lt m (16 * high + 15)) ≡ true = grind (arith, nat_tests) in
-      if_true _ t (ap₂ (λ x y. Some (x, y)) (omega (arith, at)) (sym b))
+      let u : nat_eq m (16 * high + 15) ≡ false = grind (arith, nat_tests) in
+      if_false _ u (ap₂ (λ x y. Some (x, y)) (omega (arith, at)) (sym b))
   announced_found (counted high) count body (inr (at, long)) =
-      let t : (nat_le (16 * high) m && nat_lt m (16 * high + 15)) ≡ false = grind (arith, nat_tests) in
       let u : nat_eq m (16 * high + 15) ≡ true = grind (arith, nat_tests) in
-      if_false _ t (if_true _ u (long_is_found count body long))
+      if_true _ u (long_is_found count body long)
 
   -- what is found is announced
-  found_announced : (form : Form) (x : ℕ × ℕ) → count_found f p form ≡ Some x → AnnouncesAs f p form x.0 x.1
-  found_announced (plain low high says) x e =
-      let r = if_some (nat_le low m && nat_le m high) (says m, p + 1) x e in
-      let t = r.0 in
-      let b : (low ≤ m) × (m ≤ high) = grind (arith, nat_tests) in
-      (b.0, b.1, sym (ap (λ y. y.0) r.1), sym (ap (λ y. y.1) r.1))
-  found_announced (counted high) x e = go (nat_le (16 * high) m && nat_lt m (16 * high + 15)) refl (nat_eq m (16 * high + 15)) refl e
+  found_announced : (form : Form) → (least form ≤ m) × (m ≤ greatest form) → (x : ℕ × ℕ) → count_found f p form ≡ Some x → AnnouncesAs f p form x.0 x.1
+  found_announced (plain low high says) marks x e =
+      let r = same_Some (says m, p + 1) x e in
+      (marks.0, marks.1, sym (ap (λ y. y.0) r), sym (ap (λ y. y.1) r))
+  found_announced (counted high) marks x e = go (nat_eq m (16 * high + 15)) refl e
     where
-      go : (t : Bool) → (nat_le (16 * high) m && nat_lt m (16 * high + 15)) ≡ t → (u : Bool) → nat_eq m (16 * high + 15) ≡ u
-          → (if t then Some (m - 16 * high, p + 1) else if u then long_found f p else None) ≡ Some x → AnnouncesAs f p (counted high) x.0 x.1
-      go true s u v e =
-          let b : (16 * high ≤ m) × (m < 16 * high + 15) = grind (arith, nat_tests) in
+      go : (u : Bool) → nat_eq m (16 * high + 15) ≡ u → (if u then long_found f p else Some (m - 16 * high, p + 1)) ≡ Some x → AnnouncesAs f p (counted high) x.0 x.1
+      go false v e =
+          let apart : m ≡ 16 * high + 15 → ⊥ = λ h. grind (arith, nat_tests) in
+          let below : m < 16 * high + 15 = omega (arith, marks, apart) in
           let r = same_Some (m - 16 * high, p + 1) x e in
-          inl (omega (arith, b, ap (λ y. y.0) r), omega (arith, b, ap (λ y. y.0) r), sym (ap (λ y. y.1) r))
-      go false s true v e =
+          inl (omega (arith, marks, below, ap (λ y. y.0) r), omega (arith, marks, below, ap (λ y. y.0) r), sym (ap (λ y. y.1) r))
+      go true v e =
           let r = if_some (nat_le 16 next && nat_le next 20) (num_at f (p + 2) (2 ^ (next - 16)), p + 2 + 2 ^ (next - 16)) x e in
           let t = r.0 in
           let at : m ≡ 16 * high + 15 = grind (arith, nat_tests) in
           let b : (16 ≤ next) × (next ≤ 20) = grind (arith, nat_tests) in
           inr (at, (next - 16, omega (arith, b), omega (arith, b), sym (ap (λ y. y.0) r.1), sym (ap (λ y. y.1) r.1)))
-      go false s false v e = absurd (cc e)
 
 -- ---- the head
 module _ (f : List ℕ) (F : Frame) (n : ℕ) where
@@ -125,17 +149,21 @@ module _ (f : List ℕ) (F : Frame) (n : ℕ) where
   -- those of a head that is there
   pub head_parts : (head : Head) → HasHead f F n head → HasParts head
   unfolding head_found
-  head_parts head e = go (kind_at (slice_index f o)) (count_found f o (form_of (kind_at (slice_index f o)))) refl e
+  head_parts head e = go (kind_at (slice_index f o)) refl e
     where
-      go : (kind : Kind) (found : Option (ℕ × ℕ)) → count_found f o (form_of kind) ≡ found → option_map (head_with f F kind) found ≡ Some head → HasParts head
-      go kind None s r = absurd (cc r)
-      go kind (Some x) s r = subst HasParts (same_Some _ head r) (found_announced f o (form_of kind) x s, refl)
+      of_kind : (kind : Kind) → Marks (slice_index f o) kind → (found : Option (ℕ × ℕ)) → count_found f o (form_of kind) ≡ found → option_map (head_with f F kind) found ≡ Some head → HasParts head
+      of_kind kind marks None s r = absurd (cc r)
+      of_kind kind marks (Some x) s r = subst HasParts (same_Some _ head r) (found_announced f o (form_of kind) marks x s, refl)
+
+      go : (found : Option Kind) → kind_at (slice_index f o) ≡ found → option_and_then (λ kind. option_map (head_with f F kind) (count_found f o (form_of kind))) found ≡ Some head → HasParts head
+      go None s r = absurd (cc r)
+      go (Some kind) s r = of_kind kind (marked_kind (slice_index f o) kind s) (count_found f o (form_of kind)) refl r
 
   -- where they are announced the head is there
   pub head_announced : (head : Head) → HasParts head → HasHead f F n head
   unfolding head_found
   head_announced head h =
-      let kind : kind_at (slice_index f o) ≡ head.kind = kind_marked (slice_index f o) head.kind (announced_marks f o (form_of head.kind) head.count head.body h.0) in
-      ap (λ k. option_map (head_with f F k) (count_found f o (form_of k))) kind
+      let kind = kind_marked (slice_index f o) head.kind (announced_marks f o (form_of head.kind) head.count head.body h.0) in
+      ap (option_and_then (λ kind. option_map (head_with f F kind) (count_found f o (form_of kind)))) kind
       ∙ ap (option_map (head_with f F head.kind)) (announced_found f o (form_of head.kind) head.count head.body h.0)
       ∙ ap (λ x. Some (record { kind = head.kind; count = head.count; body = head.body; «end» = x })) (sym h.1)

@@ -1,5 +1,5 @@
 -- Each rule is kept or broken, and so either all rules are kept or there is a first fault.
-use Rattle.std.proofs.Common.{◌≡◌, ℕ, ◌<◌, ◌≤◌, ◌+◌, ◌-◌, ◌*◌, ◌^◌, ◌⊎◌, inl, inr, List, [], ◌∷◌, length, slice_index, Option, Some, None, IsSome, refl, sym, subst, arith}
+use Rattle.std.proofs.Common.{◌≡◌, ℕ, ◌<◌, ◌≤◌, ◌+◌, ◌-◌, ◌*◌, ◌^◌, ◌⊎◌, inl, inr, List, [], ◌∷◌, length, slice_index, Option, Some, None, IsSome, refl, subst, arith}
 use Rattle.std.proofs.lemmas.Bool.{cases_lt, cases_eq, false≢true}
 use Rattle.bplist_objects.specs.declared.rule.Rule.{Rule}
 use Rattle.bplist_objects.specs.declared.rule.Rule.TheVariants as rules
@@ -14,11 +14,10 @@ use Rattle.bplist_objects.specs.Frame.{off, trailer, header, Keeps, frame_rules}
 use Rattle.bplist_objects.specs.Rules.{KeepsAll, IsFirstFault}
 use Rattle.bplist_objects.specs.Scan.{AreBelow, IsFirstNotBelow, nth_number}
 use Rattle.bplist_objects.specs.FrameRules.{Breaks, IsFrameFault}
-use Rattle.bplist_objects.specs.Announced.{form_of, least, greatest, Marks, IsMarker, HasHead, kind_at, head_found}
+use Rattle.bplist_objects.specs.Announced.{HasHead, kind_at, head_found}
 use Rattle.bplist_objects.specs.ObjectRules.{KeepsByObject, BreaksByObject, BreaksAt, IsObjectFault}
 use Rattle.bplist_objects.specs.Safe.{ref_count}
 use Rattle.bplist_objects.proofs.Lists.{Either, all_or_first}
-use Rattle.bplist_objects.proofs.HeadLaws.{kind_marked}
 use Rattle.bplist_objects.proofs.BodyLaws.{HasHead-unique}
 
 is_le : (a b : ℕ) → Either (a ≤ b)
@@ -121,12 +120,6 @@ frame_kept_or_fault f = elim (cases_lt (length f) 41) [
 ]
 
 -- ---- rules 14 to 20
-marker_decided : (m : ℕ) → Either (IsMarker m)
-marker_decided m = elim (is_between m (least (form_of (kind_at m))) (greatest (form_of (kind_at m)))) [
-  | inl h ↦ inl (kind_at m, h)
-  | inr no1 ↦ inr (λ is. no1 (subst (Marks m) (sym (kind_marked m is.0 is.1)) is.1))
-]
-
 some_decided : {X : Type 0} (o : Option X) → Either (IsSome o)
 some_decided None = inr false≢true
 some_decided (Some x) = inl refl
@@ -178,9 +171,9 @@ module _ (f : List ℕ) (F : Frame) (n : ℕ) where
 
   object_rule_decided : (rule : Rule) → KeepsByObject f F n rule ⊎ ((place : ℕ) × BreaksByObject f F n rule place)
   object_rule_decided rules.OffsetLow = at (F.table + n * F.offset_size) (is_le 8 o)
-  object_rule_decided rules.Marker = at o (marker_decided (slice_index f o))
-  object_rule_decided rules.Count = at (o + 1) (is_implied (marker_decided (slice_index f o)) count_decided)
-  object_rule_decided rules.Extent = at o (is_implied (marker_decided (slice_index f o)) (is_implied count_decided (early_decided (head_found f F n) refl)))
+  object_rule_decided rules.Marker = at o (some_decided (kind_at (slice_index f o)))
+  object_rule_decided rules.Count = at (o + 1) (is_implied (some_decided (kind_at (slice_index f o))) count_decided)
+  object_rule_decided rules.Extent = at o (is_implied (some_decided (kind_at (slice_index f o))) (is_implied count_decided (early_decided (head_found f F n) refl)))
   object_rule_decided rules.UidLarge =
       at o (of_head (λ head. head.kind ≡ kinds.Uid → num_at f head.body head.count ≤ 4294967295)
       (λ head. is_implied (uid_decided head.kind) (is_le (num_at f head.body head.count) 4294967295)))

@@ -17,7 +17,7 @@ use Rattle.bplist_objects.specs.Counts.{IsLongCountFault}
 use Rattle.bplist_objects.specs.Answers.{GivesFault}
 use Rattle.bplist_objects.specs.declared.fault.ObjectFault.{ObjectFault}
 use Rattle.bplist_objects.specs.declared.fault.ObjectFault.TheVariants as errors
-use Rattle.bplist_objects.proofs.HeadLaws.{long_marks, long-Announces, announced_marks, head_parts, head_announced}
+use Rattle.bplist_objects.proofs.HeadLaws.{long_marks, long-Announces, announced_marks, marks_marker, head_parts, head_announced}
 use Rattle.bplist_objects.proofs.BodyLaws.{HasHead-unique}
 
 -- a count behind a long marker is announced
@@ -47,7 +47,7 @@ module _ (f : List ℕ) (F : Frame) (n : ℕ) (far : 8 ≤ off f F n) where
 
   module _ (head : Head) (h : HasHead f F n head) where
     marker_kept : IsMarker (slice_index f o)
-    marker_kept = (head.kind, announced_marks f o (form_of head.kind) head.count head.body (head_parts f F n head h).0)
+    marker_kept = marks_marker (slice_index f o) head.kind (announced_marks f o (form_of head.kind) head.count head.body (head_parts f F n head h).0)
 
     head_there : IsSome (head_found f F n)
     head_there = subst IsSome (sym h) refl
@@ -73,17 +73,17 @@ module _ (f : List ℕ) (F : Frame) (n : ℕ) (far : 8 ≤ off f F n) where
   -- what is wrong with a long count is the first that is wrong with the object
   pub shape_long : 1 ≤ F.ref_size → (kind : Kind) → Marks (slice_index f o) kind → IsLongOf (form_of kind) (slice_index f o) → (fault : Fault) → IsLongCountFault f F.table o n fault → IsObjectFault f F n shape_rules fault
   shape_long low kind marks long fault (object, inl (rule, inside, wrong, place)) =
-      inr (far, inr ((kind, marks), inl (rule, (object, ((λ k. never (head_found f F n) refl (k (kind, marks) inside)), place)))))
+      inr (far, inr (marks_marker (slice_index f o) kind marks, inl (rule, (object, ((λ k. never (head_found f F n) refl (k (marks_marker (slice_index f o) kind marks) inside)), place)))))
     where
       never : (found : Option Head) → head_found f F n ≡ found → IsSome found → ⊥
       never None e h = false≢true h
       never (Some head) e h = wrong (form-HasLongCount f o head.count head.body (long_count kind long head e))
   shape_long low kind marks long fault (object, inr (rule, place, inl late)) =
-      inr (far, inr ((kind, marks), inr (λ m l. absurd (omega arith), inl (rule, (object, (early, place))))))
+      inr (far, inr (marks_marker (slice_index f o) kind marks, inr (λ m l. absurd (omega arith), inl (rule, (object, (early, place))))))
     where
       early : KeepsByObject f F n Extent → ⊥
       early k =
-          let e = k (kind, marks) (λ l. absurd (omega arith)) in
+          let e = k (marks_marker (slice_index f o) kind marks) (λ l. absurd (omega arith)) in
           let count = long_count kind long e.0 e.1 in
           omega (arith, late, e.2, (head_parts f F n e.0 e.1).1, count)
   shape_long low kind marks long fault (object, inr (rule, place, inr (count, body, has, late))) =

@@ -1,6 +1,6 @@
 -- What the marker and the count at the place of an object announce. Source: the format comment of CFBinaryPList.c.
-use Rattle.std.specs.Prelude.{◌≡◌, ◌⊎◌, ℕ, ◌+◌, ◌-◌, ◌*◌, ◌^◌, ◌<◌, ◌≤◌, Bool, true, false, ◌&&◌, nat_eq, nat_lt, nat_le, if◌then◌else◌, List, [], ◌∷◌, slice_index, Option, Some, None}
-use Rattle.std.specs.Option.{option_map}
+use Rattle.std.specs.Prelude.{◌≡◌, ◌⊎◌, ℕ, ◌+◌, ◌-◌, ◌*◌, ◌^◌, ◌<◌, ◌≤◌, Bool, true, false, ◌&&◌, nat_eq, nat_le, if◌then◌else◌, List, [], ◌∷◌, slice_index, Option, Some, None, IsSome, find}
+use Rattle.std.specs.Option.{option_map, option_and_then}
 use Rattle.bplist_objects.specs.declared.frame.Frame.{Frame}
 use Rattle.bplist_objects.specs.declared.kind.Kind.{Kind}
 use Rattle.bplist_objects.specs.declared.kind.Kind.TheVariants as kinds
@@ -37,6 +37,53 @@ form_of kinds.Array = counted 10
 form_of kinds.Set = counted 12
 form_of kinds.Dict = counted 13
 
+-- the byte is a marker of this form
+abbrev pub is_of : Form → ℕ → Bool
+is_of (plain low high says) marker = nat_le low marker && nat_le marker high
+is_of (counted high) marker = nat_le (16 * high) marker && nat_le marker (16 * high + 15)
+
+-- all kinds
+abbrev pub all_kinds : List Kind
+all_kinds =
+    kinds.Null ∷ kinds.False ∷ kinds.True ∷ kinds.Int ∷ kinds.Real ∷ kinds.Date ∷ kinds.Bytes ∷ kinds.Ascii ∷ kinds.Wide ∷ kinds.Uid
+    ∷ kinds.Array ∷ kinds.Set ∷ kinds.Dict ∷ []
+
+-- the kind of a marker, if the byte is one
+unfoldable pub kind_at : ℕ → Option Kind
+kind_at marker = find (λ kind. is_of (form_of kind) marker) all_kinds
+
+-- the byte is a marker
+abbrev pub IsMarker : ℕ → Type 0
+IsMarker marker = IsSome (kind_at marker)
+
+-- the count that stands behind the marker, and the place after it, if there is one
+abbrev pub long_found : List ℕ → ℕ → Option (ℕ × ℕ)
+long_found f place =
+    if nat_le 16 (slice_index f (place + 1)) && nat_le (slice_index f (place + 1)) 20
+    then Some (num_at f (place + 2) (2 ^ (slice_index f (place + 1) - 16)), place + 2 + 2 ^ (slice_index f (place + 1) - 16))
+    else None
+
+-- the count and the body that a marker of this form announces
+abbrev pub count_found : List ℕ → ℕ → Form → Option (ℕ × ℕ)
+count_found f place (plain low high says) = Some (says (slice_index f place), place + 1)
+count_found f place (counted high) =
+    if nat_eq (slice_index f place) (16 * high + 15) then long_found f place else Some (slice_index f place - 16 * high, place + 1)
+
+module _ (f : List ℕ) (F : Frame) where
+  -- the head of this kind with this count and body
+  abbrev pub head_with : Kind → ℕ × ℕ → Head
+  head_with kind (count, body) = record { kind = kind; count = count; body = body; end = body + count * unit F.ref_size kind }
+
+  -- the head that marker and count of object n announce, if any
+  unfoldable pub head_found : ℕ → Option Head
+  head_found n =
+      option_and_then (λ kind. option_map (head_with kind) (count_found f (off f F n) (form_of kind))) (kind_at (slice_index f (off f F n)))
+
+  -- marker and count of object n announce this head
+  abbrev pub HasHead : ℕ → Head → Type 0
+  HasHead n head = head_found n ≡ Some head
+
+-- ---- the same by place and index
 -- the least marker of a form
 abbrev pub least : Form → ℕ
 least (plain low high says) = low
@@ -50,10 +97,6 @@ greatest (counted high) = 16 * high + 15
 -- the byte is a marker of this kind
 abbrev pub Marks : ℕ → Kind → Type 0
 Marks marker kind = (least (form_of kind) ≤ marker) × (marker ≤ greatest (form_of kind))
-
--- the byte is a marker
-abbrev pub IsMarker : ℕ → Type 0
-IsMarker marker = (kind : Kind) × Marks marker kind
 
 -- the marker holds a count, or says that it follows
 abbrev pub is_counted : Form → Bool
@@ -73,52 +116,6 @@ IsLong marker = (kind : Kind) × IsLongOf (form_of kind) marker
 abbrev pub IsCountForm : ℕ → Type 0
 IsCountForm form = (16 ≤ form) × (form ≤ 20)
 
--- the kinds in the order of their markers
-abbrev pub kinds_in_order : List Kind
-kinds_in_order =
-    kinds.Null ∷ kinds.False ∷ kinds.True ∷ kinds.Int ∷ kinds.Real ∷ kinds.Date ∷ kinds.Bytes ∷ kinds.Ascii ∷ kinds.Wide ∷ kinds.Uid
-    ∷ kinds.Array ∷ kinds.Set ∷ []
-
--- the first of these kinds that has so great a marker
-abbrev pub kind_among : ℕ → List Kind → Kind
-kind_among marker [] = kinds.Dict
-kind_among marker (kind ∷ more) = if nat_le marker (greatest (form_of kind)) then kind else kind_among marker more
-
--- the kind of a marker, if it is one
-unfoldable pub kind_at : ℕ → Kind
-kind_at marker = kind_among marker kinds_in_order
-
--- the count that stands behind the marker, and the place after it, if there is one
-abbrev pub long_found : List ℕ → ℕ → Option (ℕ × ℕ)
-long_found f place =
-    if nat_le 16 (slice_index f (place + 1)) && nat_le (slice_index f (place + 1)) 20
-    then Some (num_at f (place + 2) (2 ^ (slice_index f (place + 1) - 16)), place + 2 + 2 ^ (slice_index f (place + 1) - 16))
-    else None
-
--- the count and the body that a marker of this form announces, if it is one
-abbrev pub count_found : List ℕ → ℕ → Form → Option (ℕ × ℕ)
-count_found f place (plain low high says) =
-    if nat_le low (slice_index f place) && nat_le (slice_index f place) high then Some (says (slice_index f place), place + 1) else None
-count_found f place (counted high) =
-    if nat_le (16 * high) (slice_index f place) && nat_lt (slice_index f place) (16 * high + 15)
-    then Some (slice_index f place - 16 * high, place + 1)
-    else if nat_eq (slice_index f place) (16 * high + 15) then long_found f place else None
-
-module _ (f : List ℕ) (F : Frame) where
-  -- the head of this kind with this count and body
-  abbrev pub head_with : Kind → ℕ × ℕ → Head
-  head_with kind (count, body) = record { kind = kind; count = count; body = body; end = body + count * unit F.ref_size kind }
-
-  -- the head that marker and count of object n announce, if any
-  unfoldable pub head_found : ℕ → Option Head
-  head_found n =
-      option_map (head_with (kind_at (slice_index f (off f F n)))) (count_found f (off f F n) (form_of (kind_at (slice_index f (off f F n)))))
-
-  -- marker and count of object n announce this head
-  abbrev pub HasHead : ℕ → Head → Type 0
-  HasHead n head = head_found n ≡ Some head
-
--- ---- the same by place and index
 -- the count behind the marker, and the place after it
 abbrev pub HasLongCount : List ℕ → ℕ → ℕ → ℕ → Type 0
 HasLongCount f place count body =

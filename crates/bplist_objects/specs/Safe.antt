@@ -20,12 +20,12 @@ pub record IsSafeFrame (len : ℕ) (frame : Frame) : Type 0 where
   pub top : frame.top.0 < frame.objects
   pub table : 9 ≤ frame.table
 
--- the counts that markers of a form may say
+-- a marker of this form may say this count
 abbrev pub IsSaid : Form → ℕ → Type 0
 IsSaid (plain low high says) count = (marker : ℕ) × (low ≤ marker) × (marker ≤ high) × (count ≡ says marker)
 IsSaid (counted high) count = Unit {0}
 
--- the counts that a kind may have
+-- the same of a kind
 abbrev pub MayCount : Kind → ℕ → Type 0
 MayCount kind count = IsSaid (form_of kind) count
 
@@ -38,13 +38,13 @@ ref_count _ count = 0
 
 -- the parts of an object with this head lie before the table
 pub record IsSafeHead (frame : Frame) (head : Head) : Type 0 where
-  pub may : MayCount head.kind head.count
+  pub may : IsSaid (form_of head.kind) head.count
   pub body : head.body + head.count * unit frame.ref_size head.kind ≤ head.«end»
   pub table : head.«end» ≤ frame.table
 
 -- the body of this head lies in so many bytes
 pub record IsSafeBody (len : ℕ) (head : Head) : Type 0 where
-  pub may : MayCount head.kind head.count
+  pub may : IsSaid (form_of head.kind) head.count
   pub body : head.body + head.count * unit 1 head.kind ≤ head.«end»
   pub within : head.«end» ≤ len
 

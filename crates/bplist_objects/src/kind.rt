@@ -35,6 +35,7 @@ pub enum Kind {
 }
 
 /// The kind that a marker is of.
+#[tactic(auto, using(crate::proofs::HeadLaws::marker_marks))]
 pub(crate) fn kind_of(marker: u8) -> Option<Kind>
     ensures { MatchOption result (IsMarker marker → ⊥) (Marks marker) }
 {

@@ -7,23 +7,15 @@ ghost use Rattle.bplist_octets.specs.Sources.{faulty_meaning, faulty_answer, bef
 
 use crate::slice::SliceSource;
 use crate::source::{ReadFault, Source};
-use std::marker::Model;
 
 /// A source over a slice, one read of which answers `Device`. It is honest. Its count of failures is 0
 /// before that read and 1 after it. It is public so that callers can test what they do when a read fails.
 #[derive(Drop)]
 pub struct FaultySource<'a> {
-    octets: &'a [u8],
+    /// The bytes.
+    pub octets: &'a [u8],
     /// How many reads come before the one that fails. None: it has failed.
-    before: Option<u64>,
-}
-
-impl<'a> Model for FaultySource<'a> {
-    ghost use Rattle.bplist_octets.specs.Sources.{Faulty};
-
-    ghost Value = { Faulty };
-
-    ghost view = { λ s. record { octets = s.octets.now; before = s.before } };
+    pub before: Option<u64>,
 }
 
 impl Source for FaultySource<'_> {
@@ -34,7 +26,7 @@ impl Source for FaultySource<'_> {
     }
 
     fn read_at(&mut self, at: u64, into: &mut [u8]) -> Result<(), ReadFault>
-        requires { at + length into.old ≤ length self.old.octets }
+        requires { at + length into.old ≤ length self.old.octets.now }
         ensures reads { OnlyReads (is_err result) (faulty_meaning self.old) (faulty_meaning self.new) }
         ensures filled { OnOk result (IsTrue (faulty_meaning self.old).honest
             → into.new ≡ part (faulty_meaning self.old).octets at (length into.old)) }
@@ -56,7 +48,8 @@ impl Source for FaultySource<'_> {
 impl<'a> FaultySource<'a> {
     /// A source over these bytes whose read number `fails`, counted from 0, fails.
     pub fn new(octets: &'a [u8], fails: u64) -> FaultySource<'a>
-        ensures { result ≡ record { octets = octets.now; before = Some fails } }
+        ensures octets { result.octets.now ≡ octets.now }
+        ensures before { result.before ≡ Some fails }
     {
         FaultySource {
             octets,

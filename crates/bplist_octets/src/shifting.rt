@@ -3,35 +3,27 @@
 ghost use Rattle.std.specs.Prelude.{◌≡◌, ◌+◌, ◌-◌, ◌≤◌, length, IsTrue, OnOk, is_err};
 ghost use Rattle.bplist_octets.specs.Octets.{part};
 ghost use Rattle.bplist_octets.specs.Meaning.{OnlyReads};
-ghost use Rattle.bplist_octets.specs.Sources.{shifting_meaning, shown};
 
 use crate::slice::SliceSource;
 use crate::source::{ReadFault, Source};
-use std::marker::Model;
 
 /// A source over two slices of one length: its first reads are of the first, all later ones of the
 /// second. It promises no honesty, and no read of it fails. It is public so that callers can test what they do when a file
 /// changes between two reads.
 #[derive(Drop)]
 pub struct ShiftingSource<'a> {
-    first: &'a [u8],
-    second: &'a [u8],
+    /// The bytes of the first reads.
+    pub first: &'a [u8],
+    /// The bytes of all later ones.
+    pub second: &'a [u8],
     /// How many reads of the first slice are left.
-    left: u64,
-}
-
-impl<'a> Model for ShiftingSource<'a> {
-    ghost use Rattle.std.specs.Prelude.{◌≡◌, length};
-    ghost use Rattle.bplist_octets.specs.Sources.{Shifting};
-
-    ghost Value = { Shifting };
-
-    ghost view = { λ s. record { first = s.first.now; second = s.second.now; left = s.left } };
-
-    ghost invariant = { λ s. length s.second.now ≡ length s.first.now };
+    pub left: u64,
+    ghost same_length: { length second.now ≡ length first.now },
 }
 
 impl Source for ShiftingSource<'_> {
+    ghost use Rattle.bplist_octets.specs.Sources.{shifting_meaning, shown};
+
     ghost means = { shifting_meaning };
 
     fn len(&self) -> u64 {
@@ -39,12 +31,13 @@ impl Source for ShiftingSource<'_> {
     }
 
     fn read_at(&mut self, at: u64, into: &mut [u8]) -> Result<(), ReadFault>
-        requires { at + length into.old ≤ length self.old.first }
+        requires { at + length into.old ≤ length self.old.first.now }
         ensures reads { OnlyReads (is_err result) (shifting_meaning self.old) (shifting_meaning self.new) }
         ensures filled { OnOk result (IsTrue (shifting_meaning self.old).honest
             → into.new ≡ part (shifting_meaning self.old).octets at (length into.old)) }
         ensures never_fails { result ≡ Ok tt }
-        ensures turn { self.new ≡ record self.old { left = self.old.left - 1 } }
+        ensures turn { self.new.left ≡ self.old.left - 1 }
+        ensures same { (self.new.first.now ≡ self.old.first.now) × (self.new.second.now ≡ self.old.second.now) }
         ensures shows { into.new ≡ part (shown self.old) at (length into.old) }
     {
         let octets = if self.left > 0 {
@@ -62,7 +55,9 @@ impl<'a> ShiftingSource<'a> {
     /// as long.
     pub fn new(first: &'a [u8], second: &'a [u8], reads: u64) -> ShiftingSource<'a>
         requires { length first.now ≡ length second.now }
-        ensures { result ≡ record { first = first.now; second = second.now; left = reads } }
+        ensures first { result.first.now ≡ first.now }
+        ensures second { result.second.now ≡ second.now }
+        ensures left { result.left ≡ reads }
     {
         ShiftingSource {
             first,
