@@ -1,8 +1,9 @@
 #!/usr/bin/env python3
-"""edits.py [--table] [CRATE [EDIT..]]
+"""edits.py [--all | CRATE [EDIT..]]
 
-Tries the must-fail edits of tests/edits, all, or those of a crate, or those named, and says what refuses each. One line an
-edit: the edit, its function, the verdict and the goals. The verdicts:
+Tries must-fail edits and says what refuses each: with no word those right in tests/edits/CRATE, which the gate tries; of a crate that
+is named those in its folder more/ too, all or those named; with --all every crate's. One line an edit: the edit, its function,
+the verdict and the goals. The verdicts:
 
   false    the prover found values at which a goal of the edited function does not hold
   open     a goal that the prover decides by itself stays open
@@ -12,7 +13,7 @@ edit: the edit, its function, the verdict and the goals. The verdicts:
   PROVED   nothing refuses it
 
 An edit passes where it is refused by one of the first three. The last line is `N passed, M failed`, and the status is 1 where
-one failed. With --table the rows of these edits in docs/EDITS.md are written anew: the edit, what it turns, what refuses it.
+one failed.
 
 Edits of different functions are tried together, in a copy of the crate over what its last check kept, so a crate takes a
 few checks; crates are tried side by side. Functions that no edit of the check turns are not proved there: their proofs are
@@ -122,7 +123,7 @@ def read_edit(path):
             old = text
         elif word.rstrip(":") == "new":
             pairs.append((file, old, text))
-    return Edit(path.parent.name, path.stem, pairs)
+    return Edit(path.relative_to(EDITS).parts[0], path.stem, pairs)
 
 
 def rounds(edits):
@@ -193,43 +194,8 @@ def verdict(goals):
     return next((it for it in ("unread", "stale", "false", "open", "answer") if it in kinds), "PROVED")
 
 
-def clause(goal):
-    """What a goal is of, in the words of the contract."""
-    if found := re.search(r"clause-(\w+)$", goal):
-        return f"`{found[1]}`"
-    if goal.startswith("returns"):
-        return "its clause"
-    if goal.startswith("loop-"):
-        return "the loop's measure" if "-smaller" in goal else "the loop's invariant"
-    return "the struct's invariant" if goal.startswith("invariant_of") else f"`{goal}`"
-
-
 def line(edit, goals):
     return f"{edit.name}: {edit.function or edit.file}: {verdict(goals)}: {', '.join(sorted({goal for _, goal in goals}))}"
-
-
-def row(edit, goals):
-    kind = verdict(goals)
-    what = ", ".join(sorted({clause(goal) for found, goal in goals if found == kind}))
-    turns = "; ".join(turn(old.strip(), new.strip()) for _, old, new in edit.pairs)
-    return f"| {edit.name} | {edit.file[4:]}: {turns} | {kind}: {what} |"
-
-
-def turn(old, new):
-    said = f"`{new[: -len(old)].strip()}` before `{old}`" if new.endswith(old) else f"`{old}` is `{new}`"
-    return said.replace("|", "\\|")
-
-
-def write_table(crate, rows):
-    """Puts the rows, by their edits, into the table below the crate's heading in docs/EDITS.md. Rows of edits that are gone go."""
-    path = ROOT / "docs/EDITS.md"
-    before, heading, rest = path.read_text().partition(f"\n## {crate.name}\n")
-    body, further, after = rest.partition("\n## ")
-    kept = {it.split(" | ")[0].lstrip("| "): it for it in body.split("\n") if it.startswith("| ")}
-    names = sorted(it.stem for it in (EDITS / crate.name).glob("*.edit"))
-    table = [it for name in names if (it := {**kept, **rows}.get(name))]
-    text = "\n".join(["", "| edit | what it turns | what refuses it |", "|---|---|---|", *table, ""])
-    path.write_text(before + heading + text + further + after)
 
 
 def tried(rt, crate, edits):
@@ -272,19 +238,22 @@ def check(rt, crate, edits, kept, is_short):
     return lines
 
 
-def try_crate(rt, crate, names, is_table):
-    """Tries a crate's edits, all or those named, prints a line for each, and says how many there are and how many failed."""
-    paths = sorted((EDITS / crate.name).glob("*.edit"))
-    edits = [read_edit(it) for it in paths if not names or it.stem in names]
+def edits_of(crate, names, has_more):
+    """A crate's edits, those of its folder more/ where they are asked for, all or those named, each with its function."""
+    folders = [EDITS / crate.name, EDITS / crate.name / "more"][: 1 + has_more]
+    paths = [path for folder in folders for path in sorted(folder.glob("*.edit")) if not names or path.stem in names]
+    edits = [read_edit(path) for path in paths]
     for edit in edits:
         edit.place(pathlib.Path(crate.folder))
-    rows, failed = {}, 0
+    return edits
+
+
+def try_crate(rt, crate, names, has_more):
+    """Tries a crate's edits, prints a line for each, and says how many there are and how many failed."""
+    edits, failed = edits_of(crate, names, has_more), 0
     for edit, goals in tried(rt, crate, edits):
         failed += verdict(goals) not in REFUSED
         print(line(edit, goals), flush=True)
-        rows[edit.name] = row(edit, goals)
-    if is_table:
-        write_table(crate, rows)
     return len(edits), failed
 
 
@@ -295,8 +264,8 @@ def at_once():
 
 
 def main(words):
-    is_table = "--table" in words
-    words = [it for it in words if it != "--table"]
+    has_more = bool(words)
+    words = [it for it in words if it != "--all"]
     os.chdir(ROOT)
     rt = kit()
     rt.rtlib.guarded()
@@ -305,10 +274,9 @@ def main(words):
         sys.exit(__doc__)
     # The uppermost first: they load most and take longest, so none of them is left for the end.
     crates.reverse()
-    jobs = 1 if is_table else at_once()
-    with concurrent.futures.ThreadPoolExecutor(jobs) as pool:
+    with concurrent.futures.ThreadPoolExecutor(at_once()) as pool:
         try:
-            counts = list(pool.map(lambda it: try_crate(rt, it, words[1:], is_table), crates))
+            counts = list(pool.map(lambda it: try_crate(rt, it, words[1:], has_more), crates))
         except ValueError as error:
             sys.exit(str(error))
     total, failed = (sum(it) for it in zip(*counts))

@@ -1,5 +1,5 @@
 -- The key lists of a certificate of least heights are one.
-use Rattle.std.proofs.Common.{◌≡◌, ℕ, zero, suc, ◌+◌, ◌-◌, ◌<◌, ◌≤◌, List, [], ◌∷◌, slice_index, slice_index_or, length, inl, inr, Bool, true, false, cond, nat_lt, Less, Option, Some, None, refl, sym, ap, ◌∙◌, subst, arith}
+use Rattle.std.proofs.Common.{◌≡◌, ℕ, zero, suc, ◌+◌, ◌-◌, ◌<◌, ◌≤◌, List, [], ◌∷◌, slice_index, slice_index_or, length, inl, inr, Bool, true, false, cond, nat_lt, Less, Option, Some, None, is_some, unwrap_or, refl, sym, ap, ◌∙◌, subst, arith}
 use Rattle.std.specs.List.{AllZip}
 use Rattle.std.proofs.lemmas.Bool.{cases_lt, cases_order, false≢true}
 use Rattle.std.proofs.lemmas.List.{ext_get_or}
@@ -19,7 +19,7 @@ use Rattle.bplist_cert.specs.Valid.{IsVouchedBy, SpellsText}
 use Rattle.bplist_cert.proofs.AllNumbers.{onto}
 use Rattle.bplist_lint.specs.Linted.{is_vouched}
 use Rattle.bplist_lint.specs.ReachRules.{sum_below}
-use Rattle.bplist_lint.specs.Upgraded.{is_dict, pairs_of, pairs, start, IsUpgraded}
+use Rattle.bplist_lint.specs.Upgraded.{pairs_of, pairs, pairs_below, IsUpgraded}
 
 -- ---- positions whose units ascend
 module _ (us : List (List ℕ)) (n : ℕ) where
@@ -149,59 +149,61 @@ module _ (f : List ℕ) (F : Frame) (heights : List ℕ) where
     ks : List ℕ
     ms : List ℕ
     spells : Spells f F n (Content.dict ks ms)
-    many : pairs f F heights n ≡ length ks
-    begin : start f F heights n ≡ sum_below (pairs f F heights) n
+    many : pairs f F heights n ≡ Some (length ks)
 
-  module _ (n : ℕ) (has : 0 < pairs f F heights n) where
+  -- how many positions object n has
+  abbrev many_of : ℕ → ℕ
+  many_of n = unwrap_or (pairs f F heights n) 0
+
+  module _ (n : ℕ) (has : 0 < many_of n) where
     listed_by : (b : Bool) (o : Option Content) → is_vouched heights n ≡ b → spelled_at f F n ≡ o → IsListedDict n
-    listed_by b o vouched spelled = go b o vouched spelled (λ i. cond (vouched i) (pairs_of (spelled i)) 0) (λ i. cond (vouched i) (cond (is_dict (spelled i)) (sum_below (pairs f F heights) n) 0) 0)
+    listed_by b o vouched spelled = go b o vouched spelled (λ i. cond (vouched i) (pairs_of (spelled i)) None)
       where
-        go : (b : Bool) (o : Option Content) → is_vouched heights n ≡ b → spelled_at f F n ≡ o → pairs f F heights n ≡ cond b (pairs_of o) 0
-            → start f F heights n ≡ cond b (cond (is_dict o) (sum_below (pairs f F heights) n) 0) 0 → IsListedDict n
-        go false o v e many begin = absurd (omega (arith, has, many))
-        go true None v e many begin = absurd (omega (arith, has, many))
-        go true (Some (Content.leaf l)) v e many begin = absurd (omega (arith, has, many))
-        go true (Some (Content.array ms)) v e many begin = absurd (omega (arith, has, many))
-        go true (Some (Content.set ms)) v e many begin = absurd (omega (arith, has, many))
-        go true (Some (Content.dict ks ms)) v e many begin = record {
+        none : pairs f F heights n ≡ None → ⊥
+        none e = let z = ap (λ o. unwrap_or o 0) e in omega (arith, has, z)
+
+        go : (b : Bool) (o : Option Content) → is_vouched heights n ≡ b → spelled_at f F n ≡ o → pairs f F heights n ≡ cond b (pairs_of o) None → IsListedDict n
+        go false o v e many = absurd (none many)
+        go true None v e many = absurd (none many)
+        go true (Some (Content.leaf l)) v e many = absurd (none many)
+        go true (Some (Content.array ms)) v e many = absurd (none many)
+        go true (Some (Content.set ms)) v e many = absurd (none many)
+        go true (Some (Content.dict ks ms)) v e many = record {
           vouched = vouched_by (slice_index heights n) v;
           ks = ks;
           ms = ms;
           spells = (spells_iff f F n (Content.dict ks ms)).1 e;
           many = many;
-          begin = begin;
         }
 
     listed_dict : IsListedDict n
     listed_dict = listed_by (is_vouched heights n) (spelled_at f F n) refl refl
 
   -- ---- the key lists
-  abbrev before_it : ℕ → ℕ
-  before_it n = sum_below (pairs f F heights) n
-
   module _ (c : Lists) (is : IsCertificate c) (u : IsUpgraded f F heights c) where
     all_starts : length u.keyed.starts ≡ F.objects
     all_starts = subst (HasStarts c.heights) u.keys is.starts ∙ u.accepted.valid.count
 
     -- the key list of a dictionary
-    list_there : (n : ℕ) → n < F.objects → (x : IsListedDict n) → IsSorted f F x.ks (part u.keyed.positions (before_it n) (length x.ks))
+    list_there : (n : ℕ) → n < F.objects → (x : IsListedDict n) → IsSorted f F x.ks (part u.keyed.positions (pairs_below f F heights n) (length x.ks))
     list_there n low x =
         let listed = subst (AreListed f F c.heights) u.keys u.accepted.listed in
         let own = (listed n x.ks x.ms (subst (λ hs. IsVouchedBy hs n) (sym u.same) x.vouched) x.spells).1 in
-        subst (λ k. IsSorted f F x.ks (part u.keyed.positions k (length x.ks))) (u.starts n low ∙ x.begin) own
+        subst (λ k. IsSorted f F x.ks (part u.keyed.positions k (length x.ks))) (u.starts n low ∙ ap (λ o. cond (is_some o) (pairs_below f F heights n) 0) x.many) own
 
   module _ (c d : Lists) (is : IsCertificate c) (js : IsCertificate d) (u : IsUpgraded f F heights c) (w : IsUpgraded f F heights d) where
-    same_position : (p : ℕ) → p < before_it F.objects → slice_index u.keyed.positions p ≡ slice_index w.keyed.positions p
+    same_position : (p : ℕ) → p < pairs_below f F heights F.objects → slice_index u.keyed.positions p ≡ slice_index w.keyed.positions p
     same_position p low =
-        let own = part_of (pairs f F heights) F.objects p low in
+        let own = part_of many_of F.objects p low in
         let x = listed_dict own.0 (omega (arith, own.2, own.3)) in
-        let i = p - before_it own.0 in
-        let at : before_it own.0 + i ≡ p = omega (arith, own.2) in
-        let within : i < length x.ks = omega (arith, own.2, own.3, x.many) in
+        let long = ap (λ o. unwrap_or o 0) x.many in
+        let i = p - pairs_below f F heights own.0 in
+        let at : pairs_below f F heights own.0 + i ≡ p = omega (arith, own.2) in
+        let within : i < length x.ks = omega (arith, own.2, own.3, long) in
         let same = one_sorted f F x.ks _ _ (list_there c is u own.0 own.1 x) (list_there d js w own.0 own.1 x) in
-        sym (get_or-part u.keyed.positions (before_it own.0) (length x.ks) i 0 within ∙ ap (slice_index u.keyed.positions) at)
+        sym (get_or-part u.keyed.positions (pairs_below f F heights own.0) (length x.ks) i 0 within ∙ ap (slice_index u.keyed.positions) at)
         ∙ ap (λ xs. slice_index xs i) same
-        ∙ get_or-part w.keyed.positions (before_it own.0) (length x.ks) i 0 within ∙ ap (slice_index w.keyed.positions) at
+        ∙ get_or-part w.keyed.positions (pairs_below f F heights own.0) (length x.ks) i 0 within ∙ ap (slice_index w.keyed.positions) at
 
     -- the certificate with key lists is one
     pub one_upgraded : c ≡ d

@@ -1,11 +1,10 @@
 -- What `lint` says is one, and so is the first fault of a file.
-use Rattle.std.proofs.Common.{◌≡◌, ℕ, ◌++◌, List, [], ◌∷◌, map, slice_index, sym, ap, ◌∙◌, subst}
+use Rattle.std.proofs.Common.{◌≡◌, ℕ, ◌++◌, List, [], ◌∷◌, map, slice_index, count_by, nat_lt, sym, ap, ◌∙◌, subst}
 use Rattle.bplist_objects.specs.declared.frame.Frame.{Frame}
 use Rattle.bplist_objects.specs.Heads.{HasShape}
 use Rattle.bplist_objects.proofs.Fronts.{one_shape}
 use Rattle.bplist_lint.specs.declared.answer.Lint.{Lint}
-use Rattle.bplist_lint.specs.Linted.{IsLintedBy, is_vouched}
-use Rattle.bplist_lint.specs.ReachRules.{number_below}
+use Rattle.bplist_lint.specs.Linted.{IsLintedBy}
 use Rattle.bplist_lint.specs.Trail.{number}
 use Rattle.bplist_lint.proofs.LintAnswers.{fault_not_held, circle_not_held, formed_by_valid, least_heights_one}
 use Rattle.bplist_lint.proofs.FirstFaults.{one_frame, one_file_fault, one_file_circle, fault_or_circle}
@@ -41,7 +40,7 @@ module _ (f : List ℕ) where
       let same : G ≡ F = one_frame f G F is' is in
       let n : IsLintedBy f F y = subst (λ X. IsLintedBy f X y) same m in
       let heights = same_heights F x y l n in
-      let reached : x.reached ≡ y.reached = l.reached ∙ ap (λ hs. number_below (is_vouched hs) F.objects) heights ∙ sym n.reached in
+      let reached : x.reached ≡ y.reached = l.reached ∙ ap (count_by (nat_lt 0)) heights ∙ sym n.reached in
       let height : x.height ≡ y.height = l.height ∙ ap (λ hs. slice_index hs F.top.0) heights ∙ sym n.height in
       let heads : head ≡ head' = one_shape f F F.top.0 head head' has (subst (λ X. HasShape f X X.top.0 head') same has') in
       let word = ap kind_word (kind ∙ ap (λ h. h.kind) heads ∙ sym kind') in

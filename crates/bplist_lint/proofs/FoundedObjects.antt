@@ -27,6 +27,10 @@ map-same g k [] a = refl
 map-same g k (x ∷ xs) a = ap₂ (λ y ys. y ∷ ys) a.0 (map-same g k xs a.1)
 
 module _ (f : List ℕ) (F : Frame) where
+  -- object n has height 1 without references, else one above their greatest
+  abbrev pub StandsLeast : List ℕ → ℕ → Type 0
+  StandsLeast H n = (c : Content) × Spells f F n c × (slice_index H n ≡ 1 + greatest (map (slice_index H) (refs c)))
+
   module _ (H : List ℕ) (vouched : (n : ℕ) → IsVouchedBy H n → IsVouched f F H n) where
     -- ---- what valid heights vouch for is founded
     founded_below : (k n : ℕ) → IsVouchedBy H n → slice_index H n ≤ k → Founded f F n

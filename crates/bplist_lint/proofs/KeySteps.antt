@@ -63,7 +63,7 @@ module _ (f : List ℕ) (F : Frame) where
 
   -- the first fault of the keys
   pub keys_fault : (n : ℕ) (fault : Fault) → Reach f F n → KeepKeysBelow f F n → IsFirstFault (KeepsByKeys f F n) (BreaksAtKeys f F n) key_rules fault → IsKeysFault f F fault
-  keys_fault n fault reached kept first = record { object = n; reached = reached; first = first; least = kept }
+  keys_fault n fault reached kept first = record { object = n; member = reached; first = first; least = kept }
 
   -- one object more
   pub keys_more : (n : ℕ) → KeepsAll (KeepsByKeys f F n) key_rules → KeepKeysBelow f F n → KeepKeysBelow f F (n + 1)

@@ -1,5 +1,5 @@
 -- Steps of the making of key lists one behind the other.
-use Rattle.std.proofs.Common.{◌≡◌, ◌≢◌, inl, inr, ℕ, zero, suc, ◌+◌, ◌-◌, ◌*◌, ◌<◌, ◌≤◌, rules, true, false, List, [], ◌++◌, length, take, drop, set, slice_index, Some, None, refl, sym, ◌∙◌, ap, subst, arith, lt-ltb}
+use Rattle.std.proofs.Common.{◌≡◌, ◌≢◌, inl, inr, ℕ, zero, suc, ◌+◌, ◌-◌, ◌*◌, ◌<◌, ◌≤◌, rules, true, false, List, [], ◌++◌, length, take, drop, set, slice_index, Some, None, is_some, unwrap_or, cond, refl, sym, ◌∙◌, ap, subst, arith, lt-ltb}
 use Rattle.std.proofs.Math.Seq.{drop-append_seam, take-length}
 use Rattle.std.proofs.lemmas.Bool.{cases_eq}
 use Rattle.std.proofs.lemmas.List.{get_or-set_same, get_or-set_other, length-append, length-drop, drop-append-le, take-append-le}
@@ -25,7 +25,7 @@ use Rattle.bplist_cert.specs.Keys.{AreInOrder}
 use Rattle.bplist_lint.specs.KeyLists.{IsListed}
 use Rattle.bplist_cert.proofs.AcceptedCertificates.{accepted, keeps_all}
 use Rattle.bplist_lint.specs.Linted.{is_vouched}
-use Rattle.bplist_lint.specs.Upgraded.{is_dict, pairs_of, pairs, start, Listed, IsUpgraded}
+use Rattle.bplist_lint.specs.Upgraded.{pairs_of, pairs, pairs_below, Listed, IsUpgraded}
 use Rattle.bplist_lint.proofs.TallySteps.{sums_none, sums_more, sums_same, next_is}
 
 -- ---- parts of lists
@@ -41,23 +41,23 @@ part_back xs ys c is = ap (take c) (drop-append_seam xs ys) ∙ ap (λ k. take k
 
 -- ---- contents by their kind
 module _ (f : List ℕ) (F : Frame) where
-  dict_pairs : (kind : Kind) (count body : ℕ) → kind ≡ kinds.Dict → (pairs_of (Some (content_of f F kind count body)) ≡ count) × (is_dict (Some (content_of f F kind count body)) ≡ true)
-  dict_pairs kinds.Dict count body e = (length-nums_at f body F.ref_size count, refl)
+  dict_pairs : (kind : Kind) (count body : ℕ) → kind ≡ kinds.Dict → pairs_of (Some (content_of f F kind count body)) ≡ Some count
+  dict_pairs kinds.Dict count body e = ap Some (length-nums_at f body F.ref_size count)
   dict_pairs _ count body e = absurd (cc e)
 
-  other_pairs : (kind : Kind) (count body : ℕ) → (kind ≡ kinds.Dict → ⊥) → (pairs_of (Some (content_of f F kind count body)) ≡ 0) × (is_dict (Some (content_of f F kind count body)) ≡ false)
-  other_pairs kinds.Null count body no_dict = (refl, refl)
-  other_pairs kinds.False count body no_dict = (refl, refl)
-  other_pairs kinds.True count body no_dict = (refl, refl)
-  other_pairs kinds.Int count body no_dict = (refl, refl)
-  other_pairs kinds.Real count body no_dict = (refl, refl)
-  other_pairs kinds.Date count body no_dict = (refl, refl)
-  other_pairs kinds.Bytes count body no_dict = (refl, refl)
-  other_pairs kinds.Ascii count body no_dict = (refl, refl)
-  other_pairs kinds.Wide count body no_dict = (refl, refl)
-  other_pairs kinds.Uid count body no_dict = (refl, refl)
-  other_pairs kinds.Array count body no_dict = (refl, refl)
-  other_pairs kinds.Set count body no_dict = (refl, refl)
+  other_pairs : (kind : Kind) (count body : ℕ) → (kind ≡ kinds.Dict → ⊥) → pairs_of (Some (content_of f F kind count body)) ≡ None
+  other_pairs kinds.Null count body no_dict = refl
+  other_pairs kinds.False count body no_dict = refl
+  other_pairs kinds.True count body no_dict = refl
+  other_pairs kinds.Int count body no_dict = refl
+  other_pairs kinds.Real count body no_dict = refl
+  other_pairs kinds.Date count body no_dict = refl
+  other_pairs kinds.Bytes count body no_dict = refl
+  other_pairs kinds.Ascii count body no_dict = refl
+  other_pairs kinds.Wide count body no_dict = refl
+  other_pairs kinds.Uid count body no_dict = refl
+  other_pairs kinds.Array count body no_dict = refl
+  other_pairs kinds.Set count body no_dict = refl
   other_pairs kinds.Dict count body no_dict = absurd (no_dict refl)
 
 module _ (f : List ℕ) (F : Frame) (heights : List ℕ) where
@@ -99,7 +99,7 @@ module _ (f : List ℕ) (F : Frame) (heights : List ℕ) where
       on_n = lt-ltb 0 (slice_index heights n) (omega (arith, vouched))
 
       -- an object that is vouched for, with its part of the positions
-      step : (st : ℕ) (list : List ℕ) → length list ≡ pairs f F heights n → st ≡ start f F heights n → length list ≤ head.«end» - off f F n
+      step : (st : ℕ) (list : List ℕ) → length list ≡ unwrap_or (pairs f F heights n) 0 → st ≡ cond (is_some (pairs f F heights n)) (pairs_below f F heights n) 0 → length list ≤ head.«end» - off f F n
           → ((other : Head) → HasHead f F n other → other.kind ≡ kinds.Dict → (st + other.count ≤ length (positions ++ list)) × AreInOrder f F other (part (positions ++ list) st other.count) other.count)
           → Listed f F heights (suc n) (set starts n st) (positions ++ list)
       step st list many begin short here =
@@ -138,7 +138,7 @@ module _ (f : List ℕ) (F : Frame) (heights : List ℕ) where
             let o = other_pairs f F head.kind head.count head.body no_dict in
             let empty : positions ++ [] ≡ positions = search rules in
             subst (λ k. Listed f F heights k (set starts n 0) positions) (next_is n) (subst (Listed f F heights (suc n) (set starts n 0)) empty
-            (step 0 [] (rw (on_n, spelled) (sym o.0)) (rw (on_n, spelled, o.1) refl) (omega arith) (λ other has dict. absurd (no_dict (rw (← same_head other has) at dict)))))
+            (step 0 [] (rw (on_n, spelled, o) refl) (rw (on_n, spelled, o) refl) (omega arith) (λ other has dict. absurd (no_dict (rw (← same_head other has) at dict)))))
 
         -- how far the bytes of a dictionary go
         pairs_within : head.kind ≡ kinds.Dict → 1 ≤ F.ref_size → head.count ≤ head.«end» - off f F n
@@ -160,7 +160,7 @@ module _ (f : List ℕ) (F : Frame) (heights : List ℕ) where
             let long = length-append positions is.list in
             let short = pairs_within dict low in
             subst (λ k. Listed f F heights k (set starts n (length positions)) after) (next_is n) (subst (Listed f F heights (suc n) (set starts n (length positions))) (sym is.behind)
-            (step (length positions) is.list (rw (on_n, spelled) (is.count ∙ sym d.0)) (rw (on_n, spelled, d.1) l.total) (omega (arith, is.count, short))
+            (step (length positions) is.list (rw (on_n, spelled, d) is.count) (rw (on_n, spelled, d) l.total) (omega (arith, is.count, short))
             (λ other has k.
             subst (λ (h : Head). (length positions + h.count ≤ length (positions ++ is.list)) × AreInOrder f F h (part (positions ++ is.list) (length positions) h.count) h.count) (same_head other has)
             (omega (arith, long, is.count), subst (λ xs. AreInOrder f F head xs head.count) (sym (part_back positions is.list head.count is.count)) is.order))))

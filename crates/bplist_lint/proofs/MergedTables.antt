@@ -10,10 +10,9 @@ use Rattle.bplist_objects.proofs.ExtentSums.{room_weaker}
 use Rattle.bplist_objects.proofs.Lists.{all_at, all_weaker, all_from}
 use Rattle.bplist_cert.specs.Valid.{IsVouchedBy, IsValid, IsVouched, HasKeys}
 use Rattle.bplist_lint.specs.Graph.{greatest}
-use Rattle.bplist_lint.specs.Least.{StandsLeast}
 use Rattle.bplist_lint.specs.WellFormed.{IsWellFormed}
 use Rattle.bplist_lint.proofs.Writes.{unwritten, nothing}
-use Rattle.bplist_lint.proofs.FoundedObjects.{map-same, le-greatest}
+use Rattle.bplist_lint.proofs.FoundedObjects.{StandsLeast, map-same, le-greatest}
 use Rattle.bplist_lint.proofs.HeldValues.{Sound, sound, founded_sound}
 
 merge : List ℕ → List ℕ → List ℕ

@@ -1,5 +1,8 @@
 -- What the linter's passes come to, one behind the other.
-use Rattle.std.proofs.Common.{◌≡◌, ℕ, ◌+◌, ◌<◌, ◌≤◌, inl, inr, cond, List, length, slice_index, None, ap, ◌∙◌, arith, lt-ltb}
+use Rattle.std.proofs.Common.{◌≡◌, ℕ, zero, suc, ◌+◌, ◌<◌, ◌≤◌, inl, inr, cond, nat_lt, List, length, take, slice_index, count_by, None, refl, sym, ap, ◌∙◌, arith, lt-ltb}
+use Rattle.std.proofs.Math.Numerals.{add-one}
+use Rattle.std.proofs.Math.Seq.{take-length}
+use Rattle.std.proofs.lemmas.List.Sums.{sum_by_more}
 use Rattle.std.proofs.lemmas.Bool.{ltb-true}
 use Rattle.bplist_objects.specs.declared.fault.Fault.{Fault}
 use Rattle.bplist_objects.specs.declared.fault.ObjectFault.{ObjectFault}
@@ -15,7 +18,7 @@ use Rattle.bplist_objects.specs.Reach.{Reach}
 use Rattle.bplist_objects.specs.Spelled.{refs_at}
 use Rattle.bplist_cert.specs.declared.refusal.Refusal.{Refusal}
 use Rattle.bplist_cert.specs.declared.refusal.Refusal.TheVariants as cert_refusals
-use Rattle.bplist_cert.specs.Refusals.{GivesRefusal}
+use Rattle.bplist_cert.specs.Refusals.{GivesRefusal, refusal_of}
 use Rattle.bplist_cert.specs.Valid.{IsVouchedBy}
 use Rattle.bplist_cert.proofs.VouchedObjects.{reached_vouched}
 use Rattle.bplist_lint.specs.declared.refusal.LintRefusal.{LintRefusal}
@@ -25,7 +28,7 @@ use Rattle.bplist_lint.specs.declared.walk.Reached.{Reached}
 use Rattle.bplist_lint.specs.Graph.{AreLeast, IsCircleOf}
 use Rattle.bplist_lint.specs.ReachRules.{number_below, references_below, is_marked}
 use Rattle.bplist_lint.specs.FileFault.{IsFileFault, IsFileCircle, IsObjectsFault, IsFramedCircle}
-use Rattle.bplist_lint.specs.Refusals.{of_object, of_check, Refuses, no_circle}
+use Rattle.bplist_lint.specs.Refusals.{of_check, Refuses, no_circle}
 use Rattle.bplist_keys.specs.Places.{AreKept}
 use Rattle.bplist_lint.specs.Places.{AreBelowTable, IsPlaceFault}
 use Rattle.bplist_lint.specs.Least.{AreLeastHeights}
@@ -39,7 +42,7 @@ use Rattle.bplist_lint.proofs.LintAnswers.{formed_by_valid, least_lowest, lint_y
 use Rattle.bplist_lint.proofs.FirstFaults.{fault_not_formed, circle_not_formed}
 
 -- ---- what is said of a fault is said of the refusal
-pub object_means : (P Q : Fault → Type 0) (R : List ℕ → Type 0) (e : ObjectFault) → ((x : Fault) → P x → Q x) → GivesFault P e → Refuses Q R (of_object e)
+pub object_means : (P Q : Fault → Type 0) (R : List ℕ → Type 0) (e : ObjectFault) → ((x : Fault) → P x → Q x) → GivesFault P e → Refuses Q R (of_check (refusal_of e))
 object_means P Q R (object_faults.Fault fault) same h = same fault h
 object_means P Q R (object_faults.Read _) same h = tt
 
@@ -55,6 +58,14 @@ refusal_means P Q R T (refusals.Read _) faults circles h = tt
 refusal_means P Q R T refusals.Memory faults circles h = tt
 
 -- ---- sums over the same objects
+-- the objects with a height among the first ones
+vouched_counted : (heights : List ℕ) (n : ℕ) → n ≤ length heights → number_below (is_vouched heights) n ≡ count_by (nat_lt 0) (take n heights)
+vouched_counted heights zero l = refl
+vouched_counted heights (suc n) l =
+    let more = rw (add-one n) at (sum_by_more (λ h. cond (nat_lt 0 h) 1 0) heights n 0 (omega (arith, l))) in
+    let before = vouched_counted heights n (omega (arith, l)) in
+    omega (arith, more, before)
+
 module _ (f : List ℕ) (F : Frame) where
   -- the marked objects are those with a height
   module _ (reached : Reached) (s : IsSifted f F reached) (heights : List ℕ) (least : AreLeastHeights f F heights) (vouched : (n : ℕ) → Reach f F n → IsVouchedBy heights n) where
@@ -63,8 +74,11 @@ module _ (f : List ℕ) (F : Frame) where
         (λ e. let v = vouched n ((s.walked.marked n).0 e) in lt-ltb 0 (slice_index heights n) (omega arith))
         (λ e. let v = ltb-true 0 (slice_index heights n) e in (s.walked.marked n).1 (least.only n (omega arith)))
 
-    pub same_number : reached.tally.reached ≡ number_below (is_vouched heights) F.objects
-    same_number = s.walked.tallied.reached ∙ sum_alike _ _ F.objects (λ m low. ap (λ b. cond b 1 0) (same_objects m))
+    pub same_number : reached.tally.reached ≡ count_by (nat_lt 0) heights
+    same_number =
+        s.walked.tallied.reached ∙ sum_alike _ _ F.objects (λ m low. ap (λ b. cond b 1 0) (same_objects m))
+        ∙ ap (number_below (is_vouched heights)) (sym least.count) ∙ vouched_counted heights (length heights) (omega arith)
+        ∙ ap (count_by (nat_lt 0)) (take-length heights)
 
     pub same_references : reached.tally.references ≡ references_below f F (is_vouched heights) F.objects
     same_references = s.walked.tallied.references ∙ sum_alike _ _ F.objects (λ m low. ap (λ b. cond b (length (refs_at f F m)) 0) (same_objects m))

@@ -12,7 +12,8 @@ use Rattle.bplist_lint.specs.Graph.Reaches.{start, onward}
 use Rattle.bplist_lint.specs.Graph.Ends.{ends}
 use Rattle.bplist_lint.specs.Graph.Least.{above}
 use Rattle.bplist_lint.specs.FileFault.{LeadsOn, IsCircle}
-use Rattle.bplist_lint.specs.Least.{StandsLeast, StandLeast, AreLeastHeights}
+use Rattle.bplist_lint.specs.Least.{StandLeast, AreLeastHeights}
+use Rattle.bplist_lint.proofs.FoundedObjects.{StandsLeast}
 
 -- ---- least heights in a graph
 -- an object has one least height

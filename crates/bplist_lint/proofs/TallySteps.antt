@@ -82,7 +82,7 @@ module _ (f : List ℕ) (F : Frame) where
     pub object_fault : (fault : Fault) → IsObjectFault f F n object_rules fault → IsReachFault f F fault
     object_fault fault h = record {
       object = n;
-      reached = reached;
+      member = reached;
       first = first_fault_among (KeepsByReach f F n) (BreaksAtReach f F n) object_rules (rules.Overfull ∷ []) fault h;
       least = t.kept;
     }
@@ -98,8 +98,8 @@ module _ (f : List ℕ) (F : Frame) where
       pub room_fault : (fault : Fault) → fault.rule ≡ rules.Overfull → fault.object ≡ Some (record { 0 = n }) → fault.place ≡ off f F n → F.table < tally.used + (head.«end» - off f F n) + 8 → IsReachFault f F fault
       room_fault fault rule object place full = record {
         object = n;
-        reached = reached;
-        first = first_fault_after (KeepsByReach f F n) (BreaksAtReach f F n) object_rules (rules.Overfull ∷ []) fault kept (inl (rule, (object, (overfull (Reach f F) n _ sums_with full, place))));
+        member = reached;
+        first = first_fault_after (KeepsByReach f F n) (BreaksAtReach f F n) object_rules (rules.Overfull ∷ []) fault kept (inl (rule, (object, overfull (Reach f F) n _ sums_with full, place)));
         least = t.kept;
       }
 

@@ -115,7 +115,3 @@ is_circle refs top size met trail x place p l at_place =
       long = omega (arith, long, low);
       listed = λ k h. get_or-drop place trail k 0 ∙ sym (on_trail (place + k) (omega (arith, long)));
     }
-
--- the objects from the place of x on
-pub from_place : (trail : List ℕ) (x place : ℕ) (objects : List ObjectNo) → IsPlaceOf trail x place → objects ≡ map object (drop place trail) → (p : ℕ) × IsPlaceOf trail x p × (map number objects ≡ drop p trail)
-from_place trail x place objects at_place is = (place, at_place, ap (map number) is ∙ numbers_named (drop place trail))

@@ -1,5 +1,5 @@
 -- What an upgrade answers, in other words.
-use Rattle.std.proofs.Common.{◌≡◌, ℕ, List, length, Some}
+use Rattle.std.proofs.Common.{◌≡◌, ◌≢◌, ℕ, List, length, Some}
 use Rattle.std.proofs.Math.Logic.{∥∥₁_map}
 use Rattle.std.proofs.lemmas.Grind.{not_there}
 use Rattle.bplist_objects.specs.declared.fault.Fault.{Fault}
@@ -14,25 +14,23 @@ use Rattle.bplist_lint.specs.Upgraded.{Listed, IsUpgraded}
 use Rattle.bplist_lint.proofs.ListSteps.{upgraded}
 use Rattle.bplist_cert.specs.declared.refusal.Refusal.{Refusal}
 use Rattle.bplist_cert.specs.declared.refusal.Refusal.TheVariants as cert_refusals
-use Rattle.bplist_cert.specs.Refusals.{GivesRefusal}
+use Rattle.bplist_cert.specs.Refusals.{GivesRefusal, refusal_of}
 use Rattle.bplist_lint.specs.declared.upgrade_fault.UpgradeFault.{UpgradeFault}
 use Rattle.bplist_lint.specs.declared.upgrade_fault.UpgradeFault.TheVariants as faults
-use Rattle.bplist_lint.specs.Upgrades.{IsNoChange, of_object, of_check}
+use Rattle.bplist_lint.specs.Upgrades.{of_check}
 
-pub object_no_change : (P : Fault → Type 0) (e : ObjectFault) → ((x : Fault) → P x → ⊥) → GivesFault P e → IsNoChange (of_object e)
-object_no_change P (object_faults.Fault fault) never h = never fault h
-object_no_change P (object_faults.Read _) never h = tt
+pub object_no_change : (P : Fault → Type 0) (e : ObjectFault) → ((x : Fault) → P x → ⊥) → GivesFault P e → of_check (refusal_of e) ≢ faults.Changed
+object_no_change P (object_faults.Fault fault) never h = absurd (never fault h)
+object_no_change P (object_faults.Read _) never h = λ e. cc
 
-pub check_no_change : (e : Refusal) → GivesRefusal Never e → IsNoChange (of_check e)
-check_no_change (cert_refusals.Fault fault) h = h
-check_no_change (cert_refusals.Read _) h = tt
-check_no_change cert_refusals.Memory h = tt
+pub check_no_change : (e : Refusal) → GivesRefusal Never e → of_check e ≢ faults.Changed
+check_no_change (cert_refusals.Fault fault) h = absurd h
+check_no_change (cert_refusals.Read _) h = λ e. cc
+check_no_change cert_refusals.Memory h = λ e. cc
 
 -- what follows from something that is there for no change
-pub open_no_change : {P : Type 0} → ∥ P ∥₁ → (e : UpgradeFault) → (P → IsNoChange e) → IsNoChange e
-open_no_change t faults.Changed from = absurd (not_there t (λ p. from p))
-open_no_change t (faults.Read _) from = tt
-open_no_change t faults.Memory from = tt
+pub open_no_change : {P : Type 0} → ∥ P ∥₁ → (e : UpgradeFault) → (P → e ≢ faults.Changed) → e ≢ faults.Changed
+open_no_change t e from = λ is. not_there t (λ p. from p is)
 
 -- the certificate of a checked file with its key lists
 pub upgrade_yes : (f : List ℕ) (F : Frame) (old : Lists) (keyed : Keyed) → ∥ IsAccepted f F old ∥₁ → length keyed.starts ≡ F.objects → (IsValid f F old.heights → Listed f F old.heights F.objects keyed.starts keyed.positions)

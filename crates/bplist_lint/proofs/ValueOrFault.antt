@@ -62,7 +62,7 @@ module _ (f : List ℕ) (F : Frame) (frame : IsFrame f F) where
 
   module _ (n t : ℕ) (lt : n < F.objects) (p : IsPassed n t) (r : Reach f F n) where
     own_fault : (fault : Fault) → IsFirstFault (KeepsByReach f F n) (BreaksAtReach f F n) reach_rules fault → IsReachFault f F fault
-    own_fault fault first = record { object = n; reached = r; first = first; least = p.kept }
+    own_fault fault first = record { object = n; member = r; first = first; least = p.kept }
 
     pass_kept : KeepsAll (KeepsByObject f F n) object_rules → ((u : ℕ) × IsPassed (suc n) u) ⊎ ((fault : Fault) × IsReachFault f F fault)
     pass_kept kept =
@@ -76,7 +76,7 @@ module _ (f : List ℕ) (F : Frame) (frame : IsFrame f F) where
               inr (
                 fault,
                 own_fault fault (first_fault_after (KeepsByReach f F n) (BreaksAtReach f F n) object_rules (rules.Overfull ∷ []) fault kept
-                    (inl (refl, (refl, (overfull f F (Reach f F) n u sums full, refl))))),
+                    (inl (refl, (refl, overfull f F (Reach f F) n u sums full, refl)))),
               )
           | inr room ↦ inl (
             u,
@@ -138,7 +138,7 @@ module _ (f : List ℕ) (F : Frame) (frame : IsFrame f F) where
     pass_keys : KeepKeysBelow f F F.objects ⊎ ((fault : Fault) × IsKeysFault f F fault)
     pass_keys = elim (all_or_first (λ n. Reach f F n → KeepsAll (KeepsByKeys f F n) key_rules) Broken each F.objects) [
       | inl all ↦ inl (λ n lt r. all n lt r)
-      | inr first ↦ inr (first.2.1.0, record { object = first.0; reached = first.2.0; first = first.2.1.1; least = λ m lt r. first.3 m lt r })
+      | inr first ↦ inr (first.2.1.0, record { object = first.0; member = first.2.0; first = first.2.1.1; least = λ m lt r. first.3 m lt r })
     ]
       where
         Broken : ℕ → Type 0

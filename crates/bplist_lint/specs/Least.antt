@@ -6,14 +6,11 @@ use Rattle.bplist_objects.specs.Reach.{Reach}
 use Rattle.bplist_cert.specs.Valid.{IsVouchedBy}
 use Rattle.bplist_lint.specs.Graph.{greatest}
 
--- object n has height 1 without references, else one above their greatest
-abbrev pub StandsLeast : List ℕ → Frame → List ℕ → ℕ → Type 0
-StandsLeast f F heights n =
-    (c : Content) × Spells f F n c × (slice_index heights n ≡ 1 + greatest (map (slice_index heights) (refs c)))
-
--- each reached object does
+-- each reached object has height 1 without references, else one above their greatest
 abbrev pub StandLeast : List ℕ → Frame → List ℕ → Type 0
-StandLeast f F heights = (n : ℕ) → Reach f F n → StandsLeast f F heights n
+StandLeast f F heights =
+    (n : ℕ) → Reach f F n
+    → (c : Content) × Spells f F n c × (slice_index heights n ≡ 1 + greatest (map (slice_index heights) (refs c)))
 
 -- each reached object has its least height, each other 0
 pub record AreLeastHeights (f : List ℕ) (F : Frame) (heights : List ℕ) : Type 0 where

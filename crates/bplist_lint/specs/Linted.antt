@@ -1,5 +1,5 @@
 -- What the linter says of a file that holds a value. Source: profile.
-use Rattle.std.specs.Prelude.{◌≡◌, ℕ, ◌+◌, ◌≤◌, Bool, nat_lt, List, slice_index, None}
+use Rattle.std.specs.Prelude.{◌≡◌, ℕ, ◌+◌, ◌≤◌, Bool, nat_lt, List, slice_index, count_by, None}
 use Rattle.bplist_objects.specs.declared.frame.Frame.{Frame}
 use Rattle.bplist_objects.specs.declared.head.Head.{Head}
 use Rattle.bplist_objects.specs.declared.kind.Kind.{Kind}
@@ -12,7 +12,7 @@ use Rattle.bplist_cert.specs.Valid.{IsValid}
 use Rattle.bplist_lint.specs.declared.answer.Lint.{Lint}
 use Rattle.bplist_lint.specs.declared.walk.Reached.{Reached}
 use Rattle.bplist_lint.specs.Least.{AreLeastHeights}
-use Rattle.bplist_lint.specs.ReachRules.{number_below, references_below}
+use Rattle.bplist_lint.specs.ReachRules.{references_below}
 use Rattle.bplist_lint.specs.Walks.{IsWalked}
 use Rattle.bplist_lint.specs.KeyRules.{KeepKeysBelow}
 
@@ -29,7 +29,7 @@ pub record IsLintedBy (f : List ℕ) (F : Frame) (lint : Lint) : Type 0 where
   pub valid : IsValid f F lint.certificate.heights
   pub lowest : (other : List ℕ) → IsValid f F other → (n : ℕ) → Reach f F n → slice_index lint.certificate.heights n ≤ slice_index other n
   pub height : lint.height ≡ slice_index lint.certificate.heights F.top.0
-  pub reached : lint.reached ≡ number_below (is_vouched lint.certificate.heights) F.objects
+  pub reached : lint.reached ≡ count_by (nat_lt 0) lint.certificate.heights
   pub references : lint.references ≡ references_below f F (is_vouched lint.certificate.heights) F.objects
   pub few : lint.references + 8 ≤ F.table
 

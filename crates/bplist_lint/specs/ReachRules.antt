@@ -8,8 +8,8 @@ use Rattle.bplist_objects.specs.declared.fault.Fault.{Fault}
 use Rattle.bplist_objects.specs.declared.frame.Frame.{Frame}
 use Rattle.bplist_objects.specs.declared.frame.ObjectNo.{ObjectNo}
 use Rattle.bplist_objects.specs.Frame.{off}
-use Rattle.bplist_objects.specs.Rules.{KeepsAll, IsFirstFault}
-use Rattle.bplist_objects.specs.ObjectRules.{KeepsByObject, BreaksByObject, object_rules}
+use Rattle.bplist_objects.specs.Rules.{KeepBelow, IsLeastFault}
+use Rattle.bplist_objects.specs.ObjectRules.{KeepsByObject, BreaksAt, object_rules}
 use Rattle.bplist_objects.specs.Reach.{Reach, Differ}
 use Rattle.bplist_objects.specs.Extents.{TakeOctets, AtMost, IsOverfull}
 use Rattle.bplist_objects.specs.Spelled.{refs_at}
@@ -33,31 +33,24 @@ abbrev pub is_marked : List Bool → ℕ → Bool
 is_marked marks n = slice_index_or marks n false
 
 module _ (f : List ℕ) (F : Frame) where
-  module _ (n : ℕ) where
-    -- reached object n keeps this rule
-    abbrev pub KeepsByReach : Rule → Type 0
-    KeepsByReach rules.Overfull = IsOverfull f F (Reach f F) n → ⊥
-    KeepsByReach rule = KeepsByObject f F n rule
+  -- reached object n keeps this rule
+  abbrev pub KeepsByReach : ℕ → Rule → Type 0
+  KeepsByReach n rules.Overfull = IsOverfull f F (Reach f F) n → ⊥
+  KeepsByReach n rule = KeepsByObject f F n rule
 
-    -- reached object n breaks this rule at this place
-    abbrev pub BreaksByReach : Rule → ℕ → Type 0
-    BreaksByReach rules.Overfull place = IsOverfull f F (Reach f F) n × (place ≡ off f F n)
-    BreaksByReach rule place = BreaksByObject f F n rule place
-
-    -- the same, if this is the object named
-    abbrev pub BreaksAtReach : Rule → Option ObjectNo → ℕ → Type 0
-    BreaksAtReach rule object place = (object ≡ Some (record { 0 = n })) × BreaksByReach rule place
+  -- reached object n, which is the one named, breaks this rule at this place
+  abbrev pub BreaksAtReach : ℕ → Rule → Option ObjectNo → ℕ → Type 0
+  BreaksAtReach n rules.Overfull object place =
+      (object ≡ Some (record { 0 = n })) × IsOverfull f F (Reach f F) n × (place ≡ off f F n)
+  BreaksAtReach n rule object place = BreaksAt f F n rule object place
 
   -- the reached objects below n keep rules 14 to 20 and 31
   abbrev pub KeepReachBelow : ℕ → Type 0
-  KeepReachBelow n = (m : ℕ) → m < n → Reach f F m → KeepsAll (KeepsByReach m) reach_rules
+  KeepReachBelow n = KeepBelow KeepsByReach reach_rules (Reach f F) n
 
   -- the first fault of the least reached object that has one
-  pub record IsReachFault (fault : Fault) : Type 0 where
-    pub object : ℕ
-    pub reached : Reach f F object
-    pub first : IsFirstFault (KeepsByReach object) (BreaksAtReach object) reach_rules fault
-    pub least : KeepReachBelow object
+  abbrev pub IsReachFault : Fault → Type 0
+  IsReachFault fault = IsLeastFault KeepsByReach reach_rules (Reach f F) BreaksAtReach fault
 
   -- together the objects of S below n take t bytes
   pub record Sums (S : ℕ → Type 0) (n t : ℕ) : Type 0 where

@@ -1,25 +1,11 @@
 -- What a refusal of the linter says. Source: profile.
-use Rattle.std.specs.Prelude.{ℕ, Bool, true, false, List, map, Result, Ok, Err}
+use Rattle.std.specs.Prelude.{ℕ, Bool, true, false, List, map, Result, Err, MatchResult}
 use Rattle.bplist_objects.specs.declared.fault.Fault.{Fault}
-use Rattle.bplist_objects.specs.declared.fault.ObjectFault.{ObjectFault}
-use Rattle.bplist_objects.specs.declared.fault.ObjectFault.TheVariants as object_faults
-use Rattle.bplist_keys.specs.declared.failure.Failure.{Failure}
-use Rattle.bplist_keys.specs.declared.failure.Failure.TheVariants as failures
 use Rattle.bplist_cert.specs.declared.refusal.Refusal.{Refusal}
 use Rattle.bplist_cert.specs.declared.refusal.Refusal.TheVariants as cert_refusals
 use Rattle.bplist_lint.specs.declared.refusal.LintRefusal.{LintRefusal}
 use Rattle.bplist_lint.specs.declared.refusal.LintRefusal.TheVariants as refusals
 use Rattle.bplist_lint.specs.Trail.{number}
-
--- an object's fault as a refusal
-abbrev pub of_object : ObjectFault → LintRefusal
-of_object (object_faults.Fault fault) = refusals.Fault fault
-of_object (object_faults.Read error) = refusals.Read error
-
--- a failure as a refusal
-abbrev pub of_failure : Failure → LintRefusal
-of_failure (failures.Read error) = refusals.Read error
-of_failure failures.Memory = refusals.Memory
 
 -- a refusal of the checker as one of the linter
 abbrev pub of_check : Refusal → LintRefusal
@@ -40,8 +26,7 @@ Refuses P Q _ = Unit {0}
 
 -- P holds of the answer, Q of the fault, or R of the circle
 abbrev pub Lints : {X : Type 0} → (X → Type 0) → (Fault → Type 0) → (List ℕ → Type 0) → Result X LintRefusal → Type 0
-Lints P Q R (Ok x) = P x
-Lints P Q R (Err refusal) = Refuses Q R refusal
+Lints P Q R answer = MatchResult answer P (Refuses Q R)
 
 -- no circle is answered
 abbrev pub no_circle : List ℕ → Type 0

@@ -1,5 +1,5 @@
 -- The key lists of vouched dictionaries, one behind the other. Source: profile.
-use Rattle.std.specs.Prelude.{◌≡◌, ℕ, ◌<◌, ◌≤◌, Bool, true, false, cond, List, length, slice_index, Option, Some, None}
+use Rattle.std.specs.Prelude.{◌≡◌, ℕ, ◌<◌, ◌≤◌, cond, List, length, slice_index, Option, Some, None, is_some, unwrap_or}
 use Rattle.bplist_objects.specs.declared.frame.Frame.{Frame}
 use Rattle.bplist_objects.specs.declared.head.Head.{Head}
 use Rattle.bplist_objects.specs.declared.kind.Kind.TheVariants.{Dict}
@@ -13,29 +13,24 @@ use Rattle.bplist_cert.specs.CheckRules.{HasOrder}
 use Rattle.bplist_lint.specs.ReachRules.{Sums, sum_below}
 use Rattle.bplist_lint.specs.Linted.{is_vouched}
 
--- the content is a dictionary
-abbrev pub is_dict : Option Content → Bool
-is_dict (Some (dict ks ms)) = true
-is_dict _ = false
-
--- how many pairs a dictionary has, 0 for other contents
-abbrev pub pairs_of : Option Content → ℕ
-pairs_of (Some (dict ks ms)) = length ks
-pairs_of _ = 0
+-- how many pairs a dictionary has
+abbrev pub pairs_of : Option Content → Option ℕ
+pairs_of (Some (dict ks ms)) = Some (length ks)
+pairs_of _ = None
 
 module _ (f : List ℕ) (F : Frame) (heights : List ℕ) where
-  -- how many positions the key list of object n has
-  abbrev pub pairs : ℕ → ℕ
-  pairs n = cond (is_vouched heights n) (pairs_of (spelled_at f F n)) 0
+  -- how many positions the key list of object n has, if it is a vouched dictionary
+  abbrev pub pairs : ℕ → Option ℕ
+  pairs n = cond (is_vouched heights n) (pairs_of (spelled_at f F n)) None
 
-  -- where the key list of object n starts, 0 if it has none
-  abbrev pub start : ℕ → ℕ
-  start n = cond (is_vouched heights n) (cond (is_dict (spelled_at f F n)) (sum_below pairs n) 0) 0
+  -- how many positions the key lists of the objects below n have together
+  abbrev pub pairs_below : ℕ → ℕ
+  pairs_below n = sum_below (λ m. unwrap_or (pairs m) 0) n
 
   -- so far the vouched dictionaries have their key lists
   pub record Listed (n : ℕ) (starts positions : List ℕ) : Type 0 where
-    pub total : length positions ≡ sum_below pairs n
-    pub begins : (m : ℕ) → m < n → slice_index starts m ≡ start m
+    pub total : length positions ≡ pairs_below n
+    pub begins : (m : ℕ) → m < n → slice_index starts m ≡ cond (is_some (pairs m)) (pairs_below m) 0
     pub later : (m : ℕ) → n ≤ m → slice_index starts m ≡ 0
     pub order : (m : ℕ) → m < n → IsVouchedBy heights m → (head : Head) → HasHead f F m head → head.kind ≡ Dict
         → HasOrder f F (Some (record { starts = starts; positions = positions })) m head
@@ -49,6 +44,6 @@ module _ (f : List ℕ) (F : Frame) (heights : List ℕ) where
     pub keyed : Keyed
     pub keys : certificate.keys ≡ Some keyed
     pub count : length keyed.starts ≡ F.objects
-    pub starts : (n : ℕ) → n < F.objects → slice_index keyed.starts n ≡ start n
-    pub total : length keyed.positions ≡ sum_below pairs F.objects
+    pub starts : (n : ℕ) → n < F.objects → slice_index keyed.starts n ≡ cond (is_some (pairs n)) (pairs_below n) 0
+    pub total : length keyed.positions ≡ pairs_below F.objects
     pub accepted : IsAccepted f F certificate

@@ -1,6 +1,6 @@
 //! The circle that keeps the top from being founded.
 
-ghost use Rattle.std.specs.Prelude.{◌≡◌, ℕ, ◌^◌, ◌<◌, ◌≤◌, IsTrue, drop, map, length, slice_index, Contains, IfOk, IfSome, MatchOption, is_err};
+ghost use Rattle.std.specs.Prelude.{◌≡◌, ◌^◌, ◌<◌, ◌≤◌, IsTrue, drop, map, length, slice_index, Contains, IfOk, IfSome, MatchOption, is_err};
 ghost use Rattle.bplist_octets.specs.Meaning.{OnlyReads};
 ghost use Rattle.bplist_keys.specs.Failures.{failed_to_read};
 ghost use Rattle.bplist_lint.specs.Graph.{IsWhole, AreWhole, AreObjects, AreLeast, IsCircleOf};
@@ -85,16 +85,6 @@ fn tail(trail: &[u32], place: usize) -> &[u32]
     &trail[place..]
 }
 
-/// The objects on the trail from the first place of `x` on.
-fn trail_from(alloc: Global, trail: &[u32], x: u32) -> Result<Vec<ObjectNo>, AllocError>
-    requires { Contains trail.now x }
-    ensures { IfOk result (λ circle. (place : ℕ) × IsPlaceOf trail.now x place
-        × (map number circle.items ≡ drop place trail.now)) }
-{
-    let place = place_of(trail, x);
-    named(alloc, tail(trail, place))
-}
-
 /// The circle that first references without a height lead to from `top`. The trail is walked once; an object is met
 /// a second time where its mark is set.
 pub fn circle<R: References>(
@@ -126,5 +116,6 @@ pub fn circle<R: References>(
         }
     }
     drop(met);
-    Ok(trail_from(alloc, &trail, x)?)
+    let place = place_of(&trail, x);
+    Ok(named(alloc, tail(&trail, place))?)
 }

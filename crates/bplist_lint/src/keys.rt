@@ -5,7 +5,6 @@
 
 ghost use Rattle.std.specs.Prelude.{◌≡◌, ◌↔◌, ℕ, ◌<◌, length};
 ghost use Rattle.bplist_octets.specs.Meaning.{OnlyReads};
-ghost use Rattle.bplist_objects.specs.Answers.{Never};
 ghost use Rattle.bplist_objects.specs.Framed.{frame_in, HonestlyIn};
 ghost use Rattle.bplist_objects.specs.Safe.{IsSafeHead};
 ghost use Rattle.bplist_objects.specs.Reach.{Reach};
@@ -15,7 +14,6 @@ ghost use Rattle.bplist_objects.specs.Announced.{HasHead};
 ghost use Rattle.bplist_objects.specs.declared.kind.Kind.TheVariants.{Dict};
 ghost use Rattle.bplist_cert.specs.KeyClasses.{KeysAreSound};
 ghost use Rattle.bplist_cert.specs.Refusals.{Judges, refused_read};
-ghost use Rattle.bplist_keys.specs.Ranks.{AreClasses};
 ghost use Rattle.bplist_keys.specs.Marks.{IsMarked};
 ghost use Rattle.bplist_lint.specs.Referring.{AreBare};
 ghost use Rattle.bplist_lint.specs.ReachRules.{KeepReachBelow};
@@ -26,23 +24,9 @@ ghost use Rattle.bplist_lint.specs.KeyClasses.{IsWrongFault};
 ghost use Rattle.bplist_objects.specs.declared.head.Head.{Head as head_record};
 
 use bplist_cert::Refusal;
-use bplist_keys::{ClassTable, Failure, NamedKeys, Placed, Ranks, Wrong, classes_of, placed_shape};
+use bplist_keys::{ClassTable, NamedKeys, Placed, Wrong, classes_of, placed_shape};
 use bplist_objects::{Fault, Framed, Head, Kind, ObjectNo, Rule, ref_place};
 use std::alloc::Global;
-
-/// The classes of the texts that are named as keys.
-fn key_classes<P: Placed>(alloc: Global, src: &mut P, named: NamedKeys) -> Result<Ranks, Refusal>
-    requires { length named.marks.items ≡ (frame_in (P.means src.old)).objects }
-    ensures reads { OnlyReads (refused_read result) (P.means src.old) (P.means src.new) }
-    ensures exact { HonestlyIn (P.means src.old) (λ f F.
-        Judges (λ ranks. AreClasses f F named.marks.items ranks.table.items) Never result) }
-{
-    match classes_of(alloc, src, named) {
-        Ok(classes) => Ok(classes),
-        Err(Failure::Read(fault)) => Err(Refusal::Read(fault)),
-        Err(Failure::Memory) => Err(Refusal::Memory),
-    }
-}
 
 /// The fault of the keys of dictionary `n`.
 fn key_fault<P: Framed>(src: &P, n: ObjectNo, head: &Head, wrong: Wrong) -> Fault
@@ -112,7 +96,7 @@ pub fn check_keys<P: Placed>(
     if named.count() == 0 {
         return Ok(());
     }
-    let classes = key_classes(alloc, src, named)?;
+    let classes = classes_of(alloc, src, named)?;
     let mut table = ClassTable::new(alloc, classes)?;
     for n in 0..frame.objects {
         if marks[n as usize] && !bare[n as usize] {

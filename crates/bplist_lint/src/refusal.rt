@@ -4,7 +4,8 @@ ghost use Rattle.std.specs.Prelude.{◌≡◌};
 ghost use Rattle.bplist_objects.specs.declared.fault.ObjectFault.{ObjectFault as object_fault};
 ghost use Rattle.bplist_cert.specs.declared.refusal.Refusal.{Refusal as cert_refusal};
 ghost use Rattle.bplist_lint.specs.declared.refusal.LintRefusal.TheVariants.{Fault as is_fault};
-ghost use Rattle.bplist_lint.specs.Refusals.{of_object, of_failure, of_check};
+ghost use Rattle.bplist_lint.specs.Refusals.{of_check};
+ghost use Rattle.bplist_cert.specs.Refusals.{refusal_of, refusal_of_keys};
 
 use crate::object_nos::ObjectNos;
 use bplist_cert::Refusal;
@@ -34,7 +35,7 @@ impl From<Fault> for LintRefusal {
 }
 
 impl From<ObjectFault> for LintRefusal {
-    ghost from_gives = { λ fault e. e ≡ of_object fault };
+    ghost from_gives = { λ fault e. e ≡ of_check (refusal_of fault) };
 
     fn from(fault: ObjectFault) -> LintRefusal {
         match fault {
@@ -45,7 +46,7 @@ impl From<ObjectFault> for LintRefusal {
 }
 
 impl From<Failure> for LintRefusal {
-    ghost from_gives = { λ fault e. e ≡ of_failure fault };
+    ghost from_gives = { λ fault e. e ≡ of_check (refusal_of_keys fault) };
 
     fn from(fault: Failure) -> LintRefusal {
         match fault {

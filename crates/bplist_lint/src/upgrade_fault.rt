@@ -22,9 +22,10 @@ pub enum UpgradeFault {
 }
 
 impl From<ObjectFault> for UpgradeFault {
-    ghost use Rattle.bplist_lint.specs.Upgrades.{of_object};
+    ghost use Rattle.bplist_cert.specs.Refusals.{refusal_of};
+    ghost use Rattle.bplist_lint.specs.Upgrades.{of_check};
 
-    ghost from_gives = { λ fault e. e ≡ of_object fault };
+    ghost from_gives = { λ fault e. e ≡ of_check (refusal_of fault) };
 
     fn from(fault: ObjectFault) -> UpgradeFault {
         match fault {
@@ -49,9 +50,10 @@ impl From<Refusal> for UpgradeFault {
 }
 
 impl From<Failure> for UpgradeFault {
-    ghost use Rattle.bplist_lint.specs.Upgrades.{of_failure};
+    ghost use Rattle.bplist_cert.specs.Refusals.{refusal_of_keys};
+    ghost use Rattle.bplist_lint.specs.Upgrades.{of_check};
 
-    ghost from_gives = { λ fault e. e ≡ of_failure fault };
+    ghost from_gives = { λ fault e. e ≡ of_check (refusal_of_keys fault) };
 
     fn from(fault: Failure) -> UpgradeFault {
         match fault {

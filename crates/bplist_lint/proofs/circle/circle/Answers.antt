@@ -1,6 +1,6 @@
 use Rattle.std.proofs.Common.{◌≡◌, arith, rules, length, replicate, false, sym, ◌∙◌}
 use Rattle.std.proofs.lemmas.List.{get_or_read}
-use Rattle.bplist_lint.proofs.TrailSteps.{placed_none, placed_more, leading_more, leading_start, is_circle, is_next, founded_all}
+use Rattle.bplist_lint.proofs.TrailSteps.{numbers_named, placed_none, placed_more, leading_more, leading_start, is_circle, is_next, founded_all}
 use Rattle.bplist_lint.proofs.circle.circle.Goals as goal
 use Rattle.bplist_lint.proofs.circle.circle.Goals.{else-walk-test, then-walk-test+in_ok-push+in_ok-m+in-None}
 
@@ -38,8 +38,9 @@ returns-clause-circle g c = λ honest whole.
     let p = c.walk.invariant.placed in
     elim c.walk-test.branch [
       | else-walk-test w ↦
-          let found = rw (c.deref.ensures.value, w.trail-is) at c.in_ok-trail_from.ensures in
-          rw found.2 (is_circle _ _ _ _ _ _ _ p l found.1)
+          let at_place = rw (c.deref.ensures.value, w.trail-is) at c.place_of-place.ensures in
+          let objects = rw (c.tail.ensures, c.deref-2.ensures.value, w.trail-is) at c.in_ok-named.ensures in
+          rw (objects, numbers_named) (is_circle _ _ _ _ _ _ _ p l at_place)
       | then-walk-test+in_ok-push+in_ok-m+in-None w ↦
           let have = (rw w.in-None.is at (rw (c.walk.invariant.same, c.walk.invariant.reads) at w.in_ok-m.ensures.first)) honest (whole _ l.reached) in
           absurd (l.not_founded (founded_all _ _ _ _ (c.requires.heights honest) have))
