@@ -16,13 +16,15 @@ use Rattle.bplist_objects.specs.Spelled.{refs_at}
 use Rattle.bplist_objects.proofs.HeadTies.{head_tie}
 use Rattle.bplist_objects.proofs.References.{length-refs}
 use Rattle.bplist_objects.proofs.ReachedObjects.{refs_spelled}
-use Rattle.bplist_objects.proofs.BodyLaws.{HasHead-unique}
 use Rattle.bplist_keys.specs.Classes.{HasNamedKeys}
 use Rattle.bplist_cert.specs.declared.refusal.Refusal.{Refusal}
 use Rattle.bplist_cert.specs.declared.refusal.Refusal.TheVariants as cert_refusals
 use Rattle.bplist_cert.specs.Refusals.{GivesRefusal, Judges}
 use Rattle.bplist_cert.specs.Keys.{HaveTexts, KeysDiffer, IsKeylessFault, IsTwiceFault}
 use Rattle.bplist_cert.specs.KeyClasses.{HasGoodKeys}
+use Rattle.bplist_cert.specs.Lists.{lists}
+use Rattle.bplist_cert.specs.CheckRules.{Asks}
+use Rattle.bplist_cert.proofs.CheckSteps.{keys_among, any_head, texts_fail, differ_fail}
 use Rattle.bplist_cert.proofs.KeyClasses.{good_unnamed}
 use Rattle.bplist_lint.specs.KeyRules.{KeepsByKeys, BreaksAtKeys, key_rules, KeepKeysBelow, IsKeysFault}
 
@@ -35,25 +37,27 @@ refusals_mean P Q cert_refusals.Memory same h = tt
 module _ (f : List ℕ) (F : Frame) where
   module _ (n : ℕ) where
     module _ (head : Head) (has : HasHead f F n head) where
-      -- all heads there are this one
-      same_head : (P : Head → Type 0) → P head → (other : Head) → HasHead f F n other → P other
-      same_head P here other k = subst P (HasHead-unique f F n head other has k) here
-
       pub kept_texts : HaveTexts f F head head.count → KeepsByKeys f F n rules.KeyKind
-      kept_texts texts = same_head (λ h. h.kind ≡ Dict → HaveTexts f F h h.count) (λ _. texts)
+      kept_texts texts = any_head f F n head has (Asks f F (lists [] None) n rules.KeyKind) (λ dict. subst (HaveTexts f F head) (sym (keys_among head dict)) texts)
 
       pub kept_keys : HaveTexts f F head head.count → KeysDiffer f F head head.count → KeepsAll (KeepsByKeys f F n) key_rules
-      kept_keys texts differ = (kept_texts texts, (same_head (λ h. h.kind ≡ Dict → KeysDiffer f F h h.count) (λ _. differ), tt))
+      kept_keys texts differ = (
+        kept_texts texts,
+        (any_head f F n head has (Asks f F (lists [] None) n rules.KeyTwice) (λ dict. subst (KeysDiffer f F head) (sym (keys_among head dict)) differ), tt),
+      )
 
       -- no dictionary
       pub kept_other : (head.kind ≡ Dict → ⊥) → KeepsAll (KeepsByKeys f F n) key_rules
-      kept_other no_dict = (same_head (λ h. h.kind ≡ Dict → HaveTexts f F h h.count) (λ e. absurd (no_dict e)), (same_head (λ h. h.kind ≡ Dict → KeysDiffer f F h h.count) (λ e. absurd (no_dict e)), tt))
+      kept_other no_dict = (
+        any_head f F n head has (Asks f F (lists [] None) n rules.KeyKind) (λ e. absurd (no_dict e)),
+        (any_head f F n head has (Asks f F (lists [] None) n rules.KeyTwice) (λ e. absurd (no_dict e)), tt),
+      )
 
       pub keyless : (fault : Fault) → head.kind ≡ Dict → IsKeylessFault f F n head fault → IsFirstFault (KeepsByKeys f F n) (BreaksAtKeys f F n) key_rules fault
-      keyless fault dict h = inl (h.0, (h.1, (head, h.2.0, has, dict, h.2.1, h.2.2)))
+      keyless fault dict h = inl (h.0, (h.1, (head, h.2.0, has, texts_fail f F head dict h.2.0 h.2.1, h.2.2)))
 
       pub twice : (fault : Fault) → head.kind ≡ Dict → HaveTexts f F head head.count → IsTwiceFault f F n head fault → IsFirstFault (KeepsByKeys f F n) (BreaksAtKeys f F n) key_rules fault
-      twice fault dict texts h = inr (kept_texts texts, inl (h.0, (h.1, (head, h.2.0, has, dict, h.2.1, h.2.2))))
+      twice fault dict texts h = inr (kept_texts texts, inl (h.0, (h.1, (head, h.2.0, has, differ_fail f F head dict h.2.0 h.2.1, h.2.2))))
 
       -- what is judged of two keys that are the same
       pub keys_judged : head.kind ≡ Dict → HaveTexts f F head head.count → (r : Result (Unit {0}) Refusal) → Judges (λ _. KeysDiffer f F head head.count) (IsTwiceFault f F n head) r
@@ -86,10 +90,10 @@ unnamed_keys f F named n none named_keys = (texts, (differ, tt))
     good = good_unnamed f F named n none named_keys
 
     texts : KeepsByKeys f F n rules.KeyKind
-    texts head has dict = (good head has dict).0
+    texts head has dict = subst (HaveTexts f F head) (sym (keys_among head dict)) (good head has dict).0
 
     differ : KeepsByKeys f F n rules.KeyTwice
-    differ head has dict = (good head has dict).1
+    differ head has dict = subst (KeysDiffer f F head) (sym (keys_among head dict)) (good head has dict).1
 
 -- an object without references that keeps rules 14 to 20 has no keys
 pub bare_keys : (f : List ℕ) (F : Frame) (n : ℕ) → IsFrame f F → n < F.objects → KeepsAll (KeepsByObject f F n) object_rules → refs_at f F n ≡ []

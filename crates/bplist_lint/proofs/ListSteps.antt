@@ -197,7 +197,7 @@ module _ (f : List ℕ) (F : Frame) (heights : List ℕ) where
           room = valid.room l.sums.objects l.used l.sums.differ (all_weaker _ _ (λ m k. k.0) l.sums.objects l.sums.inside) l.sums.take_all;
           kept = λ m low v.
               let k = keeps_all f F (record { heights = heights; keys = None }) (record { valid = valid; listed = tt }) m v in
-              (k.0, (k.1.0, (k.1.1.0, (k.1.1.1.0, (k.1.1.1.1.0, (k.1.1.1.1.1.0, (k.1.1.1.1.1.1.0, (k.1.1.1.1.1.1.1.0, (k.1.1.1.1.1.1.1.1.0, (k.1.1.1.1.1.1.1.1.1.0, (k.1.1.1.1.1.1.1.1.1.1.0, (l.order m low v, tt))))))))))));
+              (k.0, (k.1.0, (k.1.1.0, (k.1.1.1.0, (k.1.1.1.1.0, (l.order m low v, tt))))));
         };
       });
     }
