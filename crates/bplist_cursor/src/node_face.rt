@@ -91,23 +91,6 @@ fn face_by_head<S: Source>(
     }
 }
 
-/// The face of a node's object, by what it spells.
-fn face_of_node<S: Source>(
-    alloc: Global,
-    checked: &mut Checked<S>,
-    node: Node,
-) -> Result<Face, CursorFault>
-    ensures reads { Keeps (cursor_read result) checked.old checked.new }
-    ensures content { HonestlyChecked checked.old (λ f F. IsVouchedBy checked.old.certificate.heights node.object.0
-        → (content : Content) → Spells f F node.object.0 content → GivesCursor
-        (λ shown. shown ≡ content_face content) result) }
-    ensures unvouched { (IsVouchedBy checked.old.certificate.heights node.object.0 → ⊥) → result ≡ Err Changed }
-    ensures room { IfOk result (HasRoom (length checked.old.source.octets)) }
-{
-    let head = node_head(checked, node)?;
-    face_by_head(alloc, checked, &head)
-}
-
 /// The face of the value that a node's object holds: the leaf itself, or the kind of the container with its count.
 ///
 /// The body of a leaf is read into one Vec of its count, which is asked for by one request. Over any source each
@@ -133,5 +116,6 @@ pub fn face<S: Source>(
     ensures room { IfOk result (HasRoom (length checked.old.source.octets)) }
 {
     let _frame = checked.frame();
-    face_of_node(alloc, checked, node)
+    let head = node_head(checked, node)?;
+    face_by_head(alloc, checked, &head)
 }
