@@ -3,7 +3,7 @@ use Rattle.std.proofs.Common.{◌≡◌, ℕ, zero, suc, ◌+◌, ◌*◌, ◌^�
 use Rattle.std.specs.Int.{byte_at, bytes_high_first}
 use Rattle.std.proofs.lemmas.Nat.{div-mul-add, mod-mul-add}
 use Rattle.std.proofs.lemmas.Bool.{cases_lt}
-use Rattle.std.proofs.lemmas.List.{length-append, length-take, get_or-take, get_or-drop, get_or_past, flat_map_more}
+use Rattle.std.proofs.lemmas.List.{length-append, length-take, get_or-take, get_or-drop, get_or_past, flat_map_more, take_all, take_more}
 use Rattle.std.proofs.Math.Nat.{add-mul, add_assoc, div-add-mod', div-one, mod-eq_of_lt, mod-lt, mul-add-mod_self_right, mul-le-mul_right, mul_assoc, one-le-pow, pow-succ'}
 use Rattle.std.proofs.Math.Seq.{take-add}
 use Rattle.bplist_octets.specs.Octets.{part, num}
@@ -127,9 +127,24 @@ word-lt octets place low fits =
     let lt = num-lt (part octets place 4) (part-low octets place 4 low) in
     rw (length-part octets place 4 fits) at lt
 
--- one more number in a list
-pub AreWords-push : (numbers : List ℕ) (x : ℕ) → AreWords numbers → x < 2 ^ 32 → AreWords (numbers ++ x ∷ [])
-AreWords-push [] x low lt zero = lt
-AreWords-push [] x low lt (suc k) = omega arith
-AreWords-push (y ∷ ys) x low lt zero = low zero
-AreWords-push (y ∷ ys) x low lt (suc k) = AreWords-push ys x (λ j. low (suc j)) lt k
+-- all numbers of 4 bytes
+module _ (octets numbers : List ℕ) (low : AreBytes octets) (all : length octets ≡ 4 * length numbers)
+    (each : (k : ℕ) → k < length numbers → get_or numbers k 0 ≡ num (part octets (4 * k) 4)) where
+  words_front : (n : ℕ) → n ≤ length numbers → take (4 * n) octets ≡ words (take n numbers)
+  words_front zero h = refl
+  words_front (suc n) h =
+      let next : suc n ≡ n + 1 = omega arith in
+      rw (next, take_more numbers n 0 (omega arith))
+      (words_more octets (take n numbers) n (get_or numbers n 0) low (omega arith) (each n (omega arith)) (words_front n (omega arith)))
+
+  pub words_all : octets ≡ words numbers
+  words_all =
+      sym (take_all (4 * length numbers) octets (omega arith))
+      ∙ words_front (length numbers) (omega arith)
+      ∙ ap words (take_all (length numbers) numbers (omega arith))
+
+  pub words_low : AreWords numbers
+  words_low k = elim (cases_lt k (length numbers)) [
+    | inl lt ↦ rw (each k lt) (word-lt octets (4 * k) low (omega arith))
+    | inr ge ↦ rw (get_or_past numbers k 0 ge) (omega arith)
+  ]

@@ -9,6 +9,7 @@ ghost use Rattle.bplist_objects.specs.Rules.{KeepsAll};
 ghost use Rattle.bplist_objects.specs.Announced.{HasHead};
 ghost use Rattle.bplist_objects.specs.ObjectRules.{KeepsByObject, body_rules};
 ghost use Rattle.bplist_objects.specs.declared.frame.ObjectNo.{ObjectNo as object_no};
+ghost use Rattle.bplist_keys.specs.Classes.{HasNamedKeys};
 ghost use Rattle.bplist_cert.specs.Lists.{Keyed, lists, HasStarts};
 ghost use Rattle.bplist_cert.specs.Valid.{IsVouchedBy, HoldsOneValue};
 ghost use Rattle.bplist_cert.specs.Heights.{AreLower};
@@ -28,15 +29,17 @@ use crate::certificate::{Certificate, KeyLists};
 use crate::checked::Checked;
 use crate::extents::check_extent;
 use crate::heights::{Wanted, check_heights, check_refs, height_at};
+use crate::key_names::name_wanted;
 use crate::refusal::Refusal;
 use crate::seen::Seen;
 use crate::{key_classes, key_lists};
+use bplist_keys::NamedKeys;
 use bplist_objects::{
     Fault, Frame, Framed, Head, ObjectFault, ObjectNo, Plist, Rule, check_body, frame_of, head_in,
     read_offsets_in, refs_of, shape_in,
 };
 use bplist_octets::Source;
-use std::alloc::Global;
+use std::alloc::{AllocError, Global};
 
 /// How many entries of the offset table are read at once at most.
 const BLOCK: usize = 512;
@@ -202,14 +205,23 @@ fn check_block<P: Framed>(
     Ok(used)
 }
 
-/// Looks at all vouched objects, in the order of their numbers. How many bytes they take.
-fn check_all<P: Framed>(src: &mut P, walk: &Walk) -> Result<u64, Refusal>
-    requires { length walk.now.heights.now ≡ (frame_in (P.means src.old)).objects }
+/// Looks at all vouched objects, in the order of their numbers, and names the keys of the dictionaries among them, where keys
+/// are named: block by block, as places and objects are at hand then. How many bytes they take.
+fn check_all<P: Framed>(
+    src: &mut P,
+    walk: &Walk,
+    named: &mut Option<NamedKeys>,
+) -> Result<u64, Refusal>
+    requires all { length walk.now.heights.now ≡ (frame_in (P.means src.old)).objects }
+    requires named { IfSome named.old (λ keys. length keys.marks.items ≡ (frame_in (P.means src.old)).objects) }
     ensures reads { OnlyReads (refused_read result) (P.means src.old) (P.means src.new) }
     ensures memory { IfErr result (MayRefuse walk.now.keys.now) }
     ensures exact { HonestlyIn (P.means src.old) (λ f F.
         Judges (Running f F (lists walk.now.heights.now walk.now.keys.now) quick F.objects)
         (IsWalkFault f F (lists walk.now.heights.now walk.now.keys.now) walk.now.look) result) }
+    ensures named { IfSome named.new (λ keys. length keys.marks.items ≡ (frame_in (P.means src.old)).objects) }
+    ensures keys { HonestlyIn (P.means src.old) (λ f F. IfOk result (λ _. IfSome named.new (λ keys. (n : ℕ) → n < F.objects
+        → IsVouchedBy walk.now.heights.now n → HasNamedKeys f F keys.marks.items n))) }
 {
     let objects = src.frame().objects;
     let mut buffer = [0u64; BLOCK];
@@ -220,55 +232,80 @@ fn check_all<P: Framed>(src: &mut P, walk: &Walk) -> Result<u64, Refusal>
         let places = &mut buffer[..now as usize];
         read_offsets_in(src, done, places)?;
         used = check_block(src, walk, done, places, used)?;
+        name_wanted(src, walk.heights, done, places, named)?;
         done += now;
     }
     Ok(used)
 }
 
 /// Looks at all vouched objects by the rules before those of keys: quickly, and where that finds a fault again, by the rules
-/// in their order. How many bytes they take.
+/// in their order. Keys are named where they are to be. How many bytes they take.
 fn see_objects<P: Framed>(
     src: &mut P,
     heights: &[u32],
     keys: &Option<KeyLists>,
+    named: &mut Option<NamedKeys>,
 ) -> Result<u64, Refusal>
-    requires { length heights.now ≡ (frame_in (P.means src.old)).objects }
+    requires all { length heights.now ≡ (frame_in (P.means src.old)).objects }
+    requires named { IfSome named.old (λ keys. length keys.marks.items ≡ (frame_in (P.means src.old)).objects) }
     ensures reads { OnlyReads (refused_read result) (P.means src.old) (P.means src.new) }
     ensures memory { IfErr result (MayRefuse keys.now) }
     ensures exact { HonestlyIn (P.means src.old) (λ f F.
         Judges (Running f F (lists heights.now keys.now) quick F.objects)
         (IsSeenFault f F (lists heights.now keys.now)) result) }
+    ensures named { IfSome named.new (λ keys. length keys.marks.items ≡ (frame_in (P.means src.old)).objects) }
+    ensures keys { HonestlyIn (P.means src.old) (λ f F. IfOk result (λ _. IfSome named.new (λ keys. (n : ℕ) → n < F.objects
+        → IsVouchedBy heights.now n → HasNamedKeys f F keys.marks.items n))) }
 {
     let mut walk = Walk {
         heights,
         keys,
         look: Look::Quick,
     };
-    match check_all(src, &walk) {
+    match check_all(src, &walk, named) {
         Err(Refusal::Fault(_)) => {}
         answer => return answer,
     }
     walk.look = Look::Exact;
-    check_all(src, &walk)
+    check_all(src, &walk, named)
 }
 
-/// Looks at the keys of the vouched dictionaries that were seen.
+/// No key is named yet, where keys are to be named: for version 1.
+fn none_named(
+    alloc: Global,
+    objects: u32,
+    keys: &Option<KeyLists>,
+) -> Result<Option<NamedKeys>, AllocError>
+    ensures all { IfOk result (λ named. IfSome named (λ keys. length keys.marks.items ≡ objects)) }
+    ensures memory { IfErr result (λ _. keys.now ≡ None) }
+{
+    match keys {
+        None => Ok(Some(NamedKeys::new(alloc, objects)?)),
+        Some(_) => Ok(None),
+    }
+}
+
+/// Looks at the keys of the vouched dictionaries that were seen. Which objects they name as keys is given or found.
 fn check_keys<P: Framed>(
     alloc: Global,
     src: &mut P,
     seen: &Seen,
     keys: &Option<KeyLists>,
+    named: Option<NamedKeys>,
 ) -> Result<(), Refusal>
     requires all { length seen.now.heights.now ≡ (frame_in (P.means src.old)).objects }
     requires starts { HasStarts seen.now.heights.now keys.now }
+    requires named { IfSome named (λ keys. length keys.marks.items ≡ (frame_in (P.means src.old)).objects) }
     ensures reads { OnlyReads (refused_read result) (P.means src.old) (P.means src.new) }
     ensures memory { IfErr result (MayRefuse keys.now) }
     ensures exact { HonestlyIn (P.means src.old) (λ f F. AreSeen f F seen.now.heights.now seen.now.bound
+        → IfSome named (λ keys. (n : ℕ) → n < seen.now.bound → IsVouchedBy seen.now.heights.now n
+        → HasNamedKeys f F keys.marks.items n)
         → Judges (λ _. (n : ℕ) → n < seen.now.bound → IsVouchedBy seen.now.heights.now n → HasGoodKeys f F keys.now n)
         (IsFirstKeysFault f F (lists seen.now.heights.now keys.now) seen.now.bound) result) }
 {
     match keys {
-        None => key_classes::check_keys(alloc, src, seen),
+        None => key_classes::check_keys(alloc, src, seen, named),
         Some(keys) => Ok(key_lists::check_keys(src, seen, keys)?),
     }
 }
@@ -300,13 +337,14 @@ fn check_objects<P: Framed>(
         (IsVouchedFault f F (lists heights.now keys.now)) result) }
 {
     let objects = src.frame().objects;
-    match see_objects(src, heights, keys) {
+    let mut named = none_named(alloc, objects, keys)?;
+    match see_objects(src, heights, keys, &mut named) {
         Ok(used) => {
             let seen = Seen {
                 heights,
                 bound: objects,
             };
-            check_keys(alloc, src, &seen, keys)?;
+            check_keys(alloc, src, &seen, keys, named)?;
             Ok(used)
         }
         Err(Refusal::Fault(fault)) => {
@@ -314,7 +352,8 @@ fn check_objects<P: Framed>(
                 heights,
                 bound: object_of(&fault).min(objects),
             };
-            check_keys(alloc, src, &seen, keys)?;
+            named = None;
+            check_keys(alloc, src, &seen, keys, named)?;
             Err(Refusal::Fault(fault))
         }
         Err(refusal) => Err(refusal),

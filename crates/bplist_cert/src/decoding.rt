@@ -1,8 +1,8 @@
 //! Certificates from bytes.
 
-ghost use Rattle.std.specs.Prelude.{◌≡◌, ◌+◌, ◌*◌, ◌≤◌, length, take, drop, IfOk, MatchResult, ◌↔◌, ◌%◌, IsTrue, is_some, ⊤};
+ghost use Rattle.std.specs.Prelude.{◌≡◌, ℕ, ◌+◌, ◌*◌, ◌≤◌, ◌<◌, length, slice_index, take, drop, IfOk, MatchResult, ◌↔◌, ◌%◌, IsTrue, is_some, ⊤};
 ghost use Rattle.bplist_cert.specs.declared.certificate.CertRefusal.TheVariants.{Memory};
-ghost use Rattle.bplist_octets.specs.Octets.{part};
+ghost use Rattle.bplist_octets.specs.Octets.{part, num};
 ghost use Rattle.bplist_cert.specs.Lists.{Lists, IsCertificate, AreWords, AreKeyed, HasCount};
 ghost use Rattle.bplist_cert.specs.Encoding.{octets_of, magic, words, key_words, told, Fits, IsOctetsFault, IsCertRefusal};
 ghost use Rattle.bplist_cert.specs.Versions.{is_keyed};
@@ -110,17 +110,25 @@ fn read_keys(
     }
 }
 
+/// Puts the numbers of 4 bytes each that the bytes spell in their places. Nothing else is done in the loop, so that it takes
+/// several at a time.
+fn spell_words(octets: &[u8], into: &mut [u32])
+    requires { length octets.now ≡ 4 * length into.old }
+    ensures { (k : ℕ) → k < length into.new → slice_index into.new k ≡ num (part octets.now (4 * k) 4) }
+{
+    for k in 0..into.len() {
+        into[k] = sized(part_of(octets, 4 * k, 4)) as u32;
+    }
+}
+
 /// The numbers of 4 bytes each that the bytes spell.
 fn read_words(alloc: Global, octets: &[u8]) -> Result<Vec<u32>, AllocError>
     requires { length octets.now % 4 ≡ 0 }
     ensures spelled { IfOk result (λ numbers. octets.now ≡ words numbers.items) }
     ensures words { IfOk result (λ numbers. AreWords numbers.items) }
 {
-    let count = octets.len() / 4;
-    let mut numbers = Vec::with_capacity(alloc, count)?;
-    for i in 0..count {
-        numbers.push(sized(part_of(octets, 4 * i, 4)) as u32)?;
-    }
+    let mut numbers = vec![in alloc; 0u32; octets.len() / 4]?;
+    spell_words(octets, &mut numbers);
     Ok(numbers)
 }
 

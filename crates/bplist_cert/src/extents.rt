@@ -22,7 +22,7 @@ pub(crate) fn check_extent<P: Framed>(
 {
     let extent = head.end.saturating_sub(place);
     let left = src.frame().table.saturating_sub(used);
-    if extent > left || left - extent < 8 {
+    if extent >= left.saturating_sub(7) {
         return Err(Fault {
             rule: Rule::Overfull,
             object: Some(n),

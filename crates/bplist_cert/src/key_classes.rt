@@ -1,8 +1,9 @@
 //! Whether the keys of vouched dictionaries are texts that differ, by the classes of the texts: rules 21 and 22.
 
-ghost use Rattle.std.specs.Prelude.{◌≡◌, ◌<◌, ℕ, None, IfOk, IsTrue, MatchOption, is_err, ⊤, length};
+ghost use Rattle.std.specs.Prelude.{◌≡◌, ◌<◌, ℕ, None, IfOk, IfSome, IsTrue, MatchOption, is_err, ⊤, length};
 ghost use Rattle.bplist_octets.specs.Meaning.{OnlyReads};
 ghost use Rattle.bplist_objects.specs.Framed.{frame_in, HonestlyIn};
+ghost use Rattle.bplist_objects.specs.Answers.{Never};
 ghost use Rattle.bplist_objects.specs.Safe.{IsSafeHead};
 ghost use Rattle.bplist_objects.specs.Announced.{HasHead};
 ghost use Rattle.bplist_objects.specs.Rules.{KeepsAll};
@@ -188,19 +189,50 @@ fn check_named<P: Placed>(
     Ok(())
 }
 
+/// The objects that the vouched dictionaries which were seen name as keys, which are given or found.
+fn named_keys<P: Framed>(
+    alloc: Global,
+    src: &mut P,
+    seen: &Seen,
+    named: Option<NamedKeys>,
+) -> Result<NamedKeys, Refusal>
+    requires heights { length seen.now.heights.now ≡ (frame_in (P.means src.old)).objects }
+    requires named { IfSome named (λ keys. length keys.marks.items ≡ (frame_in (P.means src.old)).objects) }
+    ensures reads { OnlyReads (refused_read result) (P.means src.old) (P.means src.new) }
+    ensures all { IfOk result (λ named. length named.marks.items ≡ (frame_in (P.means src.old)).objects) }
+    ensures exact { HonestlyIn (P.means src.old) (λ f F. AreSeen f F seen.now.heights.now seen.now.bound
+        → IfSome named (λ keys. (n : ℕ) → n < seen.now.bound → IsVouchedBy seen.now.heights.now n
+        → HasNamedKeys f F keys.marks.items n)
+        → Judges (λ named. (n : ℕ) → n < seen.now.bound → IsVouchedBy seen.now.heights.now n
+        → HasNamedKeys f F named.marks.items n) Never result) }
+{
+    match named {
+        Some(named) => Ok(named),
+        None => seen_keys(alloc, src, seen),
+    }
+}
+
 /// Looks at the keys of the vouched dictionaries that were seen: they are texts that differ. With all vouched objects seen
 /// each text that is named as a key is read once to find its class, and again only where another has the same fingerprint.
 /// Where no object is named as a key, as in a file without dictionaries, neither places nor classes are worth their memory and
 /// their passes over all objects: no dictionary has a key that could be wrong.
-pub(crate) fn check_keys<P: Framed>(alloc: Global, src: &mut P, seen: &Seen) -> Result<(), Refusal>
-    requires { length seen.now.heights.now ≡ (frame_in (P.means src.old)).objects }
+pub(crate) fn check_keys<P: Framed>(
+    alloc: Global,
+    src: &mut P,
+    seen: &Seen,
+    named: Option<NamedKeys>,
+) -> Result<(), Refusal>
+    requires heights { length seen.now.heights.now ≡ (frame_in (P.means src.old)).objects }
+    requires named { IfSome named (λ keys. length keys.marks.items ≡ (frame_in (P.means src.old)).objects) }
     ensures reads { OnlyReads (refused_read result) (P.means src.old) (P.means src.new) }
     ensures exact { HonestlyIn (P.means src.old) (λ f F. AreSeen f F seen.now.heights.now seen.now.bound
+        → IfSome named (λ keys. (n : ℕ) → n < seen.now.bound → IsVouchedBy seen.now.heights.now n
+        → HasNamedKeys f F keys.marks.items n)
         → Judges (λ _. (n : ℕ) → n < seen.now.bound → IsVouchedBy seen.now.heights.now n → HasGoodKeys f F None n)
         (IsFirstKeysFault f F (lists seen.now.heights.now None) seen.now.bound) result) }
 {
     let frame = src.frame();
-    let named = seen_keys(alloc, src, seen)?;
+    let named = named_keys(alloc, src, seen, named)?;
     if named.count() == 0 {
         return Ok(());
     }

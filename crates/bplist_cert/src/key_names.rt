@@ -1,8 +1,8 @@
 //! The objects that the vouched dictionaries name as keys.
 
-ghost use Rattle.std.specs.Prelude.{◌≡◌, ◌<◌, ℕ, IfOk, length};
+ghost use Rattle.std.specs.Prelude.{◌≡◌, ◌+◌, ◌<◌, ◌≤◌, ℕ, IfOk, IfSome, length, slice_index};
 ghost use Rattle.bplist_octets.specs.Meaning.{OnlyReads};
-ghost use Rattle.bplist_objects.specs.Answers.{Never};
+ghost use Rattle.bplist_objects.specs.Answers.{Gives, Never, read_failed};
 ghost use Rattle.bplist_objects.specs.Frame.{off};
 ghost use Rattle.bplist_objects.specs.Framed.{frame_in, HonestlyIn};
 ghost use Rattle.bplist_objects.specs.Rules.{KeepsAll};
@@ -15,9 +15,12 @@ ghost use Rattle.bplist_cert.specs.Refusals.{Judges, refused_read};
 
 use crate::refusal::Refusal;
 use crate::seen::Seen;
-use bplist_keys::{NamedKeys, PlaceBlock, name_keys};
-use bplist_objects::{Framed, Kind, ObjectNo, shape_in};
+use bplist_keys::{NamedKeys, name_keys};
+use bplist_objects::{Framed, Kind, ObjectFault, ObjectNo, read_offsets_in, shape_in};
 use std::alloc::Global;
+
+/// How many entries of the offset table are read at once at most.
+const BLOCK: usize = 512;
 
 /// Names the keys of object `n`, which stands at `place`, where it is a dictionary.
 fn name_object<P: Framed>(
@@ -25,14 +28,14 @@ fn name_object<P: Framed>(
     n: u32,
     place: u64,
     named: &mut NamedKeys,
-) -> Result<(), Refusal>
+) -> Result<(), ObjectFault>
     requires within { n < (frame_in (P.means src.old)).objects }
     requires all { length named.old.marks.items ≡ (frame_in (P.means src.old)).objects }
-    ensures reads { OnlyReads (refused_read result) (P.means src.old) (P.means src.new) }
+    ensures reads { OnlyReads (read_failed result) (P.means src.old) (P.means src.new) }
     ensures all { length named.new.marks.items ≡ (frame_in (P.means src.old)).objects }
     ensures keeps { (m : ℕ) → IsMarked named.old.marks.items m → IsMarked named.new.marks.items m }
     ensures exact { HonestlyIn (P.means src.old) (λ f F. place ≡ off f F n → KeepsAll (KeepsByObject f F n) object_rules
-        → Judges (λ _. HasNamedKeys f F named.new.marks.items n) Never result) }
+        → Gives (λ _. HasNamedKeys f F named.new.marks.items n) Never result) }
 {
     let head = shape_in(src, ObjectNo(n), place)?;
     match head.kind {
@@ -41,7 +44,64 @@ fn name_object<P: Framed>(
     }
 }
 
-/// The objects that the vouched dictionaries which were seen name as keys. An object of height 1 has no references.
+/// Names the keys of the vouched dictionaries among the objects from number `from` on, which stand at these places. An object
+/// of height 1 has no references.
+fn name_block<P: Framed>(
+    src: &mut P,
+    heights: &[u32],
+    from: u32,
+    places: &[u64],
+    named: &mut NamedKeys,
+) -> Result<(), ObjectFault>
+    requires heights { length heights.now ≡ (frame_in (P.means src.old)).objects }
+    requires within { from + length places.now ≤ (frame_in (P.means src.old)).objects }
+    requires all { length named.old.marks.items ≡ (frame_in (P.means src.old)).objects }
+    ensures reads { OnlyReads (read_failed result) (P.means src.old) (P.means src.new) }
+    ensures all { length named.new.marks.items ≡ (frame_in (P.means src.old)).objects }
+    ensures exact { HonestlyIn (P.means src.old) (λ f F. ((k : ℕ) → k < length places.now
+        → slice_index places.now k ≡ off f F (from + k))
+        → AreSeen f F heights.now (from + length places.now)
+        → ((m : ℕ) → m < from → IsVouchedBy heights.now m → HasNamedKeys f F named.old.marks.items m)
+        → Gives (λ _. (m : ℕ) → m < from + length places.now → IsVouchedBy heights.now m
+        → HasNamedKeys f F named.new.marks.items m) Never result) }
+{
+    let _frame = src.frame();
+    for (i, place) in places.iter().enumerate() {
+        let n = from + i as u32;
+        if heights[n as usize] > 1 {
+            name_object(src, n, *place, named)?;
+        }
+    }
+    Ok(())
+}
+
+/// The same, where keys are named.
+pub(crate) fn name_wanted<P: Framed>(
+    src: &mut P,
+    heights: &[u32],
+    from: u32,
+    places: &[u64],
+    named: &mut Option<NamedKeys>,
+) -> Result<(), ObjectFault>
+    requires heights { length heights.now ≡ (frame_in (P.means src.old)).objects }
+    requires within { from + length places.now ≤ (frame_in (P.means src.old)).objects }
+    requires all { IfSome named.old (λ keys. length keys.marks.items ≡ (frame_in (P.means src.old)).objects) }
+    ensures reads { OnlyReads (read_failed result) (P.means src.old) (P.means src.new) }
+    ensures all { IfSome named.new (λ keys. length keys.marks.items ≡ (frame_in (P.means src.old)).objects) }
+    ensures exact { HonestlyIn (P.means src.old) (λ f F. ((k : ℕ) → k < length places.now
+        → slice_index places.now k ≡ off f F (from + k))
+        → AreSeen f F heights.now (from + length places.now)
+        → IfSome named.old (λ keys. (m : ℕ) → m < from → IsVouchedBy heights.now m → HasNamedKeys f F keys.marks.items m)
+        → Gives (λ _. IfSome named.new (λ keys. (m : ℕ) → m < from + length places.now → IsVouchedBy heights.now m
+        → HasNamedKeys f F keys.marks.items m)) Never result) }
+{
+    match named {
+        Some(named) => name_block(src, heights, from, places, named),
+        None => Ok(()),
+    }
+}
+
+/// The objects that the vouched dictionaries which were seen name as keys.
 pub(crate) fn seen_keys<P: Framed>(
     alloc: Global,
     src: &mut P,
@@ -56,12 +116,14 @@ pub(crate) fn seen_keys<P: Framed>(
 {
     let objects = src.frame().objects;
     let mut named = NamedKeys::new(alloc, objects)?;
-    let mut places = PlaceBlock::new();
-    for n in 0..seen.bound {
-        if seen.heights[n as usize] > 1 {
-            let place = places.place(src, n)?;
-            name_object(src, n, place, &mut named)?;
-        }
+    let mut buffer = [0u64; BLOCK];
+    let mut done = 0u32;
+    while done < seen.bound {
+        let now = (seen.bound - done).min(BLOCK as u32);
+        let places = &mut buffer[..now as usize];
+        read_offsets_in(src, done, places)?;
+        name_block(src, seen.heights, done, places, &mut named)?;
+        done += now;
     }
     Ok(named)
 }

@@ -14,8 +14,8 @@ returns-in_err-check_keys-in-Ok-clause-exact g c = λ honest.
     let keys = c.args.keys.now in
     let run = c.in-Ok.ensures.exact honest in
     let keyed = rw (c.in-Ok.ensures.reads, c.frame-objects.ensures.frame) at c.in_err-check_keys-in-Ok.ensures.exact in
-    let p = err_from_is_err_and c.from_residual.result c.from_residual.ensures.1 in
-    rw (p.1, p.2) (refused_weaker _ _ c.in_err-check_keys-in-Ok.field-0.0 (λ fault h. keys_first f F heights keys fault F.objects run.kept h) (keyed honest run.kept))
+    let p = err_from_is_err_and c.from_residual-in_err-check_keys-in-Ok.result c.from_residual-in_err-check_keys-in-Ok.ensures.1 in
+    rw (p.1, p.2) (refused_weaker _ _ c.in_err-check_keys-in-Ok.field-0.0 (λ fault h. keys_first f F heights keys fault F.objects run.kept h) (keyed honest run.kept (c.in-Ok.ensures.keys honest)))
 
 pub returns-in_err-check_keys-in-Err-Fault-clause-exact : goal.returns-in_err-check_keys-in-Err-Fault-clause-exact
 returns-in_err-check_keys-in-Err-Fault-clause-exact g c = λ honest.
@@ -32,7 +32,7 @@ returns-in_err-check_keys-in-Err-Fault-clause-exact g c = λ honest.
     let reads = rw c.in-Err-Fault.field-0-is at c.in-Err-Fault.ensures.reads in
     let keyed = rw reads at c.in_err-check_keys-in-Err-Fault.ensures.exact in
     let p = err_from_is_err_and c.from_residual-in_err-check_keys-in-Err-Fault.result c.from_residual-in_err-check_keys-in-Err-Fault.ensures.1 in
-    rw (p.1, p.2) (refused_weaker _ _ c.in_err-check_keys-in-Err-Fault.field-0.0 (λ fault h. keys_first f F heights keys fault c.min.result seen h) (keyed honest seen))
+    rw (p.1, p.2) (refused_weaker _ _ c.in_err-check_keys-in-Err-Fault.field-0.0 (λ fault h. keys_first f F heights keys fault c.min.result seen h) (keyed honest seen tt))
 
 pub returns-in_ok-check_keys-in-Ok-clause-exact : goal.returns-in_ok-check_keys-in-Ok-clause-exact
 returns-in_ok-check_keys-in-Ok-clause-exact g c = λ honest.
@@ -42,7 +42,7 @@ returns-in_ok-check_keys-in-Ok-clause-exact g c = λ honest.
     let keys = c.args.keys.now in
     let run = c.in-Ok.ensures.exact honest in
     let keyed = rw (c.in-Ok.ensures.reads, c.frame-objects.ensures.frame) at c.in_ok-check_keys-in-Ok.ensures.exact in
-    all_good f F heights keys c.in-Ok.used run (keyed honest run.kept)
+    all_good f F heights keys c.in-Ok.used run (keyed honest run.kept (c.in-Ok.ensures.keys honest))
 
 pub returns-in_ok-check_keys-in-Err-Fault-clause-exact : goal.returns-in_ok-check_keys-in-Err-Fault-clause-exact
 returns-in_ok-check_keys-in-Err-Fault-clause-exact g c = λ honest.
@@ -58,5 +58,5 @@ returns-in_ok-check_keys-in-Err-Fault-clause-exact g c = λ honest.
     let seen = subst (AreSeen f F heights) (sym bound) s.seen in
     let reads = rw c.in-Err-Fault.field-0-is at c.in-Err-Fault.ensures.reads in
     let keyed = rw reads at c.in_ok-check_keys-in-Err-Fault.ensures.exact in
-    let good = keyed honest seen in
+    let good = keyed honest seen tt in
     seen_first f F heights keys _ s (λ n lt v. good n (omega (arith, lt, bound)) v)

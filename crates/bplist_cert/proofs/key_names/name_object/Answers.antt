@@ -7,7 +7,7 @@ use Rattle.bplist_objects.proofs.BodyLaws.{HasHead-unique}
 use Rattle.bplist_keys.specs.Classes.{key_ref}
 use Rattle.bplist_keys.specs.Marks.{IsMarked}
 use Rattle.bplist_cert.proofs.Texts.{shape_kept}
-use Rattle.bplist_cert.proofs.CheckSteps.{object_refused}
+use Rattle.bplist_cert.proofs.CheckSteps.{given_weaker}
 use Rattle.bplist_cert.proofs.KeyClasses.{keys_inside}
 use Rattle.bplist_cert.proofs.key_names.name_object.Goals as goal
 
@@ -16,7 +16,7 @@ returns-in_err-head-clause-exact g c = λ honest at kept.
     let m = g.P.Source.means c.args.src.now in
     let p = err_from_is_err_and c.from_residual.result c.from_residual.ensures.1 in
     let rules = c.in_err-head.ensures.rules honest at in
-    rw (p.1, p.2) (object_refused _ _ c.in_err-head.field-0.0 (λ fault h. absurd (shape_kept m.octets (frame_in m) c.args.n fault kept h)) rules)
+    rw (p.1, p.2) (given_weaker _ _ c.in_err-head.field-0.0 (λ fault h. absurd (shape_kept m.octets (frame_in m) c.args.n fault kept h)) rules)
 
 pub returns-in_ok-name_keys-in-Dict-clause-exact : goal.returns-in_ok-name_keys-in-Dict-clause-exact
 returns-in_ok-name_keys-in-Dict-clause-exact g c = λ honest at kept head has dict k low.
