@@ -11,8 +11,8 @@ use Rattle.bplist_cursor.specs.Replies.{reply}
 use Rattle.bplint_lines.specs.declared.fault.RunFault.{RunFault}
 use Rattle.bplint_lines.specs.declared.fault.RunFault.TheVariants as faults
 use Rattle.bplint_lines.specs.declared.output.Output.{Output}
-use Rattle.bplint_lines.specs.Answers.{Answer, Answers, IsRefusal}
-use Rattle.bplint_engine.specs.PathQueries.{IsQueryOf}
+use Rattle.bplint_lines.specs.Answers.{Answer, refuses, Answers, IsRefusal}
+use Rattle.bplint_engine.specs.PathQueries.{IsAskingFault, IsQueryOf}
 use Rattle.bplint_lines.specs.Faults.{Gives, IsExcused}
 use Rattle.bplint_engine.specs.Get.{GetSays, reply_line, said_of}
 use Rattle.bplint_engine.specs.CertifiedFile.{IsVouchedFor}
@@ -22,6 +22,19 @@ pub excused_refused : (Says : Answer → Type 0) (fault : RunFault) → IsExcuse
 excused_refused Says (faults.Read _) h = tt
 excused_refused Says faults.Memory h = tt
 excused_refused Says _ h = absurd h
+
+-- a refusal of one answer is one of another that has the same faults
+pub refused_as : (P Q : Answer → Type 0) (fault : RunFault) → ((x : RunFault) → P (refuses x) → Q (refuses x)) → IsRefusal P fault → IsRefusal Q fault
+refused_as P Q (faults.Write _) to h = h
+refused_as P Q (faults.Read _) to h = tt
+refused_as P Q faults.Memory to h = tt
+refused_as P Q fault to h = to fault h
+
+-- where the texts are path texts the file's fault is that of what is asked
+pub file_fault : (IsFault : RunFault → Type 0) (texts : List (List ℕ)) (queries : List Query) (fault : RunFault) → ((place : ℕ) → IsFault (faults.Path place) → ⊥)
+    → AllZip IsQueryOf texts queries → IsFault fault → IsAskingFault IsFault texts fault
+file_fault IsFault texts queries (faults.Path place) other are h = absurd (other place h)
+file_fault IsFault texts queries _ other are h = (queries, are, h)
 
 -- the file is vouched for, and the queries were answered
 pub get_says : (f cert : List ℕ) (texts : List (List ℕ)) (queries : List Query) (F : Frame) (lists : Lists) (made : Result Output RunFault)

@@ -26,16 +26,16 @@ use Rattle.bplint_lines.specs.declared.fault.RunFault.TheVariants as faults
 use Rattle.bplint_lines.specs.declared.output.Output.{Output}
 use Rattle.bplint_lines.specs.declared.said.Said.{Said}
 use Rattle.bplint_lines.specs.Answers.{Answer, refuses, Answers, IsRefusal, Leaves, LeavesBy}
-use Rattle.bplint_engine.specs.PathQueries.{IsQueryOf, IsWrongAmong}
+use Rattle.bplint_engine.specs.PathQueries.{IsAskingFault, IsQueryOf, IsWrongAmong}
 use Rattle.bplint_lines.specs.Faults.{Gives, IsExcused, OnPath}
 use Rattle.bplint_engine.proofs.FaultsBelow.{lint_fault}
 use Rattle.bplint_engine.specs.Get.{reply_line, said_of}
 use Rattle.bplint_engine.specs.Lint.{LintSays, IsLintFault}
 use Rattle.bplint_engine.specs.Ls.{ListGives, ListSays}
 use Rattle.bplint_engine.specs.Print.{PathSays}
-use Rattle.bplint_engine.specs.Show.{IsShowFault, LeastLeads, ShowSays, TextSays}
+use Rattle.bplint_engine.specs.Show.{LeastLeads, ShowSays, TextSays}
 use Rattle.bplint_engine.specs.CertifiedFile.{IsLeastFor}
-use Rattle.bplint_engine.proofs.GetAnswers.{excused_refused}
+use Rattle.bplint_engine.proofs.GetAnswers.{excused_refused, file_fault}
 use Rattle.bplint_engine.proofs.LeftBytes.{said_as}
 use Rattle.bplint_engine.proofs.PrintAnswers.{path_to_print}
 
@@ -60,28 +60,17 @@ least_for f G lint lists (F, is, by) same fits frames agreed =
       frame = subst (λ X. IsFrame f X) (sym frame) is;
       linted = subst (λ X. IsLintedBy f X lint) (sym frame) by;
       same = same;
-      vouched = record {
-        certificate = subst (λ l. IsCertificate l) (sym same) (fits by.version);
-        spelled = ap octets_of (sym same);
-        accepted = subst (λ l. ∥ IsAccepted f G l ∥₁) (sym same) agreed;
-      };
+      vouched = (
+        subst (λ l. IsCertificate l) (sym same) (fits by.version),
+        ap octets_of (sym same),
+        subst (λ l. ∥ IsAccepted f G l ∥₁) (sym same) agreed,
+      );
     }
 
 -- the first fault of the file is one of `show` and `ls`
 pub show_fault : (f : List ℕ) (texts : List (List ℕ)) (queries : List Query) (fault : RunFault) → AllZip IsQueryOf texts queries
-    → IsLintFault f fault → IsShowFault f texts fault
-show_fault f texts queries (faults.Fault fault) are h = (queries, are, h)
-show_fault f texts queries (faults.Circle ns) are h = (queries, are, h)
-show_fault f texts queries _ are h = absurd h
-
--- the same as a refusal, whatever the answer without one is
-pub refused_as : (f : List ℕ) (Says : Answer → Type 0) (fault : RunFault) → ((x : RunFault) → IsLintFault f x → Says (refuses x))
-    → IsRefusal (LintSays f) fault → IsRefusal Says fault
-refused_as f Says (faults.Fault fault) to h = to (faults.Fault fault) h
-refused_as f Says (faults.Circle ns) to h = to (faults.Circle ns) h
-refused_as f Says (faults.Read _) to h = tt
-refused_as f Says faults.Memory to h = tt
-refused_as f Says _ to h = absurd h
+    → IsLintFault f fault → IsAskingFault (IsLintFault f) texts fault
+show_fault f texts queries fault are h = file_fault (IsLintFault f) texts queries fault (λ place x. x) are h
 
 -- the same with the least certificate
 pub least_fault : (Says : List ℕ → Answer → Type 0) (f : List ℕ) (texts : List (List ℕ)) (queries : List Query) (fault : RunFault) → AllZip IsQueryOf texts queries

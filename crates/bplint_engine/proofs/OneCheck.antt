@@ -12,6 +12,7 @@ use Rattle.bplist_cert.specs.PairFault.{IsPairFault}
 use Rattle.bplist_cert.proofs.AcceptedCertificates.{fault_refutes}
 use Rattle.bplist_cert.proofs.CertificateBytes.{octets_once, octets_kept, one_octets_fault}
 use Rattle.bplist_cert.proofs.OneFault.{one_pair_fault}
+use Rattle.bplint_lines.specs.declared.fault.RunFault.{RunFault}
 use Rattle.bplint_lines.specs.declared.fault.RunFault.TheVariants as faults
 use Rattle.bplint_lines.specs.Answers.{Answer, gives, refuses}
 use Rattle.bplint_engine.specs.Check.{CheckSays}
@@ -24,34 +25,37 @@ module _ (f cert : List ℕ) where
   same_lists l m is is' spelled spelled' = octets_once l m is is' (sym spelled ∙ spelled')
 
   vouched_frame : (F : Frame) (lists : Lists) → IsVouchedFor f cert F lists → F ≡ trailer f
-  vouched_frame F lists v = ∥∥₁_elim v.accepted (hlevel props) (λ a. a.valid.frame.spelled)
+  vouched_frame F lists v = ∥∥₁_elim v.2 (hlevel props) (λ a. a.valid.frame.spelled)
 
   pub same_frame : (F G : Frame) (l m : Lists) → IsVouchedFor f cert F l → IsVouchedFor f cert G m → F ≡ G
   same_frame F G l m v w = vouched_frame F l v ∙ sym (vouched_frame G m w)
 
-  pub not_vouched : (F : Frame) (lists : Lists) (a : Fault) → IsVouchedFor f cert F lists → IsVouchingFault f cert a → ⊥
-  not_vouched F lists a v (inl h) = octets_kept cert lists a v.certificate v.spelled h
-  not_vouched F lists a v (inr (other, is, spelled, h)) =
-      let same = same_lists other lists is v.certificate spelled v.spelled in
-      not_there v.accepted (λ accepted. fault_refutes f F lists a (subst (λ l. IsPairFault f l a) same h) accepted)
+  pub not_vouched : (F : Frame) (lists : Lists) (a : RunFault) → IsVouchedFor f cert F lists → IsVouchingFault f cert a → ⊥
+  not_vouched F lists (faults.Fault a) v (inl h) = octets_kept cert lists a v.0 v.1 h
+  not_vouched F lists (faults.Fault a) v (inr (other, is, spelled, h)) =
+      let same = same_lists other lists is v.0 spelled v.1 in
+      not_there v.2 (λ accepted. fault_refutes f F lists a (subst (λ l. IsPairFault f l a) same h) accepted)
+  not_vouched F lists _ v h = h
 
-  pub one_vouching : (a b : Fault) → IsVouchingFault f cert a → IsVouchingFault f cert b → a ≡ b
-  one_vouching a b (inl h) (inl k) = one_octets_fault cert a b h k
-  one_vouching a b (inl h) (inr (lists, is, spelled, k)) = absurd (octets_kept cert lists a is spelled h)
-  one_vouching a b (inr (lists, is, spelled, h)) (inl k) = absurd (octets_kept cert lists b is spelled k)
-  one_vouching a b (inr (l, is, spelled, h)) (inr (m, is', spelled', k)) =
+  one_fault : (a b : Fault) → IsVouchingFault f cert (faults.Fault a) → IsVouchingFault f cert (faults.Fault b) → a ≡ b
+  one_fault a b (inl h) (inl k) = one_octets_fault cert a b h k
+  one_fault a b (inl h) (inr (lists, is, spelled, k)) = absurd (octets_kept cert lists a is spelled h)
+  one_fault a b (inr (lists, is, spelled, h)) (inl k) = absurd (octets_kept cert lists b is spelled k)
+  one_fault a b (inr (l, is, spelled, h)) (inr (m, is', spelled', k)) =
       one_pair_fault f m a b (subst (λ x. IsPairFault f x a) (same_lists l m is is' spelled spelled') h) k
+
+  pub one_vouching : (a b : RunFault) → IsVouchingFault f cert a → IsVouchingFault f cert b → a ≡ b
+  one_vouching (faults.Fault a) (faults.Fault b) h k = ap faults.Fault (one_fault a b h k)
+  one_vouching (faults.Fault a) _ h k = absurd k
+  one_vouching _ b h k = absurd h
 
   -- ---- check
   pub one_check : (a b : Answer) → CheckSays f cert a → CheckSays f cert b → a ≡ b
   one_check (gives s xs) (gives t ys) (F, l, v, all, line) (G, m, w, all', line') =
       let frame = same_frame F G l m v w in
-      let lists = same_lists l m v.certificate w.certificate v.spelled w.spelled in
+      let lists = same_lists l m v.0 w.0 v.1 w.1 in
       same_gives s t xs ys (all ∙ sym all')
       (line ∙ (λ i. check_line (frame i).objects (slice_index (lists i).heights (frame i).top.0) ++ 10 ∷ []) ∙ sym line')
-  one_check (gives s xs) (refuses (faults.Fault b)) h k = absurd (not_vouched h.0 h.1 b h.2 k)
-  one_check (gives s xs) (refuses _) h k = absurd k
-  one_check (refuses (faults.Fault a)) (gives t ys) h k = absurd (not_vouched k.0 k.1 a k.2 h)
-  one_check (refuses (faults.Fault a)) (refuses (faults.Fault b)) h k = ap (λ x. refuses (faults.Fault x)) (one_vouching a b h k)
-  one_check (refuses (faults.Fault a)) (refuses _) h k = absurd k
-  one_check (refuses _) b h k = absurd h
+  one_check (gives s xs) (refuses b) h k = absurd (not_vouched h.0 h.1 b h.2 k)
+  one_check (refuses a) (gives t ys) h k = absurd (not_vouched k.0 k.1 a k.2 h)
+  one_check (refuses a) (refuses b) h k = ap refuses (one_vouching a b h k)

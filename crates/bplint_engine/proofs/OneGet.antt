@@ -1,5 +1,5 @@
 -- What `get` says is one, and so are the queries of path texts.
-use Rattle.std.proofs.Common.{◌≡◌, ℕ, List, [], ◌∷◌, map, inl, inr, refl, sym, ap, ◌∙◌, subst}
+use Rattle.std.proofs.Common.{◌≡◌, ◌⊎◌, ℕ, List, [], ◌∷◌, map, inl, inr, refl, sym, ap, ◌∙◌, subst}
 use Rattle.std.specs.List.{AllZip}
 use Rattle.std.specs.List.{flat_map}
 use Rattle.std.proofs.Math.Logic.{∥∥₁_map}
@@ -18,7 +18,7 @@ use Rattle.bplint_lines.specs.declared.fault.RunFault.TheVariants as faults
 use Rattle.bplint_lines.specs.Answers.{Answer, gives, refuses}
 use Rattle.bplint_engine.specs.PathQueries.{IsAskingFault, IsQueryOf, IsWrongAmong}
 use Rattle.bplint_engine.specs.Get.{GetSays, reply_line, said_of}
-use Rattle.bplint_engine.specs.CertifiedFile.{IsVouchedFor}
+use Rattle.bplint_engine.specs.CertifiedFile.{IsVouchedFor, IsVouchingFault}
 use Rattle.bplint_engine.proofs.EqualAnswers.{same_gives, open_bytes, open_said}
 use Rattle.bplint_engine.proofs.OneCheck.{same_frame, not_vouched, one_vouching}
 
@@ -59,24 +59,36 @@ one_wrong (t ∷ ts) p q (inl h) (inr k) = absurd (not_both t k.0 p k.1 h)
 one_wrong (t ∷ ts) p q (inr h) (inl k) = absurd (not_both t h.0 q h.1 k)
 one_wrong (t ∷ ts) p q (inr h) (inr k) = one_wrong ts p q h.2 k.2
 
+-- what is asked, where the file's fault is one
+module _ (IsFault : RunFault → Type 0) (texts : List (List ℕ)) where
+  -- the fault is a wrong path text, or the file's
+  abbrev IsEither : RunFault → Type 0
+  IsEither a = ((p : ℕ) × (a ≡ faults.Path p) × IsWrongAmong texts p) ⊎ ((qs : List Query) × AllZip IsQueryOf texts qs × IsFault a)
+
+  either : (a : RunFault) → IsAskingFault IsFault texts a → IsEither a
+  either (faults.Path p) h = inl (p, refl, h)
+  either _ h = inr h
+
+  one_either : (a b : RunFault) → (IsFault a → IsFault b → a ≡ b) → IsEither a → IsEither b → a ≡ b
+  one_either a b one (inl (p, is, h)) (inl (q, is', k)) = is ∙ ap faults.Path (one_wrong texts p q h k) ∙ sym is'
+  one_either a b one (inl (p, is, h)) (inr (qs, are, k)) = absurd (not_wrong texts qs p are h)
+  one_either a b one (inr (qs, are, h)) (inl (q, is, k)) = absurd (not_wrong texts qs q are k)
+  one_either a b one (inr h) (inr k) = one h.2 k.2
+
+  pub one_asking : (a b : RunFault) → (IsFault a → IsFault b → a ≡ b) → IsAskingFault IsFault texts a → IsAskingFault IsFault texts b → a ≡ b
+  one_asking a b one h k = one_either a b one (either a h) (either b k)
+
+  not_either : (qs : List Query) (a : RunFault) → AllZip IsQueryOf texts qs → (IsFault a → ⊥) → IsEither a → ⊥
+  not_either qs a are none (inl (p, is, h)) = not_wrong texts qs p are h
+  not_either qs a are none (inr h) = none h.2
+
+  pub not_asking : (qs : List Query) (a : RunFault) → AllZip IsQueryOf texts qs → (IsFault a → ⊥) → IsAskingFault IsFault texts a → ⊥
+  not_asking qs a are none h = not_either qs a are none (either a h)
+
 module _ (f cert : List ℕ) (texts : List (List ℕ)) where
-  pub one_asking : (a b : RunFault) → IsAskingFault f cert texts a → IsAskingFault f cert texts b → a ≡ b
-  one_asking (faults.Path p) (faults.Path q) h k = ap faults.Path (one_wrong texts p q h k)
-  one_asking (faults.Path p) (faults.Fault y) h k = absurd (not_wrong texts k.0 p k.1 h)
-  one_asking (faults.Path p) _ h k = absurd k
-  one_asking (faults.Fault x) (faults.Path q) h k = absurd (not_wrong texts h.0 q h.1 k)
-  one_asking (faults.Fault x) (faults.Fault y) h k = ap faults.Fault (one_vouching f cert x y h.2 k.2)
-  one_asking (faults.Fault x) _ h k = absurd k
-  one_asking _ b h k = absurd h
-
-  pub not_asking : (qs : List Query) (F : Frame) (lists : Lists) (a : RunFault) → AllZip IsQueryOf texts qs → IsVouchedFor f cert F lists → IsAskingFault f cert texts a → ⊥
-  not_asking qs F lists (faults.Path p) are v h = not_wrong texts qs p are h
-  not_asking qs F lists (faults.Fault x) are v h = not_vouched f cert F lists x v h.2
-  not_asking qs F lists _ are v h = h
-
   -- ---- get
   value_there : (F : Frame) (lists : Lists) → IsVouchedFor f cert F lists → ∥ ((x : Value) × Holds f F F.top.0 x) ∥₁
-  value_there F lists v = ∥∥₁_map v.accepted (λ a. let h = object_holds f F lists.heights a.valid F.top.0 a.valid.top in (h.0, h.1))
+  value_there F lists v = ∥∥₁_map v.2 (λ a. let h = object_holds f F lists.heights a.valid F.top.0 a.valid.top in (h.0, h.1))
 
   pub one_get : (a b : Answer) → GetSays f cert texts a → GetSays f cert texts b → a ≡ b
   one_get (gives s xs) (gives t ys) (qs, F, l, are, v, told) (rs, G, m, are', w, told') =
@@ -87,6 +99,6 @@ module _ (f cert : List ℕ) (texts : List (List ℕ)) where
       same_gives s t xs ys
       (open_said value s t (λ h. (told h.0 h.1).0 ∙ sym (same h.0 h.1).0))
       (open_bytes value xs ys (λ h. (told h.0 h.1).1 ∙ sym (same h.0 h.1).1))
-  one_get (gives s xs) (refuses b) h k = absurd (not_asking h.0 h.1 h.2 b h.3 h.4 k)
-  one_get (refuses a) (gives t ys) h k = absurd (not_asking k.0 k.1 k.2 a k.3 k.4 h)
-  one_get (refuses a) (refuses b) h k = ap refuses (one_asking a b h k)
+  one_get (gives s xs) (refuses b) h k = absurd (not_asking (IsVouchingFault f cert) texts h.0 b h.3 (not_vouched f cert h.1 h.2 b h.4) k)
+  one_get (refuses a) (gives t ys) h k = absurd (not_asking (IsVouchingFault f cert) texts k.0 a k.3 (not_vouched f cert k.1 k.2 a k.4) h)
+  one_get (refuses a) (refuses b) h k = ap refuses (one_asking (IsVouchingFault f cert) texts a b (one_vouching f cert a b) h k)

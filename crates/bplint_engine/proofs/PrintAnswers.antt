@@ -1,7 +1,7 @@
 -- What `print` says and leaves, from the answers of the cursor and of the printer.
 use Rattle.std.proofs.Common.{◌≡◌, inl, inr, ◌∙◌, append_assoc, ℕ, ◌+◌, List, [], ◌∷◌, ◌++◌, length, ap, sym, subst, refl, arith, Option, Result, Ok, Err}
 use Rattle.std.specs.List.{AllZip}
-use Rattle.std.specs.Prelude.{IfOk, IfErr}
+use Rattle.std.specs.Prelude.{IfOk, IfErr, MatchResult}
 use Rattle.std.proofs.Math.Logic.{∥∥₁_map}
 use Rattle.bplist_objects.specs.declared.frame.Frame.{Frame}
 use Rattle.bplist_objects.specs.Value.{Value}
@@ -28,12 +28,14 @@ use Rattle.bplint_lines.specs.declared.fault.RunFault.TheVariants as faults
 use Rattle.bplint_lines.specs.declared.output.Output.{Output}
 use Rattle.bplint_lines.specs.declared.said.Said.{Said}
 use Rattle.bplint_lines.specs.declared.said.Said.TheVariants.{All, SomeMissing}
-use Rattle.bplint_lines.specs.Answers.{Answer, gives, refuses, Answers, BeginsAnswer, IsRefusal, Leaves, LeavesBy}
-use Rattle.bplint_engine.specs.PathQueries.{IsQueryOf}
+use Rattle.bplint_lines.specs.Answers.{Answer, gives, Answers, BeginsAnswer, IsRefusal, Leaves, LeavesBy}
+use Rattle.bplint_engine.specs.PathQueries.{IsQueryOf, IsWrongAmong}
 use Rattle.bplint_engine.proofs.FaultsBelow.{cursor_fault, print_fault}
+use Rattle.bplint_lines.specs.Faults.{OnPath}
 use Rattle.bplint_lines.specs.OutputLines.{missing_line}
-use Rattle.bplint_engine.specs.Print.{NodeSays, PathSays, PrintSays, PrintGives}
+use Rattle.bplint_engine.specs.Print.{NodeSays, PathSays, PrintSays}
 use Rattle.bplint_engine.specs.CertifiedFile.{IsVouchedFor}
+use Rattle.bplint_engine.proofs.EqualAnswers.{same_gives}
 use Rattle.bplint_engine.proofs.LeftBytes.{begins_nothing, kept_self, said_as}
 
 -- the cursor met a failed read or a refused growth
@@ -54,7 +56,7 @@ begun_answer old new s f F n w limit start (t, is, fits, some) bound =
     let all : t ++ 10 ∷ [] ≡ some.0 ++ (some.1 ++ 10 ∷ []) =
     ap (λ l. l ++ 10 ∷ []) (sym (ap (λ x. x.held ++ t) start) ∙ some.3) ∙ append_assoc some.0 some.1 (10 ∷ []) in (
       within old new s limit start bound,
-      inr (All, t ++ 10 ∷ [], (t, is, fits, refl, refl), (some.0, some.1 ++ 10 ∷ [], some.2, all)),
+      inr (All, t ++ 10 ∷ [], (t, is, fits, (refl, refl)), (some.0, some.1 ++ 10 ∷ [], some.2, all)),
     )
 
 -- the text was not put in whole
@@ -66,7 +68,7 @@ print_failed old new s u f F n w limit print_faults.TooLong start (t, is, long, 
 print_failed old new s u f F n w limit (print_faults.Write sent) start (t, is, fits, part) bound = (
   All,
   t ++ 10 ∷ [],
-  (t, is, fits, refl, refl),
+  (t, is, fits, (refl, refl)),
   cut_more old new t (10 ∷ []) sent (out_part old old new s [] t sent (out_start old s (ap (λ x. x.sent) start) (ap (λ x. x.held) start)) part),
 )
 print_failed old new s u f F n w limit (print_faults.Read _) start (inl (none, (kept, _))) bound = (within old new s limit start bound, inl kept)
@@ -87,7 +89,7 @@ pub end_failed : (old mid new : Option (List ℕ)) (s t : Sending) (f : List ℕ
     → LeavesBy (NodeSays f F limit n w) limit old new (Err (faults.Write sent))
 end_failed old mid new s t f F n w limit sent start (text, is, fits, takes) part =
     let out = out_takes (out_start old s (ap (λ x. x.sent) start) (ap (λ x. x.held) start)) takes in
-    (All, text ++ 10 ∷ [], (text, is, fits, refl, refl), out_part old mid new t text (10 ∷ []) sent out part)
+    (All, text ++ 10 ∷ [], (text, is, fits, (refl, refl)), out_part old mid new t text (10 ∷ []) sent out part)
 
 -- text and line feed went out
 pub printed : (old mid new : Option (List ℕ)) (s t u : Sending) (f : List ℕ) (F : Frame) (n : ℕ) (w : Value) (limit : ℕ)
@@ -95,13 +97,18 @@ pub printed : (old mid new : Option (List ℕ)) (s t u : Sending) (f : List ℕ)
     → LeavesBy (NodeSays f F limit n w) limit old new (Ok All)
 printed old mid new s t u f F n w limit start (text, is, fits, takes) ended empty =
     let out = out_takes (out_start old s (ap (λ x. x.sent) start) (ap (λ x. x.held) start)) takes in
-    (text ++ 10 ∷ [], (text, is, fits, refl, refl), out_end (out_takes out ended) empty)
+    (text ++ 10 ∷ [], (text, is, fits, (refl, refl)), out_end (out_takes out ended) empty)
+
+-- the answer for what a path leads to
+abbrev pub FoundSays : List ℕ → Frame → ℕ → List (List ℕ) → Answer → Result Value (ℕ × Why) → Type 0
+FoundSays f F limit steps answer found = MatchResult found
+    (λ w. (n : ℕ) × LeadTo f F F.top.0 steps n × NodeSays f F limit n w answer)
+    (λ missing. answer ≡ gives SomeMissing (missing_line missing.0 missing.1 ++ 10 ∷ []))
 
 -- the answer for the node that a path leads to is that for the path
 node_to_path : (f : List ℕ) (F : Frame) (limit n : ℕ) (steps : List (List ℕ)) (v w : Value) → LeadTo f F F.top.0 steps n → look v steps ≡ Ok w
     → (a : Answer) → NodeSays f F limit n w a → PathSays f F limit steps v a
-node_to_path f F limit n steps v w leads is (gives said bytes) h = subst (λ r. PrintGives limit r said bytes) (sym is) h
-node_to_path f F limit n steps v w leads is (refuses fault) h = (n, w, leads, is, h)
+node_to_path f F limit n steps v w leads is a h = subst (FoundSays f F limit steps a) (sym is) (n, leads, h)
 
 pub at_node : (checked : CheckedFile) (v : Value) (steps : List (List ℕ)) (node : Node) (limit : ℕ) (old new : Option (List ℕ)) (result : Result Said RunFault)
     → IsFound checked v steps (At node)
@@ -116,26 +123,22 @@ pub missing_says : (f : List ℕ) (F : Frame) (limit : ℕ) (steps : List (List 
     → look v steps ≡ Err (step, why)
     → IfOk made (λ output. (output.said ≡ SomeMissing) × (output.bytes.items ≡ missing_line step why ++ 10 ∷ []))
     → IfErr made (λ fault. fault ≡ faults.Memory) → Answers (PathSays f F limit steps v) made
-missing_says f F limit steps v step why (Ok output) is told _ = subst (λ r. PrintGives limit r output.said output.bytes.items) (sym is) told
+missing_says f F limit steps v step why (Ok output) is told _ =
+    subst (FoundSays f F limit steps (gives output.said output.bytes.items)) (sym is) (same_gives output.said SomeMissing output.bytes.items _ told.0 told.1)
 missing_says f F limit steps v step why (Err fault) is _ memory = subst (IsRefusal (PathSays f F limit steps v)) (sym memory) tt
 
 -- the answer for the value that the file holds is that of the command
 pub path_to_print : (f cert : List ℕ) (texts : List (List ℕ)) (limit : ℕ) (steps : List (List ℕ)) (F : Frame) (lists : Lists) (v : Value)
     → AllZip IsQueryOf texts (Get steps ∷ []) → IsVouchedFor f cert F lists → Holds f F F.top.0 v
     → (a : Answer) → PathSays f F limit steps v a → PrintSays f cert texts limit a
-path_to_print f cert texts limit steps F lists v are vouched holds (gives said bytes) h = (steps, F, lists, v, are, vouched, holds, h)
-path_to_print f cert texts limit steps F lists v are vouched holds (refuses (faults.NoAsciiForm part)) h = (steps, F, lists, v, are, vouched, holds, h)
-path_to_print f cert texts limit steps F lists v are vouched holds (refuses faults.TooLong) h = (steps, F, lists, v, are, vouched, holds, h)
-path_to_print f cert texts limit steps F lists v are vouched holds (refuses (faults.Fault fault)) (n, w, leads, is, h) = absurd h
-path_to_print f cert texts limit steps F lists v are vouched holds (refuses (faults.Circle ns)) (n, w, leads, is, h) = absurd h
-path_to_print f cert texts limit steps F lists v are vouched holds (refuses (faults.Path place)) (n, w, leads, is, h) = absurd h
-path_to_print f cert texts limit steps F lists v are vouched holds (refuses (faults.Read fault)) (n, w, leads, is, h) = absurd h
-path_to_print f cert texts limit steps F lists v are vouched holds (refuses faults.Hex) (n, w, leads, is, h) = absurd h
-path_to_print f cert texts limit steps F lists v are vouched holds (refuses faults.Changed) (n, w, leads, is, h) = absurd h
-path_to_print f cert texts limit steps F lists v are vouched holds (refuses (faults.Write sent)) (n, w, leads, is, h) = absurd h
-path_to_print f cert texts limit steps F lists v are vouched holds (refuses faults.Memory) (n, w, leads, is, h) = absurd h
-path_to_print f cert texts limit steps F lists v are vouched holds (refuses faults.Open) (n, w, leads, is, h) = absurd h
-path_to_print f cert texts limit steps F lists v are vouched holds (refuses faults.InputTooLong) (n, w, leads, is, h) = absurd h
+path_to_print f cert texts limit steps F lists v are vouched holds a h = inr (steps, F, lists, v, are, vouched, holds, h)
+
+-- a path text is wrong
+pub print_path_refused : (f cert : List ℕ) (texts : List (List ℕ)) (limit : ℕ) (fault : RunFault) → OnPath (IsWrongAmong texts) fault
+    → IsRefusal (PrintSays f cert texts limit) fault
+print_path_refused f cert texts limit (faults.Path place) h = inl (faults.Path place, refl, h)
+print_path_refused f cert texts limit faults.Memory h = tt
+print_path_refused f cert texts limit _ h = absurd h
 
 pub print_leaves : (f cert : List ℕ) (texts : List (List ℕ)) (limit : ℕ) (steps : List (List ℕ)) (F : Frame) (lists : Lists) (old new : Option (List ℕ))
     (result : Result Said RunFault) → AllZip IsQueryOf texts (Get steps ∷ []) → IsVouchedFor f cert F lists → ∥ ((v : Value) × Holds f F F.top.0 v) ∥₁

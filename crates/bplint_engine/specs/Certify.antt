@@ -1,5 +1,5 @@
 -- What `certify` says. Source: profile.
-use Rattle.std.specs.Prelude.{◌≡◌, ◌∷◌, ◌++◌, ℕ, List, [], Bool, true, false}
+use Rattle.std.specs.Prelude.{◌≡◌, ◌∷◌, ◌++◌, ℕ, List, [], Bool, MatchBool, if◌then◌else◌}
 use Rattle.hex.specs.Hex.{encode_lower}
 use Rattle.bplist_objects.specs.declared.frame.Frame.{Frame}
 use Rattle.bplist_objects.specs.Frame.{IsFrame}
@@ -14,13 +14,12 @@ use Rattle.bplint_engine.specs.Lint.{IsLintFault}
 
 -- a certificate's bytes, or their hexadecimal text with a line feed
 abbrev pub written : Bool → List ℕ → List ℕ
-written false octets = octets
-written true octets = encode_lower octets ++ 10 ∷ []
+written hex octets = if hex then encode_lower octets ++ 10 ∷ [] else octets
 
 -- the lists that are written: those of the least heights, or with key lists
 abbrev pub AreWritten : Bool → List ℕ → Frame → Lists → Lists → Type 0
-AreWritten false f F least lists = lists ≡ least
-AreWritten true f F least lists = IsCertificate lists × ∥ IsUpgraded f F least.heights lists ∥₁
+AreWritten sorted f F least lists =
+    MatchBool sorted (IsCertificate lists × ∥ IsUpgraded f F least.heights lists ∥₁) (lists ≡ least)
 
 -- `certify`, with or without key lists, answers a certificate of the least heights
 abbrev pub CertifySays : Bool → Bool → List ℕ → Answer → Type 0

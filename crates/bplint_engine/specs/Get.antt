@@ -14,7 +14,7 @@ use Rattle.bplint_lines.specs.declared.said.Said.TheVariants.{All, SomeMissing}
 use Rattle.bplint_lines.specs.Answers.{Answer, gives, refuses}
 use Rattle.bplint_engine.specs.PathQueries.{IsAskingFault, IsQueryOf}
 use Rattle.bplint_lines.specs.OutputLines.{face_line, missing_line}
-use Rattle.bplint_engine.specs.CertifiedFile.{IsVouchedFor}
+use Rattle.bplint_engine.specs.CertifiedFile.{IsVouchedFor, IsVouchingFault}
 
 -- the line of a reply to a path
 abbrev pub reply_line : Reply → List ℕ
@@ -37,4 +37,4 @@ GetSays f cert texts (gives said bytes) =
     (queries : List Query) × (F : Frame) × (lists : Lists) × AllZip IsQueryOf texts queries × IsVouchedFor f cert F lists
     × ((v : Value) → Holds f F F.top.0 v
     → (said ≡ said_of (map (reply v) queries)) × (bytes ≡ flat_map reply_line (map (reply v) queries)))
-GetSays f cert texts (refuses fault) = IsAskingFault f cert texts fault
+GetSays f cert texts (refuses fault) = IsAskingFault (IsVouchingFault f cert) texts fault

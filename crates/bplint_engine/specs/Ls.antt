@@ -18,7 +18,8 @@ use Rattle.bplint_lines.specs.declared.said.Said.TheVariants.{All, SomeMissing}
 use Rattle.bplint_lines.specs.Answers.{Answer, gives, refuses}
 use Rattle.bplint_lines.specs.MemberNames.{bracketed, index_name, key_name}
 use Rattle.bplint_lines.specs.OutputLines.{face_line, missing_line}
-use Rattle.bplint_engine.specs.Show.{IsShowFault}
+use Rattle.bplint_engine.specs.Lint.{IsLintFault}
+use Rattle.bplint_engine.specs.PathQueries.{IsAskingFault}
 
 -- the value is a leaf
 abbrev pub IsLeaf : Value → Type 0
@@ -85,4 +86,4 @@ abbrev pub ListSays : List ℕ → List ℕ → Answer → Type 0
 ListSays f path (gives said bytes) =
     (steps : List (List ℕ)) × (F : Frame) × (lint : Lint) × IsPathOf path steps × IsFrame f F × IsLintedBy f F lint
     × ((v : Value) → Holds f F F.top.0 v → ListGives path (look v steps) said bytes)
-ListSays f path (refuses fault) = IsShowFault f (path ∷ []) fault
+ListSays f path (refuses fault) = IsAskingFault (IsLintFault f) (path ∷ []) fault

@@ -6,7 +6,6 @@ use Rattle.bplist_cursor.specs.declared.reply.Query.TheVariants.{Get}
 use Rattle.bplist_cursor.specs.Path.{IsPathOf, IsNoPath}
 use Rattle.bplint_lines.specs.declared.fault.RunFault.{RunFault}
 use Rattle.bplint_lines.specs.declared.fault.RunFault.TheVariants as faults
-use Rattle.bplint_engine.specs.CertifiedFile.{IsVouchingFault}
 
 -- the query asks for the path of this text
 abbrev pub IsQueryOf : List ℕ → Query → Type 0
@@ -19,8 +18,7 @@ IsWrongAmong [] place = ⊥
 IsWrongAmong (text ∷ texts) place =
     IsNoPath text place ⊎ ((query : Query) × IsQueryOf text query × IsWrongAmong texts place)
 
--- the first fault of path texts, certificate bytes, and the pair, in this order
-abbrev pub IsAskingFault : List ℕ → List ℕ → List (List ℕ) → RunFault → Type 0
-IsAskingFault f cert texts (faults.Path place) = IsWrongAmong texts place
-IsAskingFault f cert texts (faults.Fault fault) = (asked : List Query) × AllZip IsQueryOf texts asked × IsVouchingFault f cert fault
-IsAskingFault f cert texts _ = ⊥
+-- the first wrong path text, else the fault of the file that is asked
+abbrev pub IsAskingFault : (RunFault → Type 0) → List (List ℕ) → RunFault → Type 0
+IsAskingFault IsFault texts (faults.Path place) = IsWrongAmong texts place
+IsAskingFault IsFault texts fault = (queries : List Query) × AllZip IsQueryOf texts queries × IsFault fault

@@ -1,5 +1,5 @@
 -- What a run says. Source: profile.
-use Rattle.std.specs.Prelude.{◌≡◌, ℕ, List, [], Bool, true, false, MatchResult}
+use Rattle.std.specs.Prelude.{◌≡◌, ℕ, List, [], Bool, true, false, MatchBool, MatchResult}
 use Rattle.bplint_engine.specs.declared.command.Verb.{Verb}
 use Rattle.bplint_engine.specs.declared.command.Verb.TheVariants.{Lint, Check, Get, Certify, Print}
 use Rattle.bplint_lines.specs.declared.fault.RunFault.TheVariants.{Hex}
@@ -39,14 +39,15 @@ takes_cert Lint = false
 takes_cert Certify = false
 takes_cert _ = true
 
--- a command's answer for a file's bytes and a certificate's hexadecimal text
+-- P of the bytes that a hexadecimal text spells, or `Hex` where it spells none
+abbrev pub Spells : (List ℕ → Answer → Type 0) → List ℕ → Answer → Type 0
+Spells P text answer = MatchResult (spelled text) (λ bytes. P bytes answer) (λ _. answer ≡ refuses Hex)
+
+-- a command's answer for a file's bytes and a certificate's text, where it looks at one
 abbrev pub SaysBeside : Bool → Asked → List ℕ → List ℕ → Answer → Type 0
-SaysBeside false command f text answer = Says command f [] answer
-SaysBeside true command f text answer =
-    MatchResult (spelled text) (λ cert. Says command f cert answer) (λ _. answer ≡ refuses Hex)
+SaysBeside takes command f text answer = MatchBool takes (Spells (Says command f) text answer) (Says command f [] answer)
 
 -- a command's answer for inputs; with `hex` for the bytes that they spell
 abbrev pub SaysOver : Bool → Asked → List ℕ → List ℕ → Answer → Type 0
-SaysOver false command file cert answer = Says command file cert answer
-SaysOver true command file cert answer =
-    MatchResult (spelled file) (λ f. SaysBeside (takes_cert command.verb) command f cert answer) (λ _. answer ≡ refuses Hex)
+SaysOver hex command file cert answer =
+    MatchBool hex (Spells (λ f. SaysBeside (takes_cert command.verb) command f cert) file answer) (Says command file cert answer)

@@ -1,29 +1,21 @@
 -- What `show` says: what `get` and `print` say with the certificate of the least heights. Source: profile.
 use Rattle.std.specs.Prelude.{◌≡◌, ◌⊎◌, ℕ, List, [], ◌∷◌}
-use Rattle.std.specs.List.{AllZip}
 use Rattle.bplist_objects.specs.declared.frame.Frame.{Frame}
 use Rattle.bplist_objects.specs.Frame.{IsFrame}
 use Rattle.bplist_cert.specs.Encoding.{octets_of}
-use Rattle.bplist_cursor.specs.declared.reply.Query.{Query}
 use Rattle.bplist_lint.specs.declared.answer.Lint.{Lint}
 use Rattle.bplist_lint.specs.Linted.{IsLintedBy}
 use Rattle.bplint_lines.specs.declared.fault.RunFault.{RunFault}
-use Rattle.bplint_lines.specs.declared.fault.RunFault.TheVariants as faults
 use Rattle.bplint_lines.specs.Answers.{Answer, refuses}
-use Rattle.bplint_engine.specs.PathQueries.{IsQueryOf, IsWrongAmong}
+use Rattle.bplint_engine.specs.PathQueries.{IsAskingFault}
 use Rattle.bplint_engine.specs.Get.{GetSays}
 use Rattle.bplint_engine.specs.Lint.{IsLintFault}
 use Rattle.bplint_engine.specs.Print.{PrintSays}
 
--- the first wrong path text, else the file's fault
-abbrev pub IsShowFault : List ℕ → List (List ℕ) → RunFault → Type 0
-IsShowFault f texts (faults.Path place) = IsWrongAmong texts place
-IsShowFault f texts fault = (queries : List Query) × AllZip IsQueryOf texts queries × IsLintFault f fault
-
 -- the answer with the least certificate of the file, or why there is none
 abbrev pub LeastLeads : (List ℕ → Answer → Type 0) → List ℕ → List (List ℕ) → Answer → Type 0
 LeastLeads Says f texts answer =
-    ((fault : RunFault) × (answer ≡ refuses fault) × IsShowFault f texts fault)
+    ((fault : RunFault) × (answer ≡ refuses fault) × IsAskingFault (IsLintFault f) texts fault)
     ⊎ ((F : Frame) × (lint : Lint) × IsFrame f F × IsLintedBy f F lint × Says (octets_of lint.certificate) answer)
 
 -- `show` answers as `get` with the least certificate

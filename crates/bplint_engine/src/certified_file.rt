@@ -5,9 +5,9 @@ ghost use Rattle.bplist_objects.specs.Holds.{Holds};
 ghost use Rattle.bplist_objects.specs.Value.{Value};
 ghost use Rattle.bplist_cert.specs.Lists.{AreWords, IsCertificate};
 ghost use Rattle.bplint_lines.specs.Answers.{IsRefusal, is_read};
-ghost use Rattle.bplint_lines.specs.Faults.{OnFault};
+ghost use Rattle.bplint_engine.specs.Check.{CheckSays};
 ghost use Rattle.bplint_engine.specs.Lint.{LintSays};
-ghost use Rattle.bplint_engine.specs.CertifiedFile.{IsLeastFor, IsVouchedFor, IsVouchingFault};
+ghost use Rattle.bplint_engine.specs.CertifiedFile.{IsLeastFor, IsVouchedFor};
 
 use bplint_lines::RunFault;
 use bplist_cert::{Certificate, Checked, check};
@@ -26,7 +26,7 @@ pub(crate) fn check_octets<S: Source>(
         (λ refused. OnlyReads (is_read refused.0) (S.means src) (S.means refused.1)) }
     ensures exact { IsTrue (S.means src).honest → MatchResult result
         (λ checked. IsVouchedFor (S.means src).octets cert.now checked.frame checked.certificate)
-        (λ refused. OnFault (IsVouchingFault (S.means src).octets cert.now) refused.0) }
+        (λ refused. IsRefusal (CheckSays (S.means src).octets cert.now) refused.0) }
     ensures value { IsTrue (S.means src).honest → IfOk result (λ checked.
         ∥ ((v : Value) × Holds (S.means src).octets checked.frame checked.frame.top.0 v) ∥₁) }
 {

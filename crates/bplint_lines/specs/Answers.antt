@@ -12,15 +12,14 @@ pub data Answer : Type 0 where
   gives : Said → List ℕ → Answer
   refuses : RunFault → Answer
 
--- the error is a failed read
-abbrev pub is_read : RunFault → Bool
-is_read (faults.Read _) = true
-is_read _ = false
-
 -- the answer is a failed read
 abbrev pub read_failed : {X : Type 0} → Result X RunFault → Bool
-read_failed (Ok _) = false
-read_failed (Err fault) = is_read fault
+read_failed (Err (faults.Read _)) = true
+read_failed _ = false
+
+-- the error is a failed read
+abbrev pub is_read : RunFault → Bool
+is_read fault = read_failed {X = Unit {0}} (Err fault)
 
 -- a fault before anything is written; nothing is said of a failed read or of refused memory
 abbrev pub IsRefusal : (Answer → Type 0) → RunFault → Type 0

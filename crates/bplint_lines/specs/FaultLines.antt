@@ -16,27 +16,27 @@ fault_line rule object place =
     let number = unwrap_or (option_map (λ (n : ObjectNo). decimal n.0) object) (codes "none") in
     codes "fault " ++ (word_of rule ++ (codes " object " ++ (number ++ (codes " place " ++ decimal place))))
 
+-- what is reported of a fault: its line, and the exit status, 1 what the file or its text is, 2 a wrong path text, 4 refused memory,
+-- 3 all else
+abbrev pub report_of : RunFault → List ℕ × ℕ
+report_of (is_fault fault) =
+    (fault_line fault.rule fault.object fault.place, if number_of fault.rule == number_of PathText then 2 else 1)
+report_of (is_circle objects) = (codes "circle" ++ flat_map (λ (n : ObjectNo). 32 ∷ decimal n.0) objects, 1)
+report_of (Path place) = (fault_line PathText None place, 2)
+report_of (NoAsciiForm n) = (codes "form NoAsciiForm object " ++ decimal n.0, 1)
+report_of TooLong = (codes "form TooLong", 1)
+report_of (Read fault) = (codes "read " ++ codes (get_or ("Device" ∷ "Ended" ∷ "TooManyTurns" ∷ []) (tag_of the_type fault) ""), 3)
+report_of Hex = (codes "read Hex", 3)
+report_of Changed = (codes "changed", 3)
+report_of (Write sent) = (codes "write " ++ decimal sent, 3)
+report_of Memory = (codes "memory", 4)
+report_of Open = (codes "read Open", 3)
+report_of InputTooLong = (codes "read TooLong", 3)
+
 -- the line of a fault
 abbrev pub line_of : RunFault → List ℕ
-line_of (is_fault fault) = fault_line fault.rule fault.object fault.place
-line_of (is_circle objects) = codes "circle" ++ flat_map (λ (n : ObjectNo). 32 ∷ decimal n.0) objects
-line_of (Path place) = fault_line PathText None place
-line_of (NoAsciiForm n) = codes "form NoAsciiForm object " ++ decimal n.0
-line_of TooLong = codes "form TooLong"
-line_of (Read fault) = codes "read " ++ codes (get_or ("Device" ∷ "Ended" ∷ "TooManyTurns" ∷ []) (tag_of the_type fault) "")
-line_of Hex = codes "read Hex"
-line_of Changed = codes "changed"
-line_of (Write sent) = codes "write " ++ decimal sent
-line_of Memory = codes "memory"
-line_of Open = codes "read Open"
-line_of InputTooLong = codes "read TooLong"
+line_of fault = (report_of fault).0
 
--- the exit status of a fault: 1 what the file or its text is, 2 a wrong path text, 4 refused memory, 3 all else
+-- the exit status of a fault
 abbrev pub status_of : RunFault → ℕ
-status_of (is_fault fault) = if number_of fault.rule == number_of PathText then 2 else 1
-status_of (is_circle _) = 1
-status_of (NoAsciiForm _) = 1
-status_of TooLong = 1
-status_of (Path _) = 2
-status_of Memory = 4
-status_of _ = 3
+status_of fault = (report_of fault).1

@@ -1,4 +1,8 @@
-use Rattle.bplint_engine.proofs.GetAnswers.{get_says}
+use Rattle.bplint_engine.specs.CertifiedFile.{IsVouchingFault}
+use Rattle.bplint_engine.specs.Check.{CheckSays}
+use Rattle.bplint_engine.specs.Get.{GetSays}
+use Rattle.bplint_engine.proofs.GetAnswers.{file_fault, get_says, refused_as}
+use Rattle.bplint_engine.proofs.PathQueries.{bytes_of}
 use Rattle.bplint_engine.proofs.get.get_output.Goals as goal
 
 pub returns-in-Ok-check_octets-clause-exact : goal.returns-in-Ok-check_octets-clause-exact
@@ -7,3 +11,11 @@ returns-in-Ok-check_octets-clause-exact g c =
     let lent = c.deref.ensures.value in
     let told = rw (same, lent) at c.answer_queries.ensures.exact in
     get_says _ _ _ _ _ _ _ c.in-Ok.ensures (c.in-Ok-check_octets.ensures.exact honest) (told honest)
+
+pub returns-clause-exact : goal.returns-clause-exact
+returns-clause-exact g c =
+    λ honest. let f = (g.S.Source.means c.args.src).octets in
+    let cert = c.args.cert.now in
+    let texts = bytes_of c.args.texts.now in
+    refused_as (CheckSays f cert) (GetSays f cert texts) _
+    (λ x h. file_fault (IsVouchingFault f cert) texts c.in-Ok.queries.items x (λ place y. y) c.in-Ok.ensures h) (c.in-Err-check_octets.ensures.exact honest)

@@ -1,7 +1,9 @@
 use Rattle.std.proofs.Common.{◌∷◌, []}
 use Rattle.bplist_cursor.specs.declared.reply.Query.TheVariants.{Get}
 use Rattle.bplint_engine.specs.Ls.{ListSays}
-use Rattle.bplint_engine.proofs.LeastAnswers.{list_says, refused_as, show_fault}
+use Rattle.bplint_engine.specs.Lint.{LintSays}
+use Rattle.bplint_engine.proofs.GetAnswers.{refused_as}
+use Rattle.bplint_engine.proofs.LeastAnswers.{list_says, show_fault}
 use Rattle.bplint_engine.proofs.ls.list_output.Goals as goal
 
 pub returns-in-Ok-check_least-clause-exact : goal.returns-in-Ok-check_least-clause-exact
@@ -12,5 +14,5 @@ returns-in-Ok-check_least-clause-exact g c =
 
 pub returns-clause-exact : goal.returns-clause-exact
 returns-clause-exact g c =
-    λ honest. refused_as _ (ListSays (g.S.Source.means c.args.src).octets c.args.text.now) _ (λ x h. show_fault _ (c.args.text.now ∷ []) (Get c.in-Ok.path ∷ []) x c.in-Ok.ensures h)
+    λ honest. refused_as (LintSays (g.S.Source.means c.args.src).octets) (ListSays (g.S.Source.means c.args.src).octets c.args.text.now) _ (λ x h. show_fault _ (c.args.text.now ∷ []) (Get c.in-Ok.path ∷ []) x c.in-Ok.ensures h)
     (c.in-Err-check_least.ensures.exact honest)

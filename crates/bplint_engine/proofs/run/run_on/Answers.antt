@@ -1,4 +1,5 @@
 use Rattle.std.proofs.lemmas.Grind.{merely}
+use Rattle.bplint_engine.specs.Certify.{CertifySays}
 use Rattle.bplint_engine.specs.Get.{GetSays}
 use Rattle.bplint_engine.proofs.LeftBytes.{sent}
 use Rattle.bplint_engine.proofs.run.run_on.Goals as goal
@@ -18,3 +19,10 @@ returns-in-Print-clause-exact g c =
     let lent = c.deref-in-Print.ensures.value in
     let left = rw lent at c.print_answer.ensures.exact honest in
     rw (← view) (rw is left)
+
+pub returns-in-Certify-clause-exact : goal.returns-in-Certify-clause-exact
+returns-in-Certify-clause-exact g c =
+    λ honest. let is = c.in-Certify.is in
+    let view = c.command.view_is in
+    let made = c.certify_output.ensures.exact honest in
+    rw (← view) (rw is (merely (sent (CertifySays _ _ (g.S.Source.means c.args.src).octets) 0 _ _ _ _ made c.send_made-in-Certify.ensures.sent)))

@@ -1,6 +1,8 @@
 use Rattle.bplint_engine.specs.Get.{GetSays}
 use Rattle.bplint_engine.specs.Show.{ShowSays}
-use Rattle.bplint_engine.proofs.LeastAnswers.{least_fault, path_refused, refused_as, show_says}
+use Rattle.bplint_engine.specs.Lint.{LintSays}
+use Rattle.bplint_engine.proofs.GetAnswers.{refused_as}
+use Rattle.bplint_engine.proofs.LeastAnswers.{least_fault, path_refused, show_says}
 use Rattle.bplint_engine.proofs.PathQueries.{bytes_of}
 use Rattle.bplint_engine.proofs.show.show_output.Goals as goal
 
@@ -21,4 +23,4 @@ pub returns-clause-exact : goal.returns-clause-exact
 returns-clause-exact g c =
     λ honest. let f = (g.S.Source.means c.args.src).octets in
     let texts = bytes_of c.args.texts.now in
-    refused_as _ (ShowSays f texts) _ (λ x h. least_fault (λ cert. GetSays f cert texts) f texts _ x c.in-Ok.ensures h) (c.in-Err-check_least.ensures.exact honest)
+    refused_as (LintSays f) (ShowSays f texts) _ (λ x h. least_fault (λ cert. GetSays f cert texts) f texts _ x c.in-Ok.ensures h) (c.in-Err-check_least.ensures.exact honest)

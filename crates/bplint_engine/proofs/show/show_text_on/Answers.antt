@@ -4,7 +4,9 @@ use Rattle.bplist_cursor.specs.declared.reply.Query.TheVariants.{Get}
 use Rattle.bplint_engine.specs.Print.{PrintSays}
 use Rattle.bplint_engine.specs.Show.{TextSays}
 use Rattle.bplint_engine.proofs.LeftBytes.{kept_self, refused}
-use Rattle.bplint_engine.proofs.LeastAnswers.{least_fault, path_refused, refused_as, text_leaves}
+use Rattle.bplint_engine.specs.Lint.{LintSays}
+use Rattle.bplint_engine.proofs.GetAnswers.{refused_as}
+use Rattle.bplint_engine.proofs.LeastAnswers.{least_fault, path_refused, text_leaves}
 use Rattle.bplint_engine.proofs.show.show_text_on.Goals as goal
 
 pub returns-in-Ok-check_least-clause-exact : goal.returns-in-Ok-check_least-clause-exact
@@ -26,5 +28,5 @@ returns-clause-exact g c =
     let text = c.args.path.now in
     let limit = c.args.limit in
     merely (refused (TextSays f text limit) limit _ _ _
-    (refused_as _ (TextSays f text limit) _ (λ x h. least_fault (λ cert. PrintSays f cert (text ∷ []) limit) f (text ∷ []) (Get c.in-Ok.path ∷ []) x c.in-Ok.ensures h)
+    (refused_as (LintSays f) (TextSays f text limit) _ (λ x h. least_fault (λ cert. PrintSays f cert (text ∷ []) limit) f (text ∷ []) (Get c.in-Ok.path ∷ []) x c.in-Ok.ensures h)
     (c.in-Err-check_least.ensures.exact honest)) (kept_self _))
