@@ -18,7 +18,7 @@ unit ref_size _ = 1
 
 -- how markers say a count: each from the least to the greatest its own, or all with this high half in the low half, where 15 says that it follows
 pub data Form : Type 0 where
-  plain : (least greatest : ℕ) → (ℕ → ℕ) → Form
+  plain : (low high : ℕ) → (ℕ → ℕ) → Form
   counted : (high : ℕ) → Form
 
 -- the markers of each kind and the counts that they say

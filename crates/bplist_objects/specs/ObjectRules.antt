@@ -27,7 +27,7 @@ body_rules = NotAscii ∷ UidLarge ∷ RefHigh ∷ []
 abbrev pub object_rules : List Rule
 object_rules = shape_rules ++ body_rules
 
--- object n keeps this rule, where it keeps those of marker and count before
+-- object n keeps this rule; rules 16 and 17 ask nothing where one of marker and count before is broken
 abbrev pub KeepsByObject : List ℕ → Frame → ℕ → Rule → Type 0
 KeepsByObject f F n OffsetLow = 8 ≤ off f F n
 KeepsByObject f F n Marker = IsMarker (slice_index f (off f F n))
