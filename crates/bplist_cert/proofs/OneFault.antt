@@ -33,7 +33,7 @@ module _ (f : List ℕ) (F : Frame) (head : Head) where
 
 module _ (f : List ℕ) (F : Frame) (certificate : Lists) (n : ℕ) where
   -- a rule is broken at one place
-  one_place : (rule : Rule) (o o' : Option ObjectNo) (p p' : ℕ) → BreaksAtCheck f F certificate n rule o p → BreaksAtCheck f F certificate n rule o' p' → (o ≡ o') × (p ≡ p')
+  pub one_place : (rule : Rule) (o o' : Option ObjectNo) (p p' : ℕ) → BreaksAtCheck f F certificate n rule o p → BreaksAtCheck f F certificate n rule o' p' → (o ≡ o') × (p ≡ p')
   one_place rules.Overfull o o' p p' b c = (b.0 ∙ sym c.0, b.1.1 ∙ sym c.1.1)
   one_place rules.KeyOrder o o' p p' (e, (head, has, kind, b)) (e', (other, has', kind', c)) =
       let same = HasHead-unique f F n head other has has' in

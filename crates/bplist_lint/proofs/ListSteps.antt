@@ -10,9 +10,11 @@ use Rattle.bplist_objects.specs.declared.kind.Kind.TheVariants as kinds
 use Rattle.bplist_objects.specs.declared.head.Head.{Head}
 use Rattle.bplist_objects.specs.Frame.{off}
 use Rattle.bplist_objects.specs.Heads.{Content, HasShape, Spells, content_of, content_at}
-use Rattle.bplist_objects.specs.Announced.{HasHead, unit}
+use Rattle.bplist_objects.specs.Announced.{form_of, HasHead, unit}
 use Rattle.bplist_objects.specs.Extents.{HaveRoom}
 use Rattle.bplist_objects.specs.Spelled.{spelled_at}
+use Rattle.bplist_objects.proofs.HeadLaws.{head_parts}
+use Rattle.bplist_objects.proofs.AnnouncedHeads.{announced_short}
 use Rattle.bplist_objects.proofs.Lists.{all_weaker}
 use Rattle.bplist_objects.proofs.ExtentSums.{shape_extent}
 use Rattle.bplist_objects.proofs.BodyLaws.{HasHead-unique}
@@ -144,8 +146,10 @@ module _ (f : List ℕ) (F : Frame) (heights : List ℕ) where
         pairs_within : head.kind ≡ kinds.Dict → 1 ≤ F.ref_size → head.count ≤ head.«end» - off f F n
         pairs_within dict low =
             let u : unit F.ref_size head.kind ≡ 2 * F.ref_size = ap (unit F.ref_size) dict in
-            let end : head.«end» ≡ head.body + head.count * (2 * F.ref_size) = shape.«end» ∙ ap (λ x. head.body + head.count * x) u in
-            count_within head.count F.ref_size head.body head.«end» (off f F n) low end (omega (arith, shape.body))
+            let parts = head_parts f F n head shape.has in
+            let end : head.«end» ≡ head.body + head.count * (2 * F.ref_size) = parts.1 ∙ ap (λ x. head.body + head.count * x) u in
+            let behind = (announced_short f (off f F n) (form_of head.kind) head.count head.body parts.0).0 in
+            count_within head.count F.ref_size head.body head.«end» (off f F n) low end (omega (arith, behind))
           where
             count_within : (count r body last place : ℕ) → 1 ≤ r → last ≡ body + count * (2 * r) → place ≤ body → count ≤ last - place
             count_within count zero body last place low is from = absurd (omega arith)
@@ -193,7 +197,7 @@ module _ (f : List ℕ) (F : Frame) (heights : List ℕ) where
           room = valid.room l.sums.objects l.used l.sums.differ (all_weaker _ _ (λ m k. k.0) l.sums.objects l.sums.inside) l.sums.take_all;
           kept = λ m low v.
               let k = keeps_all f F (record { heights = heights; keys = None }) (record { valid = valid; listed = tt }) m v in
-              (k.0, (k.1.0, (k.1.1.0, (k.1.1.1.0, (k.1.1.1.1.0, (k.1.1.1.1.1.0, (k.1.1.1.1.1.1.0, (k.1.1.1.1.1.1.1.0, (k.1.1.1.1.1.1.1.1.0, (k.1.1.1.1.1.1.1.1.1.0, (k.1.1.1.1.1.1.1.1.1.1.0, (l.order m low v, tt))))))))))));
+              (k.0, (k.1.0, (k.1.1.0, (k.1.1.1.0, (k.1.1.1.1.0, (l.order m low v, tt))))));
         };
       });
     }

@@ -33,7 +33,7 @@ module _ (f : List ℕ) (F : Frame) (heights : List ℕ) where
     pub begins : (m : ℕ) → m < n → slice_index starts m ≡ cond (is_some (pairs m)) (pairs_below m) 0
     pub later : (m : ℕ) → n ≤ m → slice_index starts m ≡ 0
     pub order : (m : ℕ) → m < n → IsVouchedBy heights m → (head : Head) → HasHead f F m head → head.kind ≡ Dict
-        → HasOrder f F (Some (record { starts = starts; positions = positions })) m head
+        → HasOrder f F (record { starts = starts; positions = positions }) m head
     pub used : ℕ
     pub sums : Sums f F (IsVouchedBy heights) n used
     pub few : length positions ≤ used
