@@ -31,7 +31,7 @@ use Rattle.bplist_cert.specs.Lists.{Keyed, Lists, lists, HasStarts, HasCount}
 use Rattle.bplist_cert.specs.Valid.{IsVouchedBy}
 use Rattle.bplist_cert.specs.Heights.{AreMet, IsHeightFault}
 use Rattle.bplist_keys.specs.Claims.{FailsAt}
-use Rattle.bplist_cert.specs.Keys.{HaveTexts, KeysDiffer, IsFirstKeyless, IsFirstTwice, IsKeylessFault}
+use Rattle.bplist_cert.specs.Keys.{HaveTexts, KeysDiffer, IsFirstKeyless, IsFirstTwice}
 use Rattle.bplist_cert.specs.CheckRules.{Asks, KeepsByCheck, BreaksAtCheck, KeepsCheck, IsCheckFault, vouched_rules, last_rule, HasOrder, KeepsLast, IsLastFault}
 use Rattle.bplist_cert.specs.declared.checker.Look.{Look}
 use Rattle.bplist_cert.specs.declared.checker.Look.TheVariants.{Quick, Exact}
@@ -239,7 +239,8 @@ start f F certificate look frame = record {
   kept = λ m lt v. absurd (omega arith);
 }
 
-good_kept : (f : List ℕ) (F : Frame) (heights : List ℕ) (keys : Option Keyed) (n : ℕ) → HasGoodKeys f F keys n
+-- good keys keep the rules of keys
+pub good_kept : (f : List ℕ) (F : Frame) (heights : List ℕ) (keys : Option Keyed) (n : ℕ) → HasGoodKeys f F keys n
     → KeepsByCheck f F (lists heights keys) n rules.KeyKind × KeepsByCheck f F (lists heights keys) n (last_rule keys)
 good_kept f F heights None n good = (
   λ head has dict. subst (HaveTexts f F head) (sym (keys_among head dict)) (good head has dict).0,
@@ -262,6 +263,14 @@ fault_object f F certificate n fault (inr h) =
     names_object (KeepsByCheck f F certificate n) (BreaksAtCheck f F certificate n) (Some (record { 0 = n })) (λ rule object place b. b.0) (vouched_rules certificate.keys) fault h.1
 
 module _ (f : List ℕ) (F : Frame) (heights : List ℕ) (keys : Option Keyed) where
+  -- the first rule of keys that is broken
+  pub first_of_keys : (n : ℕ) (fault : Fault) → BreaksKeys f F (length heights) keys n fault
+      → IsFirstFault (KeepsByCheck f F (lists heights keys) n) (BreaksAtCheck f F (lists heights keys) n) (rules.KeyKind ∷ last_rule keys ∷ []) fault
+  first_of_keys n fault (head, has, (kind, inl (rule, object, (i, first, place)))) =
+      inl (rule, (object, (head, i, has, keys_fail head kind (HaveTexts f F head) (λ m k few t i l. t i (omega (arith, few, l))) i first, place)))
+  first_of_keys n fault (head, has, (kind, inr (texts, last))) =
+      inr (any_head f F n head has (Asks f F (lists heights keys) n rules.KeyKind) (λ _. subst (HaveTexts f F head) (sym (keys_among head kind)) texts), inl (last_broken f F heights keys n head has kind fault last))
+
   module _ (n : ℕ) (s : IsSeen f F heights n) where
     -- a seen object with good keys keeps all rules
     pub good_keeps : HasGoodKeys f F keys n → KeepsCheck f F (lists heights keys) n
@@ -271,15 +280,8 @@ module _ (f : List ℕ) (F : Frame) (heights : List ℕ) (keys : Option Keyed) w
 
     -- the first fault of its keys is its first
     pub keys_break : (fault : Fault) → BreaksKeys f F (length heights) keys n fault → IsCheckFault f F (lists heights keys) n fault
-    keys_break fault (head, has, (kind, keys_fault)) =
-        inr (s.own, inr (s.room, inr ((λ head has i l. (s.lower head has i l).0), inr ((λ head has i l. (s.lower head has i l).1), by keys_fault))))
-      where
-        by : IsKeylessFault f F n head fault ⊎ (HaveTexts f F head head.count × IsLastFault f F (length heights) keys n head fault)
-            → IsFirstFault (KeepsByCheck f F (lists heights keys) n) (BreaksAtCheck f F (lists heights keys) n) (rules.KeyKind ∷ last_rule keys ∷ []) fault
-        by (inl (rule, object, (i, first, place))) =
-            inl (rule, (object, (head, i, has, texts_fail f F head kind i first, place)))
-        by (inr (texts, last)) =
-            inr (any_head f F n head has (Asks f F (lists heights keys) n rules.KeyKind) (λ _. subst (HaveTexts f F head) (sym (keys_among head kind)) texts), inl (last_broken f F heights keys n head has kind fault last))
+    keys_break fault h =
+        inr (s.own, inr (s.room, inr ((λ head has i l. (s.lower head has i l).0), inr ((λ head has i l. (s.lower head has i l).1), first_of_keys n fault h))))
 
   -- where all vouched objects are seen, and their keys are good, they keep all rules
   pub all_good : (t : ℕ) → Running f F (lists heights keys) Quick F.objects t → ((n : ℕ) → n < F.objects → IsVouchedBy heights n → HasGoodKeys f F keys n) → Running f F (lists heights keys) Exact F.objects t

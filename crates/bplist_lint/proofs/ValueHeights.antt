@@ -29,6 +29,7 @@ use Rattle.bplist_lint.specs.ReachRules.{KeepReachBelow}
 use Rattle.bplist_lint.specs.Referring.{key_count, hidden, refs_in, graph_of}
 use Rattle.bplist_lint.specs.HeightWalks.{AreClosed, AreLeastOf}
 use Rattle.bplist_lint.proofs.KeptRules.{kept_spells}
+use Rattle.bplist_lint.proofs.KeySteps.{good_by_kept}
 use Rattle.bplist_lint.proofs.ObjectReferences.{found_as, as_spelled, all_announced, no_refs_leaf}
 use Rattle.bplist_lint.proofs.ReferenceGraph.{reach_iff}
 
@@ -119,8 +120,7 @@ module _ (f : List ℕ) (F : Frame) (frame : IsFrame f F) (kept : KeepReachBelow
           let low1 = rw found at low in
           let all = as_spelled f F n head s.1.has s.0 s.1 in
           let k = of_key head.kind head.count i low1 in
-          let texts = subst (HaveTexts f F head) (keys_among head k.0) ((keys n within reach).0 head (shape_announced f F n head s.1.has) k.0) in
-          let key = texts i k.1 in (
+          let key = (good_by_kept f F n (keys n within reach) head (shape_announced f F n head s.1.has) k.0).0 i k.1 in (
             ap (refs_at f F) (all.each i (omega (arith, low1, k.2))) ∙ no_refs_leaf f F _ key.0 key.1.is.0 (of_text key.0.kind key.0.count key.1.kind),
             rw found (omega (arith, k.2, all.count)),
           )
