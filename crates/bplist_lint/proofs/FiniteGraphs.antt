@@ -11,6 +11,7 @@ use Rattle.bplist_cert.proofs.AllNumbers.{onto}
 use Rattle.bplist_lint.specs.Graph.{Reaches, Ends, IsNext, IsCircleOf}
 use Rattle.bplist_lint.specs.Graph.Reaches.{start, onward}
 use Rattle.bplist_lint.specs.Graph.Ends.{ends}
+use Rattle.bplist_lint.proofs.FirstWithout.{first_at}
 use Rattle.bplist_lint.proofs.Writes.{at_set, count-set, unwritten}
 
 -- there is one below a bound, or there is none
@@ -196,7 +197,7 @@ module _ (graph : ℕ → List ℕ) (size : ℕ) (inside : (n m : ℕ) → Conta
       let f = found_or_first n.at n.within n.off in
       let m = get_or (graph n.at) f.0 0 in
       let lt = inside n.at m (Contains-get_or (graph n.at) f.0 0 f.1) in
-      (record { at = m; within = lt; off = f.2 }, record { place = f.0; in_refs = f.1; at_place = refl; not_founded = not_found m lt f.2; first = λ k l. founded_marks.1.right (get_or (graph n.at) k 0) (f.3 k l) })
+      (record { at = m; within = lt; off = f.2 }, first_at (Ends graph) (graph n.at) m f.0 f.1 refl (not_found m lt f.2) (λ k l. founded_marks.1.right (get_or (graph n.at) k 0) (f.3 k l)))
 
   abbrev walk : OffObject → ℕ → OffObject
   walk top zero = top
@@ -228,18 +229,17 @@ module _ (graph : ℕ → List ℕ) (size : ℕ) (inside : (n m : ℕ) → Conta
         let m = first_meet in
         let j = m.0 in
         let i = m.2.0 in
-        let long = length-map-range_with_len x i (j - i) in (
+        let long = length-map-range_with_len x i (j - i) in
+        let end : i + length (map x (range_with_len i (j - i))) ≡ j = omega (arith, long, m.2.1) in (
           map x (range_with_len i (j - i)),
           record {
             x = x;
             i = i;
-            j = j;
             begins = refl;
             leads = λ k l. (next_off (walk top k)).1;
-            earlier = m.2.1;
-            meets = m.2.2;
-            least = λ k l lt below. m.3 l below k lt;
-            long = omega (arith, long, m.2.1);
+            some = omega (arith, long, m.2.1);
+            meets = m.2.2 ∙ ap x (sym end);
+            least = λ k l lt below. m.3 l (omega (arith, below, end)) k lt;
             listed = λ k l. get_or-map-range_with_len x i (j - i) k (i + k) 0 (omega (arith, l, long)) refl;
           },
         )

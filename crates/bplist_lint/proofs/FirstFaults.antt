@@ -1,5 +1,5 @@
 -- The first fault of a file is one, and where there is one the file holds no value.
-use Rattle.std.proofs.Common.{◌≡◌, ℕ, ◌<◌, inl, inr, List, [], Option, None, sym, ◌∙◌, subst}
+use Rattle.std.proofs.Common.{◌≡◌, ℕ, ◌<◌, inl, inr, List, [], ◌∷◌, Option, None, refl, sym, ap, ◌∙◌, subst}
 use Rattle.bplist_objects.specs.declared.rule.Rule.{Rule}
 use Rattle.bplist_objects.specs.declared.rule.Rule.TheVariants as rules
 use Rattle.bplist_objects.specs.declared.fault.Fault.{Fault}
@@ -11,11 +11,11 @@ use Rattle.bplist_objects.specs.Reach.{Reach}
 use Rattle.bplist_objects.proofs.Broken.{kept_or_broken, no_first_fault}
 use Rattle.bplist_objects.proofs.Lists.{one_number}
 use Rattle.bplist_objects.proofs.ReachedObjects.{reach_within}
-use Rattle.bplist_objects.proofs.FirstFaults.{no_frame, one_first_fault, one_frame_fault}
+use Rattle.bplist_objects.proofs.FirstFaults.{no_frame, one_first_fault, one_frame_fault, one_object_fault}
 use Rattle.bplist_objects.proofs.FrameTies.{numbered}
 use Rattle.bplist_cert.specs.Lists.{lists}
 use Rattle.bplist_cert.proofs.AcceptedCertificates.{broken}
-use Rattle.bplist_cert.proofs.OneFault.{by_itself, one_place}
+use Rattle.bplist_cert.proofs.OneFault.{one_place}
 use Rattle.bplist_lint.specs.ReachRules.{KeepsByReach, BreaksAtReach, KeepReachBelow, IsReachFault, reach_rules}
 use Rattle.bplist_lint.specs.KeyRules.{KeepsByKeys, BreaksAtKeys, KeepKeysBelow, IsKeysFault, key_rules}
 use Rattle.bplist_lint.specs.FileFault.{IsCircle, IsObjectsFault, IsFileFault, IsFileCircle}
@@ -59,7 +59,9 @@ module _ (f : List ℕ) (F : Frame) where
   -- ---- a rule is broken at one place
   reach_place : (n : ℕ) (rule : Rule) (o o' : Option ObjectNo) (p p' : ℕ) → BreaksAtReach f F n rule o p → BreaksAtReach f F n rule o' p' → (o ≡ o') × (p ≡ p')
   reach_place n rules.Overfull o o' p p' b c = (b.0 ∙ sym c.0, b.2 ∙ sym c.2)
-  reach_place n rule o o' p p' b c = by_itself f F n rule o o' p p' b c
+  reach_place n rule o o' p p' b c =
+      let e = one_object_fault f F n (rule ∷ []) (record { rule = rule; object = o; place = p }) (record { rule = rule; object = o'; place = p' }) (inl (refl, b)) (inl (refl, c)) in
+      (ap (λ (x : Fault). x.object) e, ap (λ (x : Fault). x.place) e)
 
   module _ (frame : IsFrame f F) where
     -- ---- the first fault of the objects is one

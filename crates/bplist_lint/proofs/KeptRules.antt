@@ -1,5 +1,5 @@
 -- A file is well formed exactly where its reached objects keep their rules and its top is founded.
-use Rattle.std.proofs.Common.{◌≡◌, ℕ, ◌≤◌, ◌+◌, inl, inr, List, [], ◌∷◌, sym, subst, arith}
+use Rattle.std.proofs.Common.{◌≡◌, ℕ, ◌≤◌, ◌+◌, inl, inr, List, [], ◌∷◌, subst, arith}
 use Rattle.std.specs.List.{AllByRecursion}
 use Rattle.std.proofs.lemmas.Bool.{cases_lt}
 use Rattle.bplist_objects.specs.declared.frame.Frame.{Frame}
@@ -18,12 +18,11 @@ use Rattle.bplist_objects.proofs.ReachedObjects.{reach_within}
 use Rattle.bplist_objects.proofs.HeadTies.{shape_announced, spells_keeps, keeps_iff}
 use Rattle.bplist_objects.proofs.FrameTies.{numbered}
 use Rattle.bplist_cert.specs.Valid.{HasKeys}
-use Rattle.bplist_cert.specs.Keys.{HaveTexts, KeysDiffer}
-use Rattle.bplist_cert.proofs.CheckSteps.{keys_among}
 use Rattle.bplist_cert.proofs.KeyTies.{HaveKeys, keys_from_rules, rules_from_keys}
 use Rattle.bplist_lint.specs.ReachRules.{KeepsByReach, KeepReachBelow, reach_rules}
 use Rattle.bplist_lint.specs.KeyRules.{KeepKeysBelow}
 use Rattle.bplist_lint.specs.WellFormed.{IsWellFormed}
+use Rattle.bplist_lint.proofs.KeySteps.{kept_by_good, good_by_kept}
 
 -- the greatest of some numbers is one of them
 pub record IsGreatest (S : ℕ → Type 0) (ns : List ℕ) (m : ℕ) : Type 0 where
@@ -68,14 +67,8 @@ module _ (f : List ℕ) (F : Frame) where
         let s = kept_spells kept n r in
         let head = s.1.shape in
         let there = shape_announced f F n head s.1.has in
-        let k = keys n (reach_within f F (numbered frame).top n r) r in (
-          s.0,
-          s.1,
-          keys_from_rules f F n head s.1.has s.0 s.1 (λ e. (
-            subst (HaveTexts f F head) (keys_among head e) (k.0 head there e),
-            subst (KeysDiffer f F head) (keys_among head e) (k.1.0 head there e),
-          )),
-        )
+        let k = keys n (reach_within f F (numbered frame).top n r) r in
+        (s.0, s.1, keys_from_rules f F n head s.1.has s.0 s.1 (good_by_kept f F n k head there))
 
     -- where all rules are kept and the top is founded, the file is well formed
     pub kept_formed : KeepReachBelow f F F.objects → KeepKeysBelow f F F.objects → Founded f F F.top.0 → IsWellFormed f F
@@ -91,10 +84,7 @@ module _ (f : List ℕ) (F : Frame) where
         omega (arith, room, o.5))
 
     pub formed_keys : KeepKeysBelow f F F.objects
-    formed_keys n lt r = (
-      λ head has e. subst (HaveTexts f F head) (sym (keys_among head e)) (of_head head has e).0,
-      (λ head has e. subst (KeysDiffer f F head) (sym (keys_among head e)) (of_head head has e).1, tt),
-    )
+    formed_keys n lt r = kept_by_good f F n of_head
       where
         of_head : (head : Head) → HasHead f F n head → head.kind ≡ Dict → HaveKeys f F head
         of_head head has =

@@ -1,5 +1,5 @@
 -- What the classes of the keys of a dictionary say of them.
-use Rattle.std.proofs.Common.{◌≡◌, ℕ, ◌<◌, ◌↔◌, Bool, List, length, subst, arith, Contains}
+use Rattle.std.proofs.Common.{◌≡◌, ℕ, ◌<◌, ◌↔◌, inl, inr, Bool, List, [], None, length, subst, arith, Contains}
 use Rattle.bplist_objects.specs.declared.fault.Fault.{Fault}
 use Rattle.bplist_objects.specs.declared.frame.Frame.{Frame}
 use Rattle.bplist_objects.specs.declared.frame.ObjectNo.{ObjectNo}
@@ -14,20 +14,19 @@ use Rattle.bplist_objects.proofs.Lists.{all_from}
 use Rattle.bplist_objects.proofs.HeadTies.{head_tie}
 use Rattle.bplist_keys.specs.Ranks.{AreClasses}
 use Rattle.bplist_keys.specs.Marks.{IsMarked}
+use Rattle.bplist_keys.proofs.ClaimLaws.{fails_too}
 use Rattle.bplist_cert.specs.Heights.{ref}
-use Rattle.bplist_cert.specs.Keys.{HaveTexts, IsFirstKeyless}
+use Rattle.bplist_cert.specs.Keys.{HaveTexts}
 use Rattle.bplist_cert.specs.KeyClasses.{KeysAreSound}
 use Rattle.bplist_cert.proofs.KeyClasses as keys
 use Rattle.bplist_lint.specs.ReachRules.{KeepReachBelow}
 use Rattle.bplist_lint.specs.KeyRules.{KeepsByKeys, BreaksAtKeys, key_rules}
 use Rattle.bplist_keys.specs.Classes.{HasNamedKeys, AreClassed, HaveClasses, IsWrong}
-use Rattle.bplist_keys.specs.Claims.{FailsAt}
-use Rattle.bplist_keys.proofs.ClaimLaws.{fails_too}
 use Rattle.bplist_lint.specs.KeyClasses.{AreSound, IsWrongFault}
 use Rattle.bplist_keys.specs.declared.class_table.Wrong.{Wrong}
 use Rattle.bplist_keys.specs.declared.class_table.Wrong.TheVariants as wrongs
 use Rattle.bplist_lint.proofs.ReachSteps.{marked_within}
-use Rattle.bplist_lint.proofs.KeySteps.{keyless, twice}
+use Rattle.bplist_cert.proofs.CheckSteps.{first_of_keys}
 use Rattle.bplist_lint.proofs.KeptRules.{own_rules}
 use Rattle.bplist_cert.proofs.KeyTies.{each_key}
 
@@ -58,16 +57,12 @@ module _ (f : List ℕ) (F : Frame) where
 
   module _ (framed : IsFrame f F) (head : Head) (classes : List ℕ) (classed : AreClassed f F classes head) (sound : KeysAreSound f F head)
       (inside : (k : ℕ) → k < head.count → ref f F head k < F.objects) where
-    -- the first key without a class is the first that is no text
-    no_text : (i : ℕ) → FailsAt (HaveClasses (ref f F head) classes) head.count i → IsFirstKeyless f F head i
-    no_text = fails_too (HaveClasses (ref f F head) classes) (HaveTexts f F head) head.count
-        (keys.classed_texts f F head classes classed framed sound inside) (keys.texts_classed f F head classes classed)
-
     -- what is wrong with them is the fault
     pub wrong_fault : (n : ObjectNo) → HasHead f F n.0 head → head.kind ≡ Dict → (wrong : Wrong) (fault : Fault) → IsWrong (ref f F head) classes head.count wrong → IsWrongFault F n head wrong fault
         → IsFirstFault (KeepsByKeys f F n.0) (BreaksAtKeys f F n.0) key_rules fault
     wrong_fault n has dict (wrongs.NoText i) fault is told =
-        keyless f F n.0 head has fault dict (told.0, told.1, (i, no_text i is, told.2))
+        let texts = fails_too (HaveClasses (ref f F head) classes) (HaveTexts f F head) head.count (keys.classed_texts f F head classes classed framed sound inside) (keys.texts_classed f F head classes classed) i is in
+        first_of_keys f F [] None n.0 fault (head, has, (dict, inl (told.0, told.1, (i, texts, told.2))))
     wrong_fault n has dict (wrongs.Again j) fault is told =
         let texts = keys.classed_texts f F head classes classed framed sound inside head.count (omega arith) is.0 in
-        twice f F n.0 head has fault dict texts (told.0, told.1, (j, keys.again_twice f F head classes classed texts j is.1, told.2))
+        first_of_keys f F [] None n.0 fault (head, has, (dict, inr (texts, (told.0, told.1, (j, keys.again_twice f F head classes classed texts j is.1, told.2)))))

@@ -1,6 +1,7 @@
 pub mod MarkSteps
 pub mod ReachSteps
 pub mod Writes
+pub mod FirstWithout
 pub mod HeightSteps
 pub mod TrailSteps
 pub mod ObjectReferences

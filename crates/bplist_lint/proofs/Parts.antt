@@ -3,8 +3,8 @@ use Rattle.std.proofs.Common.{◌≡◌, ℕ, ◌+◌, ◌-◌, ◌<◌, ◌≤�
 use Rattle.std.proofs.lemmas.Bool.{cases_lt}
 use Rattle.std.proofs.lemmas.List.{length-append, length-take-le, get_or-take, get_or_append_left, get_or-append_right, get_or_default, ext_get_or}
 use Rattle.std.proofs.lemmas.List.Elements.{Contains-get_or}
-use Rattle.bplist_lint.specs.Graph.{IsPart}
-use Rattle.bplist_lint.specs.Trail.{AllHave, IsFirstWithout}
+use Rattle.bplist_lint.specs.Graph.{IsPart, IsFirstWithout}
+use Rattle.bplist_lint.proofs.FirstWithout.{first_at, first_off}
 
 module _ (references block : List ℕ) (i count : ℕ) (part : IsPart references i block count) where
   long : length (take count block) ≡ count
@@ -47,20 +47,15 @@ module _ (references block : List ℕ) (i count : ℕ) (part : IsPart references
         rw (part_at (k - i) under, there) at (here (k - i) (omega (arith, long, under)))
   ]
 
-  -- the first without a height in the part, where all before it have one
-  pub first_in_part : (heights : List ℕ) (m : ℕ) → i ≤ length references → AllHave heights references i → IsFirstWithout heights (take count block) m → IsFirstWithout heights references m
-  first_in_part heights m low before first =
-      let under : first.place < count = let l = first.in_refs in omega (arith, l, long) in
-      record {
-        place = i + first.place;
-        in_refs = omega (arith, part.0, under);
-        at_place = rw (part_at first.place under) at first.at_place;
-        without = first.without;
-        before = λ k within. elim (cases_lt k i) [
-          | inl early ↦ before k early
-          | inr later ↦
-              let there : i + (k - i) ≡ k = omega (arith, later) in
-              let lower : k - i < first.place = omega (arith, within, later) in
-              rw (part_at (k - i) (omega (arith, lower, under)), there) at (first.before (k - i) lower)
-        ];
-      }
+  -- the first without something in the part, where all before it have it
+  pub first_in_part : (P : ℕ → Type 0) (m : ℕ) → i ≤ length references → ((k : ℕ) → k < i → P (slice_index references k)) → IsFirstWithout P (take count block) m → IsFirstWithout P references m
+  first_in_part P m low before first =
+      let place = first.0 in
+      let under : place < count = let l = first.1.0 in omega (arith, l, long) in
+      first_at P references m (i + place) (omega (arith, part.0, under)) (sym (part_at place under) ∙ first.2) (first_off P (take count block) m first) (λ k within. elim (cases_lt k i) [
+        | inl early ↦ before k early
+        | inr later ↦
+            let there : i + (k - i) ≡ k = omega (arith, later) in
+            let lower : k - i < place = omega (arith, within, later) in
+            rw (part_at (k - i) (omega (arith, lower, under)), there) at (first.1.1 (k - i) lower)
+      ])

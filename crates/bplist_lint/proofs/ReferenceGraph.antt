@@ -1,5 +1,5 @@
 -- The graph of a file's references and the definitions over what objects spell say the same.
-use Rattle.std.proofs.Common.{◌≡◌, ℕ, zero, suc, ◌<◌, ◌≤◌, ◌↔◌, List, length, map, slice_index, refl, sym, ap, ◌∙◌, subst, arith, Contains}
+use Rattle.std.proofs.Common.{◌≡◌, ℕ, zero, suc, ◌+◌, ◌<◌, ◌≤◌, ◌↔◌, List, length, map, slice_index, refl, sym, ap, ◌∙◌, subst, arith, Contains}
 use Rattle.std.proofs.lemmas.List.{ext_get_or, get_or-map, length-map}
 use Rattle.std.proofs.lemmas.List.Elements.{Contains-get_or}
 use Rattle.bplist_objects.specs.declared.frame.Frame.{Frame}
@@ -7,12 +7,13 @@ use Rattle.bplist_objects.specs.Heads.{Content, Spells, refs}
 use Rattle.bplist_objects.specs.Reach.{Reach, top, next, Founded, founded}
 use Rattle.bplist_objects.specs.Spelled.{refs_at}
 use Rattle.bplist_objects.proofs.ReachedObjects.{refs_spelled, refs_iff, founded_refs}
-use Rattle.bplist_lint.specs.Graph.{Reaches, Ends, Least, greatest, IsNext, IsCircleBy, IsCircleOf, AreLeast}
+use Rattle.bplist_lint.specs.Graph.{Reaches, Ends, Least, greatest, IsFirstWithout, IsNext, IsCircleBy, IsCircleOf, AreLeast}
 use Rattle.bplist_lint.specs.Graph.Reaches.{start, onward}
 use Rattle.bplist_lint.specs.Graph.Ends.{ends}
 use Rattle.bplist_lint.specs.Graph.Least.{above}
 use Rattle.bplist_lint.specs.FileFault.{LeadsOn, IsCircle}
 use Rattle.bplist_lint.specs.Least.{StandLeast, AreLeastHeights}
+use Rattle.bplist_lint.proofs.FirstWithout.{first_among, first_too}
 use Rattle.bplist_lint.proofs.FoundedObjects.{StandsLeast}
 
 -- ---- least heights in a graph
@@ -58,35 +59,18 @@ module _ (f : List ℕ) (F : Frame) where
     next_leads : (n m : ℕ) → Reach f F n → IsNext (refs_at f F) n m → LeadsOn f F n m
     next_leads n m r x =
         let s = spelled n r in
-        let same = refs_spelled f F n s.0 s.1 in
-        let in_refs : x.place < length (refs s.0) = subst (λ ms. x.place < length ms) same x.in_refs in
-        record {
-          content = s.0;
-          spells = s.1;
-          place = x.place;
-          in_refs = in_refs;
-          at_place = ap (λ ms. slice_index ms x.place) (sym same) ∙ x.at_place;
-          not_founded = λ w. x.not_founded (founded_ends m w);
-          first = λ k l.
-              let among = Contains-get_or (refs s.0) k 0 (omega (arith, l, in_refs)) in
-              ends_founded (slice_index (refs s.0) k) (next r (s.0, s.1, among)) (subst (λ ms. Ends (refs_at f F) (slice_index ms k)) same (x.first k l));
-        }
+        let own = subst (λ ms. IsFirstWithout (Ends (refs_at f F)) ms m) (refs_spelled f F n s.0 s.1) x in
+        (s.0, s.1, first_too (Ends (refs_at f F)) (Founded f F) (refs s.0) (λ k c. founded_iff k (next r (s.0, s.1, c))) m own)
 
     leads_next : (n m : ℕ) → Reach f F n → LeadsOn f F n m → IsNext (refs_at f F) n m
     leads_next n m r x =
-        let same = refs_spelled f F n x.content x.spells in
-        record {
-          place = x.place;
-          in_refs = subst (λ ms. x.place < length ms) (sym same) x.in_refs;
-          at_place = ap (λ ms. slice_index ms x.place) same ∙ x.at_place;
-          not_founded = λ e. x.not_founded (ends_founded m (next r (x.content, x.spells, subst (Contains (refs x.content)) x.at_place (Contains-get_or (refs x.content) x.place 0 x.in_refs))) e);
-          first = λ k l. subst (λ ms. Ends (refs_at f F) (slice_index ms k)) (sym same) (founded_ends _ (x.first k l));
-        }
+        subst (λ ms. IsFirstWithout (Ends (refs_at f F)) ms m) (sym (refs_spelled f F n x.0 x.1))
+        (first_too (Founded f F) (Ends (refs_at f F)) (refs x.0) (λ k c. let e = founded_iff k (next r (x.0, x.1, c)) in (e.1, e.0)) m x.2)
 
     -- ---- the circle
     -- the objects of a walk along references are reached
     module _ (along : ℕ → ℕ → Type 0) (refers : (n m : ℕ) → Reach f F n → along n m → Reach f F m) (circle : List ℕ) (c : IsCircleBy along F.top.0 circle) where
-      pub walk_reached : (k : ℕ) → k ≤ c.j → Reach f F (c.x k)
+      pub walk_reached : (k : ℕ) → k ≤ c.i + length circle → Reach f F (c.x k)
       walk_reached zero l = subst (Reach f F) (sym c.begins) top
       walk_reached (suc k) l = refers (c.x k) (c.x (suc k)) (walk_reached k (omega (arith, l))) (c.leads k (omega (arith, l)))
 
@@ -94,21 +78,19 @@ module _ (f : List ℕ) (F : Frame) where
       walked_by other change = record {
         x = c.x;
         i = c.i;
-        j = c.j;
         begins = c.begins;
         leads = λ k l. change (c.x k) (c.x (suc k)) (walk_reached k (omega (arith, l))) (c.leads k l);
-        earlier = c.earlier;
+        some = c.some;
         meets = c.meets;
         least = c.least;
-        long = c.long;
         listed = c.listed;
       }
 
     next_reached : (n m : ℕ) → Reach f F n → IsNext (refs_at f F) n m → Reach f F m
-    next_reached n m r x = next r ((refs_iff f F n m).1 (subst (Contains (refs_at f F n)) x.at_place (Contains-get_or (refs_at f F n) x.place 0 x.in_refs)))
+    next_reached n m r x = next r ((refs_iff f F n m).1 (first_among (Ends (refs_at f F)) (refs_at f F n) m x))
 
     leads_reached : (n m : ℕ) → Reach f F n → LeadsOn f F n m → Reach f F m
-    leads_reached n m r x = next r (x.content, x.spells, subst (Contains (refs x.content)) x.at_place (Contains-get_or (refs x.content) x.place 0 x.in_refs))
+    leads_reached n m r x = next r (x.0, x.1, first_among (Founded f F) (refs x.0) m x.2)
 
     pub circle_iff : (circle : List ℕ) → IsCircleOf (refs_at f F) F.top.0 circle ↔ IsCircle f F circle
     circle_iff circle = (

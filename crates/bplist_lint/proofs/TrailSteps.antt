@@ -3,11 +3,13 @@ use Rattle.std.proofs.Common.{◌≡◌, ◌≢◌, ℕ, suc, ◌+◌, ◌<◌, 
 use Rattle.std.proofs.lemmas.Bool.{false≢true}
 use Rattle.std.proofs.lemmas.List.{get_or-set_same, length-set, get_or_append_left, get_or_push, length_push, length-replicate, get_or_default, get_or-drop, length-drop}
 use Rattle.std.proofs.lemmas.List.Elements.{Contains-get_or, Contains-append_left, Contains-push}
-use Rattle.bplist_lint.specs.Graph.{Reaches, Ends, Least, IsNext, IsCircleOf, AreLeast}
+use Rattle.bplist_objects.specs.declared.frame.ObjectNo.{ObjectNo}
+use Rattle.bplist_lint.specs.Graph.{Reaches, Ends, Least, IsFirstWithout, IsNext, IsCircleOf, AreLeast}
 use Rattle.bplist_lint.specs.Graph.Reaches.{start, onward}
 use Rattle.bplist_lint.specs.Graph.Ends.{ends}
 use Rattle.bplist_lint.specs.Graph.Least.{above}
-use Rattle.bplist_lint.specs.Trail.{number, object, AllHave, IsFirstWithout, IsPlaceOf, Placed, Leading}
+use Rattle.bplist_lint.specs.Trail.{number, object, AllHave, IsPlaceOf, Placed, Leading}
+use Rattle.bplist_lint.proofs.FirstWithout.{first_among, first_off, first_too}
 use Rattle.bplist_lint.proofs.Writes.{push_cases, at_set, seen-set, unwritten}
 
 pub numbers_named : (xs : List ℕ) → map number (map object xs) ≡ xs
@@ -25,18 +27,11 @@ founded_all refs top heights n a have =
     ends n (λ m c. rw (← c.2, get_or_default (refs n) c.0 m 0 c.1) (Ends-from_least refs _ _ (a.vouched _ (have c.0 c.1)).1))
 
 -- the first reference without a height is the first that is not founded
-pub is_next : (refs : ℕ → List ℕ) (top : ℕ) (heights : List ℕ) (n m : ℕ) → AreLeast refs top heights → Reaches refs top n → IsFirstWithout heights (refs n) m → Reaches refs top m × IsNext refs n m
-is_next refs top heights n m a reached f =
-    let on : Reaches refs top m = onward n m reached (rw f.at_place (Contains-get_or (refs n) f.place 0 f.in_refs)) in (
-      on,
-      record {
-        place = f.place;
-        in_refs = f.in_refs;
-        at_place = sym f.at_place;
-        not_founded = λ is. let h = a.all m on is in let z = f.without in omega arith;
-        first = λ k low. Ends-from_least refs _ _ (a.vouched _ (f.before k low)).1;
-      },
-    )
+pub is_next : (refs : ℕ → List ℕ) (top : ℕ) (heights : List ℕ) (n m : ℕ) → AreLeast refs top heights → Reaches refs top n → IsFirstWithout (λ k. 0 < get_or heights k 0) (refs n) m → Reaches refs top m × IsNext refs n m
+is_next refs top heights n m a reached f = (
+  onward n m reached (first_among (λ k. 0 < get_or heights k 0) (refs n) m f),
+  first_too (λ k. 0 < get_or heights k 0) (Ends refs) (refs n) (λ k c. (λ h. Ends-from_least refs _ _ (a.vouched k h).1, λ is. a.all k (onward n k reached c) is)) m f,
+)
 
 -- nothing is met
 pub placed_none : (size : ℕ) → Placed size (replicate size false) []
@@ -82,7 +77,7 @@ leading_more refs top trail x m l reached n =
             rw (get_or_append_left walk (m ∷ []) 0 k h, c.1, get_or_push walk m 0 (suc k) is) n
       ];
       reached = reached;
-      not_founded = n.not_founded;
+      not_founded = first_off (Ends refs) (refs x) m n;
     }
 
 pub leading_start : (refs : ℕ → List ℕ) (top : ℕ) (heights : List ℕ) → AreLeast refs top heights → get_or heights top 0 ≡ 0 → Leading refs top [] top
@@ -99,18 +94,18 @@ is_circle refs top size met trail x place p l at_place =
     let walk : List ℕ = trail ++ x ∷ [] in
     let low = at_place.within in
     let long = length-drop place trail in
+    let end : place + length (drop place trail) ≡ length trail = omega (arith, long, low) in
     let on_trail : (k : ℕ) → k < length trail → get_or walk k 0 ≡ get_or trail k 0 = λ k h. get_or_append_left trail (x ∷ []) 0 k h in
     record {
       x = λ k. get_or walk k 0;
       i = place;
-      j = length trail;
       begins = l.begins;
-      leads = l.next;
-      earlier = low;
-      meets = on_trail place low ∙ at_place.here ∙ sym (get_or_push trail x 0 (length trail) refl);
+      leads = λ k h. l.next k (omega (arith, h, end));
+      some = omega (arith, end, low);
+      meets = on_trail place low ∙ at_place.here ∙ sym (get_or_push trail x 0 (length trail) refl) ∙ ap (λ k. get_or walk k 0) (sym end);
       least = λ k m less h same.
-          let h' : k < length trail = omega arith in
-          p.differ k m less h (sym (on_trail k h') ∙ same ∙ on_trail m h);
-      long = omega (arith, long, low);
+          let h' : m < length trail = omega (arith, h, end) in
+          let k' : k < length trail = omega (arith, less, h') in
+          p.differ k m less h' (sym (on_trail k k') ∙ same ∙ on_trail m h');
       listed = λ k h. get_or-drop place trail k 0 ∙ sym (on_trail (place + k) (omega (arith, long)));
     }

@@ -1,5 +1,5 @@
 -- Each file is well formed or has a first fault.
-use Rattle.std.proofs.Common.{◌≡◌, ℕ, zero, suc, ◌+◌, ◌-◌, ◌*◌, ◌<◌, ◌≤◌, ◌⊎◌, inl, inr, List, [], ◌∷◌, Contains, refl, sym, subst, arith}
+use Rattle.std.proofs.Common.{◌≡◌, ℕ, zero, suc, ◌+◌, ◌-◌, ◌*◌, ◌<◌, ◌≤◌, ◌⊎◌, inl, inr, List, [], ◌∷◌, None, Contains, refl, sym, subst, arith}
 use Rattle.std.proofs.lemmas.Bool.{cases_lt}
 use Rattle.bplist_objects.specs.declared.rule.Rule.TheVariants as rules
 use Rattle.bplist_objects.specs.declared.fault.Fault.{Fault}
@@ -30,7 +30,9 @@ use Rattle.bplist_lint.specs.WellFormed.{IsWellFormed}
 use Rattle.bplist_lint.proofs.FiniteGraphs.{reach_decided, founded_or_circle}
 use Rattle.bplist_lint.proofs.HeldValues.{formed_holds}
 use Rattle.bplist_lint.proofs.ReferenceGraph.{reach_iff, founded_iff, circle_iff}
-use Rattle.bplist_lint.proofs.KeySteps.{kept_other, kept_keys, keyless, twice}
+use Rattle.bplist_cert.proofs.CheckSteps.{first_of_keys}
+use Rattle.bplist_cert.proofs.KeyClasses.{good_at}
+use Rattle.bplist_lint.proofs.KeySteps.{kept_by_good}
 use Rattle.bplist_lint.proofs.KeptRules.{kept_spells, kept_formed}
 use Rattle.bplist_lint.proofs.TallySteps.{sums_none, sums_more, sums_same, not_overfull, overfull}
 
@@ -114,16 +116,16 @@ module _ (f : List ℕ) (F : Frame) (frame : IsFrame f F) where
   -- ---- rules 21 and 22
   keys_or_fault : (n : ℕ) (c : Content) → Spells f F n c → KeepsAll (KeepsByKeys f F n) key_rules ⊎ ((fault : Fault) × IsFirstFault (KeepsByKeys f F n) (BreaksAtKeys f F n) key_rules fault)
   keys_or_fault n c s = elim (dict_decided head.kind) [
-    | inr other ↦ inl (kept_other f F n head there other)
+    | inr other ↦ inl (kept_by_good f F n (good_at f F None n head there (λ dict. absurd (other dict))))
     | inl dict ↦ elim (texts_or_first f F frame head) [
       | inr (i, first) ↦
           let fault = fault_at rules.KeyKind n (head.body + i * F.ref_size) in
-          inr (fault, keyless f F n head there fault dict (refl, refl, (i, first, refl)))
+          inr (fault, first_of_keys f F [] None n fault (head, there, (dict, inl (refl, refl, (i, first, refl)))))
       | inl texts ↦ elim (differ_or_first f F frame head) [
         | inr (j, first) ↦
             let fault = fault_at rules.KeyTwice n (head.body + j * F.ref_size) in
-            inr (fault, twice f F n head there fault dict texts (refl, refl, (j, first, refl)))
-        | inl differ ↦ inl (kept_keys f F n head there texts differ)
+            inr (fault, first_of_keys f F [] None n fault (head, there, (dict, inr (texts, (refl, refl, (j, first, refl))))))
+        | inl differ ↦ inl (kept_by_good f F n (good_at f F None n head there (λ _. (texts, differ))))
       ]
     ]
   ]

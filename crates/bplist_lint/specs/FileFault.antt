@@ -1,24 +1,18 @@
 -- The first fault of a file: a broken rule, or the circle that keeps its top from being founded. Source: profile.
-use Rattle.std.specs.Prelude.{◌≡◌, ◌⊎◌, ℕ, ◌<◌, List, length, slice_index}
+use Rattle.std.specs.Prelude.{◌⊎◌, ℕ, List}
 use Rattle.bplist_objects.specs.declared.fault.Fault.{Fault}
 use Rattle.bplist_objects.specs.declared.frame.Frame.{Frame}
 use Rattle.bplist_objects.specs.Frame.{IsFrame}
 use Rattle.bplist_objects.specs.FrameRules.{IsFrameFault}
 use Rattle.bplist_objects.specs.Heads.{Content, Spells, refs}
 use Rattle.bplist_objects.specs.Reach.{Founded}
-use Rattle.bplist_lint.specs.Graph.{IsCircleBy}
+use Rattle.bplist_lint.specs.Graph.{IsFirstWithout, IsCircleBy}
 use Rattle.bplist_lint.specs.ReachRules.{KeepReachBelow, IsReachFault}
 use Rattle.bplist_lint.specs.KeyRules.{KeepKeysBelow, IsKeysFault}
 
 -- m is the first reference of object n that is not founded
-pub record LeadsOn (f : List ℕ) (F : Frame) (n m : ℕ) : Type 0 where
-  pub content : Content
-  pub spells : Spells f F n content
-  pub place : ℕ
-  pub in_refs : place < length (refs content)
-  pub at_place : slice_index (refs content) place ≡ m
-  pub not_founded : Founded f F m → ⊥
-  pub first : (k : ℕ) → k < place → Founded f F (slice_index (refs content) k)
+abbrev pub LeadsOn : List ℕ → Frame → ℕ → ℕ → Type 0
+LeadsOn f F n m = (c : Content) × Spells f F n c × IsFirstWithout (Founded f F) (refs c) m
 
 -- the circle that these references lead to from the top
 abbrev pub IsCircle : List ℕ → Frame → List ℕ → Type 0

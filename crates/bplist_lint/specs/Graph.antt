@@ -1,6 +1,7 @@
 -- Objects with references, whatever they are read from: what is reached, what is founded, and with which least height.
 -- Source: the reader of CFBinaryPList.c, which refuses circles; heights and circles as lists are profile.
 use Rattle.std.specs.Prelude.{◌≡◌, ℕ, suc, ◌+◌, ◌-◌, ◌<◌, min, max, List, [], ◌∷◌, length, slice_index, Contains}
+use Rattle.bplist_keys.specs.Claims.{FailsAt}
 
 -- how many objects there are, the references of each in written order, and how many of them it announces. Where they are
 -- read through a borrow, through is its ghost name
@@ -45,25 +46,24 @@ greatest (h ∷ hs) = max h (greatest hs)
 pub data Least (refs : ℕ → List ℕ) : ℕ → ℕ → Type 0 where
   above : (n : ℕ) (heights : List ℕ) → length heights ≡ length (refs n) → ((i : ℕ) → i < length (refs n) → Least refs (slice_index (refs n) i) (slice_index heights i)) → Least refs n (suc (greatest heights))
 
+-- m is the first of these numbers of which P does not hold
+abbrev pub IsFirstWithout : (ℕ → Type 0) → List ℕ → ℕ → Type 0
+IsFirstWithout P ns m =
+    (i : ℕ) × FailsAt (λ many. (k : ℕ) → k < many → P (slice_index ns k)) (length ns) i × (slice_index ns i ≡ m)
+
 -- m is the first reference of n that is not founded
-pub record IsNext (refs : ℕ → List ℕ) (n m : ℕ) : Type 0 where
-  pub place : ℕ
-  pub in_refs : place < length (refs n)
-  pub at_place : slice_index (refs n) place ≡ m
-  pub not_founded : Ends refs m → ⊥
-  pub first : (k : ℕ) → k < place → Ends refs (slice_index (refs n) k)
+abbrev pub IsNext : (ℕ → List ℕ) → ℕ → ℕ → Type 0
+IsNext refs n m = IsFirstWithout (Ends refs) (refs n) m
 
 -- the circle that next leads to from top: from the first object met twice up to its second meeting
 pub record IsCircleBy (next : ℕ → ℕ → Type 0) (top : ℕ) (circle : List ℕ) : Type 0 where
   pub x : ℕ → ℕ
   pub i : ℕ
-  pub j : ℕ
   pub begins : x 0 ≡ top
-  pub leads : (k : ℕ) → k < j → next (x k) (x (suc k))
-  pub earlier : i < j
-  pub meets : x i ≡ x j
-  pub least : (k l : ℕ) → k < l → l < j → x k ≡ x l → ⊥
-  pub long : i + length circle ≡ j
+  pub leads : (k : ℕ) → k < i + length circle → next (x k) (x (suc k))
+  pub some : 0 < length circle
+  pub meets : x i ≡ x (i + length circle)
+  pub least : (k l : ℕ) → k < l → l < i + length circle → x k ≡ x l → ⊥
   pub listed : (k : ℕ) → k < length circle → slice_index circle k ≡ x (i + k)
 
 -- the circle of first references that are not founded

@@ -16,14 +16,6 @@ object n = record { 0 = n }
 abbrev pub AllHave : List ℕ → List ℕ → ℕ → Type 0
 AllHave heights references i = (k : ℕ) → k < i → 0 < slice_index heights (slice_index references k)
 
--- m is the first of these objects that has no height
-pub record IsFirstWithout (heights references : List ℕ) (m : ℕ) : Type 0 where
-  pub place : ℕ
-  pub in_refs : place < length references
-  pub at_place : m ≡ slice_index references place
-  pub without : slice_index heights m ≡ 0
-  pub before : AllHave heights references place
-
 -- the first place of x in the list
 pub record IsPlaceOf (trail : List ℕ) (x place : ℕ) : Type 0 where
   pub within : place < length trail

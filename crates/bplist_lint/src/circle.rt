@@ -3,8 +3,8 @@
 ghost use Rattle.std.specs.Prelude.{◌≡◌, ◌^◌, ◌<◌, ◌≤◌, IsTrue, drop, map, length, slice_index, Contains, IfOk, IfSome, MatchOption, is_err};
 ghost use Rattle.bplist_octets.specs.Meaning.{OnlyReads};
 ghost use Rattle.bplist_keys.specs.Failures.{failed_to_read};
-ghost use Rattle.bplist_lint.specs.Graph.{IsWhole, AreWhole, AreObjects, AreLeast, IsCircleOf};
-ghost use Rattle.bplist_lint.specs.Trail.{number, object, AllHave, IsFirstWithout, IsPlaceOf};
+ghost use Rattle.bplist_lint.specs.Graph.{IsWhole, AreWhole, AreObjects, AreLeast, IsFirstWithout, IsCircleOf};
+ghost use Rattle.bplist_lint.specs.Trail.{number, object, AllHave, IsPlaceOf};
 
 use crate::references::{BLOCK, References};
 use bplist_keys::Failure;
@@ -18,7 +18,7 @@ fn without(heights: &[u32], objects: &[u32]) -> Option<u32>
     ensures inside { IfSome result (λ m. m < length heights.now) }
     ensures first { MatchOption result
         (AllHave heights.now objects.now (length objects.now))
-        (λ m. IsFirstWithout heights.now objects.now m) }
+        (IsFirstWithout (λ m. 0 < slice_index heights.now m) objects.now) }
 {
     for m in objects {
         if heights[*m as usize] == 0 {
@@ -42,7 +42,7 @@ fn first_without<R: References>(
     ensures first { IsTrue (R.means graph.old).honest → IsWhole (R.graph graph.old) n → IfOk result (λ m. let references = (R.graph graph.old).refs n in
         MatchOption m
         (AllHave heights.now references (length references))
-        (λ m. IsFirstWithout heights.now references m)) }
+        (IsFirstWithout (λ m. 0 < slice_index heights.now m) references)) }
 {
     let mut block = [0; BLOCK];
     let mut done = 0u64;

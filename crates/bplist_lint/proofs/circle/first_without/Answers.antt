@@ -26,4 +26,4 @@ returns-in-Some-clause-first g c = λ honest whole.
     let i = c.loop-more.invariant in
     let o = i.have honest whole in
     let part = (rw (i.same, i.reads) at c.in_ok-count.ensures.value) honest whole in
-    first_in_part _ _ _ _ part c.args.heights.now c.in-Some.m o.0 o.1 c.in-Some.ensures.first
+    first_in_part _ _ _ _ part (λ m. 0 < slice_index c.args.heights.now m) c.in-Some.m o.0 o.1 c.in-Some.ensures.first

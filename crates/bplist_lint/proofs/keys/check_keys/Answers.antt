@@ -4,7 +4,8 @@ use Rattle.std.proofs.lemmas.Result.{err_from_is_err_and}
 use Rattle.bplist_objects.specs.declared.frame.Frame.{Frame}
 use Rattle.bplist_objects.specs.Framed.{frame_in}
 use Rattle.bplist_keys.proofs.LookUps.{new_low, stamped_low}
-use Rattle.bplist_lint.proofs.KeySteps.{refusals_mean, keys_fault, keys_more, keys_over, bare_keys, unnamed_keys}
+use Rattle.bplist_cert.proofs.CheckSteps.{refused_weaker}
+use Rattle.bplist_lint.proofs.KeySteps.{keys_fault, keys_more, keys_over, bare_keys, unnamed_keys}
 use Rattle.bplist_lint.proofs.KeyClasses.{reached_sound, keys_known}
 use Rattle.bplist_lint.proofs.keys.check_keys.Goals as goal
 use Rattle.bplist_lint.proofs.keys.check_keys.Goals.{then-marks-n+then-not-bare-n+in_ok-check_object, else-marks-n, else-marks-n-via-then-marks-n+else-not-bare-n, else-marks-n-via-else-marks-n}
@@ -31,7 +32,7 @@ returns-in_err-check_object-clause-exact g c = λ honest marks kept bare named.
     let here_named = named n ((marks n).0 c.if-marks-n.true) in
     let keys = keys_known f F c.args.marks.now _ c.in_ok-classes.classes.table.items n sound classes here_named within c.if-marks-n.true in
     let here = (rw (v.reads, table_is) at c.in_err-check_object.ensures.exact) honest (sound.kept n c.if-marks-n.true) keys (new_low n _ (v.low honest)) in
-    rw (p.1, p.2) (refusals_mean _ _ c.in_err-check_object.field-0.0 (λ fault h. keys_fault f F n fault ((marks n).0 c.if-marks-n.true) (v.exact honest marks kept bare named) h) here)
+    rw (p.1, p.2) (refused_weaker _ _ c.in_err-check_object.field-0.0 (λ fault h. keys_fault f F n fault ((marks n).0 c.if-marks-n.true) (v.exact honest marks kept bare named) h) here)
 
 pub loop-n-preserved : goal.loop-n-preserved
 loop-n-preserved g c =
