@@ -34,14 +34,14 @@ use Rattle.bplist_cert.specs.Looks.{AreSeen}
 use Rattle.bplist_cert.specs.Keys.{HaveTexts, KeysDiffer, AreInOrder}
 use Rattle.bplist_cert.specs.CheckRules.{Asks, KeepsByCheck, BreaksByCheck, BreaksAtCheck, KeepsCheck, IsCheckFault, HasOrder, BreaksOrder, KeepsLast, vouched_rules, last_rule}
 use Rattle.bplist_cert.specs.PairFault.{IsKept, IsVouchedFault, IsCountFault, IsPairFault}
-use Rattle.bplist_cert.proofs.CheckSteps.{vouched_inside, keys_among, last_kept}
+use Rattle.bplist_cert.proofs.CheckSteps.{vouched_inside, key_count, last_kept}
 use Rattle.bplist_cert.proofs.KeyTies.{HaveKeys, keys_from_rules, rules_from_keys}
 use Rattle.bplist_cert.proofs.TextKeys.{key_refs, texts_are, units_at_key, ordered_differ}
 
 -- the rule of keys beside rule 21, by a head
 last_by : (f : List ℕ) (F : Frame) (heights : List ℕ) (keys : Option Keyed) (n : ℕ) (head : Head) → HasHead f F n head → head.kind ≡ kinds.Dict
     → KeepsByCheck f F (lists heights keys) n (last_rule keys) → KeepsLast f F keys n head
-last_by f F heights None n head has kind k = subst (KeysDiffer f F head) (keys_among head kind) (k head has kind)
+last_by f F heights None n head has kind k = subst (KeysDiffer f F head) (key_count head kind) (k head has kind)
 last_by f F heights (Some keyed) n head has kind k = k head has kind
 
 -- keys differ where the rule is kept
@@ -77,7 +77,7 @@ module _ (f : List ℕ) (F : Frame) (heights : List ℕ) (keys : Option Keyed) (
         spells = spells.1;
         lower = all_refs f F (λ m. IsVouchedBy heights m × (slice_index heights m < slice_index heights n)) head.kind head.count head.body (λ i l. (met i l, low i l));
         keys = keys_from_rules f F n head spells.0 (content_at f F head) spells.1 (λ kind.
-            let texts = subst (HaveTexts f F head) (keys_among head kind) (rest.1.1.1.0 head has kind) in
+            let texts = subst (HaveTexts f F head) (key_count head kind) (rest.1.1.1.0 head has kind) in
             (texts, last_differs f F keys n head texts (last_by f F heights keys n head has kind rest.1.1.1.1.0)));
       }
 
@@ -112,7 +112,7 @@ listed f F heights (Some keyed) frame all kept = λ n ks ms v s.
     let has = shape_announced f F n head s.has in
     let more = k.1 in
     let is = dict_refs f F head.kind head.count head.body ks ms s.means in
-    let texts = subst (HaveTexts f F head) (keys_among head is.0) (more.1.1.1.0 head has is.0) in
+    let texts = subst (HaveTexts f F head) (key_count head is.0) (more.1.1.1.0 head has is.0) in
     let order = more.1.1.1.1.0 head has is.0 in
     let many = length-nums_at f head.body F.ref_size head.count in
     let whole : length (list_of keyed n head.count) ≡ head.count = length-take-le head.count (drop (slice_index keyed.starts n) keyed.positions) (omega (arith, length-drop (slice_index keyed.starts n) keyed.positions, order.0)) in
@@ -228,7 +228,7 @@ keeps_all f F certificate a n v =
           (
             λ other h i l. (seen.lower other h i l).1,
             (
-              λ other h kind. subst (HaveTexts f F other) (sym (keys_among other kind)) (vouched_keys f F heights valid n v other h kind).0,
+              λ other h kind. subst (HaveTexts f F other) (sym (key_count other kind)) (vouched_keys f F heights valid n v other h kind).0,
               (last_kept f F heights keys n head has (λ kind. last_there f F heights keys valid a.listed n v head has kind), tt),
             ),
           ),

@@ -31,7 +31,7 @@ use Rattle.bplist_cert.specs.Lists.{Keyed, Lists, lists, HasStarts, HasCount}
 use Rattle.bplist_cert.specs.Valid.{IsVouchedBy}
 use Rattle.bplist_cert.specs.Heights.{AreMet, IsHeightFault}
 use Rattle.bplist_keys.specs.Claims.{FailsAt}
-use Rattle.bplist_cert.specs.Keys.{HaveTexts, KeysDiffer, IsFirstKeyless, IsFirstTwice}
+use Rattle.bplist_cert.specs.Keys.{HaveTexts, KeysDiffer}
 use Rattle.bplist_cert.specs.CheckRules.{Asks, KeepsByCheck, BreaksAtCheck, KeepsCheck, IsCheckFault, vouched_rules, last_rule, HasOrder, KeepsLast, IsLastFault}
 use Rattle.bplist_cert.specs.declared.checker.Look.{Look}
 use Rattle.bplist_cert.specs.declared.checker.Look.TheVariants.{Quick, Exact}
@@ -41,8 +41,8 @@ use Rattle.bplist_cert.specs.PairFault.{Sums, IsHeld, Running, IsWalkFault, IsSe
 use Rattle.bplist_cert.specs.Refusals.{GivesRefusal, Judges, refusal_of}
 
 -- the first references of a dictionary are those to its keys
-pub keys_among : (head : Head) → head.kind ≡ kinds.Dict → min (ref_count head.kind head.count) head.count ≡ head.count
-keys_among head dict =
+pub key_count : (head : Head) → head.kind ≡ kinds.Dict → min (ref_count head.kind head.count) head.count ≡ head.count
+key_count head dict =
     let two : ref_count head.kind head.count ≡ 2 * head.count = ap (λ k. ref_count k head.count) dict in
     omega (arith, two)
 
@@ -56,29 +56,21 @@ keys_fail head dict Claim fewer i (within, before, never) =
       λ more. never (fewer (suc i) (min (suc i) head.count) (omega (arith, within)) (more dict)),
     )
 
-pub texts_fail : (f : List ℕ) (F : Frame) (head : Head) → head.kind ≡ kinds.Dict → (i : ℕ) → IsFirstKeyless f F head i
-    → FailsAt (λ many. head.kind ≡ kinds.Dict → HaveTexts f F head (min many head.count)) (ref_count head.kind head.count) i
-texts_fail f F head dict = keys_fail head dict (HaveTexts f F head) (λ m n few t k l. t k (omega (arith, few, l)))
-
-pub differ_fail : (f : List ℕ) (F : Frame) (head : Head) → head.kind ≡ kinds.Dict → (i : ℕ) → IsFirstTwice f F head i
-    → FailsAt (λ many. head.kind ≡ kinds.Dict → KeysDiffer f F head (min many head.count)) (ref_count head.kind head.count) i
-differ_fail f F head dict = keys_fail head dict (KeysDiffer f F head) (λ m n few d i j lt l. d i j lt (omega (arith, few, l)))
-
 -- all heads of an object are this one
-pub any_head : (f : List ℕ) (F : Frame) (n : ℕ) (head : Head) → HasHead f F n head → (Claim : Head → ℕ → Type 0) → Claim head (ref_count head.kind head.count)
+any_head : (f : List ℕ) (F : Frame) (n : ℕ) (head : Head) → HasHead f F n head → (Claim : Head → ℕ → Type 0) → Claim head (ref_count head.kind head.count)
     → (other : Head) → HasHead f F n other → Claim other (ref_count other.kind other.count)
 any_head f F n head has Claim here other h = subst (λ (x : Head). Claim x (ref_count x.kind x.count)) (HasHead-unique f F n head other has h) here
 
 -- the rule of keys beside rule 21, by the head
 pub last_kept : (f : List ℕ) (F : Frame) (heights : List ℕ) (keys : Option Keyed) (n : ℕ) (head : Head) → HasHead f F n head → (head.kind ≡ kinds.Dict → KeepsLast f F keys n head)
     → KeepsByCheck f F (lists heights keys) n (last_rule keys)
-last_kept f F heights None n head has v = any_head f F n head has (Asks f F (lists heights None) n rules.KeyTwice) (λ dict. subst (KeysDiffer f F head) (sym (keys_among head dict)) (v dict))
+last_kept f F heights None n head has v = any_head f F n head has (Asks f F (lists heights None) n rules.KeyTwice) (λ dict. subst (KeysDiffer f F head) (sym (key_count head dict)) (v dict))
 last_kept f F heights (Some keyed) n head has v = λ other h. subst (λ (x : Head). x.kind ≡ kinds.Dict → HasOrder f F keyed n x) (HasHead-unique f F n head other has h) v
 
 last_broken : (f : List ℕ) (F : Frame) (heights : List ℕ) (keys : Option Keyed) (n : ℕ) (head : Head) → HasHead f F n head → head.kind ≡ kinds.Dict → (fault : Fault)
     → IsLastFault f F (length heights) keys n head fault → (fault.rule ≡ last_rule keys) × BreaksAtCheck f F (lists heights keys) n (last_rule keys) fault.object fault.place
 last_broken f F heights None n head has kind fault (rule, object, (i, first, place)) =
-    (rule, (object, (head, i, has, differ_fail f F head kind i first, place)))
+    (rule, (object, (head, i, has, keys_fail head kind (KeysDiffer f F head) (λ m k few d i j lt l. d i j lt (omega (arith, few, l))) i first, place)))
 last_broken f F heights (Some keyed) n head has kind fault (rule, object, broken) = (rule, (object, (head, has, kind, broken)))
 
 -- there are as many starts as objects
@@ -171,7 +163,7 @@ module _ (f : List ℕ) (F : Frame) (heights : List ℕ) (keys : Option Keyed) (
                 (
                   by_head rules.HeightNotLess low,
                   (
-                    by_head rules.KeyKind (λ kind. subst (HaveTexts f F head) (sym (keys_among head kind)) (last kind).0),
+                    by_head rules.KeyKind (λ kind. subst (HaveTexts f F head) (sym (key_count head kind)) (last kind).0),
                     (last_kept f F heights keys n head has (λ kind. (last kind).1), tt),
                   ),
                 ),
@@ -243,11 +235,11 @@ start f F certificate look frame = record {
 pub good_kept : (f : List ℕ) (F : Frame) (heights : List ℕ) (keys : Option Keyed) (n : ℕ) → HasGoodKeys f F keys n
     → KeepsByCheck f F (lists heights keys) n rules.KeyKind × KeepsByCheck f F (lists heights keys) n (last_rule keys)
 good_kept f F heights None n good = (
-  λ head has dict. subst (HaveTexts f F head) (sym (keys_among head dict)) (good head has dict).0,
-  λ head has dict. subst (KeysDiffer f F head) (sym (keys_among head dict)) (good head has dict).1,
+  λ head has dict. subst (HaveTexts f F head) (sym (key_count head dict)) (good head has dict).0,
+  λ head has dict. subst (KeysDiffer f F head) (sym (key_count head dict)) (good head has dict).1,
 )
 good_kept f F heights (Some keyed) n good =
-    (λ head has dict. subst (HaveTexts f F head) (sym (keys_among head dict)) (good head has dict).0, λ head has dict. (good head has dict).1)
+    (λ head has dict. subst (HaveTexts f F head) (sym (key_count head dict)) (good head has dict).0, λ head has dict. (good head has dict).1)
 
 -- where each rule that is broken names an object, the first fault does
 names_object : (keeps : Rule → Type 0) (breaks : Rule → Option ObjectNo → ℕ → Type 0) (o : Option ObjectNo) → ((rule : Rule) (object : Option ObjectNo) (place : ℕ) → breaks rule object place → object ≡ o)

@@ -1,5 +1,5 @@
 -- The first fault of a file and a certificate is one.
-use Rattle.std.proofs.Common.{◌≡◌, ℕ, ◌+◌, ◌*◌, ◌<◌, ◌⊎◌, inl, inr, List, [], ◌∷◌, length, Option, Some, None, MatchOption, refl, sym, ap, ◌∙◌, subst, arith}
+use Rattle.std.proofs.Common.{◌≡◌, ℕ, ◌+◌, ◌*◌, ◌<◌, ◌⊎◌, inl, inr, List, length, Option, Some, None, MatchOption, sym, ap, ◌∙◌, subst, arith}
 use Rattle.bplist_objects.specs.declared.rule.Rule.{Rule}
 use Rattle.bplist_objects.specs.declared.rule.Rule.TheVariants as rules
 use Rattle.bplist_objects.specs.declared.fault.Fault.{Fault}
@@ -7,7 +7,7 @@ use Rattle.bplist_objects.specs.declared.frame.Frame.{Frame}
 use Rattle.bplist_objects.specs.declared.frame.ObjectNo.{ObjectNo}
 use Rattle.bplist_objects.specs.declared.head.Head.{Head}
 use Rattle.bplist_objects.specs.Safe.{ref_count}
-use Rattle.bplist_objects.specs.ObjectRules.{BreaksAt, object_rules}
+use Rattle.bplist_objects.specs.ObjectRules.{object_rules}
 use Rattle.bplist_objects.proofs.BodyLaws.{HasHead-unique}
 use Rattle.bplist_objects.proofs.Broken.{no_object_fault}
 use Rattle.bplist_objects.proofs.Lists.{one_number}
@@ -30,14 +30,6 @@ module _ (f : List ℕ) (F : Frame) (head : Head) where
   one_order count (Some keyed) n p q (inr (w, (i, a, is))) (inr (v, (j, b, js))) =
       let e = one_failure (AreInOrder f F head (list_of keyed n head.count)) (λ m k few o i l. o i (omega (arith, few, l))) head.count i j a b in
       omega (arith, is, js, e)
-
--- a rule of an object by itself is broken at one place
-pub by_itself : (f : List ℕ) (F : Frame) (n : ℕ) (rule : Rule) (o o' : Option ObjectNo) (p p' : ℕ) → BreaksAt f F n rule o p → BreaksAt f F n rule o' p' → (o ≡ o') × (p ≡ p')
-by_itself f F n rule o o' p p' b c =
-    let a : Fault = record { rule = rule; object = o; place = p } in
-    let d : Fault = record { rule = rule; object = o'; place = p' } in
-    let e : a ≡ d = one_object_fault f F n (rule ∷ []) a d (inl (refl, b)) (inl (refl, c)) in
-    (ap (λ (x : Fault). x.object) e, ap (λ (x : Fault). x.place) e)
 
 module _ (f : List ℕ) (F : Frame) (certificate : Lists) (n : ℕ) where
   -- a rule is broken at one place

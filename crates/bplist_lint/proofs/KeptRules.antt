@@ -1,5 +1,5 @@
 -- A file is well formed exactly where its reached objects keep their rules and its top is founded.
-use Rattle.std.proofs.Common.{◌≡◌, ℕ, ◌≤◌, ◌+◌, inl, inr, List, [], ◌∷◌, sym, subst, arith}
+use Rattle.std.proofs.Common.{◌≡◌, ℕ, ◌≤◌, ◌+◌, inl, inr, List, [], ◌∷◌, subst, arith}
 use Rattle.std.specs.List.{AllByRecursion}
 use Rattle.std.proofs.lemmas.Bool.{cases_lt}
 use Rattle.bplist_objects.specs.declared.frame.Frame.{Frame}
@@ -18,8 +18,6 @@ use Rattle.bplist_objects.proofs.ReachedObjects.{reach_within}
 use Rattle.bplist_objects.proofs.HeadTies.{shape_announced, spells_keeps, keeps_iff}
 use Rattle.bplist_objects.proofs.FrameTies.{numbered}
 use Rattle.bplist_cert.specs.Valid.{HasKeys}
-use Rattle.bplist_cert.specs.Keys.{HaveTexts, KeysDiffer}
-use Rattle.bplist_cert.proofs.CheckSteps.{keys_among}
 use Rattle.bplist_cert.proofs.KeyTies.{HaveKeys, keys_from_rules, rules_from_keys}
 use Rattle.bplist_lint.specs.ReachRules.{KeepsByReach, KeepReachBelow, reach_rules}
 use Rattle.bplist_lint.specs.KeyRules.{KeepKeysBelow}

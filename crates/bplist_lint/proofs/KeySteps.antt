@@ -18,8 +18,6 @@ use Rattle.bplist_objects.proofs.ReachedObjects.{refs_spelled}
 use Rattle.bplist_keys.specs.Classes.{HasNamedKeys}
 use Rattle.bplist_cert.specs.Keys.{HaveTexts, KeysDiffer}
 use Rattle.bplist_cert.specs.KeyClasses.{HasGoodKeys}
-use Rattle.bplist_cert.specs.Lists.{lists}
-use Rattle.bplist_cert.specs.CheckRules.{Asks}
 use Rattle.bplist_cert.proofs.KeyClasses.{good_unnamed}
 use Rattle.bplist_cert.proofs.CheckSteps.{keys_among, good_kept}
 use Rattle.bplist_lint.specs.KeyRules.{KeepsByKeys, BreaksAtKeys, key_rules, KeepKeysBelow, IsKeysFault}
@@ -31,7 +29,7 @@ module _ (f : List ℕ) (F : Frame) where
 
   pub good_by_kept : (n : ℕ) → KeepsAll (KeepsByKeys f F n) key_rules → HasGoodKeys f F None n
   good_by_kept n k head has dict =
-      (subst (HaveTexts f F head) (keys_among head dict) (k.0 head has dict), subst (KeysDiffer f F head) (keys_among head dict) (k.1.0 head has dict))
+      (subst (HaveTexts f F head) (key_count head dict) (k.0 head has dict), subst (KeysDiffer f F head) (key_count head dict) (k.1.0 head has dict))
 
   -- the first fault of the keys
   pub keys_fault : (n : ℕ) (fault : Fault) → Reach f F n → KeepKeysBelow f F n → IsFirstFault (KeepsByKeys f F n) (BreaksAtKeys f F n) key_rules fault → IsKeysFault f F fault

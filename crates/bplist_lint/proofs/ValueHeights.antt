@@ -1,5 +1,5 @@
 -- Where keys are texts, the least heights over the values alone are those over all references.
-use Rattle.std.proofs.Common.{◌≡◌, ℕ, zero, suc, ◌+◌, ◌-◌, ◌<◌, ◌≤◌, ◌↔◌, inl, inr, Bool, List, [], ◌∷◌, ◌++◌, drop, length, slice_index, replicate, length-append, Contains, refl, sym, ap, ◌∙◌, subst, arith}
+use Rattle.std.proofs.Common.{◌≡◌, ℕ, zero, suc, ◌+◌, ◌-◌, ◌<◌, ◌≤◌, ◌↔◌, inl, inr, Bool, List, [], ◌∷◌, ◌++◌, drop, length, slice_index, replicate, length-append, Contains, refl, sym, ap, ◌∙◌, arith}
 use Rattle.std.proofs.lemmas.Bool.{cases_lt}
 use Rattle.std.proofs.lemmas.List.{length-drop, get_or-drop, length-replicate, get_or-replicate, get_or_append_left, get_or-append_right}
 use Rattle.std.proofs.lemmas.List.Elements.{Contains-get_or}
@@ -15,8 +15,6 @@ use Rattle.bplist_objects.specs.Units.{IsTextKind}
 use Rattle.bplist_objects.proofs.HeadTies.{shape_announced}
 use Rattle.bplist_objects.proofs.ReachedObjects.{refs_iff, reach_within}
 use Rattle.bplist_objects.proofs.FrameTies.{numbered}
-use Rattle.bplist_cert.specs.Keys.{HaveTexts}
-use Rattle.bplist_cert.proofs.CheckSteps.{keys_among}
 use Rattle.bplist_keys.specs.Marks.{IsMarked}
 use Rattle.bplist_lint.specs.declared.object_graph.View.{View}
 use Rattle.bplist_lint.specs.declared.object_graph.View.TheVariants as views
