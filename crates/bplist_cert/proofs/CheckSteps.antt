@@ -261,7 +261,7 @@ module _ (f : List ℕ) (F : Frame) (heights : List ℕ) (keys : Option Keyed) w
   first_of_keys n fault (head, has, (kind, inl (rule, object, (i, first, place)))) =
       inl (rule, (object, (head, i, has, keys_fail head kind (HaveTexts f F head) (λ m k few t i l. t i (omega (arith, few, l))) i first, place)))
   first_of_keys n fault (head, has, (kind, inr (texts, last))) =
-      inr (any_head f F n head has (Asks f F (lists heights keys) n rules.KeyKind) (λ _. subst (HaveTexts f F head) (sym (keys_among head kind)) texts), inl (last_broken f F heights keys n head has kind fault last))
+      inr (any_head f F n head has (Asks f F (lists heights keys) n rules.KeyKind) (λ _. subst (HaveTexts f F head) (sym (key_count head kind)) texts), inl (last_broken f F heights keys n head has kind fault last))
 
   module _ (n : ℕ) (s : IsSeen f F heights n) where
     -- a seen object with good keys keeps all rules

@@ -19,7 +19,7 @@ use Rattle.bplist_keys.specs.Classes.{HasNamedKeys}
 use Rattle.bplist_cert.specs.Keys.{HaveTexts, KeysDiffer}
 use Rattle.bplist_cert.specs.KeyClasses.{HasGoodKeys}
 use Rattle.bplist_cert.proofs.KeyClasses.{good_unnamed}
-use Rattle.bplist_cert.proofs.CheckSteps.{keys_among, good_kept}
+use Rattle.bplist_cert.proofs.CheckSteps.{key_count, good_kept}
 use Rattle.bplist_lint.specs.KeyRules.{KeepsByKeys, BreaksAtKeys, key_rules, KeepKeysBelow, IsKeysFault}
 
 module _ (f : List ℕ) (F : Frame) where
