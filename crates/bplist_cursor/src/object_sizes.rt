@@ -149,22 +149,6 @@ fn measure_in_order<P: Framed>(
     Ok(())
 }
 
-/// A table with the sizes of these objects, which are in such an order.
-fn sizes_in_order<P: Framed>(
-    alloc: Global,
-    src: &mut P,
-    order: &[u32],
-) -> Result<Vec<Option<Size>>, CursorFault>
-    requires { AreInside order.now (frame_in (P.means src.old)).objects }
-    ensures reads { OnlyReads (cursor_read result) (P.means src.old) (P.means src.new) }
-    ensures exact { HonestlyIn (P.means src.old) (λ f F. (heights : List ℕ) → IsValid f F heights → IsOrder heights order.now
-        → GivesCursor (λ sizes. AreSet f F heights order.now (length order.now) sizes.items) result) }
-{
-    let mut sizes = vec![in alloc; None; src.frame().objects as usize]?;
-    measure_in_order(src, order, &mut sizes)?;
-    Ok(sizes)
-}
-
 /// The objects that the certificate vouches for, by number.
 fn vouched<S: Source>(alloc: Global, checked: &Checked<S>) -> Result<Vec<u32>, CursorFault>
     ensures vouched { IfOk result (λ order. AreVouched checked.now.certificate.heights checked.now.frame.objects order.items) }
@@ -205,8 +189,9 @@ pub fn measure<S: Source>(alloc: Global, checked: &mut Checked<S>) -> Result<Mea
     ensures exact { HonestlyChecked checked.old
         (λ f F. GivesCursor (AreMeasures f F checked.old.certificate.heights) result) }
 {
-    let _frame = checked.frame();
+    let objects = checked.frame().objects;
     let order = in_order(alloc, checked)?;
-    let sizes = sizes_in_order(alloc, checked, &order)?;
+    let mut sizes = vec![in alloc; None; objects as usize]?;
+    measure_in_order(checked, &order, &mut sizes)?;
     Ok(Measures::new(sizes))
 }
