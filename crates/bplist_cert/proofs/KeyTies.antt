@@ -1,15 +1,16 @@
 -- The keys of what an object spells are different texts exactly where its head's keys keep rules 21 and 22.
 use Rattle.std.proofs.Common.{◌≡◌, ℕ, ◌<◌, List, refl, sym, subst, arith}
-use Rattle.std.specs.List.{AllByRecursion}
+use Rattle.std.specs.List.{AllByRecursion, AllZip}
 use Rattle.bplist_objects.specs.declared.frame.Frame.{Frame}
 use Rattle.bplist_objects.specs.declared.head.Head.{Head}
 use Rattle.bplist_objects.specs.declared.kind.Kind.{Kind}
 use Rattle.bplist_objects.specs.declared.kind.Kind.TheVariants as kinds
 use Rattle.bplist_objects.specs.Heads.{Content, HasShape, Spells, content_of, content_at, refs}
+use Rattle.bplist_objects.specs.Holds.{AreDistinct}
 use Rattle.bplist_objects.specs.Safe.{ref_count}
 use Rattle.bplist_objects.proofs.References.{each_ref}
 use Rattle.bplist_objects.proofs.HeadTies.{spells_body}
-use Rattle.bplist_cert.specs.Valid.{AreKeys, HasKeys}
+use Rattle.bplist_cert.specs.Valid.{SpellsText, HasKeys}
 use Rattle.bplist_cert.specs.Heights.{ref}
 use Rattle.bplist_cert.specs.Keys.{HaveTexts, KeysDiffer}
 use Rattle.bplist_cert.proofs.TextKeys.{key_refs, texts_are, have_texts, distinct, differ}
@@ -46,7 +47,7 @@ module _ (f : List ℕ) (F : Frame) where
     pub rules_from_keys : HasKeys f F c → head.kind ≡ kinds.Dict → HaveKeys head
     rules_from_keys k e = (have_texts f F head us.0 us.1.0 low, differ f F head us.0 us.1.0 us.1.1)
       where
-        us : (us : List (List ℕ)) × AreKeys f F (key_refs f F head) us
+        us : (us : List (List ℕ)) × (AllZip (SpellsText f F) (key_refs f F head) us × AreDistinct us)
         us = subst (λ kind. HasKeys f F (content_of f F kind head.count head.body)) e (subst (HasKeys f F) body k)
 
         low : (k : ℕ) → k < head.count → ref f F head k < F.objects

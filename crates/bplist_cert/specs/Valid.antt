@@ -18,13 +18,9 @@ module _ (f : List ℕ) (F : Frame) where
   abbrev pub SpellsText : ℕ → List ℕ → Type 0
   SpellsText n units = Spells f F n (leaf (text units))
 
-  -- these objects spell these texts, which differ: rules 21 and 22
-  abbrev pub AreKeys : List ℕ → List (List ℕ) → Type 0
-  AreKeys ks us = AllZip SpellsText ks us × AreDistinct us
-
-  -- the keys of a dictionary are different texts
+  -- the keys of a dictionary are texts, which differ: rules 21 and 22
   abbrev pub HasKeys : Content → Type 0
-  HasKeys (dict ks ms) = (us : List (List ℕ)) × AreKeys ks us
+  HasKeys (dict ks ms) = (us : List (List ℕ)) × (AllZip SpellsText ks us × AreDistinct us)
   HasKeys content = ⊤
 
   -- what holds of an object with a height
