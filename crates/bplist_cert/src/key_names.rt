@@ -22,7 +22,9 @@ use std::alloc::Global;
 /// How many entries of the offset table are read at once at most.
 const BLOCK: usize = 512;
 
-/// Names the keys of object `n`, which stands at `place`, where it is a dictionary.
+/// Names the keys of object `n`, which stands at `place`, where it is a dictionary. Not inlined, so that the loop over leaves
+/// stays in registers.
+#[inline(never)]
 fn name_object<P: Framed>(
     src: &mut P,
     n: u32,
