@@ -44,10 +44,11 @@ abbrev pub certified : Frame → Lists → Lint
 certified F certificate =
     record { certificate = certificate; height = slice_index certificate.heights F.top.0; reached = 0; references = 0 }
 
--- these bytes spell a certificate of the file, and this is what it shows
+-- these bytes spell a certificate of the file, and it is shown with the height of the top and no counts
 abbrev pub IsPair : List ℕ → List ℕ → Lint → Type 0
-IsPair f octets lint = (F : Frame) × IsFrame f F × ((certificate : Lists) × ∥ IsAccepted f F certificate ∥₁
-    × IsCertificate certificate × (octets ≡ octets_of certificate) × (lint ≡ certified F certificate))
+IsPair f octets lint = (F : Frame) × IsFrame f F × ∥ IsAccepted f F lint.certificate ∥₁ × IsCertificate lint.certificate
+    × (octets ≡ octets_of lint.certificate) × (lint.height ≡ slice_index lint.certificate.heights F.top.0) × (lint.reached ≡ 0)
+    × (lint.references ≡ 0)
 
 -- the first broken rule of certificate and file, or refused memory
 abbrev pub IsPairRefusal : List ℕ → List ℕ → CertRefusal → Type 0
