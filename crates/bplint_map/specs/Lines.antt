@@ -1,5 +1,6 @@
 -- The lines of `map`, with their line feeds: six columns, tabs between them. Source: profile.
-use Rattle.std.specs.Prelude.{ℕ, ◌==◌, List, [], ◌∷◌, ◌++◌, codes, Bool, false, if◌then◌else◌, nat_lt, Option, None, Some, slice_index}
+use Rattle.std.specs.Prelude.{ℕ, ◌==◌, List, [], ◌∷◌, ◌++◌, codes, false, if◌then◌else◌, nat_lt, slice_index}
+use Rattle.std.specs.Option.{option_map_or}
 use Rattle.std.specs.Fmt.{decimal}
 use Rattle.std.specs.List.{flat_map}
 use Rattle.bplist_objects.specs.declared.frame.ObjectNo.{ObjectNo}
@@ -16,16 +17,11 @@ use Rattle.bplint_lines.specs.OutputLines.{kind_word}
 abbrev pub bare_line : ℕ → ℕ → List ℕ → List ℕ
 bare_line from to word = decimal from ++ (codes "\t" ++ (decimal to ++ (codes "\t-\t" ++ (word ++ codes "\t-\t-\n"))))
 
--- object n is the one that is named
-abbrev pub is_named : Option ObjectNo → ℕ → Bool
-is_named None n = false
-is_named (Some m) n = m.0 == n
-
 -- the last column of an object that breaks no rule by itself: its height, or the rule by which `lint` refuses it
 abbrev pub note : Verdict → ℕ → List ℕ
 note (verdicts.Heights heights) n =
     let height = slice_index heights.items n in if height == 0 then codes "unreached" else decimal height
-note (verdicts.Fault fault) n = if is_named fault.object n then word_of fault.rule else codes "-"
+note (verdicts.Fault fault) n = if option_map_or (λ (m : ObjectNo). m.0 == n) fault.object false then word_of fault.rule else codes "-"
 note verdicts.Circle n = codes "-"
 
 -- the columns of an object with this head but the last
