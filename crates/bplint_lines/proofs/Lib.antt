@@ -1,1 +1,2 @@
+mod RuleTables
 mod SentTexts

@@ -4,7 +4,7 @@ ghost use Rattle.bplist_objects.specs.Words.{word_of};
 ghost use Rattle.bplist_objects.specs.declared.rule.Rule.{Rule};
 ghost use Rattle.bplint_lines.specs.Explanation.{rule_line, rule_page};
 
-use crate::rule_texts::row_of;
+use crate::rule_texts::texts_of;
 use bplist_objects::{Rule, rule_name, rule_number, rule_of_number};
 use std::alloc::{AllocError, Global};
 
@@ -26,7 +26,7 @@ pub fn rule_text(alloc: Global, rule: Rule) -> Result<String, AllocError>
     ensures { IfOk result (λ text. string_bytes text ≡ rule_page rule) }
 {
     let (number, word) = (rule_number(rule), rule_name(rule));
-    let (demand, breach) = row_of(rule);
+    let (demand, breach) = texts_of(rule);
     format!(in alloc; "rule {number} {word}: {demand}\nbroken by: {breach}\n")
 }
 
@@ -34,6 +34,6 @@ pub fn rule_text(alloc: Global, rule: Rule) -> Result<String, AllocError>
 pub(crate) fn rule_line_of(alloc: Global, rule: Rule) -> Result<String, AllocError>
     ensures { IfOk result (λ text. string_bytes text ≡ rule_line rule) }
 {
-    let (number, (demand, _)) = (rule_number(rule), row_of(rule));
+    let (number, (demand, _)) = (rule_number(rule), texts_of(rule));
     format!(in alloc; "  rule {number}: {demand}\n")
 }
