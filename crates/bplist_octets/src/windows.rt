@@ -14,7 +14,7 @@ use crate::window::offset_in;
 /// How many bytes a pane holds at most.
 const PANE: usize = 16_384;
 
-/// Panes begin at multiples of this, and a pane that does not go on where one ended takes no more bytes.
+/// Panes begin at multiples of this, and a pane that does not go on where another ends takes no more bytes.
 const BLOCK: usize = 8192;
 
 /// Room for 16,384 bytes of a source, which `Windows` is lent.
@@ -46,16 +46,24 @@ fn copy_part(pane: &Pane, from: usize, into: &mut [u8])
     into.copy_from_slice(&pane.octets[from..from + into.len()]);
 }
 
-/// The pane ends at this place, so it is next for who reads forward. Which bytes are given does not hang on it.
+/// The pane ends at this place, so who reads on there reads forward. Which bytes are given does not hang on it.
 fn ends_at(pane: &Pane, place: u64) -> bool {
     pane.start.saturating_add(pane.filled as u64) == place
 }
 
-/// Moves a pane that has not all of the `count` bytes from place `at` on to the multiple of 8,192 below. A pane that ended
-/// there is read forward, and takes as much as it holds. It is empty after a failed read.
-fn hold<S: Source>(source: &mut S, pane: &mut Pane, at: u64, count: usize) -> Result<(), ReadFault>
+/// Moves a pane that has not all of the `count` bytes from place `at` on to the multiple of 8,192 below, from where it takes so
+/// many bytes. It is empty after a failed read.
+fn hold<S: Source>(
+    source: &mut S,
+    pane: &mut Pane,
+    at: u64,
+    count: usize,
+    room: usize,
+) -> Result<(), ReadFault>
     requires inside { at + count ≤ length (S.means source.old).octets }
     requires block { at % 8192 + count ≤ 8192 }
+    requires whole { 8192 ≤ room }
+    requires fits { room ≤ 16384 }
     requires pane { IsPane (S.means source.old).octets (S.means source.old).honest pane.old }
     ensures reads { OnlyReads (is_err result) (S.means source.old) (S.means source.new) }
     ensures pane { IsPane (S.means source.old).octets (S.means source.old).honest pane.new }
@@ -66,7 +74,6 @@ fn hold<S: Source>(source: &mut S, pane: &mut Pane, at: u64, count: usize) -> Re
         return Ok(());
     }
     let start = at - at % BLOCK as u64;
-    let room = if ends_at(pane, start) { PANE } else { BLOCK };
     pane.filled = 0;
     pane.start = start;
     let held = (source.len() - start).min(room as u64) as usize;
@@ -75,33 +82,41 @@ fn hold<S: Source>(source: &mut S, pane: &mut Pane, at: u64, count: usize) -> Re
     Ok(())
 }
 
-/// The pane that moves to place `at`: one that ends at the multiple of 8,192 below, as who reads forward leaves that one, and
-/// where there is none the one that was taken longest ago.
-fn oldest(panes: &[Pane], at: u64) -> usize
+/// The pane that was taken longest ago, which moves to place `at`, and how many bytes it takes there: where a pane ends at the
+/// multiple of 8,192 below, that one is read forward, and what it holds stays for who goes back.
+fn oldest(panes: &[Pane], at: u64) -> (usize, usize)
     requires { 0 < length panes.now }
-    ensures { result < length panes.now }
+    ensures inside { result.0 < length panes.now }
+    ensures whole { 8192 ≤ result.1 }
+    ensures fits { result.1 ≤ 16384 }
 {
     let start = at - at % BLOCK as u64;
     let mut oldest = 0;
     let mut least = u64::MAX;
+    let mut room = BLOCK;
     for (k, pane) in panes.iter().enumerate() {
-        let taken = if ends_at(pane, start) { 0 } else { pane.taken };
-        if taken < least {
+        if ends_at(pane, start) {
+            room = PANE;
+        }
+        if pane.taken < least {
             oldest = k;
-            least = taken;
+            least = pane.taken;
         }
     }
-    oldest
+    (oldest, room)
 }
 
-/// A pane that has `count` bytes from place `at` on, and where none has them the one that moves there.
-fn choose(panes: &[Pane], at: u64, count: usize) -> usize
+/// A pane that has `count` bytes from place `at` on, and where none has them the one that moves there, with the bytes that it
+/// takes.
+fn choose(panes: &[Pane], at: u64, count: usize) -> (usize, usize)
     requires { 0 < length panes.now }
-    ensures { result < length panes.now }
+    ensures inside { result.0 < length panes.now }
+    ensures whole { 8192 ≤ result.1 }
+    ensures fits { result.1 ≤ 16384 }
 {
     for (k, pane) in panes.iter().enumerate() {
         if offset_in(pane.start, pane.filled, at, count).is_some() {
-            return k;
+            return (k, BLOCK);
         }
     }
     oldest(panes, at)
@@ -121,8 +136,8 @@ fn empty_all(panes: &mut [Pane])
 /// A source over a borrowed source, with panes of bytes that are borrowed too. It has the bytes, the honesty and the count
 /// of failures of that source.
 ///
-/// A read of bytes that lie in one pane asks the source for nothing. Any other read moves a pane: one that ends where the read
-/// goes on takes 16,384 bytes, else the one that was used longest ago takes 8,192. A request of more than 8,192 bytes goes
+/// A read of bytes that lie in one pane asks the source for nothing. Any other read moves the pane that was used longest ago: it
+/// takes 16,384 bytes where a pane ends at the place that the read goes on from, else 8,192. A request of more than 8,192 bytes goes
 /// straight to the source. After a failed read that pane is empty.
 #[derive(Drop)]
 pub struct Windows<'a, S: Source> {
@@ -168,11 +183,12 @@ impl<'a, S: Source> Windows<'a, S> {
             → into.new ≡ part (S.means self.old.source.now).octets at (length into.old)) }
     {
         let panes = &mut *self.panes;
-        self.last = choose(panes, at, into.len());
+        let (chosen, room) = choose(panes, at, into.len());
+        self.last = chosen;
         self.turn = self.turn.wrapping_add(1);
         let pane = &mut panes[self.last];
         pane.taken = self.turn;
-        hold(self.source, pane, at, into.len())?;
+        hold(self.source, pane, at, into.len(), room)?;
         copy_part(pane, (at - pane.start) as usize, into);
         Ok(())
     }
