@@ -1,14 +1,21 @@
 -- Certificates that are refused.
-use Rattle.std.proofs.Common.{◌≡◌, ℕ, List, inr}
-use Rattle.bplist_cert.specs.Encoding.{octets_of}
+use Rattle.std.proofs.Common.{◌≡◌, ℕ, List, inl, inr}
+use Rattle.bplist_cert.specs.Encoding.{octets_of, IsCertRefusal}
 use Rattle.bplist_cert.specs.Lists.{Lists, IsCertificate}
 use Rattle.bplist_cert.specs.PairFault.{IsPairFault}
 use Rattle.bplist_cert.specs.Refusals.{GivesRefusal}
+use Rattle.bplist_cert.specs.declared.certificate.CertRefusal.{CertRefusal}
+use Rattle.bplist_cert.specs.declared.certificate.CertRefusal.TheVariants as cert_refusals
 use Rattle.bplist_cert.specs.declared.refusal.Refusal.{Refusal}
 use Rattle.bplist_cert.specs.declared.refusal.Refusal.TheVariants as refusals
 use Rattle.bplint_lines.specs.Answers.{IsRefusal}
-use Rattle.bplint_engine.proofs.FaultsBelow.{check_fault}
+use Rattle.bplint_engine.proofs.FaultsBelow.{check_fault, octets_fault}
 use Rattle.bplint_engine.specs.Check.{CheckSays}
+
+-- the bytes are not those of a certificate
+pub octets_refused : (f cert : List ℕ) (refusal : CertRefusal) → IsCertRefusal cert refusal → IsRefusal (CheckSays f cert) (octets_fault refusal)
+octets_refused f cert (cert_refusals.Fault fault) first = inl first
+octets_refused f cert cert_refusals.Memory first = tt
 
 -- the bytes are those of a certificate, and the check refuses it
 pub check_refused : (f cert : List ℕ) (lists : Lists) (refusal : Refusal) → IsCertificate lists → cert ≡ octets_of lists

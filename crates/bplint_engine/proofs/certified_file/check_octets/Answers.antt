@@ -1,7 +1,11 @@
 use Rattle.std.proofs.Math.Logic.{∥∥₁_map}
 use Rattle.bplist_cert.proofs.VouchedObjects.{object_holds}
-use Rattle.bplint_engine.proofs.RefusedCertificates.{check_refused}
+use Rattle.bplint_engine.proofs.RefusedCertificates.{octets_refused, check_refused}
 use Rattle.bplint_engine.proofs.certified_file.check_octets.Goals as goal
+
+pub returns-in-Err-clause-exact : goal.returns-in-Err-clause-exact
+returns-in-Err-clause-exact g c =
+    λ honest. rw c.from.ensures (octets_refused (g.S.Source.means c.args.src).octets c.args.cert.now c.in-Err.refusal c.in-Err.ensures.refused)
 
 pub returns-clause-exact : goal.returns-clause-exact
 returns-clause-exact g c =
