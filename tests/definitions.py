@@ -1,10 +1,11 @@
 #!/usr/bin/env python3
-"""definitions.py [--write | --count [ROOT]]
+"""definitions.py [--write | --count [CALL..]]
 
 Makes docs/DEFINITIONS.md from the comments of crates/*/specs: each definition that a contract of a public call cites, with the
 line in plain words above it, and the names of those that such a definition cites in turn. With --write the document is written;
 without, it is compared with the one that is there, and the last line printed is `N passed, M failed`, one test for each crate.
-With --count the definitions and their lines are counted, crate by crate.
+With --count the definitions and their lines are counted, crate by crate: what all public calls lead to, or those named, with types
+as `Checked` for their methods.
 """
 import pathlib
 import re
@@ -17,7 +18,10 @@ HEAD = """# Definitions
 Each definition that the contract of a public call cites, with the plain words above it in its file. Behind the file's name stand those
 that only definitions cite; a reader of the promises has to believe these too. Definitions use only what stands above them. The head of
 each file names its source. `tests/definitions.py --write` makes this page, and the gate compares.
+
+The calls of the theorem lead to {} definitions of {} lines, all public calls to {} of {}.
 """
+THEOREM = {"check", "answer_all", "Certificate", "Checked", "Source"}
 
 DECLARED = re.compile(r"( *)(?:abbrev|unfoldable) pub (\S+)|( *)pub (?:record|data) (\S+)")
 IMPORT = re.compile(r"use Rattle\.(\w+)\.specs\.([\w.]+?)(?:\.\{([^}]*)\}| as (\w+))")
@@ -189,24 +193,27 @@ def public_part(item, names):
     return "\n".join(re.findall(r"^    pub (?:const )?fn .*?^    }$", item, re.M | re.S))
 
 
-def cited_by(root, crate):
-    """What the contracts of a crate's public calls cite."""
+def cited_by(root, crate, calls):
+    """What the contracts of a crate's public calls cite, or those of these calls and types alone, where some are given."""
     source = root / "crates" / crate / "src"
     lib = source / "lib.rt"
     names = exported(lib.read_text()) if lib.exists() else set()
+    names &= calls or names
     cited = set()
     for path in sorted(source.glob("*.rt")):
         text = path.read_text()
         imports = imports_of(text)
         for item in items(text):
+            if calls and "#[unsafe(no_mangle)]" in item and not calls & set(re.findall(r"fn (\w+)", item)):
+                continue
             cited |= {resolved(word, imports) for word in words_of(clauses(public_part(item, names)))}
     return cited
 
 
-def reachable(root):
+def reachable(calls):
     """The definitions of each crate that contracts of public calls lead to, in reading order, and those that they cite."""
-    specs = Specs(root)
-    cited = {place for crate in specs.by_crate for place in cited_by(root, crate)}
+    specs = Specs(HERE)
+    cited = {place for crate in specs.by_crate for place in cited_by(HERE, crate, calls)}
     found = specs.reachable(cited)
     cited = {specs.by_name[place] for place in cited if place in specs.by_name}
     return {crate: [one for one in all_ if one in found] for crate, all_ in specs.by_crate.items()}, cited, specs
@@ -223,31 +230,41 @@ def section(crate, found, cited):
     return "".join(out)
 
 
-def count(root):
-    found, _, specs = reachable(root)
+def lines_of(found):
+    """How many lines these definitions have."""
+    return sum(len(one.lines) for one in found)
+
+
+def count(calls):
+    found, _, specs = reachable(calls)
     print("crate\tdefinitions\treachable\tlines")
-    totals = [0, 0, 0]
-    for crate, listed in found.items():
-        row = [len(specs.by_crate[crate]), len(listed), sum(len(one.lines) for one in listed)]
-        totals = [all_ + one for all_, one in zip(totals, row)]
-        print("\t".join([crate, *map(str, row)]))
-    print("\t".join(["all", *map(str, totals)]))
+    rows = [(crate, len(specs.by_crate[crate]), len(listed), lines_of(listed)) for crate, listed in found.items()]
+    for row in [*rows, ("all", *(sum(row[i] for row in rows) for i in (1, 2, 3)))]:
+        print("\t".join(map(str, row)))
     return 0
+
+
+def head(found):
+    """What the page begins with."""
+    theorem, _, _ = reachable(THEOREM)
+    both = ([one for listed in given.values() for one in listed] for given in (theorem, found))
+    return HEAD.format(*(number for all_ in both for number in (len(all_), lines_of(all_))))
 
 
 def main():
     if "--count" in sys.argv[1:]:
-        return count(pathlib.Path(sys.argv[2]).resolve() if len(sys.argv) > 2 else HERE)
-    found, cited, _ = reachable(HERE)
+        return count(set(sys.argv[2:]))
+    found, cited, _ = reachable(set())
     sections = {crate: section(crate, listed, cited) for crate, listed in found.items() if listed}
+    sections = {"all": head(found), **sections}
     page = HERE / "docs/DEFINITIONS.md"
     if "--write" in sys.argv[1:]:
-        page.write_text(HEAD + "".join(sections.values()))
+        page.write_text("".join(sections.values()))
         return 0
     text = page.read_text() if page.exists() else ""
     stale = [crate for crate, wanted in sections.items() if wanted not in text]
     for crate in stale:
-        print(f"docs/DEFINITIONS.md is not what crates/{crate}/specs says: run tests/definitions.py --write")
+        print(f"docs/DEFINITIONS.md is not what specs/ says ({crate}): run tests/definitions.py --write")
     print(f"{len(sections) - len(stale)} passed, {len(stale)} failed")
     return 1 if stale else 0
 
