@@ -15,7 +15,7 @@ use Rattle.bplist_objects.proofs.UnitOrder.{compare_units-cases, compare_units-l
 use Rattle.bplist_cert.specs.Heights.{ref}
 use Rattle.bplist_cert.specs.Keys.{IsText, IsKey, HaveTexts, IsFirstKeyless, KeysDiffer, IsFirstTwice}
 use Rattle.bplist_cert.specs.Keys.{AreInOrder}
-use Rattle.bplist_keys.specs.Claims.{FailsAt}
+use Rattle.bplist_objects.specs.Claims.{FailsAt}
 use Rattle.bplist_cert.proofs.Texts.{text_there, no_text, other_kind}
 use Rattle.bplist_cert.proofs.OrderedLists.{text_once, IsInOrder}
 

@@ -15,8 +15,8 @@ use Rattle.bplist_objects.proofs.HeadTies.{shape_announced}
 use Rattle.bplist_keys.specs.Texts.{text_units}
 use Rattle.bplist_keys.specs.Ranks.{AreClasses}
 use Rattle.bplist_keys.specs.Classes.{HasNamedKeys, AreClassed, HaveClasses, AreApart}
-use Rattle.bplist_keys.specs.Claims.{FailsAt}
-use Rattle.bplist_keys.proofs.ClaimLaws.{fails_too}
+use Rattle.bplist_objects.specs.Claims.{FailsAt}
+use Rattle.bplist_objects.proofs.ClaimLaws.{fails_too}
 use Rattle.bplist_keys.proofs.RankLaws.{none_marked}
 use Rattle.bplist_keys.proofs.WeightSteps.{text_units-head}
 use Rattle.bplist_cert.specs.Heights.{ref}

@@ -12,8 +12,8 @@ use Rattle.bplist_objects.proofs.BodyLaws.{HasHead-unique}
 use Rattle.bplist_objects.proofs.Broken.{no_object_fault}
 use Rattle.bplist_objects.proofs.Lists.{one_number}
 use Rattle.bplist_objects.proofs.FirstFaults.{no_frame, one_frame_fault, one_object_fault, one_first_fault}
-use Rattle.bplist_keys.specs.Claims.{FailsAt}
-use Rattle.bplist_keys.proofs.ClaimLaws.{one_failure}
+use Rattle.bplist_objects.specs.Claims.{FailsAt}
+use Rattle.bplist_objects.proofs.ClaimLaws.{one_failure}
 use Rattle.bplist_cert.specs.Lists.{Keyed, Lists, list_of}
 use Rattle.bplist_cert.specs.Valid.{IsVouchedBy}
 use Rattle.bplist_cert.specs.Keys.{AreInOrder}

@@ -13,7 +13,7 @@ use Rattle.bplist_objects.specs.Announced.{HasHead}
 use Rattle.bplist_objects.specs.Rules.{KeepsAll, IsFirstFault}
 use Rattle.bplist_objects.specs.ObjectRules.{KeepsByObject, IsObjectFault, object_rules}
 use Rattle.bplist_objects.specs.Extents.{IsOverfull}
-use Rattle.bplist_keys.specs.Claims.{FailsAt}
+use Rattle.bplist_objects.specs.Claims.{FailsAt}
 use Rattle.bplist_cert.specs.Lists.{Keyed, Lists, IsWhole, list_of}
 use Rattle.bplist_cert.specs.Valid.{IsVouchedBy}
 use Rattle.bplist_cert.specs.Heights.{ref}

@@ -8,7 +8,7 @@ use Rattle.bplist_objects.specs.declared.frame.Frame.{Frame}
 use Rattle.bplist_objects.specs.declared.head.Head.{Head}
 use Rattle.bplist_objects.specs.Heads.{IsHeadOf}
 use Rattle.bplist_objects.specs.Units.{IsTextKind, units_of, compare_units}
-use Rattle.bplist_keys.specs.Claims.{FailsAt}
+use Rattle.bplist_objects.specs.Claims.{FailsAt}
 use Rattle.bplist_cert.specs.Heights.{ref}
 
 -- object m spells a text with this head

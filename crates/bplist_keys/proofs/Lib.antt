@@ -11,4 +11,3 @@ pub mod RankLaws
 pub mod LookUps
 pub mod PlaceSteps
 pub mod RunSteps
-pub mod ClaimLaws

@@ -3,7 +3,7 @@ use Rattle.std.proofs.Common.{◌≡◌, ◌≢◌, ℕ, ◌+◌, ◌-◌, ◌<�
 use Rattle.std.proofs.lemmas.Bool.{cases_eq}
 use Rattle.std.proofs.lemmas.List.{get_or-set_same, get_or-set_other}
 use Rattle.bplist_keys.specs.Classes.{IsFound, IsStamped, IsNew, AreApart, AreSeen, HaveClasses}
-use Rattle.bplist_keys.specs.Claims.{FailsAt}
+use Rattle.bplist_objects.specs.Claims.{FailsAt}
 use Rattle.bplist_keys.specs.declared.class_table.Found.{Found}
 use Rattle.bplist_keys.specs.declared.class_table.Found.TheVariants.{NoText, First, Again}
 

@@ -6,7 +6,7 @@ use Rattle.bplist_objects.specs.declared.kind.Kind.TheVariants.{Dict}
 use Rattle.bplist_objects.specs.Announced.{HasHead}
 use Rattle.bplist_objects.specs.Scan.{nth_number}
 use Rattle.bplist_keys.specs.Marks.{IsMarked}
-use Rattle.bplist_keys.specs.Claims.{FailsAt}
+use Rattle.bplist_objects.specs.Claims.{FailsAt}
 use Rattle.bplist_keys.specs.Texts.{HasTextShape, text_units}
 use Rattle.bplist_keys.specs.declared.class_table.Found.{Found}
 use Rattle.bplist_keys.specs.declared.class_table.Found.TheVariants as founds

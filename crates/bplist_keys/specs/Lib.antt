@@ -1,5 +1,4 @@
 pub mod Marks
-pub mod Claims
 pub mod Order
 pub mod Texts
 pub mod Weights

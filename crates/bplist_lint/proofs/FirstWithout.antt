@@ -2,7 +2,7 @@
 use Rattle.std.proofs.Common.{◌≡◌, ℕ, ◌<◌, ◌≤◌, ◌↔◌, inl, inr, List, length, slice_index, sym, ap, ◌∙◌, subst, arith, Contains}
 use Rattle.std.proofs.lemmas.Bool.{cases_lt}
 use Rattle.std.proofs.lemmas.List.Elements.{Contains-get_or}
-use Rattle.bplist_keys.proofs.ClaimLaws.{one_failure, fails_too}
+use Rattle.bplist_objects.proofs.ClaimLaws.{one_failure, fails_too}
 use Rattle.bplist_lint.specs.Graph.{IsFirstWithout}
 
 -- P holds of the first so many

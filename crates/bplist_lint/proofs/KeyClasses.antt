@@ -14,7 +14,7 @@ use Rattle.bplist_objects.proofs.Lists.{all_from}
 use Rattle.bplist_objects.proofs.HeadTies.{head_tie}
 use Rattle.bplist_keys.specs.Ranks.{AreClasses}
 use Rattle.bplist_keys.specs.Marks.{IsMarked}
-use Rattle.bplist_keys.proofs.ClaimLaws.{fails_too}
+use Rattle.bplist_objects.proofs.ClaimLaws.{fails_too}
 use Rattle.bplist_cert.specs.Heights.{ref}
 use Rattle.bplist_cert.specs.Keys.{HaveTexts}
 use Rattle.bplist_cert.specs.KeyClasses.{KeysAreSound}

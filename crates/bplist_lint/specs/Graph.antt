@@ -1,7 +1,7 @@
 -- Objects with references, whatever they are read from: what is reached, what is founded, and with which least height.
 -- Source: the reader of CFBinaryPList.c, which refuses circles; heights and circles as lists are profile.
 use Rattle.std.specs.Prelude.{◌≡◌, ℕ, suc, ◌+◌, ◌-◌, ◌<◌, min, max, List, [], ◌∷◌, length, slice_index, Contains}
-use Rattle.bplist_keys.specs.Claims.{FailsAt}
+use Rattle.bplist_objects.specs.Claims.{FailsAt}
 
 -- how many objects there are, the references of each in written order, and how many of them it announces. Where they are
 -- read through a borrow, through is its ghost name

@@ -11,9 +11,9 @@ use Rattle.bplist_objects.specs.ObjectRules.{KeepsByObject, BreaksByObject, Brea
 -- a rule that is kept is not broken
 pub kept_or_broken : (f : List ℕ) (F : Frame) (n : ℕ) (rule : Rule) (place : ℕ) → KeepsByObject f F n rule → BreaksByObject f F n rule place → ⊥
 kept_or_broken f F n rules.NotAscii place k (head, i, has, kind, first, p) =
-    let l = k head has kind i first.within in omega (arith, first.high)
+    first.2 (λ j l. k head has kind j (omega (arith, l, first.0)))
 kept_or_broken f F n rules.RefHigh place k (head, i, has, first, p) =
-    let l = k head has i first.within in omega (arith, first.high)
+    first.2 (λ j l. k head has j (omega (arith, l, first.0)))
 kept_or_broken f F n _ place k b = b.0 k
 
 -- where all rules are kept no fault is the first

@@ -1,5 +1,5 @@
 -- A rule that is kept is not broken, a first fault is one, and where there is one the definitions say no.
-use Rattle.std.proofs.Common.{◌≡◌, ◌≢◌, ℕ, ◌<◌, ◌≤◌, ◌+◌, ◌*◌, inl, inr, List, [], ◌∷◌, slice_index, Option, Some, sym, ap, ◌∙◌, subst, arith}
+use Rattle.std.proofs.Common.{◌≡◌, ℕ, ◌<◌, ◌≤◌, ◌+◌, ◌*◌, inl, inr, List, [], ◌∷◌, slice_index, Option, Some, sym, ap, ◌∙◌, subst, arith}
 use Rattle.bplist_objects.specs.declared.rule.Rule.{Rule}
 use Rattle.bplist_objects.specs.declared.rule.Rule.TheVariants as rules
 use Rattle.bplist_objects.specs.declared.fault.Fault.{Fault}
@@ -13,7 +13,7 @@ use Rattle.bplist_objects.specs.Scan.{nth_number, IsFirstNotBelow}
 use Rattle.bplist_objects.specs.Safe.{ref_count}
 use Rattle.bplist_objects.specs.FrameRules.{Breaks, IsFrameFault}
 use Rattle.bplist_objects.specs.ObjectRules.{KeepsByObject, BreaksAt, shape_rules, object_rules, IsObjectFault}
-use Rattle.bplist_objects.proofs.Lists.{one_number}
+use Rattle.bplist_objects.proofs.ClaimLaws.{one_first}
 use Rattle.bplist_objects.proofs.Broken.{kept_or_broken, no_first_fault, no_object_fault}
 use Rattle.bplist_objects.proofs.BodyLaws.{HasHead-unique}
 use Rattle.bplist_objects.proofs.HeadTies.{shape_keeps, spells_keeps}
@@ -21,8 +21,8 @@ use Rattle.bplist_objects.proofs.HeadTies.{shape_keeps, spells_keeps}
 -- ---- rules 1 to 13
 -- a rule that is kept is not broken
 pub frame_kept_or_broken : (f : List ℕ) (rule : Rule) (object : Option ObjectNo) (place : ℕ) → Keeps f rule → Breaks f rule object place → ⊥
-frame_kept_or_broken f rules.Magic object place k b = b.0.wrong (k place b.0.within)
-frame_kept_or_broken f rules.OffsetHigh object place k b = let h = k b.0 b.1.within in omega (arith, h, b.1.high)
+frame_kept_or_broken f rules.Magic object place k b = b.0.2 (λ i l. k i (omega (arith, l, b.0.0)))
+frame_kept_or_broken f rules.OffsetHigh object place k b = b.1.2 (λ n l. k n (omega (arith, l, b.1.0)))
 frame_kept_or_broken f _ object place k b = b.0 k
 
 -- where a rule of 1 to 13 is broken there is no frame
@@ -40,10 +40,6 @@ module _ (f : List ℕ) (F : Frame) (n : ℕ) where
   no_content frame lt fault c h s = no_object_fault f F n object_rules fault (spells_keeps f F n frame lt c s) h
 
 -- ---- a first fault is one
--- the first of two places of which each is the first is the same
-one_first : (P : ℕ → Type 0) (i j : ℕ) → P i → P j → ((k : ℕ) → k < i → P k → ⊥) → ((k : ℕ) → k < j → P k → ⊥) → i ≡ j
-one_first P i j a b before_i before_j = one_number i j (λ l. before_j i l a) (λ l. before_i j l b)
-
 abbrev OnePlace : (Rule → Option ObjectNo → ℕ → Type 0) → Type 0
 OnePlace breaks = (rule : Rule) (o o' : Option ObjectNo) (p p' : ℕ) → breaks rule o p → breaks rule o' p' → (o ≡ o') × (p ≡ p')
 
@@ -64,10 +60,10 @@ same_rest p p' k e = omega (arith, e)
 
 one_frame_place : (f : List ℕ) → OnePlace (Breaks f)
 one_frame_place f rules.Magic o o' p p' b c =
-    (b.1 ∙ sym c.1, one_first (λ i. slice_index f i ≢ slice_index header i) p p' b.0.wrong c.0.wrong (λ k l w. w (b.0.before k l)) (λ k l w. w (c.0.before k l)))
+    (b.1 ∙ sym c.1, one_first (λ i. slice_index f i ≡ slice_index header i) 8 p p' b.0 c.0)
 one_frame_place f rules.OffsetHigh o o' p p' b c =
     let F = trailer f in
-    let e : b.0 ≡ c.0 = one_first (λ n. F.table ≤ off f F n) b.0 c.0 b.1.high c.1.high (λ k l h. let low = b.1.before k l in omega (arith, low, h)) (λ k l h. let low = c.1.before k l in omega (arith, low, h)) in
+    let e : b.0 ≡ c.0 = one_first (λ n. off f F n < F.table) F.objects b.0 c.0 b.1 c.1 in
     (b.2 ∙ ap (λ n. Some (record { 0 = n })) e ∙ sym c.2, b.3 ∙ ap (λ n. F.table + n * F.offset_size) e ∙ sym c.3)
 one_frame_place f rule o o' p p' b c = (b.1 ∙ sym c.1, same_rest p p' _ (b.2 ∙ sym c.2))
 
@@ -80,7 +76,7 @@ module _ (f : List ℕ) (F : Frame) (n : ℕ) where
       → IsFirstNotBelow f head.body width (count head) bound i → IsFirstNotBelow f other.body width (count other) bound j → head.body + i * width ≡ other.body + j * width
   one_not_below head other width count bound i j e a b =
       let c : IsFirstNotBelow f head.body width (count head) bound j = subst (λ (x : Head). IsFirstNotBelow f x.body width (count x) bound j) (sym e) b in
-      let same : i ≡ j = one_first (λ k. bound ≤ nth_number f head.body width k) i j a.high c.high (λ k l h. let low = a.before k l in omega (arith, low, h)) (λ k l h. let low = c.before k l in omega (arith, low, h)) in
+      let same : i ≡ j = one_first (λ k. nth_number f head.body width k < bound) (count head) i j a c in
       ap (λ (x : Head). x.body + i * width) e ∙ ap (λ k. other.body + k * width) same
 
   one_object_place : OnePlace (BreaksAt f F n)

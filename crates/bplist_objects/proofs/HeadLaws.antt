@@ -10,7 +10,7 @@ use Rattle.bplist_objects.specs.declared.kind.Kind.{Kind}
 use Rattle.bplist_objects.specs.declared.kind.Kind.TheVariants as kinds
 use Rattle.bplist_objects.specs.Numbers.{num_at}
 use Rattle.bplist_objects.specs.Frame.{off}
-use Rattle.bplist_objects.specs.Announced.{Form, plain, counted, form_of, least, greatest, is_of, all_kinds, Marks, IsMarker, IsLong, IsLongOf, HasLongCount, AnnouncesAs, Announces, HasHead, kind_at, long_found, count_found, head_with, head_found, unit}
+use Rattle.bplist_objects.specs.Announced.{Form, plain, counted, form_of, least, greatest, is_of, all_kinds, Marks, IsLong, IsLongOf, HasLongCount, AnnouncesAs, Announces, HasHead, kind_at, long_found, count_found, head_with, head_found, unit}
 
 -- what is found under a test
 pub if_some : {X : Type 0} (t : Bool) (x y : X) → (if t then Some x else None) ≡ Some y → (t ≡ true) × (x ≡ y)
@@ -54,14 +54,14 @@ unfolding kind_at
 marked_kind m kind e = of_form (form_of kind) m (find_passes (λ k. is_of (form_of k) m) all_kinds kind e)
 
 -- a byte is a marker exactly where it is one of a kind
-pub marker_marks : (m : ℕ) → IsMarker m → (kind : Kind) × Marks m kind
+pub marker_marks : (m : ℕ) → IsSome (kind_at m) → (kind : Kind) × Marks m kind
 marker_marks m is = go (kind_at m) refl is
   where
     go : (found : Option Kind) → kind_at m ≡ found → IsSome found → (kind : Kind) × Marks m kind
     go None e h = absurd (false≢true h)
     go (Some kind) e h = (kind, marked_kind m kind e)
 
-pub marks_marker : (m : ℕ) (kind : Kind) → Marks m kind → IsMarker m
+pub marks_marker : (m : ℕ) (kind : Kind) → Marks m kind → IsSome (kind_at m)
 marks_marker m kind h = subst IsSome (sym (kind_marked m kind h)) refl
 
 -- a marker that says that its count follows is one

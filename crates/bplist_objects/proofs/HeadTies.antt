@@ -1,5 +1,5 @@
 -- What is said of an object by place and index is what the definitions say.
-use Rattle.std.proofs.Common.{◌≡◌, ℕ, ◌<◌, ◌≤◌, ◌+◌, ◌*◌, ◌↔◌, List, length, drop, refl, sym, ap, ◌∙◌, subst, arith, length-drop, get_or}
+use Rattle.std.proofs.Common.{◌≡◌, ℕ, ◌<◌, ◌≤◌, ◌+◌, ◌*◌, ◌↔◌, List, length, drop, IsTrue, refl, sym, ap, ◌∙◌, subst, arith, length-drop, get_or}
 use Rattle.std.specs.List.{AllByRecursion}
 use Rattle.std.proofs.lemmas.List.{length-take-le}
 use Rattle.std.proofs.lemmas.List.Elements.{recursion_from_All, All-from_get_or, All-from_recursion, All-get_or}
@@ -10,7 +10,7 @@ use Rattle.bplist_objects.specs.declared.kind.Kind.TheVariants as kinds
 use Rattle.bplist_objects.specs.declared.head.Head.{Head}
 use Rattle.bplist_objects.specs.Numbers.{num_at}
 use Rattle.bplist_objects.specs.Frame.{off, IsFrame}
-use Rattle.bplist_objects.specs.Heads.{Content, refs, HasShape, content_at, IsProperLeaf, Spells, IsHeadOf}
+use Rattle.bplist_objects.specs.Heads.{Content, refs, HasShape, content_at, is_proper, Spells, IsHeadOf}
 use Rattle.bplist_objects.specs.Rules.{KeepsAll}
 use Rattle.bplist_objects.specs.Scan.{AreBelow, nth_number}
 use Rattle.bplist_objects.specs.Announced.{form_of, HasHead, unit}
@@ -25,6 +25,7 @@ use Rattle.bplist_objects.proofs.RuleLaws.{kept_all_after}
 use Rattle.bplist_objects.proofs.References.{all_refs, each_ref}
 use Rattle.bplist_objects.proofs.ShapeLaws.{shape_kept}
 use Rattle.bplist_objects.proofs.Parts.{num-part_one, get_or-part}
+use Rattle.bplist_objects.proofs.ProperLeaves.{le_decides, low_decides, ascii_proper}
 
 -- ---- the bytes of a part by index
 nth_byte : (f : List ℕ) (place count k : ℕ) → place + count ≤ length f → k < count → nth_number f place 1 k ≡ get_or (part f place count) k 0
@@ -86,10 +87,11 @@ module _ (f : List ℕ) (F : Frame) (n : ℕ) where
         omega (arith, last, h.inside, (numbered frame).table_late)
 
     -- rules 18 and 19 by index
-    proper_kept : (head : Head) → HasShape f F n head → (head.kind ≡ kinds.Ascii → AreBelow f head.body 1 head.count 128) → (head.kind ≡ kinds.Uid → num_at f head.body head.count ≤ 4294967295) → (kind : Kind) → head.kind ≡ kind → IsProperLeaf f F kind head.count head.body
-    proper_kept head h ascii uid kinds.Ascii e = all_bytes (λ b. b < 128) f head.body head.count (ascii_room head h e) (ascii e)
-    proper_kept head h ascii uid kinds.Uid e = uid e
-    proper_kept head h ascii uid _ e = tt
+    proper_kept : (head : Head) → HasShape f F n head → (head.kind ≡ kinds.Ascii → AreBelow f head.body 1 head.count 128) → (head.kind ≡ kinds.Uid → num_at f head.body head.count ≤ 4294967295) → (kind : Kind) → head.kind ≡ kind → IsTrue (is_proper f kind head.count head.body)
+    proper_kept head h ascii uid kinds.Ascii e =
+        (low_decides 128 (part f head.body head.count)).1 (all_bytes (λ b. b < 128) f head.body head.count (ascii_room head h e) (ascii e))
+    proper_kept head h ascii uid kinds.Uid e = (le_decides (num_at f head.body head.count) 4294967295).1 (uid e)
+    proper_kept head h ascii uid _ e = refl
 
     -- the body of a head whose rules are all kept
     pub kept_spells : (head : Head) → HasHead f F n head → KeepsAll (KeepsByObject f F n) object_rules → IsHeadOf f F n head
@@ -109,11 +111,13 @@ module _ (f : List ℕ) (F : Frame) (n : ℕ) where
     announced_same : (head other : Head) → HasShape f F n head → HasHead f F n other → head ≡ other
     announced_same head other h k = one_shape f F n head other h (announced_shape other k (shape_keeps head h))
 
-    spelled_ascii : (head : Head) → HasShape f F n head → IsProperLeaf f F head.kind head.count head.body → head.kind ≡ kinds.Ascii → AreBelow f head.body 1 head.count 128
-    spelled_ascii head h p e = each_byte (λ b. b < 128) f head.body head.count (ascii_room head h e) (subst (λ k. IsProperLeaf f F k head.count head.body) e p)
+    spelled_ascii : (head : Head) → HasShape f F n head → IsTrue (is_proper f head.kind head.count head.body) → head.kind ≡ kinds.Ascii → AreBelow f head.body 1 head.count 128
+    spelled_ascii head h p e =
+        each_byte (λ b. b < 128) f head.body head.count (ascii_room head h e) (ascii_proper f head.kind head.count head.body e p)
 
-    spelled_uid : (head : Head) → IsProperLeaf f F head.kind head.count head.body → head.kind ≡ kinds.Uid → num_at f head.body head.count ≤ 4294967295
-    spelled_uid head p e = subst (λ k. IsProperLeaf f F k head.count head.body) e p
+    spelled_uid : (head : Head) → IsTrue (is_proper f head.kind head.count head.body) → head.kind ≡ kinds.Uid → num_at f head.body head.count ≤ 4294967295
+    spelled_uid head p e =
+        (le_decides (num_at f head.body head.count) 4294967295).0 (subst (λ k. IsTrue (is_proper f k head.count head.body)) e p)
 
     -- an object that spells a content keeps rules 14 to 20
     pub spells_keeps : (c : Content) → Spells f F n c → KeepsAll (KeepsByObject f F n) object_rules

@@ -17,7 +17,8 @@ use Rattle.bplist_objects.specs.FrameRules.{Breaks, IsFrameFault}
 use Rattle.bplist_objects.specs.Announced.{HasHead, kind_at, head_found}
 use Rattle.bplist_objects.specs.ObjectRules.{KeepsByObject, BreaksByObject, BreaksAt, IsObjectFault}
 use Rattle.bplist_objects.specs.Safe.{ref_count}
-use Rattle.bplist_objects.proofs.Lists.{Either, all_or_first}
+use Rattle.bplist_objects.proofs.Lists.{Either}
+use Rattle.bplist_objects.proofs.ClaimLaws.{all_or_failure}
 use Rattle.bplist_objects.proofs.BodyLaws.{HasHead-unique}
 
 is_le : (a b : ℕ) → Either (a ≤ b)
@@ -55,10 +56,7 @@ is_implied (inl a) (inr no1) = inr (λ k. no1 (k a))
 -- numbers are below a bound, or there is a first one that is not
 below_or_first : (f : List ℕ) (place size count bound : ℕ) → AreBelow f place size count bound ⊎ ((i : ℕ) × IsFirstNotBelow f place size count bound i)
 below_or_first f place size count bound =
-    elim (all_or_first (λ k. nth_number f place size k < bound) (λ k. bound ≤ nth_number f place size k) (λ k. cases_lt (nth_number f place size k) bound) count) [
-      | inl all ↦ inl all
-      | inr first ↦ inr (first.0, record { within = first.1; high = first.2; before = first.3 })
-    ]
+    all_or_failure (λ k. nth_number f place size k < bound) (λ k. is_less (nth_number f place size k) bound) count
 
 -- ---- each rule of a list
 abbrev Decided : (Rule → Type 0) → (Rule → Option ObjectNo → ℕ → Type 0) → Type 0
@@ -88,9 +86,9 @@ module _ (f : List ℕ) (long : 41 ≤ length f) where
   frame_rule_decided : Decided (Keeps f) (Breaks f)
   frame_rule_decided rules.TooLarge = at_end 0 (omega arith) (is_le (length f) 4294967295)
   frame_rule_decided rules.TooShort = inl long
-  frame_rule_decided rules.Magic = elim (all_or_first (λ k. slice_index f k ≡ slice_index header k) (λ k. slice_index f k ≡ slice_index header k → ⊥) (λ k. cases_eq (slice_index f k) (slice_index header k)) 8) [
+  frame_rule_decided rules.Magic = elim (all_or_failure (λ k. slice_index f k ≡ slice_index header k) (λ k. cases_eq (slice_index f k) (slice_index header k)) 8) [
     | inl all ↦ inl all
-    | inr first ↦ inr (None, first.0, (record { within = first.1; wrong = first.2; before = first.3 }, refl))
+    | inr first ↦ inr (None, first.0, (first.1, refl))
   ]
   frame_rule_decided rules.NoObjects = at_end 24 (omega arith) (is_le 1 F.objects)
   frame_rule_decided rules.Top = at_end 16 (omega arith) (is_less F.top.0 F.objects)
@@ -101,14 +99,9 @@ module _ (f : List ℕ) (long : 41 ≤ length f) where
   frame_rule_decided rules.Length = at_end 32 (omega arith) (cases_eq (F.table + F.objects * F.offset_size + 32) (length f))
   frame_rule_decided rules.RefNarrow = at_end 25 (omega arith) (is_implied (is_less F.ref_size 8) (is_less F.objects (256 ^ F.ref_size)))
   frame_rule_decided rules.OffsetNarrow = at_end 26 (omega arith) (is_implied (is_less F.offset_size 8) (is_less F.table (256 ^ F.offset_size)))
-  frame_rule_decided rules.OffsetHigh = elim (all_or_first (λ n. off f F n < F.table) (λ n. F.table ≤ off f F n) (λ n. cases_lt (off f F n) F.table) F.objects) [
+  frame_rule_decided rules.OffsetHigh = elim (below_or_first f F.table F.offset_size F.objects F.table) [
     | inl all ↦ inl all
-    | inr first ↦
-        inr (
-          Some (record { 0 = first.0 }),
-          F.table + first.0 * F.offset_size,
-          (first.0, record { within = first.1; high = first.2; before = first.3 }, refl, refl),
-        )
+    | inr first ↦ inr (Some (record { 0 = first.0 }), F.table + first.0 * F.offset_size, (first.0, first.1, refl, refl))
   ]
   frame_rule_decided _ = inl tt
 

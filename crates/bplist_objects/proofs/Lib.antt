@@ -3,6 +3,7 @@ pub mod Fronts
 pub mod ObjectValues
 pub mod ExtentSums
 pub mod Parts
+pub mod ClaimLaws
 pub mod ScanLaws
 pub mod AnswerLaws
 pub mod Header
@@ -17,6 +18,7 @@ pub mod References
 pub mod Integers
 pub mod Units
 pub mod UnitOrder
+pub mod ProperLeaves
 pub mod Leaves
 pub mod AnnouncedHeads
 pub mod HeadTies
@@ -28,4 +30,3 @@ pub mod SmallFiles
 pub mod ReachedObjects
 pub mod HeadAnswers
 pub mod KeptOrBroken
-pub mod BlockSteps

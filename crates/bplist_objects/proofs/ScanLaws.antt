@@ -8,6 +8,18 @@ use Rattle.bplist_octets.specs.Octets.{part, num, AreLow, IsFirstHigh}
 use Rattle.bplist_objects.specs.Numbers.{num_at}
 use Rattle.bplist_objects.specs.Scan.{nth_number, AreNumbers, AreBelow, IsFirstNotBelow}
 use Rattle.bplist_objects.proofs.Parts.{part-part, num-part_one}
+use Rattle.bplist_objects.proofs.ClaimLaws.{first_failure, fails_there}
+
+-- a number that is not below the bound is the first where those before it are, and the first is such a number
+pub first_high : (f : List ℕ) (place size count bound i : ℕ) → i < count → bound ≤ nth_number f place size i → AreBelow f place size i bound
+    → IsFirstNotBelow f place size count bound i
+first_high f place size count bound i within high before =
+    first_failure (λ k. nth_number f place size k < bound) count i within (λ low. omega (arith, high, low)) before
+
+pub high_there : (f : List ℕ) (place size count bound i : ℕ) → IsFirstNotBelow f place size count bound i → bound ≤ nth_number f place size i
+high_there f place size count bound i h =
+    let fails = fails_there (λ k. nth_number f place size k < bound) count i h in
+    omega (arith, fails)
 
 -- a block of the numbers lies where they do
 pub block_within : (place count size len done now : ℕ) → place + count * size ≤ len → done + now ≤ count → (place + done * size) + now * size ≤ len
@@ -62,11 +74,9 @@ module _ (f block : List ℕ) (place size done now : ℕ) (e : block ≡ part f 
 
   -- the first of a block is the first of all
   pub first-block : (bound count i : ℕ) → done + now ≤ count → AreBelow f place size done bound → IsFirstNotBelow block 0 size now bound i → IsFirstNotBelow f place size count bound (done + i)
-  first-block bound count i within before h = record {
-    within = let l = h.within in omega arith;
-    high = subst (λ x. bound ≤ x) (nth_number-block i h.within) h.high;
-    before = below-block bound i (let l = h.within in omega arith) before h.before;
-  }
+  first-block bound count i within before h =
+      let high = subst (λ x. bound ≤ x) (nth_number-block i h.0) (high_there block 0 size now bound i h) in
+      first_high f place size count bound (done + i) (omega (arith, within, h.0)) high (below-block bound i (omega (arith, h.0)) before h.1)
 
 -- the front of low bytes is low
 pub low_front : (xs rest : List ℕ) → AreLow (xs ++ rest) → AreLow xs
@@ -97,8 +107,6 @@ module _ (f block : List ℕ) (place done now : ℕ) (e : block ≡ part f (plac
   -- the first high byte of a part is the first of all
   pub high-part : (count i : ℕ) → done + now ≤ count → AreBelow f place 1 done 128 → IsFirstHigh block i → IsFirstNotBelow f place 1 count 128 (done + i)
   high-part count i within before h =
-      first-block f block place 1 done now numbered 128 count i within before (record {
-        within = let l = h.within in omega arith;
-        high = subst (λ x. 128 ≤ x) (sym (byte_nth block i h.within)) h.high;
-        before = below-bytes i (let l = h.within in omega arith) h.before;
-      })
+      let l : i < now = omega (arith, h.within, len) in
+      first-block f block place 1 done now numbered 128 count i within before
+      (first_high block 0 1 now 128 i l (subst (λ x. 128 ≤ x) (sym (byte_nth block i h.within)) h.high) (below-bytes i (omega (arith, l)) h.before))

@@ -11,7 +11,7 @@ use Rattle.bplist_objects.specs.declared.kind.Kind.TheVariants as kinds
 use Rattle.bplist_objects.specs.Rules.{KeepsAll}
 use Rattle.bplist_objects.specs.Frame.{off}
 use Rattle.bplist_objects.specs.Safe.{IsSaid, MayCount}
-use Rattle.bplist_objects.specs.Announced.{head_found, Form, plain, counted, form_of, is_counted, Marks, IsMarker, IsLongOf, IsCountForm, HasLongCount, AnnouncesAs, HasHead, unit}
+use Rattle.bplist_objects.specs.Announced.{kind_at, head_found, Form, plain, counted, form_of, is_counted, Marks, IsLongOf, IsCountForm, HasLongCount, AnnouncesAs, HasHead, unit}
 use Rattle.bplist_objects.specs.ObjectRules.{KeepsByObject, IsObjectFault, shape_rules}
 use Rattle.bplist_objects.specs.Counts.{IsLongCountFault}
 use Rattle.bplist_objects.specs.Answers.{GivesFault}
@@ -46,7 +46,7 @@ module _ (f : List ℕ) (F : Frame) (n : ℕ) (far : 8 ≤ off f F n) where
   o = off f F n
 
   module _ (head : Head) (h : HasHead f F n head) where
-    marker_kept : IsMarker (slice_index f o)
+    marker_kept : IsSome (kind_at (slice_index f o))
     marker_kept = marks_marker (slice_index f o) head.kind (announced_marks f o (form_of head.kind) head.count head.body (head_parts f F n head h).0)
 
     head_there : IsSome (head_found f F n)

@@ -68,7 +68,7 @@ unfolding num head_found kind_at
 true_0 = record {
   shape = record { kind = kinds.True; count = 0; body = 9; «end» = 9 };
   has = record { low = omega arith; has = refl; within = omega arith; inside = omega arith };
-  proper = tt;
+  proper = refl;
   means = refl;
   refs = tt;
 }
@@ -120,7 +120,7 @@ unfolding num head_found kind_at
 array_0 = record {
   shape = record { kind = kinds.Array; count = 2; body = 9; «end» = 11 };
   has = record { low = omega arith; has = refl; within = omega arith; inside = omega arith };
-  proper = tt;
+  proper = refl;
   means = refl;
   refs = (omega arith, (omega arith, tt));
 }
@@ -130,7 +130,7 @@ unfolding num head_found kind_at
 array_1 = record {
   shape = record { kind = kinds.True; count = 0; body = 12; «end» = 12 };
   has = record { low = omega arith; has = refl; within = omega arith; inside = omega arith };
-  proper = tt;
+  proper = refl;
   means = refl;
   refs = tt;
 }
@@ -184,7 +184,7 @@ unfolding num head_found kind_at
 dict_0 = record {
   shape = record { kind = kinds.Dict; count = 1; body = 9; «end» = 11 };
   has = record { low = omega arith; has = refl; within = omega arith; inside = omega arith };
-  proper = tt;
+  proper = refl;
   means = refl;
   refs = (omega arith, (omega arith, tt));
 }
@@ -194,7 +194,7 @@ unfolding num head_found kind_at
 dict_1 = record {
   shape = record { kind = kinds.Ascii; count = 1; body = 12; «end» = 13 };
   has = record { low = omega arith; has = refl; within = omega arith; inside = omega arith };
-  proper = (omega arith, tt);
+  proper = refl;
   means = refl;
   refs = tt;
 }
@@ -204,7 +204,7 @@ unfolding num head_found kind_at
 dict_2 = record {
   shape = record { kind = kinds.True; count = 0; body = 14; «end» = 14 };
   has = record { low = omega arith; has = refl; within = omega arith; inside = omega arith };
-  proper = tt;
+  proper = refl;
   means = refl;
   refs = tt;
 }

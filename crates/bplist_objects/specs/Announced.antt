@@ -1,5 +1,5 @@
 -- What the marker and the count at the place of an object announce. Source: the format comment of CFBinaryPList.c.
-use Rattle.std.specs.Prelude.{◌≡◌, ◌⊎◌, ℕ, ◌+◌, ◌-◌, ◌*◌, ◌^◌, ◌<◌, ◌≤◌, Bool, true, false, ◌&&◌, nat_eq, nat_le, if◌then◌else◌, List, [], ◌∷◌, slice_index, Option, Some, None, IsSome, find}
+use Rattle.std.specs.Prelude.{◌≡◌, ◌⊎◌, ℕ, ◌+◌, ◌-◌, ◌*◌, ◌^◌, ◌<◌, ◌≤◌, Bool, true, false, ◌&&◌, nat_eq, nat_le, if◌then◌else◌, List, [], ◌∷◌, slice_index, Option, Some, None, find}
 use Rattle.std.specs.Option.{option_map, option_and_then}
 use Rattle.bplist_objects.specs.declared.frame.Frame.{Frame}
 use Rattle.bplist_objects.specs.declared.kind.Kind.{Kind}
@@ -51,10 +51,6 @@ all_kinds =
 -- the kind of a marker, if the byte is one
 unfoldable pub kind_at : ℕ → Option Kind
 kind_at marker = find (λ kind. is_of (form_of kind) marker) all_kinds
-
--- the byte is a marker
-abbrev pub IsMarker : ℕ → Type 0
-IsMarker marker = IsSome (kind_at marker)
 
 -- the count that stands behind the marker, and the place after it, if there is one
 abbrev pub long_found : List ℕ → ℕ → Option (ℕ × ℕ)

@@ -1,5 +1,5 @@
 -- How rules 1 to 13 of a file as a whole are broken, and where. Source: profile.
-use Rattle.std.specs.Prelude.{◌≡◌, ◌≢◌, ℕ, ◌+◌, ◌*◌, ◌<◌, List, [], ◌∷◌, length, slice_index, Option, Some, None}
+use Rattle.std.specs.Prelude.{◌≡◌, ℕ, ◌+◌, ◌*◌, ◌<◌, List, [], ◌∷◌, length, slice_index, Option, Some, None}
 use denote.Enum.Declared.{tag_of}
 use Rattle.bplist_objects.specs.contracts.rule.Rule.{the_type}
 use Rattle.bplist_objects.specs.declared.rule.Rule.{Rule}
@@ -9,6 +9,7 @@ use Rattle.bplist_objects.specs.declared.frame.ObjectNo.{ObjectNo}
 use Rattle.bplist_objects.specs.declared.frame.Frame.{Frame}
 use Rattle.bplist_objects.specs.Frame.{header, trailer, trailer_rules, frame_rules, Keeps}
 use Rattle.bplist_objects.specs.Rules.{KeepsAll, IsFirstFault}
+use Rattle.bplist_objects.specs.Claims.{FailsAt}
 use Rattle.bplist_objects.specs.Scan.{AreBelow, IsFirstNotBelow}
 
 -- each entry of the offset table is below the table's place
@@ -21,19 +22,13 @@ IsEntryFault f F object place =
     (n : ℕ) × IsFirstNotBelow f F.table F.offset_size F.objects F.table n × (object ≡ Some (record { 0 = n }))
     × (place ≡ F.table + n * F.offset_size)
 
--- the first byte that differs from the header's is at this place
-pub record IsFirstWrong (f : List ℕ) (place : ℕ) : Type 0 where
-  pub within : place < 8
-  pub wrong : slice_index f place ≢ slice_index header place
-  pub before : (i : ℕ) → i < place → slice_index f i ≡ slice_index header i
-
 -- how many bytes before the file's end each of rules 1 to 12 is broken, but for rule 3, which is at a place of its own
 abbrev pub from_end : List ℕ
 from_end = 0 ∷ 0 ∷ 0 ∷ 24 ∷ 16 ∷ 8 ∷ 8 ∷ 26 ∷ 25 ∷ 32 ∷ 25 ∷ 26 ∷ []
 
 -- the file breaks this rule of 1 to 13, for this object and at this place
 abbrev pub Breaks : List ℕ → Rule → Option ObjectNo → ℕ → Type 0
-Breaks f Magic object place = IsFirstWrong f place × (object ≡ None)
+Breaks f Magic object place = FailsAt (λ many. (i : ℕ) → i < many → slice_index f i ≡ slice_index header i) 8 place × (object ≡ None)
 Breaks f OffsetHigh object place = IsEntryFault f (trailer f) object place
 Breaks f rule object place =
     (Keeps f rule → ⊥) × (object ≡ None) × (place + slice_index from_end (tag_of the_type rule) ≡ length f)

@@ -1,7 +1,7 @@
 -- What an object spells: what stands in the body of the head that its marker and count announce. Source: the format comment of
 -- CFBinaryPList.c.
-use Rattle.std.specs.Prelude.{◌≡◌, ℕ, ◌+◌, ◌*◌, ◌<◌, ◌≤◌, List, [], ◌++◌, length, true, false, ⊤}
-use Rattle.std.specs.List.{AllByRecursion}
+use Rattle.std.specs.Prelude.{◌≡◌, ℕ, ◌+◌, ◌*◌, ◌<◌, ◌≤◌, List, [], ◌++◌, length, Bool, true, false, nat_lt, nat_le, IsTrue}
+use Rattle.std.specs.List.{AllByRecursion, list_all}
 use Rattle.bplist_octets.specs.Octets.{part}
 use Rattle.bplist_objects.specs.declared.frame.Frame.{Frame}
 use Rattle.bplist_objects.specs.declared.kind.Kind.{Kind}
@@ -25,6 +25,12 @@ refs (leaf l) = []
 refs (array ms) = ms
 refs (set ms) = ms
 refs (dict ks ms) = ks ++ ms
+
+-- rules 18 and 19: Ascii bytes are below 128, a UID is not too large
+abbrev pub is_proper : List ℕ → Kind → ℕ → ℕ → Bool
+is_proper f kinds.Ascii count body = list_all (λ b. nat_lt b 128) (part f body count)
+is_proper f kinds.Uid count body = nat_le (num_at f body count) 4294967295
+is_proper f _ count body = true
 
 module _ (f : List ℕ) (F : Frame) where
   -- object n has this head between place 8 and the table: rules 14 to 17
@@ -54,17 +60,11 @@ module _ (f : List ℕ) (F : Frame) where
   abbrev pub content_at : Head → Content
   content_at head = content_of head.kind head.count head.body
 
-  -- rules 18 and 19: Ascii bytes are below 128, a UID is not too large
-  abbrev pub IsProperLeaf : Kind → ℕ → ℕ → Type 0
-  IsProperLeaf kinds.Ascii count body = AllByRecursion (λ b. b < 128) (part f body count)
-  IsProperLeaf kinds.Uid count body = num_at f body count ≤ 4294967295
-  IsProperLeaf _ count body = ⊤
-
   -- object n spells this content: rules 14 to 20
   pub record Spells (n : ℕ) (content : Content) : Type 0 where
     pub shape : Head
     pub has : HasShape n shape
-    pub proper : IsProperLeaf shape.kind shape.count shape.body
+    pub proper : IsTrue (is_proper f shape.kind shape.count shape.body)
     pub means : content ≡ content_at shape
     pub refs : AllByRecursion (λ m. m < F.objects) (refs content)
 

@@ -22,9 +22,8 @@ module _ (f : List ℕ) (F : Frame) where
     -- the objects hold the values, one by one
     pub HoldEach : List ℕ → Values → Type 0
     HoldEach [] no_values = ⊤
-    HoldEach [] (value v vs) = ⊥
-    HoldEach (m ∷ ms) no_values = ⊥
     HoldEach (m ∷ ms) (value v vs) = Holds m v × HoldEach ms vs
+    HoldEach _ _ = ⊥
 
     -- the first objects spell the keys, the second hold the values
     pub HoldPairs : List ℕ → List ℕ → Pairs → Type 0

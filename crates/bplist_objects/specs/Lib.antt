@@ -9,6 +9,7 @@ pub mod Reach
 pub mod Holds
 pub mod File
 pub mod Answers
+pub mod Claims
 pub mod Scan
 pub mod FrameRules
 pub mod Trailer
@@ -22,4 +23,3 @@ pub mod Words
 pub mod Spelled
 pub mod Rows
 pub mod Framed
-pub mod References

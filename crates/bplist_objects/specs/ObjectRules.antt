@@ -13,7 +13,7 @@ use Rattle.bplist_objects.specs.Frame.{off}
 use Rattle.bplist_objects.specs.Rules.{IsFirstFault}
 use Rattle.bplist_objects.specs.Scan.{AreBelow, IsFirstNotBelow}
 use Rattle.bplist_objects.specs.Safe.{ref_count}
-use Rattle.bplist_objects.specs.Announced.{IsMarker, head_found, HasHead}
+use Rattle.bplist_objects.specs.Announced.{kind_at, head_found, HasHead}
 
 -- rules 14 to 17 in order
 abbrev pub shape_rules : List Rule
@@ -30,19 +30,17 @@ object_rules = shape_rules ++ body_rules
 -- object n keeps this rule; rules 16 and 17 ask nothing where one of marker and count before is broken
 abbrev pub KeepsByObject : List ℕ → Frame → ℕ → Rule → Type 0
 KeepsByObject f F n OffsetLow = 8 ≤ off f F n
-KeepsByObject f F n Marker = IsMarker (slice_index f (off f F n))
-KeepsByObject f F n Count = IsMarker (slice_index f (off f F n)) → off f F n + 1 < F.table → IsSome (head_found f F n)
+KeepsByObject f F n Marker = IsSome (kind_at (slice_index f (off f F n)))
+KeepsByObject f F n Count = IsSome (kind_at (slice_index f (off f F n))) → off f F n + 1 < F.table → IsSome (head_found f F n)
 KeepsByObject f F n Extent =
-    IsMarker (slice_index f (off f F n)) → (off f F n + 1 < F.table → IsSome (head_found f F n))
+    IsSome (kind_at (slice_index f (off f F n))) → (off f F n + 1 < F.table → IsSome (head_found f F n))
     → (head : Head) × HasHead f F n head × (head.«end» ≤ F.table)
 KeepsByObject f F n NotAscii =
     (head : Head) → HasHead f F n head → head.kind ≡ kinds.Ascii → AreBelow f head.body 1 head.count 128
 KeepsByObject f F n UidLarge =
-    (head : Head) → HasHead f F n head → head.kind ≡ kinds.Uid
-    → num_at f head.body head.count ≤ 4294967295
+    (head : Head) → HasHead f F n head → head.kind ≡ kinds.Uid → num_at f head.body head.count ≤ 4294967295
 KeepsByObject f F n RefHigh =
-    (head : Head) → HasHead f F n head
-    → AreBelow f head.body F.ref_size (ref_count head.kind head.count) F.objects
+    (head : Head) → HasHead f F n head → AreBelow f head.body F.ref_size (ref_count head.kind head.count) F.objects
 KeepsByObject f F n _ = Unit {0}
 
 -- where object n breaks a rule of 14 to 17, or rule 19
@@ -58,8 +56,7 @@ BreaksByObject f F n NotAscii place =
     × IsFirstNotBelow f head.body 1 head.count 128 i × (place ≡ head.body + i)
 BreaksByObject f F n RefHigh place =
     (head : Head) × (i : ℕ) × HasHead f F n head
-    × IsFirstNotBelow f head.body F.ref_size (ref_count head.kind head.count) F.objects i
-    × (place ≡ head.body + i * F.ref_size)
+    × IsFirstNotBelow f head.body F.ref_size (ref_count head.kind head.count) F.objects i × (place ≡ head.body + i * F.ref_size)
 BreaksByObject f F n rule place = (KeepsByObject f F n rule → ⊥) × (place ≡ place_of f F n rule)
 
 -- the same, if this is the object named

@@ -1,13 +1,13 @@
 -- The first broken rule of a list of rules. Source: profile.
 use Rattle.std.specs.Prelude.{◌≡◌, ◌⊎◌, ℕ, ◌<◌, List, [], ◌∷◌, Option}
+use Rattle.std.specs.List.{AllByRecursion}
 use Rattle.bplist_objects.specs.declared.rule.Rule.{Rule}
 use Rattle.bplist_objects.specs.declared.fault.Fault.{Fault}
 use Rattle.bplist_objects.specs.declared.frame.ObjectNo.{ObjectNo}
 
 -- all these rules are kept
 abbrev pub KeepsAll : (Rule → Type 0) → List Rule → Type 0
-KeepsAll keeps [] = Unit {0}
-KeepsAll keeps (rule ∷ rules) = keeps rule × KeepsAll keeps rules
+KeepsAll keeps rules = AllByRecursion keeps rules
 
 -- the fault is of the first of these rules that is broken
 abbrev pub IsFirstFault : (Rule → Type 0) → (Rule → Option ObjectNo → ℕ → Type 0) → List Rule → Fault → Type 0

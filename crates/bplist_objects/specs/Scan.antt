@@ -1,6 +1,7 @@
 -- Numbers of one size that stand one behind the other, and the first of them that is too large. Source: profile.
-use Rattle.std.specs.Prelude.{◌≡◌, ℕ, ◌+◌, ◌*◌, ◌<◌, ◌≤◌, List, length, slice_index}
+use Rattle.std.specs.Prelude.{◌≡◌, ℕ, ◌+◌, ◌*◌, ◌<◌, List, length, slice_index}
 use Rattle.bplist_objects.specs.Numbers.{num_at}
+use Rattle.bplist_objects.specs.Claims.{FailsAt}
 
 -- number k of consecutive numbers of one size
 abbrev pub nth_number : List ℕ → ℕ → ℕ → ℕ → ℕ
@@ -15,7 +16,5 @@ abbrev pub AreBelow : List ℕ → ℕ → ℕ → ℕ → ℕ → Type 0
 AreBelow f place size count bound = (k : ℕ) → k < count → nth_number f place size k < bound
 
 -- number i is the first that is not below the bound
-pub record IsFirstNotBelow (f : List ℕ) (place size count bound i : ℕ) : Type 0 where
-  pub within : i < count
-  pub high : bound ≤ nth_number f place size i
-  pub before : AreBelow f place size i bound
+abbrev pub IsFirstNotBelow : List ℕ → ℕ → ℕ → ℕ → ℕ → ℕ → Type 0
+IsFirstNotBelow f place size count bound i = FailsAt (λ many. AreBelow f place size many bound) count i

@@ -14,7 +14,7 @@
 //! | the trailer's five numbers, by rules 1 to 12, or 13 | [`trailer_of`], [`frame_of`], [`Frame`] |
 //! | entries of the offset table | [`offset_of`], [`read_offsets`], [`high_entry`] |
 //! | an object's head, by rules 14 to 17, or 20; with its place given | [`shape_of`], [`head_of`]; [`shape_at`], [`head_at`] |
-//! | references | [`refs_of`], [`ref_at`], [`read_refs`], [`RefBlocks`] |
+//! | references | [`refs_of`], [`ref_at`], [`read_refs`] |
 //! | what a leaf's body means | [`int_of`], [`uid_of`], [`octets_at`], [`unit_at`], [`read_units`] |
 //! | the order of a text and given units | [`key_cmp`] |
 //! | a source with its frame | [`Framed`], [`Plist`] |
@@ -37,7 +37,6 @@ mod leaf;
 mod leaf_laws;
 mod numbers;
 mod plist;
-mod ref_blocks;
 mod refs;
 mod rule;
 mod scan;
@@ -58,7 +57,6 @@ pub use laws::{
 pub use leaf::{int_of, octets_at, uid_of};
 pub use leaf_laws::{leaves_by_parts, units_are_ordered};
 pub use plist::{head_in, offset_in, read_offsets_in, read_refs_in, ref_place, shape_in};
-pub use ref_blocks::RefBlocks;
 pub use refs::{read_refs, ref_at, refs_of};
 pub use rule::{Rule, rule_name, rule_number, rule_of_number};
 pub use scan::first_high_in;
