@@ -1,13 +1,14 @@
 -- Stretches of low bytes that are put together, and texts by them.
-use Rattle.std.proofs.Common.{◌≡◌, ℕ, ◌+◌, ◌*◌, ◌-◌, ◌<◌, ◌≤◌, inl, inr, List, length, set, replicate, sym, ap, ◌∙◌, subst, arith}
+use Rattle.std.proofs.Common.{◌≡◌, ℕ, ◌+◌, ◌*◌, ◌-◌, ◌<◌, ◌≤◌, inl, inr, IsTrue, List, length, set, replicate, sym, ap, ◌∙◌, subst, arith}
 use Rattle.std.proofs.lemmas.Bool.{cases_eq, cases_lt}
 use Rattle.std.proofs.lemmas.List.{get_or-set_same, get_or-set_other, get_or-replicate, get_or_past, length-replicate}
 use Rattle.bplist_objects.specs.declared.frame.Frame.{Frame}
 use Rattle.bplist_objects.specs.declared.head.Head.{Head}
 use Rattle.bplist_objects.specs.declared.kind.Kind.TheVariants as kinds
 use Rattle.bplist_objects.specs.Numbers.{num_at}
-use Rattle.bplist_objects.specs.Heads.{IsProperLeaf}
-use Rattle.bplist_objects.specs.Scan.{AreBelow}
+use Rattle.bplist_objects.specs.Heads.{is_proper}
+use Rattle.bplist_objects.proofs.ProperLeaves.{ascii_proper}
+use Rattle.bplist_objects.specs.Scan.{AreBelow, IsFirstNotBelow}
 use Rattle.bplist_objects.specs.Safe.{ref_count}
 use Rattle.bplist_objects.specs.Announced.{HasHead}
 use Rattle.bplist_objects.specs.Rules.{KeepsAll}
@@ -52,8 +53,8 @@ module _ (f : List ℕ) where
   low_below body count low k l = low (body + k * 1) (omega arith) (omega (arith, l))
 
   -- a high byte
-  pub high_there : (from to i : ℕ) → i < to - from → 128 ≤ num_at f (from + i * 1) 1 → IsLow f from to → ⊥
-  high_there from to i within high low = let l = low (from + i * 1) (omega arith) (omega (arith, within)) in omega (arith, high, l)
+  pub not_low : (from to i : ℕ) → IsFirstNotBelow f from 1 (to - from) 128 i → IsLow f from to → ⊥
+  not_low from to i first low = first.2 (λ k l. low (from + k * 1) (omega arith) (omega (arith, l, first.0)))
 
   -- two stretches that meet
   pub low_joined : (a b c d from to : ℕ) → c ≤ b → a ≤ d → (k : ℕ) → from ≤ k → k < to → ((k < a) → c ≤ k) → ((b ≤ k) → k < d) → IsLow f a b → IsLow f c d → num_at f k 1 < 128
@@ -112,8 +113,8 @@ pub text_low : (f : List ℕ) (F : Frame) (m : ℕ) (key : Head) → IsText f F 
 text_low f F m key is ascii room k low high =
     let s = is.is.1 in
     let same = one_shape f F m s.shape key s.has is.is.0 in
-    let proper = subst (λ (x : Head). IsProperLeaf f F x.kind x.count x.body) same s.proper in
-    let bytes = each_byte (λ b. b < 128) f key.body key.count room (subst (λ kind. IsProperLeaf f F kind key.count key.body) ascii proper) in
+    let proper = subst (λ (x : Head). IsTrue (is_proper f x.kind x.count x.body)) same s.proper in
+    let bytes = each_byte (λ b. b < 128) f key.body key.count room (ascii_proper f key.kind key.count key.body ascii proper) in
     let e : key.body + (k - key.body) * 1 ≡ k = omega (arith, low) in
     subst (λ p. num_at f p 1 < 128) e (bytes (k - key.body) (omega (arith, low, high)))
 

@@ -1,5 +1,5 @@
 -- Bodies of bytes of an object that a checked file vouches for.
-use Rattle.std.proofs.Common.{◌≡◌, ◌⊎◌, inl, inr, ◌<◌, ℕ, List, [], ◌∷◌, false, IsTrue, Result, Ok, Err, refl, subst, sym}
+use Rattle.std.proofs.Common.{◌≡◌, ◌⊎◌, inl, inr, ◌<◌, ℕ, List, false, IsTrue, Result, Ok, Err, refl, subst, sym}
 use Rattle.std.proofs.Props.{props}
 use Rattle.std.specs.List.{AllByRecursion}
 use Rattle.std.proofs.Math.Logic.{∥∥₁_elim}
@@ -11,7 +11,7 @@ use Rattle.bplist_objects.specs.declared.head.Head.{Head}
 use Rattle.bplist_objects.specs.declared.kind.Kind.{Kind}
 use Rattle.bplist_objects.specs.declared.kind.Kind.TheVariants as kinds
 use Rattle.bplist_objects.specs.Answers.{Gives, Never, read_failed}
-use Rattle.bplist_objects.specs.Heads.{HasShape, Spells, IsProperLeaf, content_of, content_at, refs}
+use Rattle.bplist_objects.specs.Heads.{HasShape, Spells, is_proper, content_of, content_at, refs}
 use Rattle.bplist_objects.proofs.Fronts.{one_shape}
 use Rattle.bplist_cert.specs.CheckedFile.{CheckedFile, IsChecked}
 use Rattle.bplist_cert.specs.Valid.{IsVouchedBy}
@@ -27,16 +27,7 @@ no_error P (Ok x) read given none = none x refl
 no_error P (Err (errors.Fault x)) read given none = given
 no_error P (Err (errors.Read x)) read given none = cc read
 
--- that bytes are low is so in one way
-low_prop : (xs : List ℕ) → IsProp (AllByRecursion (λ b. b < 128) xs)
-low_prop [] = hlevel props
-low_prop (x ∷ xs) = hlevel (props, low_prop xs)
-
 module _ (f : List ℕ) (F : Frame) where
-  proper_prop : (kind : Kind) (count body : ℕ) → IsByteKind kind → IsProp (IsProperLeaf f F kind count body)
-  proper_prop kind count body (inl e) = subst (λ k. IsProp (IsProperLeaf f F k count body)) (sym e) (hlevel props)
-  proper_prop kind count body (inr e) = subst (λ k. IsProp (IsProperLeaf f F k count body)) (sym e) (low_prop (part f body count))
-
   no_refs : (kind : Kind) (count body : ℕ) → IsByteKind kind → AllByRecursion (λ m. m < F.objects) (refs (content_of f F kind count body))
   no_refs kind count body (inl e) = subst (λ k. AllByRecursion (λ m. m < F.objects) (refs (content_of f F k count body))) (sym e) tt
   no_refs kind count body (inr e) = subst (λ k. AllByRecursion (λ m. m < F.objects) (refs (content_of f F k count body))) (sym e) tt
@@ -48,9 +39,9 @@ module _ (checked : CheckedFile) (known : IsChecked checked) (honest : IsTrue ch
   spells_bytes head has is bytes body =
       let f = checked.source.octets in
       let F = checked.frame in
-      let proper : IsProperLeaf f F head.kind head.count head.body = ∥∥₁_elim (known.accepted honest) (proper_prop f F head.kind head.count head.body is) (λ a.
+      let proper : IsTrue (is_proper f head.kind head.count head.body) = ∥∥₁_elim (known.accepted honest) (hlevel props) (λ a.
       let spells = (a.valid.vouched n vouched).spells in
-      subst (λ (h : Head). IsProperLeaf f F h.kind h.count h.body) (one_shape f F n spells.shape head spells.has has) spells.proper) in
+      subst (λ (h : Head). IsTrue (is_proper f h.kind h.count h.body)) (one_shape f F n spells.shape head spells.has has) spells.proper) in
       let spells : Spells f F n (content_at f F head) = record { shape = head; has = has; proper = proper; means = refl; refs = no_refs f F head.kind head.count head.body is } in
       (head, (has, spells), is, body)
 

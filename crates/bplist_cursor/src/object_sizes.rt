@@ -24,9 +24,12 @@ use crate::form::Form;
 use crate::measures::{Measures, Size};
 use crate::text_length::text_length;
 use bplist_cert::Checked;
-use bplist_objects::{Framed, Head, Kind, ObjectNo, RefBlocks, shape_of};
+use bplist_objects::{Framed, Head, Kind, ObjectNo, read_refs_in, refs_of, shape_of};
 use bplist_octets::{ReadFault, Source};
 use std::alloc::Global;
+
+/// How many references are read at once at most.
+const BLOCK: usize = 128;
 
 /// What the table says of an object, None outside.
 fn size_at(sizes: &[Option<Size>], n: u64) -> Option<Size>
@@ -63,13 +66,19 @@ fn add_refs<P: Framed>(
         → added sizes.now start (refs (content_at f F head.now)) ≡ Some whole → GivesRead (λ s. s ≡ whole) result) }
 {
     let _frame = src.frame();
-    let mut refs = RefBlocks::of(head);
+    let count = refs_of(head);
+    let mut buffer = [0u64; BLOCK];
     let mut total = start;
-    while refs.advance(src)? {
-        let Some(more) = add_sizes(sizes, refs.block(), total) else {
+    let mut done = 0u64;
+    while done < count {
+        let now = (count - done).min(BLOCK as u64);
+        let block = &mut buffer[..now as usize];
+        read_refs_in(src, head, done, block)?;
+        let Some(more) = add_sizes(sizes, block, total) else {
             return Err(Unread::Changed);
         };
         total = more;
+        done += now;
     }
     Ok(total)
 }

@@ -1,5 +1,5 @@
 -- What an object's references are, by what was read of it.
-use Rattle.std.proofs.Common.{◌≡◌, ℕ, ◌<◌, ◌+◌, ◌-◌, min, List, [], drop, length, slice_index, Option, Some, None, inl, inr, refl, sym, ap, ◌∙◌, subst, arith}
+use Rattle.std.proofs.Common.{◌≡◌, ℕ, ◌<◌, ◌+◌, ◌-◌, min, IsTrue, List, [], drop, length, slice_index, Option, Some, None, inl, inr, refl, sym, ap, ◌∙◌, subst, arith}
 use Rattle.std.specs.List.{AllByRecursion}
 use Rattle.std.proofs.lemmas.Bool.{cases_lt}
 use Rattle.std.proofs.lemmas.List.{nil_from_length, length-drop, get_or-drop, drop_all}
@@ -8,7 +8,7 @@ use Rattle.bplist_objects.specs.declared.frame.Frame.{Frame}
 use Rattle.bplist_objects.specs.declared.head.Head.{Head}
 use Rattle.bplist_objects.specs.declared.kind.Kind.{Kind}
 use Rattle.bplist_objects.specs.declared.kind.Kind.TheVariants as kinds
-use Rattle.bplist_objects.specs.Heads.{Content, HasShape, IsProperLeaf, Spells, content_at, refs}
+use Rattle.bplist_objects.specs.Heads.{Content, HasShape, is_proper, Spells, content_at, refs}
 use Rattle.bplist_objects.specs.Safe.{ref_count}
 use Rattle.bplist_objects.specs.Announced.{head_found}
 use Rattle.bplist_objects.specs.Spelled.{spelled_at, refs_at}
@@ -121,10 +121,10 @@ module _ (f : List ℕ) (F : Frame) (n : ℕ) where
     part_none never i block = let none = ap length (none_in_view (no_refs_shape never)) in (omega (arith, none), λ k low. absurd (omega (arith, low)))
 
   -- what has references is no text and no UID
-  proper_container : (kind : Kind) (count body : ℕ) → 0 < ref_count kind count → IsProperLeaf f F kind count body
+  proper_container : (kind : Kind) (count body : ℕ) → 0 < ref_count kind count → IsTrue (is_proper f kind count body)
   proper_container kinds.Ascii count body some = absurd (omega (arith, some))
   proper_container kinds.Uid count body some = absurd (omega (arith, some))
-  proper_container _ count body some = tt
+  proper_container _ count body some = refl
 
   -- where all numbers of a body are those of objects, they are the references
   pub refs_as_shape : (h : Head) → HasShape f F n h → AreBelow f h.body F.ref_size (ref_count h.kind h.count) F.objects → refs_at f F n ≡ refs (content_at f F h)

@@ -5,6 +5,7 @@ use Rattle.bplist_objects.specs.declared.fault.Fault.{Fault}
 use Rattle.bplist_objects.specs.declared.frame.Frame.{Frame}
 use Rattle.bplist_objects.specs.Frame.{off}
 use Rattle.bplist_objects.specs.FrameRules.{AreEntriesLow, IsEntryFault, IsTrailer}
+use Rattle.bplist_objects.proofs.ScanLaws.{first_high}
 use Rattle.bplist_keys.specs.Places.{AreKept}
 use Rattle.bplist_lint.specs.Places.{AreBelowTable, IsPlaceFault}
 
@@ -34,11 +35,8 @@ module _ (f : List ℕ) (F : Frame) (places : List ℕ) (kept : AreKept f F F.ob
   kept_high fault trailed h =
       let fits = table_fits f F trailed in (
         h.n,
-        record {
-          within = h.within;
-          high = high h.n h.within fits h.high;
-          before = λ k low. below fits k (let w = h.within in omega (arith, w, low)) (h.before k low);
-        },
+        first_high f F.table F.offset_size F.objects F.table h.n h.within (high h.n h.within fits h.high)
+        (λ k low. below fits k (let w = h.within in omega (arith, w, low)) (h.before k low)),
         h.object,
         h.place,
       )

@@ -1,6 +1,6 @@
 use Rattle.std.proofs.Common.{refl}
 use Rattle.std.proofs.lemmas.Bool.{false≢true}
-use Rattle.bplist_cert.proofs.LowSteps.{below_low, high_there}
+use Rattle.bplist_cert.proofs.LowSteps.{below_low, not_low}
 use Rattle.bplist_cert.proofs.low_bytes.is_low.Goals as goal
 
 pub returns-in-None-clause-exact : goal.returns-in-None-clause-exact
@@ -13,5 +13,5 @@ pub returns-in-Some-clause-exact : goal.returns-in-Some-clause-exact
 returns-in-Some-clause-exact g c = λ honest.
     let first = (rw c.in-Some.is at c.in_ok-first_high_in.ensures.found) honest in (
       λ never. absurd (false≢true never),
-      λ low. absurd (high_there (g.S.Source.means c.args.src.now).octets c.args.from c.args.to _ first.within first.high low),
+      λ low. absurd (not_low (g.S.Source.means c.args.src.now).octets c.args.from c.args.to _ first low),
     )
