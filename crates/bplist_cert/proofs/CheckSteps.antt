@@ -19,7 +19,7 @@ use Rattle.bplist_objects.specs.FrameRules.{IsFrameFault}
 use Rattle.bplist_objects.specs.Rules.{KeepsAll, IsFirstFault}
 use Rattle.bplist_objects.specs.ObjectRules.{KeepsByObject, BreaksAt, IsObjectFault, object_rules}
 use Rattle.bplist_objects.specs.Extents.{HasExtent, IsOverfull}
-use Rattle.bplist_objects.proofs.Lists.{all_weaker, all_at}
+use Rattle.bplist_objects.proofs.Lists.{all_weaker, all_at, distinct_none, distinct_more}
 use Rattle.bplist_objects.proofs.ExtentSums.{most_none, most_more, most_same, shape_extent}
 use Rattle.bplist_objects.proofs.BodyLaws.{HasHead-unique}
 use Rattle.bplist_objects.proofs.HeadTies.{kept_spells}
@@ -106,7 +106,7 @@ module _ (f : List ℕ) (F : Frame) (heights : List ℕ) (keys : Option Keyed) (
         let e = head.«end» - off f F n in
         record {
           objects = n ∷ sums.objects;
-          differ = ((λ c. let b = all_at _ sums.objects n sums.inside c in omega (arith, b.1)), sums.differ);
+          differ = distinct_more n sums.objects (λ c. let b = all_at _ sums.objects n sums.inside c in omega (arith, b.1)) sums.differ;
           inside = ((vouched, omega arith), all_weaker _ _ (λ m p. (p.0, omega (arith, p.1))) sums.objects sums.inside);
           take_all = (e, t, extent, sums.take_all, omega arith);
           most = most_more f F (IsVouchedBy heights) n e t extent sums.most;
@@ -226,7 +226,7 @@ vouched_inside heights count n e v = elim (cases_lt n (length heights)) [
 -- before the first object
 pub start : (f : List ℕ) (F : Frame) (certificate : Lists) (look : Look) → IsFrame f F → Running f F certificate look 0 0
 start f F certificate look frame = record {
-  sums = record { objects = []; differ = tt; inside = tt; take_all = refl; most = most_none f F (IsVouchedBy certificate.heights) };
+  sums = record { objects = []; differ = distinct_none; inside = tt; take_all = refl; most = most_none f F (IsVouchedBy certificate.heights) };
   room = omega (arith, (numbered frame).table_early);
   kept = λ m lt v. absurd (omega arith);
 }

@@ -6,7 +6,7 @@ use Rattle.bplist_objects.specs.declared.fault.Fault.{Fault}
 use Rattle.bplist_objects.specs.declared.frame.Frame.{Frame}
 use Rattle.bplist_objects.specs.Frame.{IsFrame}
 use Rattle.bplist_objects.specs.FrameRules.{IsFrameFault}
-use Rattle.bplist_objects.specs.Reach.{Differ}
+use Rattle.bplist_objects.specs.Holds.{AreDistinct}
 use Rattle.bplist_objects.specs.Extents.{TakeOctets, AtMost}
 use Rattle.bplist_cert.specs.Lists.{Lists}
 use Rattle.bplist_cert.specs.Valid.{IsVouchedBy}
@@ -25,7 +25,7 @@ pub record IsVouchedFault (f : List ℕ) (F : Frame) (certificate : Lists) (faul
 -- together the vouched objects below n take t bytes
 pub record Sums (f : List ℕ) (F : Frame) (heights : List ℕ) (n t : ℕ) : Type 0 where
   pub objects : List ℕ
-  pub differ : Differ objects
+  pub differ : AreDistinct objects
   pub inside : AllByRecursion (λ m. IsVouchedBy heights m × (m < n)) objects
   pub take_all : TakeOctets f F objects t
   pub most : AtMost f F (λ m. IsVouchedBy heights m × (m < n)) t

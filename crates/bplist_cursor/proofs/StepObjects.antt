@@ -10,6 +10,7 @@ use Rattle.bplist_objects.specs.declared.frame.Frame.{Frame}
 use Rattle.bplist_objects.specs.Value.{text, Value, leaf, array, set, dict, Values, no_values, value, Pairs, no_pairs, pair, keys}
 use Rattle.bplist_objects.specs.Heads.{Content, Spells, refs}
 use Rattle.bplist_objects.specs.Holds.{Holds, HoldEach, HoldPairs, AreDistinct}
+use Rattle.bplist_objects.proofs.Lists.{distinct_rest}
 use Rattle.bplist_cursor.specs.Look.{stepped}
 use Rattle.bplist_cursor.specs.Members.{members, entries}
 use Rattle.bplist_cursor.specs.declared.found.Why.{Why}
@@ -27,9 +28,6 @@ same_is u s e = (bytes_eq-Decides u s).1 e
 
 other_is : (u s : List ℕ) → u ≢ s → bytes_eq u s ≡ false
 other_is u s h = not_true (bytes_eq u s) (λ e. h ((bytes_eq-Decides u s).0 e))
-
-distinct_rest : (u : List ℕ) (us : List (List ℕ)) → AreDistinct (u ∷ us) → AreDistinct us
-distinct_rest u us h = λ i j d l b. h (suc i) (suc j) d (omega arith) (omega arith)
 
 -- the value of the first key with these units
 abbrev pub value_at : List ℕ → Pairs → Option Value

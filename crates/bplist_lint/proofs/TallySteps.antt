@@ -13,7 +13,7 @@ use Rattle.bplist_objects.specs.Rules.{KeepsAll}
 use Rattle.bplist_objects.specs.ObjectRules.{KeepsByObject, object_rules, IsObjectFault}
 use Rattle.bplist_objects.specs.Reach.{Reach}
 use Rattle.bplist_objects.specs.Extents.{HasExtent, IsOverfull}
-use Rattle.bplist_objects.proofs.Lists.{all_at, all_weaker}
+use Rattle.bplist_objects.proofs.Lists.{all_at, all_weaker, distinct_none, distinct_more}
 use Rattle.bplist_objects.proofs.ExtentSums.{shape_extent, most_none, most_more, most_same}
 use Rattle.bplist_objects.proofs.RuleLaws.{first_fault_after, first_fault_among, kept_all_after}
 use Rattle.bplist_objects.proofs.HeadTies.{head_tie}
@@ -29,12 +29,12 @@ next_is n = omega arith
 module _ (f : List ℕ) (F : Frame) where
   module _ (S : ℕ → Type 0) where
     pub sums_none : Sums f F S 0 0
-    sums_none = record { objects = []; differ = tt; inside = tt; take_all = refl; most = most_none f F S }
+    sums_none = record { objects = []; differ = distinct_none; inside = tt; take_all = refl; most = most_none f F S }
 
     pub sums_more : (n e t : ℕ) → S n → HasExtent f F n e → Sums f F S n t → Sums f F S (suc n) (t + e)
     sums_more n e t on extent s = record {
       objects = n ∷ s.objects;
-      differ = ((λ c. let l = (all_at _ s.objects n s.inside c).1 in omega arith), s.differ);
+      differ = distinct_more n s.objects (λ c. let l = (all_at _ s.objects n s.inside c).1 in omega arith) s.differ;
       inside = ((on, omega arith), all_weaker _ _ (λ m k. (k.0, let l = k.1 in omega arith)) s.objects s.inside);
       take_all = (e, t, extent, s.take_all, omega arith);
       most = most_more f F S n e t extent s.most;

@@ -10,7 +10,8 @@ use Rattle.bplist_objects.specs.declared.frame.ObjectNo.{ObjectNo}
 use Rattle.bplist_objects.specs.Frame.{off}
 use Rattle.bplist_objects.specs.Rules.{KeepBelow, IsLeastFault}
 use Rattle.bplist_objects.specs.ObjectRules.{KeepsByObject, BreaksAt, object_rules}
-use Rattle.bplist_objects.specs.Reach.{Reach, Differ}
+use Rattle.bplist_objects.specs.Holds.{AreDistinct}
+use Rattle.bplist_objects.specs.Reach.{Reach}
 use Rattle.bplist_objects.specs.Extents.{TakeOctets, AtMost, IsOverfull}
 use Rattle.bplist_objects.specs.Spelled.{refs_at}
 use Rattle.bplist_lint.specs.declared.tally.Tally.{Tally}
@@ -55,7 +56,7 @@ module _ (f : List ℕ) (F : Frame) where
   -- together the objects of S below n take t bytes
   pub record Sums (S : ℕ → Type 0) (n t : ℕ) : Type 0 where
     pub objects : List ℕ
-    pub differ : Differ objects
+    pub differ : AreDistinct objects
     pub inside : AllByRecursion (λ m. S m × (m < n)) objects
     pub take_all : TakeOctets f F objects t
     pub most : AtMost f F (λ m. S m × (m < n)) t

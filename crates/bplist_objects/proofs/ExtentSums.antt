@@ -6,13 +6,13 @@ use Rattle.bplist_objects.specs.declared.frame.Frame.{Frame}
 use Rattle.bplist_objects.specs.declared.head.Head.{Head}
 use Rattle.bplist_objects.specs.Frame.{off}
 use Rattle.bplist_objects.specs.Heads.{HasShape}
-use Rattle.bplist_objects.specs.Reach.{Differ}
+use Rattle.bplist_objects.specs.Holds.{AreDistinct}
 use Rattle.bplist_objects.specs.Extents.{HasExtent, TakeOctets, AtMost, HaveRoom}
 use Rattle.bplist_objects.specs.Announced.{form_of}
 use Rattle.bplist_objects.proofs.AnnouncedHeads.{announced_short}
 use Rattle.bplist_objects.proofs.HeadLaws.{head_parts}
 use Rattle.bplist_objects.proofs.Fronts.{one_shape}
-use Rattle.bplist_objects.proofs.Lists.{all_weaker, all_at, all_from}
+use Rattle.bplist_objects.proofs.Lists.{all_weaker, all_at, all_from, distinct_none, distinct_head, distinct_rest, distinct_more}
 
 module _ (f : List ℕ) (F : Frame) where
   -- an object has one extent
@@ -35,7 +35,7 @@ module _ (f : List ℕ) (F : Frame) where
   record Left (S : ℕ → Type 0) (n e : ℕ) (ns : List ℕ) (t : ℕ) : Type 0 where
     rest : List ℕ
     sum : ℕ
-    differ : Differ rest
+    differ : AreDistinct rest
     below : AllByRecursion (λ m. S m × (m < n)) rest
     take : TakeOctets f F rest sum
     most : t ≤ e + sum
@@ -48,15 +48,15 @@ module _ (f : List ℕ) (F : Frame) where
   first_or_later x m xs (zero, l, e) = inl e
   first_or_later x m xs (suc i, l, e) = inr (i, omega (arith, l), e)
 
-  left : (S : ℕ → Type 0) (n e : ℕ) → HasExtent f F n e → (ns : List ℕ) (t : ℕ) → Differ ns → AllByRecursion (λ m. S m × (m < suc n)) ns → TakeOctets f F ns t → Left S n e ns t
-  left S n e h [] t d a w = record { rest = []; sum = 0; differ = tt; below = tt; take = refl; most = omega (arith, w); part = λ m c. c }
-  left S n e h (x ∷ xs) t d a w = go (left S n e h xs w.1 d.1 a.1 w.3) (cases_lt x n)
+  left : (S : ℕ → Type 0) (n e : ℕ) → HasExtent f F n e → (ns : List ℕ) (t : ℕ) → AreDistinct ns → AllByRecursion (λ m. S m × (m < suc n)) ns → TakeOctets f F ns t → Left S n e ns t
+  left S n e h [] t d a w = record { rest = []; sum = 0; differ = distinct_none; below = tt; take = refl; most = omega (arith, w); part = λ m c. c }
+  left S n e h (x ∷ xs) t d a w = go (left S n e h xs w.1 (distinct_rest x xs d) a.1 w.3) (cases_lt x n)
     where
       go : Left S n e xs w.1 → (x < n) ⊎ (n ≤ x) → Left S n e (x ∷ xs) t
       go l (inl lt) = record {
         rest = x ∷ l.rest;
         sum = w.0 + l.sum;
-        differ = (λ c. d.0 (l.part x c), l.differ);
+        differ = distinct_more x l.rest (λ c. distinct_head x xs d (l.part x c)) l.differ;
         below = ((a.0.0, lt), l.below);
         take = (w.0, l.sum, w.2, l.take, refl);
         most = omega (arith, w.4, l.most);
@@ -72,10 +72,10 @@ module _ (f : List ℕ) (F : Frame) where
           record {
             rest = xs;
             sum = w.1;
-            differ = d.1;
+            differ = distinct_rest x xs d;
             below = all_from _ xs (λ m c.
                 let p = all_at _ xs m a.1 c in
-                let ne : m ≡ n → ⊥ = λ q. d.0 (subst (Contains xs) (q ∙ sym xn) c) in
+                let ne : m ≡ n → ⊥ = λ q. distinct_head x xs d (subst (Contains xs) (q ∙ sym xn) c) in
                 (p.0, omega (arith, p.1, ne)));
             take = w.3;
             most = omega (arith, w.4, same);

@@ -1,8 +1,10 @@
 -- What holds of each member of a list, and of each number below a bound; when two numbers are one.
-use Rattle.std.proofs.Common.{◌≡◌, ℕ, zero, suc, ◌<◌, ◌⊎◌, inl, inr, List, [], ◌∷◌, ◌++◌, refl, subst, arith, Contains}
-use Rattle.std.specs.List.{AllByRecursion}
+use Rattle.std.proofs.Common.{◌≡◌, ◌≢◌, ℕ, zero, suc, ◌<◌, ◌⊎◌, inl, inr, List, [], ◌∷◌, ◌++◌, refl, sym, subst, arith, Contains}
+use Rattle.std.specs.List.{AllByRecursion, AllPairs}
 use Rattle.std.proofs.lemmas.Bool.{cases_lt, cases_order}
 use Rattle.std.proofs.lemmas.List.Elements.{All-from_recursion, All-contains}
+use Rattle.std.proofs.lemmas.List.Kept.{AllPairs-cons}
+use Rattle.bplist_objects.specs.Holds.{AreDistinct}
 
 pub all_weaker : {X : Type 0} (P Q : X → Type 0) → ((x : X) → P x → Q x) → (xs : List X) → AllByRecursion P xs → AllByRecursion Q xs
 all_weaker P Q h [] a = tt
@@ -27,6 +29,20 @@ all_at P xs x a c = All-contains P xs x (All-from_recursion P xs a) c
 pub all_from : (P : ℕ → Type 0) (xs : List ℕ) → ((x : ℕ) → Contains xs x → P x) → AllByRecursion P xs
 all_from P [] h = tt
 all_from P (x ∷ xs) h = (h x (0, omega arith, refl), all_from P xs (λ y c. h y (suc c.0, omega (arith, c.1), c.2)))
+
+-- ---- distinct members
+pub distinct_none : AllPairs (λ (x y : ℕ). x ≢ y) []
+distinct_none i j d a b = absurd (omega (arith, b))
+
+pub distinct_head : (x : ℕ) (xs : List ℕ) → AreDistinct (x ∷ xs) → Contains xs x → ⊥
+distinct_head x xs h c = h 0 (suc c.0) x (omega arith) (omega (arith, c.1)) (sym c.2)
+
+pub distinct_rest : {X : Type 0} (x : X) (xs : List X) → AreDistinct (x ∷ xs) → AreDistinct xs
+distinct_rest x xs h i j d a b = h (suc i) (suc j) d (omega (arith, a)) (omega (arith, b))
+
+pub distinct_more : (x : ℕ) (xs : List ℕ) → (Contains xs x → ⊥) → AreDistinct xs → AreDistinct (x ∷ xs)
+distinct_more x xs no1 h =
+    AllPairs-cons (λ x y. x ≢ y) x xs (All-from_recursion _ xs (all_from (λ y. x ≢ y) xs (λ y c e. no1 (subst (Contains xs) (sym e) c)))) h
 
 -- the empty list contains nothing
 pub none_in : {X : Type 0} (x : X) → Contains [] x → ⊥

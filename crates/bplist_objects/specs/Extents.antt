@@ -5,7 +5,7 @@ use Rattle.bplist_objects.specs.declared.frame.Frame.{Frame}
 use Rattle.bplist_objects.specs.declared.head.Head.{Head}
 use Rattle.bplist_objects.specs.Frame.{off}
 use Rattle.bplist_objects.specs.Heads.{HasShape}
-use Rattle.bplist_objects.specs.Reach.{Differ}
+use Rattle.bplist_objects.specs.Holds.{AreDistinct}
 
 module _ (f : List ℕ) (F : Frame) where
   -- object n takes e bytes, from its place to its end
@@ -19,12 +19,13 @@ module _ (f : List ℕ) (F : Frame) where
 
   -- no distinct objects of S take more than t bytes together
   abbrev pub AtMost : (ℕ → Type 0) → ℕ → Type 0
-  AtMost S t = (ns : List ℕ) (r : ℕ) → Differ ns → AllByRecursion S ns → TakeOctets ns r → r ≤ t
+  AtMost S t = (ns : List ℕ) (r : ℕ) → AreDistinct ns → AllByRecursion S ns → TakeOctets ns r → r ≤ t
 
   -- distinct objects of S fit between header and table
   abbrev pub HaveRoom : (ℕ → Type 0) → Type 0
-  HaveRoom S = (ns : List ℕ) (r : ℕ) → Differ ns → AllByRecursion S ns → TakeOctets ns r → r + 8 ≤ F.table
+  HaveRoom S = (ns : List ℕ) (r : ℕ) → AreDistinct ns → AllByRecursion S ns → TakeOctets ns r → r + 8 ≤ F.table
 
   -- rule 31 is broken: up to and including object n, objects of S take too much
   abbrev pub IsOverfull : (ℕ → Type 0) → ℕ → Type 0
-  IsOverfull S n = (ns : List ℕ) × (r : ℕ) × Differ ns × AllByRecursion (λ m. S m × (m ≤ n)) ns × TakeOctets ns r × (F.table < r + 8)
+  IsOverfull S n =
+      (ns : List ℕ) × (r : ℕ) × AreDistinct ns × AllByRecursion (λ m. S m × (m ≤ n)) ns × TakeOctets ns r × (F.table < r + 8)

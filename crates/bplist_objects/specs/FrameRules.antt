@@ -28,7 +28,7 @@ from_end = 0 ∷ 0 ∷ 0 ∷ 24 ∷ 16 ∷ 8 ∷ 8 ∷ 26 ∷ 25 ∷ 32 ∷ 25 �
 
 -- the file breaks this rule of 1 to 13, for this object and at this place
 abbrev pub Breaks : List ℕ → Rule → Option ObjectNo → ℕ → Type 0
-Breaks f Magic object place = FailsAt (λ many. (i : ℕ) → i < many → slice_index f i ≡ slice_index header i) 8 place × (object ≡ None)
+Breaks f Magic object place = FailsAt (λ n. (i : ℕ) → i < n → slice_index f i ≡ slice_index header i) 8 place × (object ≡ None)
 Breaks f OffsetHigh object place = IsEntryFault f (trailer f) object place
 Breaks f rule object place =
     (Keeps f rule → ⊥) × (object ≡ None) × (place + slice_index from_end (tag_of the_type rule) ≡ length f)

@@ -6,8 +6,8 @@ use Rattle.bplist_objects.specs.declared.frame.Frame.{Frame}
 use Rattle.bplist_objects.specs.Value.{Value, leaf, array, set, dict, Values, no_values, value, Pairs, no_pairs, pair, keys, text}
 use Rattle.bplist_objects.specs.Heads.{Content, Spells}
 
--- the keys have different units
-abbrev pub AreDistinct : List (List ℕ) → Type 0
+-- the members are distinct
+abbrev pub AreDistinct : {X : Type 0} → List X → Type 0
 AreDistinct xs = AllPairs (λ x y. x ≢ y) xs
 
 module _ (f : List ℕ) (F : Frame) where

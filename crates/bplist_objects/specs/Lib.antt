@@ -4,9 +4,9 @@ pub mod Frame
 pub mod Value
 pub mod Announced
 pub mod Heads
+pub mod Holds
 pub mod Extents
 pub mod Reach
-pub mod Holds
 pub mod File
 pub mod Answers
 pub mod Claims

@@ -1,12 +1,7 @@
 -- The references between objects. Source: profile; the file format only says what a reference is.
-use Rattle.std.specs.Prelude.{ℕ, List, [], ◌∷◌, Contains, ⊤}
+use Rattle.std.specs.Prelude.{ℕ, List, Contains}
 use Rattle.bplist_objects.specs.declared.frame.Frame.{Frame}
 use Rattle.bplist_objects.specs.Heads.{Content, refs, Spells}
-
--- the numbers are distinct
-abbrev pub Differ : List ℕ → Type 0
-Differ [] = ⊤
-Differ (x ∷ xs) = (Contains xs x → ⊥) × Differ xs
 
 module _ (f : List ℕ) (F : Frame) where
   -- object n refers to m

@@ -31,27 +31,6 @@ fn power_of_2(w: u8) -> u8
     }
 }
 
-/// The count behind the marker at `place`, where it has one byte, as most have: that and the marker of the count are one read.
-#[inline(always)]
-fn octet_count<S: Source>(src: &mut S, table: u64, place: u64) -> Result<Option<u8>, ReadFault>
-    requires inside { place < table }
-    requires within { table ≤ length (S.means src.old).octets }
-    ensures reads { OnlyReads (is_err result) (S.means src.old) (S.means src.new) }
-    ensures exact { IfOk result (λ found. Honestly (S.means src.old)
-        (λ f. IfSome found (λ count. HasLongCount f place count (place + 3)))) }
-    ensures room { IfOk result (λ found. IfSome found (λ _. place + 3 ≤ table)) }
-{
-    if table - place < 3 {
-        return Ok(None);
-    }
-    let mut octets = [0u8; 2];
-    src.read_at(place + 1, &mut octets)?;
-    if octets[0] != 0x10 {
-        return Ok(None);
-    }
-    Ok(Some(octets[1]))
-}
-
 /// The count that stands behind the marker at `place`, and the first place after it, where the table is not nearer than
 /// the count says.
 fn count_behind<S: Source>(
@@ -101,10 +80,15 @@ pub(crate) fn long_count<S: Source>(
         (λ found. HasLongCount f place found.0 found.1) (IsLongCountFault f table place n.0) result) }
     ensures safe { IfOk result (λ found. (place < found.1) × (found.1 ≤ table)) }
 {
-    match octet_count(src, table, place)? {
-        Some(count) => Ok((count as u64, place + 3)),
-        None => count_behind(src, table, place, n),
+    // Most have one byte: that and the marker of the count are one read.
+    if table - place >= 3 {
+        let mut octets = [0u8; 2];
+        src.read_at(place + 1, &mut octets)?;
+        if octets[0] == 0x10 {
+            return Ok((octets[1] as u64, place + 3));
+        }
     }
+    count_behind(src, table, place, n)
 }
 
 /// The count of an object of a kind whose marker says all.

@@ -86,28 +86,6 @@ fn search_block<S: Source>(
     }
 }
 
-/// The first of a few numbers that is not below the bound, by one read.
-fn first_of_few<S: Source>(
-    src: &mut S,
-    place: u64,
-    size: u8,
-    count: u64,
-    bound: u64,
-) -> Result<Option<u64>, ReadFault>
-    requires low { 1 ≤ size }
-    requires high { size ≤ 8 }
-    requires few { count ≤ 32 }
-    requires within { place + count * size ≤ length (S.means src.old).octets }
-    ensures reads { OnlyReads (is_err result) (S.means src.old) (S.means src.new) }
-    ensures found { IfOk result (λ found. Honestly (S.means src.old)
-        (λ f. MatchOption found (AreBelow f place size count bound) (IsFirstNotBelow f place size count bound))) }
-    ensures inside { IfOk result (λ found. IfSome found (λ i. i < count)) }
-{
-    let mut buffer = [0u8; FEW_BYTES];
-    let block = &mut buffer[..count as usize * size as usize];
-    search_block(src, place, size, count, bound, 0, count, block)
-}
-
 /// The first of many numbers that is not below the bound, block by block.
 fn first_of_many<S: Source>(
     src: &mut S,
@@ -137,7 +115,7 @@ fn first_of_many<S: Source>(
     Ok(None)
 }
 
-/// The first of `count` numbers of `size` bytes each from `place` on that is not below the bound.
+/// The first of `count` numbers of `size` bytes each from `place` on that is not below the bound. A few are one read.
 pub(crate) fn first_not_below<S: Source>(
     src: &mut S,
     place: u64,
@@ -153,11 +131,15 @@ pub(crate) fn first_not_below<S: Source>(
         (λ f. MatchOption found (AreBelow f place size count bound) (IsFirstNotBelow f place size count bound))) }
     ensures inside { IfOk result (λ found. IfSome found (λ i. i < count)) }
 {
-    match count {
-        0 => Ok(None),
-        1..=FEW => first_of_few(src, place, size, count, bound),
-        _ => first_of_many(src, place, size, count, bound),
+    if count == 0 {
+        return Ok(None);
     }
+    if count > FEW {
+        return first_of_many(src, place, size, count, bound);
+    }
+    let mut buffer = [0u8; FEW_BYTES];
+    let block = &mut buffer[..count as usize * size as usize];
+    search_block(src, place, size, count, bound, 0, count, block)
 }
 
 /// How many bytes of a text are read at once at most.

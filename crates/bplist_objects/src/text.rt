@@ -111,36 +111,6 @@ pub fn unit_at<S: Source>(src: &mut S, head: &Head, i: u64) -> Result<u16, ReadF
 }
 
 /// Compares the units of a text with `units`: unit by unit, and a proper prefix before the longer.
-fn compare_from_start<S: Source>(
-    src: &mut S,
-    head: &Head,
-    units: &[u16],
-) -> Result<Ordering, ReadFault>
-    requires kind { IsTextKind head.now.kind }
-    requires head { IsSafeBody (length (S.means src.old).octets) head.now }
-    ensures reads { OnlyReads (is_err result) (S.means src.old) (S.means src.new) }
-    ensures value { IfOk result (λ o. Honestly (S.means src.old)
-        (λ f. o ≡ compare_units (units_of f head.now) units.now)) }
-{
-    let mut buffer = [0u16; KEY_BLOCK];
-    let both = head.count.min(units.len() as u64) as usize;
-    let mut done = 0usize;
-    while done < both {
-        let now = (both - done).min(KEY_BLOCK);
-        let block = &mut buffer[..now];
-        read_units(src, head, done as u64, block)?;
-        let here = &*block;
-        let there = &units[done..done + now];
-        let found = here.cmp(&there);
-        if found.is_ne() {
-            return Ok(found);
-        }
-        done += now;
-    }
-    Ok(head.count.cmp(&(units.len() as u64)))
-}
-
-/// Compares the units of a text with `units`: unit by unit, and a proper prefix before the longer.
 ///
 /// The head is that of a text whose body lies in the source. The call adds one to `made`, also
 /// where it answers an error, save at the last value of a `u64`, where `made` stays. It reads the
@@ -159,5 +129,20 @@ pub fn key_cmp<S: Source>(
         (λ f. o ≡ compare_units (units_of f head.now) units.now)) }
 {
     *made = made.saturating_add(1);
-    compare_from_start(src, head, units)
+    let mut buffer = [0u16; KEY_BLOCK];
+    let both = head.count.min(units.len() as u64) as usize;
+    let mut done = 0usize;
+    while done < both {
+        let now = (both - done).min(KEY_BLOCK);
+        let block = &mut buffer[..now];
+        read_units(src, head, done as u64, block)?;
+        let here = &*block;
+        let there = &units[done..done + now];
+        let found = here.cmp(&there);
+        if found.is_ne() {
+            return Ok(found);
+        }
+        done += now;
+    }
+    Ok(head.count.cmp(&(units.len() as u64)))
 }

@@ -1,13 +1,13 @@
 use Rattle.std.proofs.Common.{◌≡◌, ◌+◌, ◌∙◌, ap, sym, arith, slice_index, get_or, add-zero}
 use Rattle.bplist_objects.proofs.Parts.{num-part_one, get_or-part}
-use Rattle.bplist_objects.proofs.count.octet_count.Goals as goal
+use Rattle.bplist_objects.proofs.count.long_count.Goals as goal
 
-pub returns-clause-exact : goal.returns-clause-exact
-returns-clause-exact g c = λ honest.
+pub returns-then-octets-eq16-clause-exact : goal.returns-then-octets-eq16-clause-exact
+returns-then-octets-eq16-clause-exact g c = λ honest.
     let f = (g.S.Source.means c.args.src.now).octets in
     let filled = c.in_ok-read_at.ensures.filled honest in
     let form : slice_index f (c.args.place + 1) ≡ 16 =
-    sym (ap (λ xs. get_or xs 0 0) filled ∙ get_or-part f (c.args.place + 1) 2 0 0 (omega arith) ∙ ap (λ i. get_or f i 0) (add-zero (c.args.place + 1))) ∙ c.if-octets-ne16.false in
+    sym (ap (λ xs. get_or xs 0 0) filled ∙ get_or-part f (c.args.place + 1) 2 0 0 (omega arith) ∙ ap (λ i. get_or f i 0) (add-zero (c.args.place + 1))) ∙ c.if-octets-eq16.true in
     let next : c.args.place + 1 + 1 ≡ c.args.place + 2 = omega arith in
     let count : get_or c.read_at.new.into 1 0 ≡ get_or f (c.args.place + 2) 0 =
     ap (λ xs. get_or xs 1 0) filled ∙ get_or-part f (c.args.place + 1) 2 1 0 (omega arith) ∙ ap (λ i. get_or f i 0) next in
