@@ -18,9 +18,8 @@ use Rattle.bplist_objects.specs.Announced.{HasHead}
 use Rattle.bplist_objects.specs.FrameRules.{IsFrameFault}
 use Rattle.bplist_objects.specs.Rules.{KeepsAll, IsFirstFault}
 use Rattle.bplist_objects.specs.ObjectRules.{KeepsByObject, BreaksAt, IsObjectFault, object_rules}
-use Rattle.bplist_objects.specs.Extents.{HasExtent, IsOverfull}
-use Rattle.bplist_objects.proofs.Lists.{all_weaker, all_at, distinct_none, distinct_more}
-use Rattle.bplist_objects.proofs.ExtentSums.{most_none, most_more, most_same, shape_extent}
+use Rattle.bplist_objects.specs.Extents.{Sums, IsOverfull}
+use Rattle.bplist_objects.proofs.ExtentSums.{shape_extent, sums_none, sums_more, sums_same, not_overfull, overfull}
 use Rattle.bplist_objects.proofs.BodyLaws.{HasHead-unique}
 use Rattle.bplist_objects.proofs.HeadTies.{kept_spells}
 use Rattle.bplist_objects.proofs.FrameTies.{numbered}
@@ -37,7 +36,7 @@ use Rattle.bplist_cert.specs.declared.checker.Look.{Look}
 use Rattle.bplist_cert.specs.declared.checker.Look.TheVariants.{Quick, Exact}
 use Rattle.bplist_cert.specs.Looks.{IsSeen, AreSeen, IsShown, IsShownFault}
 use Rattle.bplist_cert.specs.KeyClasses.{HasGoodKeys, BreaksKeys, IsFirstKeysFault}
-use Rattle.bplist_cert.specs.PairFault.{Sums, IsHeld, Running, IsWalkFault, IsSeenFault, IsVouchedFault, IsPairFault}
+use Rattle.bplist_cert.specs.PairFault.{IsHeld, Running, IsWalkFault, IsSeenFault, IsVouchedFault, IsPairFault}
 use Rattle.bplist_cert.specs.Refusals.{GivesRefusal, Judges, refusal_of}
 
 -- the first references of a dictionary are those to its keys
@@ -93,35 +92,24 @@ module _ (f : List ℕ) (F : Frame) (heights : List ℕ) (keys : Option Keyed) (
   object_fault (errors.Fault fault) h = inl h
   object_fault (errors.Read r) h = tt
 
-  module _ (frame : IsFrame f F) (lt : n < F.objects) (head : Head) (has : HasHead f F n head) (kept : KeepsAll (KeepsByObject f F n) object_rules) (vouched : IsVouchedBy heights n) (t : ℕ) (sums : Sums f F heights n t) where
+  module _ (frame : IsFrame f F) (lt : n < F.objects) (head : Head) (has : HasHead f F n head) (kept : KeepsAll (KeepsByObject f F n) object_rules) (vouched : IsVouchedBy heights n) (t : ℕ) (sums : Sums f F (IsVouchedBy heights) n t) where
     abbrev now : ℕ
     now = t + (head.«end» - off f F n)
 
-    extent : HasExtent f F n (head.«end» - off f F n)
-    extent = shape_extent f F n head (kept_spells f F n frame lt head has kept).0
-
     -- with the object, the running sum
-    more : Sums f F heights (suc n) now
+    more : Sums f F (IsVouchedBy heights) (suc n) now
     more =
-        let e = head.«end» - off f F n in
-        record {
-          objects = n ∷ sums.objects;
-          differ = distinct_more n sums.objects (λ c. let b = all_at _ sums.objects n sums.inside c in omega (arith, b.1)) sums.differ;
-          inside = ((vouched, omega arith), all_weaker _ _ (λ m p. (p.0, omega (arith, p.1))) sums.objects sums.inside);
-          take_all = (e, t, extent, sums.take_all, omega arith);
-          most = most_more f F (IsVouchedBy heights) n e t extent sums.most;
-        }
+        let extent = shape_extent f F n head (kept_spells f F n frame lt head has kept).0 in
+        sums_more f F (IsVouchedBy heights) n (head.«end» - off f F n) t vouched extent sums
 
     -- the sum is too large
     pub overfull_fault : (fault : Fault) → fault.rule ≡ rules.Overfull → fault.object ≡ Some (record { 0 = n }) → fault.place ≡ off f F n → F.table < now + 8 → Broken fault
     overfull_fault fault rule object place large =
-        inr (kept, inl (rule, (object, ((more.objects, now, more.differ, all_weaker _ _ (λ k p. (p.0, omega (arith, p.1))) more.objects more.inside, more.take_all, large), place))))
+        inr (kept, inl (rule, (object, (overfull f F (IsVouchedBy heights) n now more large, place))))
 
     module _ (room : now + 8 ≤ F.table) where
-      not_overfull : IsOverfull f F (IsVouchedBy heights) n → ⊥
-      not_overfull (ns, r, d, a, w, large) =
-          let b = more.most ns r d (all_weaker _ _ (λ k p. (p.0, omega (arith, p.1))) ns a) w in
-          omega (arith, b, large)
+      roomy : IsOverfull f F (IsVouchedBy heights) n → ⊥
+      roomy = not_overfull f F (IsVouchedBy heights) n now more room
 
       -- what a rule asks by this head
       by_head : (rule : Rule) → Asks f F (lists heights keys) n rule head (ref_count head.kind head.count)
@@ -131,9 +119,9 @@ module _ (f : List ℕ) (F : Frame) (heights : List ℕ) (keys : Option Keyed) (
       -- a fault of the heights
       pub heights_fault : (e : ObjectFault) → GivesFault (IsHeightFault f F heights n head) e → GivesRefusal Broken (refusal_of e)
       heights_fault (errors.Fault fault) (inl (rule, object, (i, first, place))) =
-          inr (kept, inr (not_overfull, inl (rule, (object, (head, i, has, first, place)))))
+          inr (kept, inr (roomy, inl (rule, (object, (head, i, has, first, place)))))
       heights_fault (errors.Fault fault) (inr (met, (rule, object, (i, first, place)))) =
-          inr (kept, inr (not_overfull, inr (by_head rules.ChildNotVouched met, inl (rule, (object, (head, i, has, first, place))))))
+          inr (kept, inr (roomy, inr (by_head rules.ChildNotVouched met, inl (rule, (object, (head, i, has, first, place))))))
       heights_fault (errors.Read r) h = tt
 
       module _ (met : AreMet f F heights head Vouched (ref_count head.kind head.count)) (low : AreMet f F heights head (Below (slice_index heights n)) (ref_count head.kind head.count)) where
@@ -144,7 +132,7 @@ module _ (f : List ℕ) (F : Frame) (heights : List ℕ) (keys : Option Keyed) (
           room = room;
           kept = record {
             own = kept;
-            room = not_overfull;
+            room = roomy;
             lower = λ other h k lt. (by_head rules.ChildNotVouched met other h k lt, by_head rules.HeightNotLess low other h k lt);
           };
         }
@@ -157,7 +145,7 @@ module _ (f : List ℕ) (F : Frame) (heights : List ℕ) (keys : Option Keyed) (
           kept = (
             kept,
             (
-              not_overfull,
+              roomy,
               (
                 by_head rules.ChildNotVouched met,
                 (
@@ -171,15 +159,6 @@ module _ (f : List ℕ) (F : Frame) (heights : List ℕ) (keys : Option Keyed) (
             ),
           );
         }
-
-  none_more : (IsVouchedBy heights n → ⊥) → (t : ℕ) → Sums f F heights n t → Sums f F heights (suc n) t
-  none_more never t sums = record {
-    objects = sums.objects;
-    differ = sums.differ;
-    inside = all_weaker _ _ (λ m p. (p.0, omega (arith, p.1))) sums.objects sums.inside;
-    take_all = sums.take_all;
-    most = most_same f F (IsVouchedBy heights) n t never sums.most;
-  }
 
   module _ (look : Look) where
     below_by : ((m : ℕ) → m < n → IsVouchedBy heights m → IsShown f F (lists heights keys) look m) → (IsVouchedBy heights n → IsShown f F (lists heights keys) look n)
@@ -196,7 +175,7 @@ module _ (f : List ℕ) (F : Frame) (heights : List ℕ) (keys : Option Keyed) (
     pub passed : (slice_index heights n ≡ 0) → (t : ℕ) → Running f F (lists heights keys) look n t → Running f F (lists heights keys) look (suc n) t
     passed none t run =
         let never : IsVouchedBy heights n → ⊥ = λ v. omega (arith, v, none) in
-        record { sums = none_more never t run.sums; room = run.room; kept = below_by run.kept (λ v. absurd (never v)) }
+        record { sums = sums_same f F (IsVouchedBy heights) n t never run.sums; room = run.room; kept = below_by run.kept (λ v. absurd (never v)) }
 
     -- one vouched object more
     pub held_more : (t : ℕ) → Running f F (lists heights keys) look n t → (u : ℕ) → IsHeld f F (lists heights keys) look n u → Running f F (lists heights keys) look (suc n) u
@@ -226,7 +205,7 @@ vouched_inside heights count n e v = elim (cases_lt n (length heights)) [
 -- before the first object
 pub start : (f : List ℕ) (F : Frame) (certificate : Lists) (look : Look) → IsFrame f F → Running f F certificate look 0 0
 start f F certificate look frame = record {
-  sums = record { objects = []; differ = distinct_none; inside = tt; take_all = refl; most = most_none f F (IsVouchedBy certificate.heights) };
+  sums = sums_none f F (IsVouchedBy certificate.heights);
   room = omega (arith, (numbered frame).table_early);
   kept = λ m lt v. absurd (omega arith);
 }

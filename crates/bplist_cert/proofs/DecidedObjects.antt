@@ -14,6 +14,7 @@ use Rattle.bplist_objects.specs.Announced.{HasHead}
 use Rattle.bplist_objects.specs.Safe.{ref_count}
 use Rattle.bplist_objects.specs.Rules.{KeepsAll}
 use Rattle.bplist_objects.specs.ObjectRules.{KeepsByObject, object_rules}
+use Rattle.bplist_objects.specs.Extents.{Sums}
 use Rattle.bplist_objects.proofs.Lists.{Either, all_or_first}
 use Rattle.bplist_objects.proofs.KeptOrBroken.{frame_kept_or_fault, object_kept_or_fault}
 use Rattle.bplist_objects.proofs.FrameTies.{trailer_is_frame}
@@ -26,7 +27,7 @@ use Rattle.bplist_cert.specs.Valid.{IsVouchedBy}
 use Rattle.bplist_cert.specs.Heights.{ref, Meets, AreMet, IsFirstUnmet, IsHeightFault}
 use Rattle.bplist_cert.specs.Keys.{HaveTexts}
 use Rattle.bplist_cert.specs.CheckRules.{KeepsLast, IsLastFault, IsKeysFault, IsCheckFault}
-use Rattle.bplist_cert.specs.PairFault.{Sums, IsHeld, Running, IsVouchedFault, IsCountFault, IsPairFault}
+use Rattle.bplist_cert.specs.PairFault.{IsHeld, Running, IsVouchedFault, IsCountFault, IsPairFault}
 use Rattle.bplist_cert.specs.Sorted.{IsAccepted}
 use Rattle.bplist_cert.proofs.CheckSteps.{object_fault, overfull_fault, heights_fault, keys_break, seen, held, held_more, passed, start}
 use Rattle.bplist_cert.proofs.AcceptedCertificates.{accepted}
@@ -121,7 +122,7 @@ module _ (f : List ℕ) (F : Frame) where
       certificate = lists heights keys
 
       -- ---- all rules of a vouched object
-      module _ (n : ℕ) (lt : n < F.objects) (vouched : IsVouchedBy heights n) (t : ℕ) (sums : Sums f F heights n t) where
+      module _ (n : ℕ) (lt : n < F.objects) (vouched : IsVouchedBy heights n) (t : ℕ) (sums : Sums f F (IsVouchedBy heights) n t) where
         abbrev HeldOrFault : Type 0
         HeldOrFault =
             ((u : ℕ) × IsHeld f F certificate Exact n u)

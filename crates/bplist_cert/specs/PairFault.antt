@@ -1,13 +1,11 @@
 -- The first fault of a file and a certificate. Source: profile.
 use Rattle.std.specs.Prelude.{◌≡◌, ◌≢◌, ◌⊎◌, ℕ, suc, ◌+◌, ◌*◌, ◌<◌, ◌≤◌, List, length, slice_index, Some, None}
-use Rattle.std.specs.List.{AllByRecursion}
 use Rattle.bplist_objects.specs.declared.rule.Rule.TheVariants as rules
 use Rattle.bplist_objects.specs.declared.fault.Fault.{Fault}
 use Rattle.bplist_objects.specs.declared.frame.Frame.{Frame}
 use Rattle.bplist_objects.specs.Frame.{IsFrame}
 use Rattle.bplist_objects.specs.FrameRules.{IsFrameFault}
-use Rattle.bplist_objects.specs.Holds.{AreDistinct}
-use Rattle.bplist_objects.specs.Extents.{TakeOctets, AtMost}
+use Rattle.bplist_objects.specs.Extents.{Sums}
 use Rattle.bplist_cert.specs.Lists.{Lists}
 use Rattle.bplist_cert.specs.Valid.{IsVouchedBy}
 use Rattle.bplist_cert.specs.CheckRules.{KeepsCheck, IsCheckFault}
@@ -22,23 +20,15 @@ pub record IsVouchedFault (f : List ℕ) (F : Frame) (certificate : Lists) (faul
   pub first : IsCheckFault f F certificate object fault
   pub least : (m : ℕ) → m < object → IsVouchedBy certificate.heights m → KeepsCheck f F certificate m
 
--- together the vouched objects below n take t bytes
-pub record Sums (f : List ℕ) (F : Frame) (heights : List ℕ) (n t : ℕ) : Type 0 where
-  pub objects : List ℕ
-  pub differ : AreDistinct objects
-  pub inside : AllByRecursion (λ m. IsVouchedBy heights m × (m < n)) objects
-  pub take_all : TakeOctets f F objects t
-  pub most : AtMost f F (λ m. IsVouchedBy heights m × (m < n)) t
-
 -- a look shows vouched object n as it should be, and with it the vouched objects take t bytes, for which there is room
 pub record IsHeld (f : List ℕ) (F : Frame) (certificate : Lists) (look : Look) (n t : ℕ) : Type 0 where
-  pub sums : Sums f F certificate.heights (suc n) t
+  pub sums : Sums f F (IsVouchedBy certificate.heights) (suc n) t
   pub room : t + 8 ≤ F.table
   pub kept : IsShown f F certificate look n
 
 -- so far the vouched objects are as they should be, and take t bytes, for which there is room
 pub record Running (f : List ℕ) (F : Frame) (certificate : Lists) (look : Look) (n t : ℕ) : Type 0 where
-  pub sums : Sums f F certificate.heights n t
+  pub sums : Sums f F (IsVouchedBy certificate.heights) n t
   pub room : t + 8 ≤ F.table
   pub kept : (m : ℕ) → m < n → IsVouchedBy certificate.heights m → IsShown f F certificate look m
 

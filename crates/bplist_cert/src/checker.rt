@@ -4,6 +4,7 @@ ghost use Rattle.std.specs.Prelude.{◌≡◌, ◌+◌, ◌≤◌, ◌<◌, ℕ,
 ghost use Rattle.bplist_octets.specs.Meaning.{OnlyReads, Honestly};
 ghost use Rattle.bplist_objects.specs.Framed.{frame_in, HonestlyIn};
 ghost use Rattle.bplist_objects.specs.Frame.{off};
+ghost use Rattle.bplist_objects.specs.Extents.{Sums};
 ghost use Rattle.bplist_objects.specs.Safe.{IsSafeHead, IsSafeFrame};
 ghost use Rattle.bplist_objects.specs.Rules.{KeepsAll};
 ghost use Rattle.bplist_objects.specs.Announced.{HasHead};
@@ -16,7 +17,7 @@ ghost use Rattle.bplist_cert.specs.Heights.{AreLower};
 ghost use Rattle.bplist_cert.specs.Looks.{IsShownFault, AreSeen};
 ghost use Rattle.bplist_cert.specs.KeyClasses.{HasGoodKeys, IsFirstKeysFault};
 ghost use Rattle.bplist_cert.specs.declared.checker.Look.TheVariants.{Quick as quick, Exact as exact};
-ghost use Rattle.bplist_cert.specs.PairFault.{Sums, IsHeld, Running, IsWalkFault, IsSeenFault, IsVouchedFault, IsCountFault, IsKept, IsPairFault};
+ghost use Rattle.bplist_cert.specs.PairFault.{IsHeld, Running, IsWalkFault, IsSeenFault, IsVouchedFault, IsCountFault, IsKept, IsPairFault};
 ghost use Rattle.bplist_cert.specs.Refusals.{Judges, GivesRefusal, is_read, refused_read, MayRefuse};
 ghost use Rattle.bplist_cert.specs.Sorted.{IsAccepted};
 ghost use Rattle.bplist_objects.specs.Answers.{Never, read_failed};
@@ -97,7 +98,7 @@ fn look_quickly<P: Framed>(
     ensures reads { OnlyReads (refused_read result) (P.means src.old) (P.means src.new) }
     ensures memory { IfErr result (MayRefuse walk.now.keys.now) }
     ensures exact { HonestlyIn (P.means src.old) (λ f F. place ≡ off f F n.0
-        → IsVouchedBy walk.now.heights.now n.0 → Sums f F walk.now.heights.now n.0 used
+        → IsVouchedBy walk.now.heights.now n.0 → Sums f F (IsVouchedBy walk.now.heights.now) n.0 used
         → Judges (IsHeld f F (lists walk.now.heights.now walk.now.keys.now) quick n.0)
         (IsShownFault f F (lists walk.now.heights.now walk.now.keys.now) quick n.0) result) }
 {
@@ -120,7 +121,7 @@ fn look_exactly<P: Framed>(
     ensures reads { OnlyReads (refused_read result) (P.means src.old) (P.means src.new) }
     ensures memory { IfErr result (MayRefuse walk.now.keys.now) }
     ensures exact { HonestlyIn (P.means src.old) (λ f F. place ≡ off f F n.0
-        → IsVouchedBy walk.now.heights.now n.0 → Sums f F walk.now.heights.now n.0 used
+        → IsVouchedBy walk.now.heights.now n.0 → Sums f F (IsVouchedBy walk.now.heights.now) n.0 used
         → Judges (IsHeld f F (lists walk.now.heights.now walk.now.keys.now) quick n.0)
         (IsShownFault f F (lists walk.now.heights.now walk.now.keys.now) exact n.0) result) }
 {
@@ -145,7 +146,7 @@ fn check_object<P: Framed>(
     ensures reads { OnlyReads (refused_read result) (P.means src.old) (P.means src.new) }
     ensures memory { IfErr result (MayRefuse walk.now.keys.now) }
     ensures exact { HonestlyIn (P.means src.old) (λ f F. place ≡ off f F n.0
-        → IsVouchedBy walk.now.heights.now n.0 → Sums f F walk.now.heights.now n.0 used
+        → IsVouchedBy walk.now.heights.now n.0 → Sums f F (IsVouchedBy walk.now.heights.now) n.0 used
         → Judges (IsHeld f F (lists walk.now.heights.now walk.now.keys.now) quick n.0)
         (IsShownFault f F (lists walk.now.heights.now walk.now.keys.now) walk.now.look n.0) result) }
 {

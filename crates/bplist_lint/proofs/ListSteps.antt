@@ -16,7 +16,7 @@ use Rattle.bplist_objects.specs.Spelled.{spelled_at}
 use Rattle.bplist_objects.proofs.HeadLaws.{head_parts}
 use Rattle.bplist_objects.proofs.AnnouncedHeads.{announced_short}
 use Rattle.bplist_objects.proofs.Lists.{all_weaker}
-use Rattle.bplist_objects.proofs.ExtentSums.{shape_extent}
+use Rattle.bplist_objects.proofs.ExtentSums.{shape_extent, sums_none, sums_more, sums_same}
 use Rattle.bplist_objects.proofs.BodyLaws.{HasHead-unique}
 use Rattle.bplist_objects.proofs.HeadTies.{shape_announced, spells_body}
 use Rattle.bplist_objects.proofs.SpelledContents.{spells_iff}
@@ -28,7 +28,7 @@ use Rattle.bplist_lint.specs.KeyLists.{IsListed}
 use Rattle.bplist_cert.proofs.AcceptedCertificates.{accepted, keeps_all}
 use Rattle.bplist_lint.specs.Linted.{is_vouched}
 use Rattle.bplist_lint.specs.Upgraded.{pairs_of, pairs, pairs_below, Listed, IsUpgraded}
-use Rattle.bplist_lint.proofs.TallySteps.{sums_none, sums_more, sums_same, next_is}
+use Rattle.bplist_lint.proofs.TallySteps.{next_is}
 
 -- ---- parts of lists
 -- a part of the front

@@ -12,51 +12,20 @@ use Rattle.bplist_objects.specs.Safe.{ref_count}
 use Rattle.bplist_objects.specs.Rules.{KeepsAll}
 use Rattle.bplist_objects.specs.ObjectRules.{KeepsByObject, object_rules, IsObjectFault}
 use Rattle.bplist_objects.specs.Reach.{Reach}
-use Rattle.bplist_objects.specs.Extents.{HasExtent, IsOverfull}
-use Rattle.bplist_objects.proofs.Lists.{all_at, all_weaker, distinct_none, distinct_more}
-use Rattle.bplist_objects.proofs.ExtentSums.{shape_extent, most_none, most_more, most_same}
+use Rattle.bplist_objects.specs.Extents.{Sums}
+use Rattle.bplist_objects.proofs.ExtentSums.{shape_extent, sums_none, sums_more, sums_same, not_overfull, overfull}
 use Rattle.bplist_objects.proofs.RuleLaws.{first_fault_after, first_fault_among, kept_all_after}
 use Rattle.bplist_objects.proofs.HeadTies.{head_tie}
 use Rattle.bplist_objects.proofs.References.{length-refs}
 use Rattle.bplist_objects.proofs.ReachedObjects.{refs_spelled}
 use Rattle.bplist_keys.specs.Marks.{IsMarked}
-use Rattle.bplist_lint.specs.ReachRules.{KeepsByReach, BreaksAtReach, IsReachFault, Sums, Tallied}
+use Rattle.bplist_lint.specs.ReachRules.{KeepsByReach, BreaksAtReach, IsReachFault, Tallied}
 use Rattle.bplist_lint.specs.declared.tally.Tally.{Tally}
 
 pub next_is : (n : ℕ) → suc n ≡ n + 1
 next_is n = omega arith
 
 module _ (f : List ℕ) (F : Frame) where
-  module _ (S : ℕ → Type 0) where
-    pub sums_none : Sums f F S 0 0
-    sums_none = record { objects = []; differ = distinct_none; inside = tt; take_all = refl; most = most_none f F S }
-
-    pub sums_more : (n e t : ℕ) → S n → HasExtent f F n e → Sums f F S n t → Sums f F S (suc n) (t + e)
-    sums_more n e t on extent s = record {
-      objects = n ∷ s.objects;
-      differ = distinct_more n s.objects (λ c. let l = (all_at _ s.objects n s.inside c).1 in omega arith) s.differ;
-      inside = ((on, omega arith), all_weaker _ _ (λ m k. (k.0, let l = k.1 in omega arith)) s.objects s.inside);
-      take_all = (e, t, extent, s.take_all, omega arith);
-      most = most_more f F S n e t extent s.most;
-    }
-
-    pub sums_same : (n t : ℕ) → (S n → ⊥) → Sums f F S n t → Sums f F S (suc n) t
-    sums_same n t off s = record {
-      objects = s.objects;
-      differ = s.differ;
-      inside = all_weaker _ _ (λ m k. (k.0, let l = k.1 in omega arith)) s.objects s.inside;
-      take_all = s.take_all;
-      most = most_same f F S n t off s.most;
-    }
-
-    pub not_overfull : (n t : ℕ) → Sums f F S (suc n) t → t + 8 ≤ F.table → IsOverfull f F S n → ⊥
-    not_overfull n t s room o =
-        let most = s.most o.0 o.1 o.2 (all_weaker _ _ (λ m k. (k.0, let l = k.1 in omega arith)) o.0 o.3) o.4 in
-        omega (arith, most, room, o.5)
-
-    pub overfull : (n t : ℕ) → Sums f F S (suc n) t → F.table < t + 8 → IsOverfull f F S n
-    overfull n t s full = (s.objects, t, s.differ, all_weaker _ _ (λ m k. (k.0, let l = k.1 in omega arith)) s.objects s.inside, s.take_all, full)
-
   -- an object that is not reached, and so not marked
   pub tallied_over : (marks : List Bool) (n : ℕ) (tally : Tally) → get_or marks n false ≡ false → (Reach f F n → ⊥) → Tallied f F marks n tally → Tallied f F marks (n + 1) tally
   tallied_over marks n tally unmarked unreached t = subst (λ k. Tallied f F marks k tally) (next_is n) (record {
@@ -64,7 +33,7 @@ module _ (f : List ℕ) (F : Frame) where
       | inl e ↦ absurd (unreached (rw e at r))
       | inr ne ↦ t.kept m (omega arith) r
     ];
-    sums = sums_same (Reach f F) n tally.used unreached t.sums;
+    sums = sums_same f F (Reach f F) n tally.used unreached t.sums;
     reached = rw unmarked (omega (arith, t.reached));
     references = rw unmarked (omega (arith, t.references));
   })
@@ -72,7 +41,7 @@ module _ (f : List ℕ) (F : Frame) where
   pub tallied_none : (marks : List Bool) → Tallied f F marks 0 (record { reached = 0; used = 0; references = 0 })
   tallied_none marks = record {
     kept = λ m low r. absurd (omega arith);
-    sums = sums_none (Reach f F);
+    sums = sums_none f F (Reach f F);
     reached = refl;
     references = refl;
   }
@@ -92,14 +61,14 @@ module _ (f : List ℕ) (F : Frame) where
       is_head = (head_tie f F n frame within head).0 (has, kept)
 
       sums_with : Sums f F (Reach f F) (suc n) (tally.used + (head.«end» - off f F n))
-      sums_with = sums_more (Reach f F) n (head.«end» - off f F n) tally.used reached (shape_extent f F n head is_head.0) t.sums
+      sums_with = sums_more f F (Reach f F) n (head.«end» - off f F n) tally.used reached (shape_extent f F n head is_head.0) t.sums
 
       -- a fault by rule 31
       pub room_fault : (fault : Fault) → fault.rule ≡ rules.Overfull → fault.object ≡ Some (record { 0 = n }) → fault.place ≡ off f F n → F.table < tally.used + (head.«end» - off f F n) + 8 → IsReachFault f F fault
       room_fault fault rule object place full = record {
         object = n;
         member = reached;
-        first = first_fault_after (KeepsByReach f F n) (BreaksAtReach f F n) object_rules (rules.Overfull ∷ []) fault kept (inl (rule, (object, overfull (Reach f F) n _ sums_with full, place)));
+        first = first_fault_after (KeepsByReach f F n) (BreaksAtReach f F n) object_rules (rules.Overfull ∷ []) fault kept (inl (rule, (object, overfull f F (Reach f F) n _ sums_with full, place)));
         least = t.kept;
       }
 
@@ -108,7 +77,7 @@ module _ (f : List ℕ) (F : Frame) where
           → Tallied f F marks (n + 1) now
       tallied_more marked room now one bytes more = subst (λ k. Tallied f F marks k now) (next_is n) (record {
         kept = λ m low r. elim (cases_eq m n) [
-          | inl e ↦ rw e (kept_all_after (KeepsByReach f F n) object_rules (rules.Overfull ∷ []) kept (not_overfull (Reach f F) n _ sums_with room, tt))
+          | inl e ↦ rw e (kept_all_after (KeepsByReach f F n) object_rules (rules.Overfull ∷ []) kept (not_overfull f F (Reach f F) n _ sums_with room, tt))
           | inr ne ↦ t.kept m (omega arith) r
         ];
         sums = subst (Sums f F (Reach f F) (suc n)) (sym bytes) sums_with;

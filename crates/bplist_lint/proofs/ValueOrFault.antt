@@ -13,9 +13,10 @@ use Rattle.bplist_objects.specs.Announced.{HasHead}
 use Rattle.bplist_objects.specs.Rules.{KeepsAll, IsFirstFault}
 use Rattle.bplist_objects.specs.ObjectRules.{KeepsByObject, object_rules}
 use Rattle.bplist_objects.specs.Reach.{Reach, top, Founded}
+use Rattle.bplist_objects.specs.Extents.{Sums}
 use Rattle.bplist_objects.specs.Spelled.{refs_at}
 use Rattle.bplist_objects.proofs.KeptOrBroken.{frame_kept_or_fault, object_kept_or_fault}
-use Rattle.bplist_objects.proofs.ExtentSums.{shape_extent}
+use Rattle.bplist_objects.proofs.ExtentSums.{shape_extent, sums_none, sums_more, sums_same, not_overfull, overfull}
 use Rattle.bplist_objects.proofs.FrameTies.{numbered, trailer_is_frame}
 use Rattle.bplist_objects.proofs.ReachedObjects.{refs_iff, refs_within}
 use Rattle.bplist_objects.proofs.Lists.{Either, all_or_first}
@@ -23,7 +24,7 @@ use Rattle.bplist_objects.proofs.RuleLaws.{first_fault_after, first_fault_among,
 use Rattle.bplist_objects.proofs.HeadTies.{keeps_iff, shape_announced}
 use Rattle.bplist_cert.proofs.DecidedObjects.{fault_at}
 use Rattle.bplist_cert.proofs.DecidedKeys.{dict_decided, texts_or_first, differ_or_first}
-use Rattle.bplist_lint.specs.ReachRules.{KeepsByReach, BreaksAtReach, KeepReachBelow, IsReachFault, Sums, reach_rules}
+use Rattle.bplist_lint.specs.ReachRules.{KeepsByReach, BreaksAtReach, KeepReachBelow, IsReachFault, reach_rules}
 use Rattle.bplist_lint.specs.KeyRules.{KeepsByKeys, BreaksAtKeys, KeepKeysBelow, IsKeysFault, key_rules}
 use Rattle.bplist_lint.specs.FileFault.{IsCircle, IsObjectsFault, IsFileFault, IsFramedCircle, IsFileCircle}
 use Rattle.bplist_lint.specs.WellFormed.{IsWellFormed}
@@ -34,7 +35,6 @@ use Rattle.bplist_cert.proofs.CheckSteps.{first_of_keys}
 use Rattle.bplist_cert.proofs.KeyClasses.{good_at}
 use Rattle.bplist_lint.proofs.KeySteps.{kept_by_good}
 use Rattle.bplist_lint.proofs.KeptRules.{kept_spells, kept_formed}
-use Rattle.bplist_lint.proofs.TallySteps.{sums_none, sums_more, sums_same, not_overfull, overfull}
 
 module _ (f : List ℕ) (F : Frame) (frame : IsFrame f F) where
   -- ---- the graph of the references is finite

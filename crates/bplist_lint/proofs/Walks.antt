@@ -9,6 +9,7 @@ use Rattle.bplist_objects.specs.Announced.{HasHead}
 use Rattle.bplist_objects.specs.Frame.{off, IsFrame}
 use Rattle.bplist_objects.specs.ObjectRules.{KeepsByObject, object_rules}
 use Rattle.bplist_objects.specs.Reach.{Reach, top, next}
+use Rattle.bplist_objects.specs.Extents.{Sums}
 use Rattle.bplist_objects.specs.Rules.{KeepsAll}
 use Rattle.bplist_objects.specs.Safe.{ref_count}
 use Rattle.bplist_objects.specs.Spelled.{refs_at}
@@ -22,7 +23,7 @@ use Rattle.bplist_keys.specs.Marks.{IsMarked}
 use Rattle.bplist_lint.specs.declared.tally.Tally.{Tally}
 use Rattle.bplist_lint.specs.declared.walk.Reached.{Reached}
 use Rattle.bplist_lint.specs.Referring.{AreBare}
-use Rattle.bplist_lint.specs.ReachRules.{sum_below, number_below, references_below, is_marked, Sums, Tallied}
+use Rattle.bplist_lint.specs.ReachRules.{sum_below, number_below, references_below, is_marked, Tallied}
 use Rattle.bplist_lint.specs.Tallies.{IsTalliedWith}
 use Rattle.bplist_lint.specs.Walks.{Noted, extent_by, extent, extents_below, IsVisited, IsWalkState, IsWalked, AreNamed}
 use Rattle.bplist_lint.proofs.MarkSteps.{apart_none, apart_push, apart_front, apart_last, fresh-set}

@@ -1,7 +1,6 @@
 -- The rules of the objects that the top reaches, 14 to 20 and 31: how each is kept, and how it is broken and where, and the first fault of them.
 -- Source: profile.
 use Rattle.std.specs.Prelude.{◌≡◌, ℕ, zero, suc, ◌+◌, ◌<◌, Bool, false, cond, List, [], ◌∷◌, ◌++◌, length, slice_index_or, Option, Some}
-use Rattle.std.specs.List.{AllByRecursion}
 use Rattle.bplist_objects.specs.declared.rule.Rule.{Rule}
 use Rattle.bplist_objects.specs.declared.rule.Rule.TheVariants as rules
 use Rattle.bplist_objects.specs.declared.fault.Fault.{Fault}
@@ -10,9 +9,8 @@ use Rattle.bplist_objects.specs.declared.frame.ObjectNo.{ObjectNo}
 use Rattle.bplist_objects.specs.Frame.{off}
 use Rattle.bplist_objects.specs.Rules.{KeepBelow, IsLeastFault}
 use Rattle.bplist_objects.specs.ObjectRules.{KeepsByObject, BreaksAt, object_rules}
-use Rattle.bplist_objects.specs.Holds.{AreDistinct}
 use Rattle.bplist_objects.specs.Reach.{Reach}
-use Rattle.bplist_objects.specs.Extents.{TakeOctets, AtMost, IsOverfull}
+use Rattle.bplist_objects.specs.Extents.{Sums, IsOverfull}
 use Rattle.bplist_objects.specs.Spelled.{refs_at}
 use Rattle.bplist_lint.specs.declared.tally.Tally.{Tally}
 
@@ -53,14 +51,6 @@ module _ (f : List ℕ) (F : Frame) where
   abbrev pub IsReachFault : Fault → Type 0
   IsReachFault fault = IsLeastFault KeepsByReach reach_rules (Reach f F) BreaksAtReach fault
 
-  -- together the objects of S below n take t bytes
-  pub record Sums (S : ℕ → Type 0) (n t : ℕ) : Type 0 where
-    pub objects : List ℕ
-    pub differ : AreDistinct objects
-    pub inside : AllByRecursion (λ m. S m × (m < n)) objects
-    pub take_all : TakeOctets f F objects t
-    pub most : AtMost f F (λ m. S m × (m < n)) t
-
   -- how many references the objects below n that satisfy p have
   abbrev pub references_below : (ℕ → Bool) → ℕ → ℕ
   references_below p n = sum_below (λ m. cond (p m) (length (refs_at f F m)) 0) n
@@ -68,6 +58,6 @@ module _ (f : List ℕ) (F : Frame) where
   -- so far the reached objects, which are marked, keep the rules, and this is their tally
   pub record Tallied (marks : List Bool) (n : ℕ) (tally : Tally) : Type 0 where
     pub kept : KeepReachBelow n
-    pub sums : Sums (Reach f F) n tally.used
+    pub sums : Sums f F (Reach f F) n tally.used
     pub reached : tally.reached ≡ number_below (is_marked marks) n
     pub references : tally.references ≡ references_below (is_marked marks) n

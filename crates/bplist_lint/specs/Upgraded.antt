@@ -5,12 +5,13 @@ use Rattle.bplist_objects.specs.declared.head.Head.{Head}
 use Rattle.bplist_objects.specs.declared.kind.Kind.TheVariants.{Dict}
 use Rattle.bplist_objects.specs.Announced.{HasHead}
 use Rattle.bplist_objects.specs.Heads.{Content, dict}
+use Rattle.bplist_objects.specs.Extents.{Sums}
 use Rattle.bplist_objects.specs.Spelled.{spelled_at}
 use Rattle.bplist_cert.specs.Lists.{Keyed, Lists}
 use Rattle.bplist_cert.specs.Valid.{IsVouchedBy}
 use Rattle.bplist_cert.specs.Sorted.{IsAccepted}
 use Rattle.bplist_cert.specs.CheckRules.{HasOrder}
-use Rattle.bplist_lint.specs.ReachRules.{Sums, sum_below}
+use Rattle.bplist_lint.specs.ReachRules.{sum_below}
 use Rattle.bplist_lint.specs.Linted.{is_vouched}
 
 -- how many pairs a dictionary has

@@ -7,7 +7,7 @@ use Rattle.bplist_objects.specs.declared.head.Head.{Head}
 use Rattle.bplist_objects.specs.Frame.{off}
 use Rattle.bplist_objects.specs.Heads.{HasShape}
 use Rattle.bplist_objects.specs.Holds.{AreDistinct}
-use Rattle.bplist_objects.specs.Extents.{HasExtent, TakeOctets, AtMost, HaveRoom}
+use Rattle.bplist_objects.specs.Extents.{HasExtent, TakeOctets, AtMost, Sums, HaveRoom, IsOverfull}
 use Rattle.bplist_objects.specs.Announced.{form_of}
 use Rattle.bplist_objects.proofs.AnnouncedHeads.{announced_short}
 use Rattle.bplist_objects.proofs.HeadLaws.{head_parts}
@@ -93,9 +93,40 @@ module _ (f : List ℕ) (F : Frame) where
       let b = most l.rest l.sum l.differ l.below l.take in
       omega (arith, l.most, b)
 
-  pub most_same : (S : ℕ → Type 0) (n t : ℕ) → (S n → ⊥) → AtMost f F (λ m. S m × (m < n)) t → AtMost f F (λ m. S m × (m < suc n)) t
+  most_same : (S : ℕ → Type 0) (n t : ℕ) → (S n → ⊥) → AtMost f F (λ m. S m × (m < n)) t → AtMost f F (λ m. S m × (m < suc n)) t
   most_same S n t no1 most ns r d a w =
       most ns r d (all_from _ ns (λ m c.
       let p = all_at _ ns m a c in
       let ne : m ≡ n → ⊥ = λ q. no1 (subst S q p.0) in
       (p.0, omega (arith, p.1, ne)))) w
+
+  module _ (S : ℕ → Type 0) where
+    pub sums_none : Sums f F S 0 0
+    sums_none = record { objects = []; differ = distinct_none; inside = tt; take_all = refl; most = most_none S }
+
+    pub sums_more : (n e t : ℕ) → S n → HasExtent f F n e → Sums f F S n t → Sums f F S (suc n) (t + e)
+    sums_more n e t on extent s = record {
+      objects = n ∷ s.objects;
+      differ = distinct_more n s.objects (λ c. let l = (all_at _ s.objects n s.inside c).1 in omega arith) s.differ;
+      inside = ((on, omega arith), all_weaker _ _ (λ m k. (k.0, let l = k.1 in omega arith)) s.objects s.inside);
+      take_all = (e, t, extent, s.take_all, omega arith);
+      most = most_more S n e t extent s.most;
+    }
+
+    pub sums_same : (n t : ℕ) → (S n → ⊥) → Sums f F S n t → Sums f F S (suc n) t
+    sums_same n t off_n s = record {
+      objects = s.objects;
+      differ = s.differ;
+      inside = all_weaker _ _ (λ m k. (k.0, let l = k.1 in omega arith)) s.objects s.inside;
+      take_all = s.take_all;
+      most = most_same S n t off_n s.most;
+    }
+
+    -- rule 31 of an object by the sum up to it
+    pub not_overfull : (n t : ℕ) → Sums f F S (suc n) t → t + 8 ≤ F.table → IsOverfull f F S n → ⊥
+    not_overfull n t s room o =
+        let most = s.most o.0 o.1 o.2 (all_weaker _ _ (λ m k. (k.0, let l = k.1 in omega arith)) o.0 o.3) o.4 in
+        omega (arith, most, room, o.5)
+
+    pub overfull : (n t : ℕ) → Sums f F S (suc n) t → F.table < t + 8 → IsOverfull f F S n
+    overfull n t s full = (s.objects, t, s.differ, all_weaker _ _ (λ m k. (k.0, let l = k.1 in omega arith)) s.objects s.inside, s.take_all, full)

@@ -21,6 +21,14 @@ module _ (f : List ℕ) (F : Frame) where
   abbrev pub AtMost : (ℕ → Type 0) → ℕ → Type 0
   AtMost S t = (ns : List ℕ) (r : ℕ) → AreDistinct ns → AllByRecursion S ns → TakeOctets ns r → r ≤ t
 
+  -- together the objects of S below n take t bytes
+  pub record Sums (S : ℕ → Type 0) (n t : ℕ) : Type 0 where
+    pub objects : List ℕ
+    pub differ : AreDistinct objects
+    pub inside : AllByRecursion (λ m. S m × (m < n)) objects
+    pub take_all : TakeOctets objects t
+    pub most : AtMost (λ m. S m × (m < n)) t
+
   -- distinct objects of S fit between header and table
   abbrev pub HaveRoom : (ℕ → Type 0) → Type 0
   HaveRoom S = (ns : List ℕ) (r : ℕ) → AreDistinct ns → AllByRecursion S ns → TakeOctets ns r → r + 8 ≤ F.table
