@@ -1,25 +1,25 @@
 -- What printing answers, by what the walk and the sink answer.
-use Rattle.std.proofs.Common.{◌≡◌, inl, inr, ◌<◌, ◌≤◌, ℕ, List, [], ◌++◌, arith, length, take, refl, ap, subst, Option, Some, None, Err, append-nil}
+use Rattle.std.proofs.Common.{◌≡◌, ◌≢◌, inl, inr, ◌<◌, ◌≤◌, ℕ, List, [], ◌++◌, arith, length, take, refl, ap, subst, Option, Some, None, Err, append-nil}
 use Rattle.std.specs.Io.KnownBytes.{Appends}
 use Rattle.std.proofs.KnownBytes.{Keeps-refl}
 use Rattle.bplist_objects.specs.declared.frame.Frame.{Frame}
 use Rattle.bplist_objects.specs.Value.{Value}
+use Rattle.bplist_cursor.specs.declared.faults.Unread.{Unread}
+use Rattle.bplist_cursor.specs.declared.faults.Unread.TheVariants as unread
 use Rattle.bplist_cursor.specs.OldStyle.{value_text, plain}
 use Rattle.bplist_ascii.specs.declared.print_fault.PrintFault.{PrintFault}
 use Rattle.bplist_ascii.specs.declared.print_fault.PrintFault.TheVariants.{NoAsciiForm, TooLong, Write, Read, Changed, Memory}
 use Rattle.bplist_ascii.specs.Sending.{Sending, SendsSome, Takes, TakesPart, IsOut, IsCut, AtMost}
-use Rattle.bplist_ascii.specs.Writing.{IsReadFault, AddFails, TakesWithin}
+use Rattle.bplist_ascii.specs.Writing.{AddFails, TakesWithin}
 use Rattle.bplist_ascii.specs.Printed.{FitsLimit, IsPut, IsPrinted, HasText}
 use Rattle.bplist_ascii.proofs.SinkSteps.{out_start, out_takes, out_part, out_long}
+use Rattle.bplist_ascii.proofs.WriteSteps.{print_fault_of}
 
 -- a failed read before anything is put in, of a value without a text
-pub read_prints : (now : Option (List ℕ)) (s : Sending) (f : List ℕ) (F : Frame) (n : ℕ) (v : Value) (limit : ℕ) (e : PrintFault) → value_text v ≡ None → IsReadFault e → IsPut now now s s f F n v limit (Err e)
-read_prints now s f F n v limit (Read fault) none h = inl (none, (Keeps-refl now, refl))
-read_prints now s f F n v limit (Write sent) none h = absurd h
-read_prints now s f F n v limit Memory none h = absurd h
-read_prints now s f F n v limit Changed none h = absurd h
-read_prints now s f F n v limit TooLong none h = absurd h
-read_prints now s f F n v limit (NoAsciiForm m) none h = absurd h
+pub read_prints : (now : Option (List ℕ)) (s : Sending) (f : List ℕ) (F : Frame) (n : ℕ) (v : Value) (limit : ℕ) (e : Unread) → value_text v ≡ None → e ≢ unread.Changed
+    → IsPut now now s s f F n v limit (Err (print_fault_of e))
+read_prints now s f F n v limit (unread.Read fault) none h = inl (none, (Keeps-refl now, refl))
+read_prints now s f F n v limit unread.Changed none h = absurd (h refl)
 
 -- what was not put into a new sink was not written
 pub put_failed : (old new : Option (List ℕ)) (s t : Sending) (f : List ℕ) (F : Frame) (n : ℕ) (v : Value) (limit : ℕ) (e : PrintFault) → s.sent ≡ 0 → s.held ≡ [] → IsPut old new s t f F n v limit (Err e) → IsPrinted old new f F n v limit (Err e)

@@ -1,6 +1,6 @@
 -- What is put into a sink, piece by piece.
-use Rattle.std.proofs.Common.{IsTrue, take-append-drop, slice_index, ◌&&◌, ◌≡◌, ℕ, suc, ◌+◌, ◌<◌, ◌≤◌, Bool, true, false, List, [], ◌∷◌, ◌++◌, arith, length, take, drop, refl, sym, ap, ◌∙◌, subst, append_assoc, append-nil, Result, Ok, Err}
-use Rattle.std.specs.Prelude.{Option, OnErr, ⊤}
+use Rattle.std.proofs.Common.{IsTrue, take-append-drop, slice_index, ◌&&◌, ◌≡◌, ◌≢◌, ℕ, suc, ◌+◌, ◌<◌, ◌≤◌, Bool, true, false, List, [], ◌∷◌, ◌++◌, arith, length, take, drop, refl, sym, ap, ◌∙◌, subst, append_assoc, append-nil, Result, Ok, Err}
+use Rattle.std.specs.Prelude.{Option, OnErr}
 use Rattle.std.specs.List.{flat_map, list_all}
 use Rattle.std.proofs.KnownBytes.{Appends-trans}
 use Rattle.std.proofs.lemmas.List.{length-append}
@@ -9,14 +9,13 @@ use Rattle.std.proofs.lemmas.List.Folds.{list_all-append}
 use Rattle.std.proofs.lemmas.List.{drop_more}
 use lib.Seq.{take-add}
 use Rattle.bplist_octets.specs.Octets.{part}
+use Rattle.bplist_cert.specs.CheckedFile.{CheckedFile}
 use Rattle.bplist_ascii.specs.Sending.{Sending, SendsSome, TakesPart}
 use Rattle.bplist_cursor.specs.Texts.{is_plain, text_of_units, quoted}
 use Rattle.bplist_ascii.specs.declared.style.Style.TheVariants.{Bare, Quoted}
-use Rattle.bplist_octets.specs.Meaning.{Meaning}
 use Rattle.bplist_cursor.specs.declared.faults.Unread.{Unread}
 use Rattle.bplist_cursor.specs.declared.faults.Unread.TheVariants as unread
-use Rattle.bplist_cursor.specs.Causes.{GivesRead}
-use Rattle.bplist_ascii.specs.Writing.{IsReadFault, styled, fits, is_bare_text, Adds, AddsText, AddFails, StaysWithin}
+use Rattle.bplist_ascii.specs.Writing.{styled, fits, is_bare_text, Adds, AddsText, AddFails, StaysWithin}
 use Rattle.bplist_ascii.specs.declared.print_fault.PrintFault.{PrintFault}
 use Rattle.bplist_ascii.specs.declared.print_fault.PrintFault.TheVariants.{NoAsciiForm, TooLong, Write, Read, Changed, Memory}
 use Rattle.bplist_cursor.proofs.StepObjects.{not_true}
@@ -176,30 +175,21 @@ pub fails_under : (old new : Option (List ℕ)) (s : Sending) (room : ℕ) (e : 
 fails_under old new s room e is h = subst (λ l. length l ≤ room → AddFails old new s l e) is h
 
 -- the same cause as an answer of the printer
-abbrev print_fault_of : Unread → PrintFault
+abbrev pub print_fault_of : Unread → PrintFault
 print_fault_of (unread.Read fault) = Read fault
 print_fault_of unread.Changed = Changed
-
--- a failed read is one to the printer
-pub read_unread : (e : Unread) → GivesRead {X = ⊤} (λ _. ⊤) (Err e) → IsReadFault (print_fault_of e)
-read_unread (unread.Read x) h = tt
-read_unread unread.Changed h = absurd (h refl)
 
 -- of bytes of which the first were put in a first part went out
 pub adds_some : {old new : Option (List ℕ)} {s t : Sending} {r r' : ℕ} {xs whole : List ℕ} (ys : List ℕ) → Adds old new s t r r' xs → whole ≡ xs ++ ys → SendsSome old new (s.held ++ whole)
 adds_some {old} {new} {s} ys p is = subst (λ l. SendsSome old new (s.held ++ l)) (sym is) (some_of_takes ys p.taken)
 
 -- a failed read where the first of the bytes were put in
-pub read_fails : {old new : Option (List ℕ)} {s t : Sending} {r r' : ℕ} {xs whole : List ℕ} (ys : List ℕ) (e : PrintFault) → Adds old new s t r r' xs → whole ≡ xs ++ ys → IsReadFault e
-    → AddFails old new s whole e
-read_fails ys (Read fault) p is h = adds_some ys p is
-read_fails ys (Write sent) p is h = absurd h
-read_fails ys Memory p is h = absurd h
-read_fails ys Changed p is h = absurd h
-read_fails ys TooLong p is h = absurd h
-read_fails ys (NoAsciiForm n) p is h = absurd h
+pub read_fails : {old new : Option (List ℕ)} {s t : Sending} {r r' : ℕ} {xs whole : List ℕ} (ys : List ℕ) (e : Unread) → Adds old new s t r r' xs → whole ≡ xs ++ ys → e ≢ unread.Changed
+    → AddFails old new s whole (print_fault_of e)
+read_fails ys (unread.Read fault) p is h = adds_some ys p is
+read_fails ys unread.Changed p is h = absurd (h refl)
 
--- a fault of a text that is read from a source is one of the text that another means the same as
-pub fails_same : (old new : Option (List ℕ)) (s : Sending) (room : ℕ) (e : PrintFault) (words : Meaning → List ℕ) {m m' : Meaning} → m ≡ m'
-    → (IsTrue m.honest → length (words m) ≤ room → AddFails old new s (words m) e) → IsTrue m'.honest → length (words m') ≤ room → AddFails old new s (words m') e
-fails_same old new s room e words same h = subst (λ m. IsTrue m.honest → length (words m) ≤ room → AddFails old new s (words m) e) same h
+-- a fault of a text that is read from a file is one of the text that the same file has
+pub fails_same : (old new : Option (List ℕ)) (s : Sending) (room : ℕ) (e : PrintFault) (words : CheckedFile → List ℕ) {x y : CheckedFile} → x ≡ y
+    → (IsTrue x.source.honest → length (words x) ≤ room → AddFails old new s (words x) e) → IsTrue y.source.honest → length (words y) ≤ room → AddFails old new s (words y) e
+fails_same old new s room e words same h = subst (λ x. IsTrue x.source.honest → length (words x) ≤ room → AddFails old new s (words x) e) same h

@@ -1,5 +1,5 @@
 -- What is put into a sink where there is room for so many bytes. Source: profile.
-use Rattle.std.specs.Prelude.{◌≡◌, ℕ, ◌+◌, ◌≤◌, Bool, true, false, List, [], ◌∷◌, ◌++◌, length, Option, Result, Ok, Err, ⊤}
+use Rattle.std.specs.Prelude.{◌≡◌, ℕ, ◌+◌, ◌≤◌, Bool, true, false, List, [], ◌∷◌, ◌++◌, length, Option, Result, Err}
 use Rattle.std.specs.List.{list_all}
 use Rattle.bplist_cursor.specs.Texts.{is_plain, quoted_unit}
 use Rattle.bplist_ascii.specs.Sending.{Sending, SendsSome, Takes, TakesPart, AtMost}
@@ -12,16 +12,6 @@ use Rattle.bplist_ascii.specs.declared.style.Style.TheVariants.{Bare, Quoted}
 abbrev pub print_read : {X : Type 0} → Result X PrintFault → Bool
 print_read (Err (Read _)) = true
 print_read _ = false
-
--- a failed read alone
-abbrev pub IsReadFault : PrintFault → Type 0
-IsReadFault (Read _) = ⊤
-IsReadFault _ = ⊥
-
--- P holds of what was read, and of a failed read nothing is said
-abbrev pub Reads : {X : Type 0} → (X → Type 0) → Result X PrintFault → Type 0
-Reads P (Ok x) = P x
-Reads P (Err fault) = IsReadFault fault
 
 -- these bytes were put in, and of the room `left` bytes are left
 pub record Adds (old new : Option (List ℕ)) (before after : Sending) (room left : ℕ) (bytes : List ℕ) : Type 0 where

@@ -7,19 +7,18 @@ ghost use Rattle.bplist_objects.specs.Heads.{Content, Spells, content_at};
 ghost use Rattle.bplist_objects.specs.Holds.{Holds};
 ghost use Rattle.bplist_objects.specs.Safe.{IsSafeHead};
 ghost use Rattle.bplist_cert.specs.Valid.{IsVouchedBy};
+ghost use Rattle.bplist_cursor.specs.Causes.{GivesRead, read_failed};
 ghost use Rattle.bplist_cursor.specs.Kept.{Keeps};
 ghost use Rattle.bplist_cursor.specs.Sizes.{AreMeasures, form_in};
 ghost use Rattle.bplist_cursor.specs.declared.form.Form.TheVariants.{NoForm};
 ghost use Rattle.bplist_cursor.specs.OldStyle.{value_text};
 ghost use Rattle.bplist_cursor.specs.Formless.{IsFormless};
 ghost use Rattle.bplist_cursor.specs.Found.{IsHeld};
-ghost use Rattle.bplist_ascii.specs.Writing.{print_read, Reads};
 ghost use Rattle.bplist_ascii.specs.Walks.{IsContainer};
 ghost use Rattle.bplist_ascii.specs.Searching.{LeadsOn, places_of};
 
-use crate::print_fault::PrintFault;
 use bplist_cert::Checked;
-use bplist_cursor::{Form, Measures, Node, member_by_head, node_head};
+use bplist_cursor::{Form, Measures, Node, Unread, member_by_head, node_head};
 use bplist_objects::{Head, Kind, ObjectNo};
 use bplist_octets::Source;
 
@@ -45,15 +44,15 @@ fn first_without_text<S: Source>(
     checked: &mut Checked<S>,
     measures: &Measures,
     head: &Head,
-) -> Result<Node, PrintFault>
+) -> Result<Node, Unread>
     requires head { IsSafeHead checked.old.frame head.now }
     requires container { IsContainer head.now.kind }
     requires measured { HonestlyChecked checked.old
         (λ f F. AreMeasures f F checked.old.certificate.heights measures.now) }
-    ensures reads { Keeps (print_read result) checked.old checked.new }
+    ensures reads { Keeps (read_failed result) checked.old checked.new }
     ensures exact { HonestlyChecked checked.old (λ f F. (n : ℕ) (v : Value) → IsHeld checked.old n v → value_text v ≡ None
         → ((c : Content) → Spells f F n c → c ≡ content_at f F head.now)
-        → Reads (λ node. LeadsOn checked.old n v node.object.0 × (slice_index checked.old.certificate.heights node.object.0
+        → GivesRead (λ node. LeadsOn checked.old n v node.object.0 × (slice_index checked.old.certificate.heights node.object.0
         < slice_index checked.old.certificate.heights n)) result) }
 {
     let (mut i, distance) = places(head.kind);
@@ -64,7 +63,7 @@ fn first_without_text<S: Source>(
         }
         i += distance;
     }
-    Err(PrintFault::Changed)
+    Err(Unread::Changed)
 }
 
 /// The first member of a node's object whose value has no text, or none where the kind of the object has no form.
@@ -72,12 +71,12 @@ fn next_formless<S: Source>(
     checked: &mut Checked<S>,
     measures: &Measures,
     node: Node,
-) -> Result<Option<Node>, PrintFault>
+) -> Result<Option<Node>, Unread>
     requires measured { HonestlyChecked checked.old
         (λ f F. AreMeasures f F checked.old.certificate.heights measures.now) }
-    ensures reads { Keeps (print_read result) checked.old checked.new }
+    ensures reads { Keeps (read_failed result) checked.old checked.new }
     ensures exact { HonestlyChecked checked.old (λ f F. (v : Value) → IsHeld checked.old node.object.0 v → value_text v ≡ None
-        → Reads (λ next. MatchOption next (IsFormless f F node.object.0 v node.object.0)
+        → GivesRead (λ next. MatchOption next (IsFormless f F node.object.0 v node.object.0)
         (λ m. LeadsOn checked.old node.object.0 v m.object.0)) result) }
     ensures lower { IfOk result (λ next. IfSome next (λ m. slice_index checked.old.certificate.heights m.object.0
         < slice_index checked.old.certificate.heights node.object.0)) }
@@ -88,7 +87,7 @@ fn next_formless<S: Source>(
         Kind::Array | Kind::Dict => {
             let part = first_without_text(checked, measures, &head)?;
             if checked.height(part.object) >= checked.height(node.object) {
-                return Err(PrintFault::Changed);
+                return Err(Unread::Changed);
             }
             Ok(Some(part))
         }
@@ -101,12 +100,12 @@ pub(crate) fn first_formless<S: Source>(
     checked: &mut Checked<S>,
     measures: &Measures,
     node: Node,
-) -> Result<ObjectNo, PrintFault>
+) -> Result<ObjectNo, Unread>
     requires measured { HonestlyChecked checked.old
         (λ f F. AreMeasures f F checked.old.certificate.heights measures.now) }
-    ensures reads { Keeps (print_read result) checked.old checked.new }
+    ensures reads { Keeps (read_failed result) checked.old checked.new }
     ensures exact { HonestlyChecked checked.old (λ f F. (v : Value) → IsHeld checked.old node.object.0 v → value_text v ≡ None
-        → Reads (λ m. IsFormless f F node.object.0 v m.0) result) }
+        → GivesRead (λ m. IsFormless f F node.object.0 v m.0) result) }
 {
     let mut part = node;
     while let Some(next) = next_formless(checked, measures, part)? {

@@ -3,20 +3,23 @@
 ghost use Rattle.std.specs.Prelude.{◌≡◌, ◌+◌, ◌<◌, ◌≤◌, true, length, flat_map, IfOk, OnOk, IfErr, OnErr, IsTrue};
 ghost use Rattle.std.specs.List.{list_all};
 ghost use Rattle.bplist_octets.specs.Octets.{part};
-ghost use Rattle.bplist_octets.specs.Meaning.{OnlyReads, Honestly};
+ghost use Rattle.bplist_cert.specs.CheckedFile.{HonestlyChecked};
 ghost use Rattle.bplist_objects.specs.Safe.{IsSafeBody};
 ghost use Rattle.bplist_objects.specs.Units.{IsTextKind, units_of};
 ghost use Rattle.bplist_objects.specs.declared.kind.Kind.TheVariants.{Bytes};
+ghost use Rattle.bplist_cursor.specs.Causes.{GivesRead, read_failed};
+ghost use Rattle.bplist_cursor.specs.Kept.{Keeps};
 ghost use Rattle.bplist_cursor.specs.Texts.{hex_digits, text_of_units, text_of_bytes, quoted};
-ghost use Rattle.bplist_ascii.specs.Writing.{print_read, IsReadFault, AddsText, AddFails, FailsWithin, StaysWithin, styled, fits, is_bare_text};
+ghost use Rattle.bplist_ascii.specs.Writing.{print_read, AddsText, AddFails, FailsWithin, StaysWithin, styled, fits, is_bare_text};
 ghost use Rattle.bplist_ascii.specs.declared.style.Style.TheVariants.{Bare};
 
 use crate::output::{write, write_digits, write_units};
 use crate::print_fault::PrintFault;
 use crate::sink::Sink;
 use crate::style::{Style, Styled};
-use bplist_cursor::are_plain;
-use bplist_objects::{Head, octets_at, read_units};
+use bplist_cert::Checked;
+use bplist_cursor::{Unread, are_plain, body_bytes, body_units};
+use bplist_objects::Head;
 use bplist_octets::Source;
 use std::io::Write;
 
@@ -24,14 +27,13 @@ use std::io::Write;
 const PART: usize = 128;
 
 /// Whether a text has a unit and all are letters and digits of ASCII.
-fn is_bare<S: Source>(src: &mut S, head: &Head) -> Result<bool, PrintFault>
+fn is_bare<S: Source>(checked: &mut Checked<S>, head: &Head) -> Result<bool, Unread>
     requires kind { IsTextKind head.now.kind }
-    requires head { IsSafeBody (length (S.means src.old).octets) head.now }
-    ensures reads { OnlyReads (print_read result) (S.means src.old) (S.means src.new) }
-    ensures exact { IfOk result (λ bare. Honestly (S.means src.old)
-        (λ f. bare ≡ is_bare_text (units_of f head.now))) }
+    requires head { IsSafeBody (length checked.old.source.octets) head.now }
+    ensures reads { Keeps (read_failed result) checked.old checked.new }
+    ensures exact { GivesRead (λ bare. HonestlyChecked checked.old
+        (λ f _. bare ≡ is_bare_text (units_of f head.now))) result }
     ensures some { IfOk result (λ bare. bare ≡ true → 0 < head.now.count) }
-    ensures read { IfErr result IsReadFault }
 {
     if head.count == 0 {
         return Ok(false);
@@ -41,7 +43,7 @@ fn is_bare<S: Source>(src: &mut S, head: &Head) -> Result<bool, PrintFault>
     while done < head.count {
         let now = (head.count - done).min(PART as u64);
         let units = &mut buffer[..now as usize];
-        read_units(src, head, done, units)?;
+        body_units(checked, head, done, units)?;
         if !are_plain(units) {
             return Ok(false);
         }
@@ -52,19 +54,19 @@ fn is_bare<S: Source>(src: &mut S, head: &Head) -> Result<bool, PrintFault>
 
 /// Puts in the units of a text in its style.
 fn write_text_body<S: Source, W: Write>(
-    src: &mut S,
+    checked: &mut Checked<S>,
     text: &Styled,
     sink: &mut Sink,
     out: &mut W,
     room: &mut u64,
 ) -> Result<(), PrintFault>
     requires kind { IsTextKind text.now.head.kind }
-    requires head { IsSafeBody (length (S.means src.old).octets) text.now.head }
-    ensures reads { OnlyReads (print_read result) (S.means src.old) (S.means src.new) }
+    requires head { IsSafeBody (length checked.old.source.octets) text.now.head }
+    ensures reads { Keeps (print_read result) checked.old checked.new }
     ensures adds { OnOk result (AddsText (W.contents out.old) (W.contents out.new) sink.old sink.new room.old room.new
-        (IsTrue (S.means src.old).honest) (flat_map (styled text.now.style) (units_of (S.means src.old).octets text.now.head))) }
-    ensures fails { IfErr result (λ e. Honestly (S.means src.old)
-        (λ f. list_all (fits text.now.style) (units_of f text.now.head) ≡ true
+        (IsTrue checked.old.source.honest) (flat_map (styled text.now.style) (units_of checked.old.source.octets text.now.head))) }
+    ensures fails { IfErr result (λ e. HonestlyChecked checked.old
+        (λ f _. list_all (fits text.now.style) (units_of f text.now.head) ≡ true
         → length (flat_map (styled text.now.style) (units_of f text.now.head)) ≤ room.old
         → AddFails (W.contents out.old) (W.contents out.new) sink.old (flat_map (styled text.now.style) (units_of f text.now.head))
         e)) }
@@ -76,7 +78,7 @@ fn write_text_body<S: Source, W: Write>(
     while done < text.head.count {
         let now = (text.head.count - done).min(PART as u64);
         let units = &mut buffer[..now as usize];
-        read_units(src, &text.head, done, units)?;
+        body_units(checked, &text.head, done, units)?;
         write_units(sink, out, room, text.style, units)?;
         done += now;
     }
@@ -85,19 +87,19 @@ fn write_text_body<S: Source, W: Write>(
 
 /// Puts in two hexadecimal digits for each byte of data.
 fn write_data_body<S: Source, W: Write>(
-    src: &mut S,
+    checked: &mut Checked<S>,
     head: &Head,
     sink: &mut Sink,
     out: &mut W,
     room: &mut u64,
 ) -> Result<(), PrintFault>
     requires kind { head.now.kind ≡ Bytes }
-    requires head { IsSafeBody (length (S.means src.old).octets) head.now }
-    ensures reads { OnlyReads (print_read result) (S.means src.old) (S.means src.new) }
+    requires head { IsSafeBody (length checked.old.source.octets) head.now }
+    ensures reads { Keeps (print_read result) checked.old checked.new }
     ensures adds { OnOk result (AddsText (W.contents out.old) (W.contents out.new) sink.old sink.new room.old room.new
-        (IsTrue (S.means src.old).honest) (flat_map hex_digits (part (S.means src.old).octets head.now.body head.now.count))) }
-    ensures fails { IfErr result (λ e. Honestly (S.means src.old)
-        (λ f. FailsWithin (W.contents out.old) (W.contents out.new) sink.old room.old
+        (IsTrue checked.old.source.honest) (flat_map hex_digits (part checked.old.source.octets head.now.body head.now.count))) }
+    ensures fails { IfErr result (λ e. HonestlyChecked checked.old
+        (λ f _. FailsWithin (W.contents out.old) (W.contents out.new) sink.old room.old
         (flat_map hex_digits (part f head.now.body head.now.count)) e)) }
     ensures bounded { OnErr result (StaysWithin (W.contents out.old) (W.contents out.new) sink.old room.old) }
 {
@@ -106,7 +108,7 @@ fn write_data_body<S: Source, W: Write>(
     while done < head.count {
         let now = (head.count - done).min(PART as u64);
         let bytes = &mut buffer[..now as usize];
-        octets_at(src, head, done, bytes)?;
+        body_bytes(checked, head, done, bytes)?;
         write_digits(sink, out, room, bytes)?;
         done += now;
     }
@@ -115,43 +117,43 @@ fn write_data_body<S: Source, W: Write>(
 
 /// Puts in the text of data.
 pub(crate) fn write_data<S: Source, W: Write>(
-    src: &mut S,
+    checked: &mut Checked<S>,
     head: &Head,
     sink: &mut Sink,
     out: &mut W,
     room: &mut u64,
 ) -> Result<(), PrintFault>
     requires kind { head.now.kind ≡ Bytes }
-    requires head { IsSafeBody (length (S.means src.old).octets) head.now }
-    ensures reads { OnlyReads (print_read result) (S.means src.old) (S.means src.new) }
+    requires head { IsSafeBody (length checked.old.source.octets) head.now }
+    ensures reads { Keeps (print_read result) checked.old checked.new }
     ensures adds { OnOk result (AddsText (W.contents out.old) (W.contents out.new) sink.old sink.new room.old room.new
-        (IsTrue (S.means src.old).honest) (text_of_bytes (part (S.means src.old).octets head.now.body head.now.count))) }
-    ensures fails { IfErr result (λ e. Honestly (S.means src.old)
-        (λ f. FailsWithin (W.contents out.old) (W.contents out.new) sink.old room.old
+        (IsTrue checked.old.source.honest) (text_of_bytes (part checked.old.source.octets head.now.body head.now.count))) }
+    ensures fails { IfErr result (λ e. HonestlyChecked checked.old
+        (λ f _. FailsWithin (W.contents out.old) (W.contents out.new) sink.old room.old
         (text_of_bytes (part f head.now.body head.now.count)) e)) }
     ensures bounded { OnErr result (StaysWithin (W.contents out.old) (W.contents out.new) sink.old room.old) }
     ensures falls { OnOk result (room.new < room.old) }
 {
     write(sink, out, room, b"<")?;
-    write_data_body(src, head, sink, out, room)?;
+    write_data_body(checked, head, sink, out, room)?;
     write(sink, out, room, b">")
 }
 
 /// Puts in a text between quotes.
 fn write_quoted<S: Source, W: Write>(
-    src: &mut S,
+    checked: &mut Checked<S>,
     head: &Head,
     sink: &mut Sink,
     out: &mut W,
     room: &mut u64,
 ) -> Result<(), PrintFault>
     requires kind { IsTextKind head.now.kind }
-    requires head { IsSafeBody (length (S.means src.old).octets) head.now }
-    ensures reads { OnlyReads (print_read result) (S.means src.old) (S.means src.new) }
+    requires head { IsSafeBody (length checked.old.source.octets) head.now }
+    ensures reads { Keeps (print_read result) checked.old checked.new }
     ensures adds { OnOk result (AddsText (W.contents out.old) (W.contents out.new) sink.old sink.new room.old room.new
-        (IsTrue (S.means src.old).honest) (quoted (units_of (S.means src.old).octets head.now))) }
-    ensures fails { IfErr result (λ e. Honestly (S.means src.old)
-        (λ f. FailsWithin (W.contents out.old) (W.contents out.new) sink.old room.old (quoted (units_of f head.now)) e)) }
+        (IsTrue checked.old.source.honest) (quoted (units_of checked.old.source.octets head.now))) }
+    ensures fails { IfErr result (λ e. HonestlyChecked checked.old
+        (λ f _. FailsWithin (W.contents out.old) (W.contents out.new) sink.old room.old (quoted (units_of f head.now)) e)) }
     ensures bounded { OnErr result (StaysWithin (W.contents out.old) (W.contents out.new) sink.old room.old) }
     ensures falls { OnOk result (room.new < room.old) }
 {
@@ -160,34 +162,34 @@ fn write_quoted<S: Source, W: Write>(
         head: *head,
         style: Style::Quoted,
     };
-    write_text_body(src, &text, sink, out, room)?;
+    write_text_body(checked, &text, sink, out, room)?;
     write(sink, out, room, b"\"")
 }
 
 /// Puts in the text of a text.
 pub(crate) fn write_text<S: Source, W: Write>(
-    src: &mut S,
+    checked: &mut Checked<S>,
     head: &Head,
     sink: &mut Sink,
     out: &mut W,
     room: &mut u64,
 ) -> Result<(), PrintFault>
     requires kind { IsTextKind head.now.kind }
-    requires head { IsSafeBody (length (S.means src.old).octets) head.now }
-    ensures reads { OnlyReads (print_read result) (S.means src.old) (S.means src.new) }
+    requires head { IsSafeBody (length checked.old.source.octets) head.now }
+    ensures reads { Keeps (print_read result) checked.old checked.new }
     ensures adds { OnOk result (AddsText (W.contents out.old) (W.contents out.new) sink.old sink.new room.old room.new
-        (IsTrue (S.means src.old).honest) (text_of_units (units_of (S.means src.old).octets head.now))) }
-    ensures fails { IfErr result (λ e. Honestly (S.means src.old)
-        (λ f. FailsWithin (W.contents out.old) (W.contents out.new) sink.old room.old (text_of_units (units_of f head.now)) e)) }
+        (IsTrue checked.old.source.honest) (text_of_units (units_of checked.old.source.octets head.now))) }
+    ensures fails { IfErr result (λ e. HonestlyChecked checked.old
+        (λ f _. FailsWithin (W.contents out.old) (W.contents out.new) sink.old room.old (text_of_units (units_of f head.now)) e)) }
     ensures bounded { OnErr result (StaysWithin (W.contents out.old) (W.contents out.new) sink.old room.old) }
     ensures falls { OnOk result (room.new < room.old) }
 {
-    if is_bare(src, head)? {
+    if is_bare(checked, head)? {
         let text = Styled {
             head: *head,
             style: Style::Bare,
         };
-        return write_text_body(src, &text, sink, out, room);
+        return write_text_body(checked, &text, sink, out, room);
     }
-    write_quoted(src, head, sink, out, room)
+    write_quoted(checked, head, sink, out, room)
 }

@@ -14,7 +14,7 @@ ghost use Rattle.bplist_cursor.specs.Kept.{Keeps};
 use crate::checked_objects::{head_in, reference_in};
 use crate::faults::CursorFault;
 use crate::list::List;
-use crate::node_face::body_units;
+use crate::node_face::text_units;
 use bplist_cert::Checked;
 use bplist_objects::{Head, Kind, ObjectNo};
 use bplist_octets::Source;
@@ -33,7 +33,7 @@ fn key_text<S: Source>(
 {
     let head = head_in(checked, k)?;
     match head.kind {
-        Kind::Ascii | Kind::Wide => body_units(alloc, checked, &head),
+        Kind::Ascii | Kind::Wide => text_units(alloc, checked, &head),
         _ => Err(CursorFault::Changed),
     }
 }

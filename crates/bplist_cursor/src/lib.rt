@@ -15,6 +15,7 @@
 //! | one step from a node | [`step_from`] |
 //! | what a node is: a leaf, or a container's kind and count | [`face`], [`Face`] |
 //! | its members and bytes | [`member`], [`bytes_of`] |
+//! | the same by its head, part by part | [`node_head`], [`member_by_head`], [`body_bytes`], [`body_units`] |
 //! | replies to many queries | [`answer`], [`answer_all`], [`Query`], [`Reply`], [`List`] |
 //! | numbers of nodes and lengths of texts | [`measure`], [`Measures`], [`Form`] |
 //! | units that need no quotes | [`is_plain`], [`are_plain`] |
@@ -24,6 +25,7 @@
 #![tactic(auto)]
 
 mod answers;
+mod bodies;
 mod bytes;
 mod checked_objects;
 mod faces;
@@ -48,6 +50,7 @@ mod reply;
 mod text_length;
 
 pub use answers::{answer, answer_all};
+pub use bodies::{body_bytes, body_units};
 pub use bytes::bytes_of;
 pub use faces::Face;
 pub use faults::{CursorFault, Unread};

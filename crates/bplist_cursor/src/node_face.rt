@@ -17,18 +17,19 @@ ghost use Rattle.bplist_cursor.specs.Replies.{face as face_of};
 ghost use Rattle.bplist_cursor.specs.Shown.{content_face, HasRoom};
 ghost use Rattle.bplist_cursor.specs.declared.faults.CursorFault.TheVariants.{Changed};
 
+use crate::bodies::{body_bytes, body_units};
 use crate::faces::Face;
 use crate::faults::CursorFault;
 use crate::found::Node;
 use crate::list::List;
 use crate::node_object::node_head;
 use bplist_cert::Checked;
-use bplist_objects::{Head, Kind, int_of, octets_at, read_units, uid_of};
+use bplist_objects::{Head, Kind, int_of, uid_of};
 use bplist_octets::Source;
 use std::alloc::Global;
 
-/// The bytes of the body of a leaf that takes one byte for each of its count.
-fn body_bytes<S: Source>(
+/// The bytes of a leaf whose body takes one byte for each of its count.
+fn leaf_bytes<S: Source>(
     alloc: Global,
     checked: &mut Checked<S>,
     head: &Head,
@@ -41,12 +42,12 @@ fn body_bytes<S: Source>(
         (λ f _. bytes ≡ part f head.now.body head.now.count)) result }
 {
     let mut bytes = vec![in alloc; 0u8; head.count as usize]?;
-    octets_at(checked, head, 0, &mut bytes)?;
+    body_bytes(checked, head, 0, &mut bytes)?;
     Ok(List::new(bytes))
 }
 
 /// The units of a text.
-pub(crate) fn body_units<S: Source>(
+pub(crate) fn text_units<S: Source>(
     alloc: Global,
     checked: &mut Checked<S>,
     head: &Head,
@@ -57,7 +58,7 @@ pub(crate) fn body_units<S: Source>(
     ensures value { GivesCursor (λ units. HonestlyChecked checked.old (λ f _. units ≡ units_of f head.now)) result }
 {
     let mut units = vec![in alloc; 0u16; head.count as usize]?;
-    read_units(checked, head, 0, &mut units)?;
+    body_units(checked, head, 0, &mut units)?;
     Ok(List::new(units))
 }
 
@@ -80,10 +81,10 @@ fn face_by_head<S: Source>(
         Kind::False => Ok(Face::Bool(false)),
         Kind::True => Ok(Face::Bool(true)),
         Kind::Int => Ok(Face::Int(int_of(checked, head)?)),
-        Kind::Real => Ok(Face::Real(body_bytes(alloc, checked, head)?)),
-        Kind::Date => Ok(Face::Date(body_bytes(alloc, checked, head)?)),
-        Kind::Bytes => Ok(Face::Bytes(body_bytes(alloc, checked, head)?)),
-        Kind::Ascii | Kind::Wide => Ok(Face::Text(body_units(alloc, checked, head)?)),
+        Kind::Real => Ok(Face::Real(leaf_bytes(alloc, checked, head)?)),
+        Kind::Date => Ok(Face::Date(leaf_bytes(alloc, checked, head)?)),
+        Kind::Bytes => Ok(Face::Bytes(leaf_bytes(alloc, checked, head)?)),
+        Kind::Ascii | Kind::Wide => Ok(Face::Text(text_units(alloc, checked, head)?)),
         Kind::Uid => Ok(Face::Uid(uid_of(checked, head)?)),
         Kind::Array => Ok(Face::Array(head.count)),
         Kind::Set => Ok(Face::Set(head.count)),

@@ -1,14 +1,12 @@
 //! The sizes of all values of a checked file, by one pass over its objects.
 
-ghost use Rattle.std.specs.Prelude.{◌≡◌, ◌<◌, ℕ, Option, Some, List, length, IfOk, IfErr, is_err};
+ghost use Rattle.std.specs.Prelude.{◌≡◌, ◌<◌, ℕ, Option, Some, List, length, IfOk, IfErr};
 ghost use Rattle.std.specs.List.{AllByRecursion};
-ghost use Rattle.bplist_octets.specs.Meaning.{OnlyReads};
 ghost use Rattle.bplist_cert.specs.CheckedFile.{HonestlyChecked};
 ghost use Rattle.bplist_objects.specs.Value.{Value, Leaf};
 ghost use Rattle.bplist_objects.specs.Heads.{Content, Spells, leaf, refs, content_at};
 ghost use Rattle.bplist_objects.specs.Holds.{Holds};
-ghost use Rattle.bplist_objects.specs.Framed.{frame_in, HonestlyIn};
-ghost use Rattle.bplist_objects.specs.Safe.{IsSafeHead};
+ghost use Rattle.bplist_objects.specs.Safe.{IsSafeHead, IsSafeBody};
 ghost use Rattle.bplist_cert.specs.Valid.{IsValid};
 ghost use Rattle.bplist_cursor.specs.Causes.{GivesRead, read_failed, GivesCursor, cursor_read};
 ghost use Rattle.bplist_cursor.specs.Kept.{Keeps};
@@ -19,14 +17,18 @@ ghost use Rattle.bplist_cursor.specs.ObjectSizes.{punctuation_of, AreInside, Are
 ghost use Rattle.bplist_cursor.specs.declared.measures.Size.{Size as size};
 ghost use Rattle.bplist_cursor.specs.declared.faults.CursorFault.TheVariants.{Memory};
 
+use crate::checked_objects::head_in;
 use crate::faults::{CursorFault, Unread};
 use crate::form::Form;
 use crate::measures::{Measures, Size};
 use crate::text_length::text_length;
 use bplist_cert::Checked;
-use bplist_objects::{Framed, Head, Kind, ObjectNo, read_refs_in, refs_of, shape_of};
-use bplist_octets::{ReadFault, Source};
+use bplist_objects::{Head, Kind, ObjectNo, read_refs_in, refs_of};
+use bplist_octets::Source;
 use std::alloc::Global;
+
+/// How many references are read at once at most.
+const BLOCK: usize = 128;
 
 /// How many references are read at once at most.
 const BLOCK: usize = 128;
@@ -54,18 +56,18 @@ fn add_sizes(sizes: &[Option<Size>], refs: &[u64], start: Size) -> Option<Size>
 }
 
 /// The total with the sizes of the objects that the references of this head name added.
-fn add_refs<P: Framed>(
-    src: &mut P,
+fn add_refs<S: Source>(
+    checked: &mut Checked<S>,
     head: &Head,
     sizes: &[Option<Size>],
     start: Size,
 ) -> Result<Size, Unread>
-    requires { IsSafeHead (frame_in (P.means src.old)) head.now }
-    ensures reads { OnlyReads (read_failed result) (P.means src.old) (P.means src.new) }
-    ensures exact { HonestlyIn (P.means src.old) (λ f F. (whole : size)
+    requires { IsSafeHead checked.old.frame head.now }
+    ensures reads { Keeps (read_failed result) checked.old checked.new }
+    ensures exact { HonestlyChecked checked.old (λ f F. (whole : size)
         → added sizes.now start (refs (content_at f F head.now)) ≡ Some whole → GivesRead (λ s. s ≡ whole) result) }
 {
-    let _frame = src.frame();
+    let _frame = checked.frame();
     let count = refs_of(head);
     let mut buffer = [0u64; BLOCK];
     let mut total = start;
@@ -73,7 +75,7 @@ fn add_refs<P: Framed>(
     while done < count {
         let now = (count - done).min(BLOCK as u64);
         let block = &mut buffer[..now as usize];
-        read_refs_in(src, head, done, block)?;
+        read_refs_in(checked, head, done, block)?;
         let Some(more) = add_sizes(sizes, block, total) else {
             return Err(Unread::Changed);
         };
@@ -95,44 +97,42 @@ fn punctuation(head: &Head) -> Form
 }
 
 /// The form of the leaf with this head.
-fn leaf_form<P: Framed>(src: &mut P, head: &Head) -> Result<Form, ReadFault>
-    requires { IsSafeHead (frame_in (P.means src.old)) head.now }
-    ensures reads { OnlyReads (is_err result) (P.means src.old) (P.means src.new) }
-    ensures exact { IfOk result (λ form. HonestlyIn (P.means src.old) (λ f F. (l : Leaf) → leaf l ≡ content_at f F head.now
-        → form ≡ form_of_text (leaf_text l))) }
+fn leaf_form<S: Source>(checked: &mut Checked<S>, head: &Head) -> Result<Form, Unread>
+    requires { IsSafeBody (length checked.old.source.octets) head.now }
+    ensures reads { Keeps (read_failed result) checked.old checked.new }
+    ensures exact { GivesRead (λ form. HonestlyChecked checked.old (λ f F. (l : Leaf) → leaf l ≡ content_at f F head.now
+        → form ≡ form_of_text (leaf_text l))) result }
 {
-    let _frame = src.frame();
     match head.kind {
-        Kind::Ascii | Kind::Wide => Ok(Form::Length(text_length(src, head)?)),
+        Kind::Ascii | Kind::Wide => Ok(Form::Length(text_length(checked, head)?)),
         Kind::Bytes => Ok(Form::Length(head.count.saturating_mul(2).saturating_add(2))),
         _ => Ok(Form::NoForm),
     }
 }
 
 /// The size of the value of an object, where the table has the sizes of its references.
-fn size_of_object<P: Framed>(
-    src: &mut P,
+fn size_of_object<S: Source>(
+    checked: &mut Checked<S>,
     n: ObjectNo,
     sizes: &[Option<Size>],
 ) -> Result<Size, Unread>
-    requires { n.0 < (frame_in (P.means src.old)).objects }
-    ensures reads { OnlyReads (read_failed result) (P.means src.old) (P.means src.new) }
-    ensures exact { HonestlyIn (P.means src.old) (λ f F. (v : Value) → Holds f F n.0 v
+    requires { n.0 < checked.old.frame.objects }
+    ensures reads { Keeps (read_failed result) checked.old checked.new }
+    ensures exact { HonestlyChecked checked.old (λ f F. (v : Value) → Holds f F n.0 v
         → ((c : Content) → Spells f F n.0 c → AllByRecursion (IsSized f F sizes.now) (refs c))
         → GivesRead (λ s. s ≡ size_of v) result) }
 {
-    let frame = src.frame();
-    let head = shape_of(src, &frame, n)?;
+    let head = head_in(checked, n)?;
     match head.kind {
         Kind::Array | Kind::Set | Kind::Dict => {
             let start = Size {
                 nodes: 1,
                 form: punctuation(&head),
             };
-            add_refs(src, &head, sizes, start)
+            add_refs(checked, &head, sizes, start)
         }
         _ => {
-            let form = leaf_form(src, &head)?;
+            let form = leaf_form(checked, &head)?;
             Ok(Size { nodes: 1, form })
         }
     }
@@ -140,19 +140,19 @@ fn size_of_object<P: Framed>(
 
 /// Gives the table the sizes of these objects, one after the other. The order is one in which each object stands
 /// behind those to which it refers.
-fn measure_in_order<P: Framed>(
-    src: &mut P,
+fn measure_in_order<S: Source>(
+    checked: &mut Checked<S>,
     order: &[u32],
     sizes: &mut [Option<Size>],
 ) -> Result<(), Unread>
-    requires inside { AreInside order.now (frame_in (P.means src.old)).objects }
-    requires count { length sizes.old ≡ (frame_in (P.means src.old)).objects }
-    ensures reads { OnlyReads (read_failed result) (P.means src.old) (P.means src.new) }
-    ensures exact { HonestlyIn (P.means src.old) (λ f F. (heights : List ℕ) → IsValid f F heights → IsOrder heights order.now
+    requires inside { AreInside order.now checked.old.frame.objects }
+    requires count { length sizes.old ≡ checked.old.frame.objects }
+    ensures reads { Keeps (read_failed result) checked.old checked.new }
+    ensures exact { HonestlyChecked checked.old (λ f F. (heights : List ℕ) → IsValid f F heights → IsOrder heights order.now
         → IsEmpty sizes.old → GivesRead (λ _. AreSet f F heights order.now (length order.now) sizes.new) result) }
 {
     for n in order {
-        let size = size_of_object(src, ObjectNo(*n), sizes)?;
+        let size = size_of_object(checked, ObjectNo(*n), sizes)?;
         sizes[*n as usize] = Some(size);
     }
     Ok(())

@@ -1,15 +1,20 @@
 //! The length of a text's old-style form.
 
-ghost use Rattle.std.specs.Prelude.{◌≡◌, ◌≤◌, length, flat_map, IfOk, is_err};
+ghost use Rattle.std.specs.Prelude.{◌≡◌, ◌≤◌, length, flat_map};
 ghost use Rattle.std.specs.List.{list_all};
-ghost use Rattle.bplist_octets.specs.Meaning.{OnlyReads, Honestly};
+ghost use Rattle.bplist_cert.specs.CheckedFile.{HonestlyChecked};
 ghost use Rattle.bplist_objects.specs.Safe.{IsSafeBody};
 ghost use Rattle.bplist_objects.specs.Units.{IsTextKind, units_of};
+ghost use Rattle.bplist_cursor.specs.Causes.{GivesRead, read_failed};
+ghost use Rattle.bplist_cursor.specs.Kept.{Keeps};
 ghost use Rattle.bplist_cursor.specs.Nodes.{cap};
 ghost use Rattle.bplist_cursor.specs.Texts as texts;
 
-use bplist_objects::{Head, read_units};
-use bplist_octets::{ReadFault, Source};
+use crate::bodies::body_units;
+use crate::faults::Unread;
+use bplist_cert::Checked;
+use bplist_objects::Head;
+use bplist_octets::Source;
 
 /// How many units are read at once at most.
 const BLOCK: usize = 128;
@@ -53,12 +58,12 @@ fn quoted_length(units: &[u16]) -> u64
 }
 
 /// The length of the old-style form of the text with this head, or 18446744073709551615 where it is longer.
-pub(crate) fn text_length<S: Source>(src: &mut S, head: &Head) -> Result<u64, ReadFault>
+pub(crate) fn text_length<S: Source>(checked: &mut Checked<S>, head: &Head) -> Result<u64, Unread>
     requires kind { IsTextKind head.now.kind }
-    requires head { IsSafeBody (length (S.means src.old).octets) head.now }
-    ensures reads { OnlyReads (is_err result) (S.means src.old) (S.means src.new) }
-    ensures exact { IfOk result (λ n. Honestly (S.means src.old)
-        (λ f. n ≡ cap (length (texts.text_of_units (units_of f head.now))))) }
+    requires head { IsSafeBody (length checked.old.source.octets) head.now }
+    ensures reads { Keeps (read_failed result) checked.old checked.new }
+    ensures exact { GivesRead (λ n. HonestlyChecked checked.old
+        (λ f _. n ≡ cap (length (texts.text_of_units (units_of f head.now))))) result }
 {
     let mut buffer = [0u16; BLOCK];
     let mut plain = true;
@@ -67,7 +72,7 @@ pub(crate) fn text_length<S: Source>(src: &mut S, head: &Head) -> Result<u64, Re
     while done < head.count {
         let now = (head.count - done).min(BLOCK as u64) as usize;
         let units = &mut buffer[..now];
-        read_units(src, head, done, units)?;
+        body_units(checked, head, done, units)?;
         plain &= are_plain(units);
         quoted = quoted.saturating_add(quoted_length(units));
         done += now as u64;

@@ -5,7 +5,6 @@ use Rattle.bplist_cursor.specs.declared.form.Form.TheVariants.{NoForm}
 use Rattle.bplist_cursor.specs.OldStyle.{value_text}
 use Rattle.bplist_cursor.specs.Forms.{form_of, form_of_text}
 use Rattle.bplist_cursor.proofs.StepReferences.{content_of_value}
-use Rattle.bplist_ascii.proofs.WriteSteps.{read_unread}
 use Rattle.bplist_ascii.proofs.WalkSteps.{IsMember, none_from}
 use Rattle.bplist_ascii.proofs.SearchSteps.{no_text_of, passes_start, starts_low, passes_on, passes_few, texts_start, texts_more, kind_is, has_text, not_all, leads}
 use Rattle.bplist_ascii.proofs.formless.first_without_text.Goals as goal
@@ -24,7 +23,7 @@ pub returns-in_err-node-clause-exact : goal.returns-in_err-node-clause-exact
 returns-in_err-node-clause-exact g c = λ honest n v held none shown.
     let p = err_from_is_err_and c.from_residual.result c.from_residual.ensures.1 in
     let s = content_of_value c.args.checked.now.source.octets c.args.checked.now.frame v n held.1 in
-    rw (p.1, p.2) (read_unread c.in_err-node.field-0.0 ((rw c.loop-node.invariant.same at c.in_err-node.ensures.reference) honest n held.0 s.0 s.1 (shown s.0 s.1)))
+    rw (p.1, p.2) ((rw c.loop-node.invariant.same at c.in_err-node.ensures.reference) honest n held.0 s.0 s.1 (shown s.0 s.1))
 
 pub returns-then-has_no_form-clause-exact : goal.returns-then-has_no_form-clause-exact
 returns-then-has_no_form-clause-exact g c = λ honest n v held none shown.
@@ -63,4 +62,4 @@ returns-clause-exact g c = λ honest n v held none shown.
     let file = c.args.checked.now in
     let head = c.args.head.now in
     let member = subst (IsMember file head c.loop-node.i) (none_from c.in_ok-node.field-0 c.in_default.not-Some) ((rw c.loop-node.invariant.same at c.in_ok-node.ensures.reference) honest) in
-    not_all file head n v held shown c.requires.container c.loop-node.i member (c.loop-node.invariant.so_far honest n v held shown) none
+    absurd (not_all file head n v held shown c.requires.container c.loop-node.i member (c.loop-node.invariant.so_far honest n v held shown) none)

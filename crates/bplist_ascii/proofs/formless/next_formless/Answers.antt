@@ -1,7 +1,6 @@
 use Rattle.std.proofs.Common.{rules, arith, ◌≡◌, ◌∙◌, Err}
 use Rattle.std.proofs.lemmas.Result.{err_from_is_err_and}
 use Rattle.bplist_cursor.proofs.StepReferences.{content_of_value}
-use Rattle.bplist_ascii.proofs.WriteSteps.{read_unread}
 use Rattle.bplist_ascii.proofs.SearchSteps.{own_kind}
 use Rattle.bplist_ascii.proofs.formless.next_formless.Goals as goal
 
@@ -9,7 +8,7 @@ pub returns-in_err-head-clause-exact : goal.returns-in_err-head-clause-exact
 returns-in_err-head-clause-exact g c = λ honest v held none.
     let p = err_from_is_err_and c.from_residual.result c.from_residual.ensures.1 in
     let s = content_of_value c.args.checked.now.source.octets c.args.checked.now.frame v c.args.node.object.0 held.1 in
-    rw (p.1, p.2) (read_unread c.in_err-head.field-0.0 (c.in_err-head.ensures.exact honest held.0 s.0 s.1))
+    rw (p.1, p.2) (c.in_err-head.ensures.exact honest held.0 s.0 s.1)
 
 pub returns-in_err-part-in-Array-clause-exact : goal.returns-in_err-part-in-Array-clause-exact
 returns-in_err-part-in-Array-clause-exact g c = λ honest v held none.

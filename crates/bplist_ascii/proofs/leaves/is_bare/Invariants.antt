@@ -4,14 +4,14 @@ use Rattle.bplist_objects.specs.Units.{units_of}
 use Rattle.bplist_cursor.specs.Texts.{is_plain}
 use Rattle.bplist_ascii.proofs.leaves.is_bare.Given as goal
 
--- the source is as it was, and the units so far are plain
+-- the file is as it was, and the units so far are plain
 abbrev pub invariant-loop-done : goal.invariant-loop-done
 invariant-loop-done g l =
-    let means = g.S.Source.means in
+    let file = l.fn.checked in
     record {
-      same : means l.src ≡ means l.fn.src;
+      same : l.checked ≡ file;
       reached : l.done ≤ l.head.count;
-      so_far : IsTrue (means l.fn.src).honest → list_all is_plain (take l.done (units_of (means l.fn.src).octets l.head)) ≡ true;
+      so_far : IsTrue file.source.honest → list_all is_plain (take l.done (units_of file.source.octets l.head)) ≡ true;
     }
 
 abbrev pub decreases-loop-done : goal.decreases-loop-done

@@ -9,13 +9,13 @@ use Rattle.bplist_ascii.proofs.leaves.write_data.Goals as goal
 pub returns-in_err-write-clause-fails : goal.returns-in_err-write-clause-fails
 returns-in_err-write-clause-fails g c =
     let is : c.from_residual.result ≡ Err c.in_err-write.field-0.0 = search rules in
-    let all = part (g.S.Source.means c.args.src.now).octets c.args.head.now.body c.args.head.now.count in
+    let all = part c.args.checked.now.source.octets c.args.head.now.body c.args.head.now.count in
     rw is (λ honest low. adds_fail _ _ _ (60 ∷ []) (flat_map hex_digits all ++ 62 ∷ []) (text_of_bytes all) _ (adds_nothing (g.W.Write.contents c.args.out.now) c.args.sink.now c.args.room.now) c.in_err-write.ensures.fails refl low)
 
 pub returns-in_err-write_data_body-clause-fails : goal.returns-in_err-write_data_body-clause-fails
 returns-in_err-write_data_body-clause-fails g c =
     let is : c.from_residual-in_err-write_data_body.result ≡ Err c.in_err-write_data_body.field-0.0 = search rules in
-    let f = (g.S.Source.means c.args.src.now).octets in
+    let f = c.args.checked.now.source.octets in
     let all = part f c.args.head.now.body c.args.head.now.count in
     rw is (λ honest low. adds_fail _ _ _ (flat_map hex_digits all) (62 ∷ []) (text_of_bytes all) _ c.in_ok-write.ensures.adds (c.in_err-write_data_body.ensures.fails honest) refl low)
 
@@ -26,7 +26,7 @@ returns-in_err-write_data_body-clause-bounded g c =
 
 pub returns-clause-fails : goal.returns-clause-fails
 returns-clause-fails g c =
-    let all = part (g.S.Source.means c.args.src.now).octets c.args.head.now.body c.args.head.now.count in
+    let all = part c.args.checked.now.source.octets c.args.head.now.body c.args.head.now.count in
     IfErr-weaker c.write-2.result _ _
     (λ e fails honest low. adds_fail _ _ _ (62 ∷ []) [] (text_of_bytes all) e (text_adds (text_after c.in_ok-write.ensures.adds c.in_ok-write_data_body.ensures.adds) honest) fails refl low)
     c.write-2.ensures.fails

@@ -5,15 +5,15 @@ use Rattle.bplist_cursor.specs.Texts.{hex_digits}
 use Rattle.bplist_ascii.specs.Writing.{AddsText}
 use Rattle.bplist_ascii.proofs.leaves.write_data_body.Given as goal
 
--- the source is as it was, and the bytes so far were put in
+-- the file is as it was, and the bytes so far were put in
 abbrev pub invariant-loop-done : goal.invariant-loop-done
 invariant-loop-done g l =
-    let means = g.S.Source.means in
+    let file = l.fn.checked in
     record {
-      same : means l.src ≡ means l.fn.src;
+      same : l.checked ≡ file;
       reached : l.done ≤ l.head.count;
       so_far : AddsText (g.W.Write.contents l.fn.out) (g.W.Write.contents l.out) l.fn.sink l.sink l.fn.room l.room
-          (IsTrue (means l.fn.src).honest) (flat_map hex_digits (take l.done (part (means l.fn.src).octets l.head.body l.head.count)));
+          (IsTrue file.source.honest) (flat_map hex_digits (take l.done (part file.source.octets l.head.body l.head.count)));
     }
 
 abbrev pub decreases-loop-done : goal.decreases-loop-done

@@ -9,13 +9,13 @@ use Rattle.bplist_ascii.proofs.leaves.write_quoted.Goals as goal
 pub returns-in_err-write-clause-fails : goal.returns-in_err-write-clause-fails
 returns-in_err-write-clause-fails g c =
     let is : c.from_residual.result ≡ Err c.in_err-write.field-0.0 = search rules in
-    let all = units_of (g.S.Source.means c.args.src.now).octets c.args.head.now in
+    let all = units_of c.args.checked.now.source.octets c.args.head.now in
     rw is (λ honest low. adds_fail _ _ _ (34 ∷ []) (flat_map quoted_unit all ++ 34 ∷ []) (quoted all) _ (adds_nothing (g.W.Write.contents c.args.out.now) c.args.sink.now c.args.room.now) c.in_err-write.ensures.fails refl low)
 
 pub returns-in_err-write_text_body-clause-fails : goal.returns-in_err-write_text_body-clause-fails
 returns-in_err-write_text_body-clause-fails g c =
     let is : c.from_residual-in_err-write_text_body.result ≡ Err c.in_err-write_text_body.field-0.0 = search rules in
-    let f = (g.S.Source.means c.args.src.now).octets in
+    let f = c.args.checked.now.source.octets in
     let all = units_of f c.args.head.now in
     rw is (λ honest low. adds_fail _ _ _ (flat_map quoted_unit all) (34 ∷ []) (quoted all) _ c.in_ok-write.ensures.adds (c.in_err-write_text_body.ensures.fails honest (all_fit all)) refl low)
 
@@ -26,7 +26,7 @@ returns-in_err-write_text_body-clause-bounded g c =
 
 pub returns-clause-fails : goal.returns-clause-fails
 returns-clause-fails g c =
-    let all = units_of (g.S.Source.means c.args.src.now).octets c.args.head.now in
+    let all = units_of c.args.checked.now.source.octets c.args.head.now in
     IfErr-weaker c.write-2.result _ _
     (λ e fails honest low. adds_fail _ _ _ (34 ∷ []) [] (quoted all) e (text_adds (text_after c.in_ok-write.ensures.adds c.in_ok-write_text_body.ensures.adds) honest) fails refl low)
     c.write-2.ensures.fails

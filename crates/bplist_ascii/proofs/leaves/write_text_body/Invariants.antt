@@ -5,15 +5,15 @@ use Rattle.bplist_ascii.specs.Writing.{AddsText, styled}
 use Rattle.bplist_ascii.specs.declared.style.Style.TheVariants.{Bare}
 use Rattle.bplist_ascii.proofs.leaves.write_text_body.Given as goal
 
--- the source is as it was, and the units so far were put in
+-- the file is as it was, and the units so far were put in
 abbrev pub invariant-loop-done : goal.invariant-loop-done
 invariant-loop-done g l =
-    let means = g.S.Source.means in
+    let file = l.fn.checked in
     record {
-      same : means l.src ≡ means l.fn.src;
+      same : l.checked ≡ file;
       reached : l.done ≤ l.text.head.count;
       so_far : AddsText (g.W.Write.contents l.fn.out) (g.W.Write.contents l.out) l.fn.sink l.sink l.fn.room l.room
-          (IsTrue (means l.fn.src).honest) (flat_map (styled l.text.style) (take l.done (units_of (means l.fn.src).octets l.text.head)));
+          (IsTrue file.source.honest) (flat_map (styled l.text.style) (take l.done (units_of file.source.octets l.text.head)));
       falls : l.text.style ≡ Bare → l.room + l.done ≤ l.fn.room;
     }
 

@@ -1,4 +1,5 @@
 use Rattle.std.proofs.Common.{rules, arith, ◌≡◌, ◌<◌, ◌≤◌, inl, inr, length, refl, sym, ap, ◌∙◌, subst, Some, None, Err}
+use Rattle.std.proofs.lemmas.Result.{err_from_is_err_and}
 use Rattle.bplist_cursor.specs.declared.form.Form.TheVariants.{NoForm, Length}
 use Rattle.bplist_cursor.specs.Forms.{form_of}
 use Rattle.bplist_cursor.specs.OldStyle.{value_text}
@@ -12,11 +13,11 @@ use Rattle.bplist_ascii.proofs.printer.print_into.Goals as goal
 
 pub returns-in_err-part-in-Some-NoForm-clause-exact : goal.returns-in_err-part-in-Some-NoForm-clause-exact
 returns-in_err-part-in-Some-NoForm-clause-exact g c = λ honest vouched v h.
-    let is : c.from_residual.result ≡ Err c.in_err-part-in-Some-NoForm.field-0.0 = search rules in
+    let p = err_from_is_err_and c.from_residual.result c.from_residual.ensures.1 in
     let form = (c.requires.measured honest).form c.args.node.object.0 v vouched h in
     let both : Some NoForm ≡ Some (form_of v) = ap Some (sym c.in-Some-NoForm.field-0-is) ∙ c.in-Some-NoForm.ensures ∙ form in
     let none = no_text_of (value_text v) (cc both) in
-    rw is (read_prints _ c.args.sink.now _ _ _ v _ c.in_err-part-in-Some-NoForm.field-0.0 none (c.in_err-part-in-Some-NoForm.ensures.exact honest v (vouched, h) none))
+    rw (p.1, p.2) (read_prints _ c.args.sink.now _ _ _ v _ c.in_err-part-in-Some-NoForm.field-0.0 none (c.in_err-part-in-Some-NoForm.ensures.exact honest v (vouched, h) none))
 
 pub returns-in_ok-part-in-Some-NoForm-clause-exact : goal.returns-in_ok-part-in-Some-NoForm-clause-exact
 returns-in_ok-part-in-Some-NoForm-clause-exact g c = λ honest vouched v h.

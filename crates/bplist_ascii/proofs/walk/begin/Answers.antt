@@ -6,7 +6,7 @@ use Rattle.bplist_cursor.specs.Texts.{text_of_units, text_of_bytes}
 use Rattle.bplist_cursor.specs.OldStyle.{plain}
 use Rattle.bplist_cursor.proofs.StepReferences.{content_of_value}
 use Rattle.bplist_ascii.specs.Walks.{opening_of, text_from}
-use Rattle.bplist_ascii.proofs.WriteSteps.{on_err, adds_some, read_fails, read_unread, fails_under, text_adds, adds_nothing, adds_fit, adds_fail}
+use Rattle.bplist_ascii.proofs.WriteSteps.{on_err, adds_some, read_fails, fails_under, text_adds, adds_nothing, adds_fit, adds_fail}
 use Rattle.bplist_ascii.proofs.WalkSteps.{shows, shows_text, shows_container, shows_none, text_opens, stack_push, safe_push}
 use Rattle.bplist_ascii.specs.declared.print_fault.PrintFault.TheVariants.{Memory}
 use Rattle.bplist_ascii.proofs.walk.begin.Goals as goal
@@ -16,7 +16,7 @@ returns-in_err-head-clause-fails g c =
     let p = err_from_is_err_and c.from_residual.result c.from_residual.ensures.1 in
     rw (p.1, p.2) (λ honest v held formed low.
     let s = content_of_value c.args.checked.now.source.octets c.args.checked.now.frame v c.args.node.object.0 held.1 in
-    read_fails (plain v) _ (adds_nothing (g.W.Write.contents c.args.out.now) c.args.sink.now c.args.walk.now.room) refl (read_unread c.in_err-head.field-0.0 (c.in_err-head.ensures.exact honest held.0 s.0 s.1)))
+    read_fails (plain v) c.in_err-head.field-0.0 (adds_nothing (g.W.Write.contents c.args.out.now) c.args.sink.now c.args.walk.now.room) refl (c.in_err-head.ensures.exact honest held.0 s.0 s.1))
 
 pub returns-in-Ascii-clause-fails : goal.returns-in-Ascii-clause-fails
 returns-in-Ascii-clause-fails g c =

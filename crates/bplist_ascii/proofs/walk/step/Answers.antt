@@ -4,7 +4,7 @@ use Rattle.bplist_objects.proofs.Bounds.{refs_within}
 use Rattle.bplist_cursor.specs.OldStyle.{plain}
 use Rattle.bplist_cursor.proofs.StepReferences.{content_of_value}
 use Rattle.bplist_ascii.specs.Walks.{mark_of, closing_of}
-use Rattle.bplist_ascii.proofs.WriteSteps.{on_err, adds_some, read_fails, read_unread, adds_more, adds_fit, adds_within, adds_fail, adds_nothing}
+use Rattle.bplist_ascii.proofs.WriteSteps.{on_err, adds_some, read_fails, adds_more, adds_fit, adds_within, adds_fail, adds_nothing}
 use Rattle.bplist_ascii.proofs.WalkSteps.{IsMember, none_from, stack_pop, goes_on, ends, safe_push, adds_goes_on}
 use Rattle.bplist_ascii.specs.declared.print_fault.PrintFault.TheVariants.{Memory}
 use Rattle.bplist_ascii.proofs.walk.step.Goals as goal
@@ -17,8 +17,8 @@ returns-in_err-node-clause-fails g c =
     let q = stack_pop file _ _ left stands in
     let r = q.2.1 in
     let s = content_of_value file.source.octets file.frame q.2.0 r.object r.held.1 in
-    read_fails left _ (adds_nothing (g.W.Write.contents c.args.out.now) c.args.sink.now c.args.walk.now.room) refl
-    (read_unread c.in_err-node.field-0.0 (c.in_err-node.ensures.reference honest r.object r.held.0 s.0 s.1 (r.shown s.0 s.1))))
+    read_fails left c.in_err-node.field-0.0 (adds_nothing (g.W.Write.contents c.args.out.now) c.args.sink.now c.args.walk.now.room) refl
+    (c.in_err-node.ensures.reference honest r.object r.held.0 s.0 s.1 (r.shown s.0 s.1)))
 
 pub returns-in_default-clause-heads : goal.returns-in_default-clause-heads
 returns-in_default-clause-heads g c = on_ok_weaker c.write.result (λ adds. c.requires.heads) c.write.ensures.adds

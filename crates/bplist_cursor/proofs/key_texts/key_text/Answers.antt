@@ -17,7 +17,7 @@ pub returns-in-Ascii-clause-exact : goal.returns-in-Ascii-clause-exact
 returns-in-Ascii-clause-exact g c = λ honest us s.
     let head = c.in_ok-head.head in
     let is = text_value c.args.checked.now.source.octets c.args.checked.now.frame head.kind head.count head.body us (c.in_ok-head.ensures.exact honest (leaf (text us)) s) in
-    gives_weaker _ _ c.body_units.result (λ units told. told honest ∙ sym is.1) (rw c.in_ok-head.ensures.reads at c.body_units.ensures.value)
+    gives_weaker _ _ c.text_units.result (λ units told. told honest ∙ sym is.1) (rw c.in_ok-head.ensures.reads at c.text_units.ensures.value)
 
 pub returns-in_default : goal.returns-in_default
 returns-in_default g c = record {

@@ -1,18 +1,17 @@
 use Rattle.std.proofs.Common.{◌≡◌, ◌≤◌, ◌-◌, drop, Some}
 use Rattle.bplist_objects.specs.Heads.{refs, content_at}
-use Rattle.bplist_objects.specs.Framed.{HonestlyIn}
+use Rattle.bplist_cert.specs.CheckedFile.{HonestlyChecked}
 use Rattle.bplist_cursor.specs.Sizes.{added}
 use Rattle.bplist_cursor.specs.declared.measures.Size.{Size}
 use Rattle.bplist_cursor.proofs.object_sizes.add_refs.Given as goal
 
--- the source is as it was, and what is left to add to the total so far gives what all gives
+-- the file is as it was, and what is left to add to the total so far gives what all gives
 abbrev pub invariant-loop-done : goal.invariant-loop-done
 invariant-loop-done g l =
-    let means = g.P.Source.means in
     record {
-      same : means l.src ≡ means l.fn.src;
+      same : l.checked ≡ l.fn.checked;
       reached : l.done ≤ l.count;
-      left : HonestlyIn (means l.fn.src) (λ f F. (whole : Size) → added l.sizes l.fn.start (refs (content_at f F l.head)) ≡ Some whole
+      left : HonestlyChecked l.fn.checked (λ f F. (whole : Size) → added l.sizes l.fn.start (refs (content_at f F l.head)) ≡ Some whole
           → added l.sizes l.total (drop l.done (refs (content_at f F l.head))) ≡ Some whole);
     }
 

@@ -1,14 +1,11 @@
 use Rattle.std.proofs.Common.{arith, subst, ◌≤◌, ◌+◌, ◌*◌}
-use Rattle.bplist_objects.specs.declared.frame.Frame.{Frame}
-use Rattle.bplist_objects.specs.Framed.{frame_in}
 use Rattle.bplist_objects.specs.Announced.{unit}
 use Rattle.bplist_cursor.proofs.ObjectSteps.{bytes_form}
 use Rattle.bplist_cursor.proofs.object_sizes.leaf_form.Goals as goal
 
 pub returns-in-Bytes-clause-exact : goal.returns-in-Bytes-clause-exact
 returns-in-Bytes-clause-exact g c = λ honest l e.
-    let m = g.P.Source.means c.args.src.now in
-    let F : Frame = frame_in m in
-    let body = subst (λ k. c.args.head.now.body + c.args.head.now.count * unit F.ref_size k ≤ c.args.head.now.«end») c.in-Bytes.is c.requires.body in
-    bytes_form m.octets F c.args.head.now.kind c.args.head.now.count c.args.head.now.body c.saturating_add.result l c.in-Bytes.is
-    (omega (arith, body, c.requires.table, c.frame-frame.ensures.framed.safe.safe.room)) e (omega (arith, c.saturating_mul.ensures, c.saturating_add.ensures))
+    let file = c.args.checked.now in
+    let body = subst (λ k. c.args.head.now.body + c.args.head.now.count * unit 1 k ≤ c.args.head.now.«end») c.in-Bytes.is c.requires.body in
+    bytes_form file.source.octets file.frame c.args.head.now.kind c.args.head.now.count c.args.head.now.body c.saturating_add.result l c.in-Bytes.is
+    (omega (arith, body, c.requires.within)) e (omega (arith, c.saturating_mul.ensures, c.saturating_add.ensures))

@@ -1,14 +1,12 @@
 use Rattle.std.proofs.Common.{rules}
 use Rattle.std.proofs.lemmas.Result.{err_from_is_err_and}
-use Rattle.bplist_objects.specs.declared.frame.Frame.{Frame}
-use Rattle.bplist_objects.specs.Framed.{frame_in}
 use Rattle.bplist_cursor.proofs.OrderSteps.{value_at, refs_sized, set_more}
 use Rattle.bplist_cursor.proofs.object_sizes.measure_in_order.Goals as goal
 
 pub returns-in_err-size-clause-exact : goal.returns-in_err-size-clause-exact
 returns-in_err-size-clause-exact g c = λ honest heights valid is empty.
-    let f = (g.P.Source.means c.args.src.now).octets in
-    let F : Frame = frame_in (g.P.Source.means c.args.src.now) in
+    let f = c.args.checked.now.source.octets in
+    let F = c.args.checked.now.frame in
     let set = c.loop-n.invariant.set honest heights valid is empty in
     let v = value_at f F heights c.args.order.now valid is c.loop-n.n-index c.loop-n-test.true in
     let sized = refs_sized f F heights c.args.order.now valid is c.loop-n.n-index c.loop-n.sizes c.loop-n-test.true set in
@@ -18,8 +16,8 @@ returns-in_err-size-clause-exact g c = λ honest heights valid is empty.
 
 pub loop-n-preserved : goal.loop-n-preserved
 loop-n-preserved g c =
-    let f = (g.P.Source.means c.args.src.now).octets in
-    let F : Frame = frame_in (g.P.Source.means c.args.src.now) in
+    let f = c.args.checked.now.source.octets in
+    let F = c.args.checked.now.frame in
     record {
       same = search rules;
       count = search rules;

@@ -13,23 +13,23 @@ use Rattle.bplist_cursor.proofs.text_length.text_length.Goals as goal
 
 pub loop-done-preserved : goal.loop-done-preserved
 loop-done-preserved g c =
-    let f = (g.S.Source.means c.args.src.now).octets in
+    let f = c.args.checked.now.source.octets in
     let us = units_of f c.args.head.now in
     let block : length (take c.min-now.result c.loop-done.buffer) ≡ c.min-now.result = length-take-le c.min-now.result c.loop-done.buffer (omega (arith, c.min-now.array_long, c.min-now.ensures)) in
-    let here = rw c.loop-done.invariant.same at c.in_ok-read_units.ensures.units in
+    let here = rw c.loop-done.invariant.same at c.in_ok-body_units.ensures.units in
     record {
       same = search rules;
       reached = omega arith;
       plain = λ honest.
-          plain_more us c.read_units.new.into c.loop-done.done c.min-now.result c.loop-done.plain c.are_plain.result (c.loop-done.invariant.plain honest) (here honest ∙ ap (part us c.loop-done.done) block) c.are_plain.ensures;
+          plain_more us c.body_units.new.into c.loop-done.done c.min-now.result c.loop-done.plain c.are_plain.result (c.loop-done.invariant.plain honest) (here honest ∙ ap (part us c.loop-done.done) block) c.are_plain.ensures;
       quoted = λ honest.
           c.saturating_add-quoted.ensures
-          ∙ quoted_more us c.read_units.new.into c.loop-done.done c.min-now.result c.loop-done.quoted c.quoted_length.result (c.loop-done.invariant.quoted honest) (here honest ∙ ap (part us c.loop-done.done) block) c.quoted_length.ensures;
+          ∙ quoted_more us c.body_units.new.into c.loop-done.done c.min-now.result c.loop-done.quoted c.quoted_length.result (c.loop-done.invariant.quoted honest) (here honest ∙ ap (part us c.loop-done.done) block) c.quoted_length.ensures;
     }
 
 pub returns-then-head-gt0-clause-exact : goal.returns-then-head-gt0-clause-exact
 returns-then-head-gt0-clause-exact g c = λ honest.
-    let f = (g.S.Source.means c.args.src.now).octets in
+    let f = c.args.checked.now.source.octets in
     let us = units_of f c.args.head.now in
     let within : c.args.head.now.body + c.args.head.now.count * unit 1 c.args.head.now.kind ≤ length f = omega arith in
     let len = length-units_at f c.args.head.now.kind c.args.head.now.count c.args.head.now.body c.requires.kind within in
@@ -38,7 +38,7 @@ returns-then-head-gt0-clause-exact g c = λ honest.
 
 pub returns-else-plain-clause-exact : goal.returns-else-plain-clause-exact
 returns-else-plain-clause-exact g c = λ honest.
-    let f = (g.S.Source.means c.args.src.now).octets in
+    let f = c.args.checked.now.source.octets in
     let us = units_of f c.args.head.now in
     let within : c.args.head.now.body + c.args.head.now.count * unit 1 c.args.head.now.kind ≤ length f = omega arith in
     let len = length-units_at f c.args.head.now.kind c.args.head.now.count c.args.head.now.body c.requires.kind within in

@@ -5,15 +5,15 @@ use Rattle.bplist_cursor.specs.Nodes.{cap}
 use Rattle.bplist_cursor.specs.Texts.{is_plain, quoted_unit}
 use Rattle.bplist_cursor.proofs.text_length.text_length.Given as goal
 
--- the source is as it was, and the units so far are plain or not, and take so many bytes between quotes
+-- the file is as it was, and the units so far are plain or not, and take so many bytes between quotes
 abbrev pub invariant-loop-done : goal.invariant-loop-done
 invariant-loop-done g l =
-    let means = g.S.Source.means in
+    let file = l.fn.checked in
     record {
-      same : means l.src ≡ means l.fn.src;
+      same : l.checked ≡ file;
       reached : l.done ≤ l.head.count;
-      plain : IsTrue (means l.fn.src).honest → l.plain ≡ list_all is_plain (take l.done (units_of (means l.fn.src).octets l.fn.head));
-      quoted : IsTrue (means l.fn.src).honest → l.quoted ≡ cap (2 + length (flat_map quoted_unit (take l.done (units_of (means l.fn.src).octets l.fn.head))));
+      plain : IsTrue file.source.honest → l.plain ≡ list_all is_plain (take l.done (units_of file.source.octets l.fn.head));
+      quoted : IsTrue file.source.honest → l.quoted ≡ cap (2 + length (flat_map quoted_unit (take l.done (units_of file.source.octets l.fn.head))));
     }
 
 abbrev pub decreases-loop-done : goal.decreases-loop-done

@@ -1,0 +1,56 @@
+//! Bodies of objects, read in parts.
+
+ghost use Rattle.std.specs.Prelude.{◌≡◌, ◌+◌, ◌*◌, ◌≤◌, length};
+ghost use Rattle.bplist_octets.specs.Octets.{part};
+ghost use Rattle.bplist_cert.specs.CheckedFile.{HonestlyChecked};
+ghost use Rattle.bplist_objects.specs.Announced.{unit};
+ghost use Rattle.bplist_objects.specs.Kinds.{IsLeafKind};
+ghost use Rattle.bplist_objects.specs.Safe.{IsSafeBody};
+ghost use Rattle.bplist_objects.specs.Units.{IsTextKind, units_of};
+ghost use Rattle.bplist_cursor.specs.Causes.{GivesRead, read_failed};
+ghost use Rattle.bplist_cursor.specs.Kept.{Keeps};
+
+use crate::faults::Unread;
+use bplist_cert::Checked;
+use bplist_objects::{Head, octets_at, read_units};
+use bplist_octets::Source;
+
+/// Fills `into` with the bytes of the body of a leaf with this head, as [`node_head`](crate::node_head) answers it, from its
+/// byte `from` on. `into` ends within the body.
+///
+/// `Read`: a read of the source failed, and then nothing is said of `into`. There is no other fault.
+pub fn body_bytes<S: Source>(
+    checked: &mut Checked<S>,
+    head: &Head,
+    from: u64,
+    into: &mut [u8],
+) -> Result<(), Unread>
+    requires kind { IsLeafKind head.now.kind }
+    requires head { IsSafeBody (length checked.old.source.octets) head.now }
+    requires within { from + length into.old ≤ head.now.count * unit 1 head.now.kind }
+    ensures reads { Keeps (read_failed result) checked.old checked.new }
+    ensures filled { GivesRead (λ _. HonestlyChecked checked.old
+        (λ f _. into.new ≡ part f (head.now.body + from) (length into.old))) result }
+{
+    Ok(octets_at(checked, head, from, into)?)
+}
+
+/// Fills `into` with the units of the text with this head, as [`node_head`](crate::node_head) answers it, from its unit
+/// `from` on. `into` ends within the text.
+///
+/// `Read`: a read of the source failed, and then nothing is said of `into`. There is no other fault.
+pub fn body_units<S: Source>(
+    checked: &mut Checked<S>,
+    head: &Head,
+    from: u64,
+    into: &mut [u16],
+) -> Result<(), Unread>
+    requires kind { IsTextKind head.now.kind }
+    requires head { IsSafeBody (length checked.old.source.octets) head.now }
+    requires within { from + length into.old ≤ head.now.count }
+    ensures reads { Keeps (read_failed result) checked.old checked.new }
+    ensures units { GivesRead (λ _. HonestlyChecked checked.old
+        (λ f _. into.new ≡ part (units_of f head.now) from (length into.old))) result }
+{
+    Ok(read_units(checked, head, from, into)?)
+}
