@@ -57,19 +57,3 @@ impl<'a> FaultySource<'a> {
         }
     }
 }
-
-#[cfg(test)]
-mod tests {
-    use super::*;
-
-    #[test]
-    fn one_read_fails(rt: HostRuntime) {
-        let mut source = FaultySource::new(b"abcdef", 2);
-        for want in [Ok(()), Ok(()), Err(ReadFault::Device), Ok(()), Ok(())] {
-            let mut into = [0; 3];
-            assert!(rt; source.len() == 6);
-            assert_eq!(rt; source.read_at(2, &mut into), want);
-            assert_eq!(rt; into == *b"cde", want.is_ok());
-        }
-    }
-}

@@ -26,8 +26,9 @@ pub struct FileSource {
 /// How many reads a whole read may take beyond one for each byte.
 const SPARE_READS: usize = 64;
 
-/// Fills `into` by at most `into.len() + SPARE_READS` reads. An interrupted read is tried again.
-fn fill_from<R: Read>(reader: &mut R, into: &mut [u8]) -> Result<(), ReadFault>
+/// Fills `into` by at most `into.len() + 64` reads. An interrupted read is tried again. An end of the bytes is `Ended`, and with
+/// bytes still missing after that many reads the answer is `TooManyTurns`.
+pub fn fill_from<R: Read>(reader: &mut R, into: &mut [u8]) -> Result<(), ReadFault>
     ensures { MatchResult result
         (λ _. Consumes (R.remaining reader.old) (R.remaining reader.new) into.new)
         (FillFailed (R.remaining reader.new)) }
@@ -90,89 +91,12 @@ impl Source for FileSource {
         self.length
     }
 
-    /// Seeks and reads until `into` is full. A refused seek or read is `Device`, an end of the file
-    /// `Ended`. After `into.len() + 64` reads with bytes still missing the answer is `TooManyTurns`.
+    /// Seeks, and fills `into` as `fill_from` does. A refused seek or read is `Device`.
     fn read_at(&mut self, at: u64, into: &mut [u8]) -> Result<(), ReadFault> {
         let result = fill_at(&mut self.file, at, into);
         if result.is_err() {
             self.failures = self.failures.saturating_add(1);
         }
         result
-    }
-}
-
-#[cfg(test)]
-mod tests {
-    use super::*;
-    use std::test::Fail;
-    use std::{env, fs, io};
-
-    /// Answers Interrupted some times, and then one byte a read.
-    #[derive(Drop)]
-    struct Slow {
-        interrupts: u64,
-        reads: u64,
-    }
-
-    impl Read for Slow {
-        fn read(&mut self, buf: &mut [u8]) -> io::Result<usize> {
-            self.reads = self.reads.wrapping_add(1);
-            if self.interrupts > 0 {
-                self.interrupts -= 1;
-                return Err(io::Error::from(ErrorKind::Interrupted));
-            }
-            match buf {
-                [first, ..] => {
-                    *first = 7;
-                    Ok(1)
-                }
-                [] => Ok(0),
-            }
-        }
-    }
-
-    #[test]
-    fn a_reader_that_is_interrupted(rt: HostRuntime) {
-        for (interrupts, want, reads) in [
-            (0, Ok(()), 5),
-            (64, Ok(()), 69),
-            (65, Err(ReadFault::TooManyTurns), 69),
-            (u64::MAX, Err(ReadFault::TooManyTurns), 69),
-        ] {
-            let mut reader = Slow {
-                interrupts,
-                reads: 0,
-            };
-            let mut into = [0; 5];
-            assert_eq!(rt; fill_from(&mut reader, &mut into), want, "at {interrupts}");
-            assert_eq!(rt; reader.reads, reads, "at {interrupts}");
-        }
-    }
-
-    #[test]
-    fn a_missing_file(rt: HostRuntime) -> Result<(), Fail> {
-        let Err(fault) = FileSource::open(&rt, "/nowhere/at/all") else {
-            return Err(Fail::from("it opened"));
-        };
-        let text = format!(in rt.alloc(); "{fault}")?;
-        assert!(rt; text.as_str() == "read Open");
-        Ok(())
-    }
-
-    #[test]
-    fn a_file_that_is_cut(rt: HostRuntime) -> Result<(), Fail> {
-        let path = env::temp_dir(&rt)?.join(rt.alloc(), "bplist_octets_file_source")?;
-        fs::write(&rt, path.as_str(), b"abcdef")?;
-        let mut source = FileSource::open(&rt, path.as_str())?;
-        assert!(rt; source.len() == 6);
-        let mut into = [0; 3];
-        assert_eq!(rt; source.read_at(2, &mut into), Ok(()));
-        assert!(rt; into == *b"cde");
-        fs::write(&rt, path.as_str(), b"abc")?;
-        assert!(rt; source.len() == 6);
-        assert_eq!(rt; source.read_at(2, &mut into), Err(ReadFault::Ended));
-        assert_eq!(rt; source.failures, 1);
-        fs::remove_file(&rt, path.as_str())?;
-        Ok(())
     }
 }

@@ -59,21 +59,3 @@ pub fn first_high(l: &[u8]) -> Option<usize>
     }
     None
 }
-
-#[cfg(test)]
-mod tests {
-    use super::*;
-
-    #[test]
-    fn a_high_byte_at_each_place(rt: HostRuntime) {
-        let mut bytes = [0x7f; 200];
-        for length in 0..200 {
-            assert_eq!(rt; first_high(&bytes[..length]), None, "at {length}");
-            for place in 0..length {
-                bytes[place] = 0x80;
-                assert_eq!(rt; first_high(&bytes[..length]), Some(place), "at {place}");
-                bytes[place] = 0x7f;
-            }
-        }
-    }
-}

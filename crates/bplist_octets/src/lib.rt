@@ -13,6 +13,7 @@
 //! | a source: a length, and a read at a place that must lie inside | [`Source`], [`ReadFault`] |
 //! | a source over memory | [`SliceSource::new`], `borrow` |
 //! | a source over a file | [`FileSource::open`], [`OpenFault`] |
+//! | bytes of a reader, in a bounded number of reads | [`fill_from`] |
 //! | larger reads of a source: one window of its own, or panes that the caller lends | [`Window::new`]; [`Windows::new`], [`Pane`] |
 //! | big-endian numbers of up to 8 and 16 bytes | [`sized`], [`wide`] |
 //! | the first byte of 128 or more | [`first_high`] |
@@ -33,7 +34,7 @@ mod window;
 mod windows;
 
 pub use faulty::FaultySource;
-pub use file::{FileSource, OpenFault};
+pub use file::{FileSource, OpenFault, fill_from};
 pub use lanes::first_high;
 pub use numbers::{sized, wide};
 pub use shifting::ShiftingSource;

@@ -36,22 +36,3 @@ pub fn wide(l: &[u8]) -> u128
         n => BigEndian::read_uint128(l, n),
     }
 }
-
-#[cfg(test)]
-mod tests {
-    use super::*;
-
-    #[test]
-    fn a_number_of_each_width(rt: HostRuntime) {
-        let bytes = *b"\x81\x02\x03\x04\x05\x06\x07\xf8\x09\x0a\x0b\x0c\x0d\x0e\x0f\xff";
-        let number: u128 = 0x8102_0304_0506_07f8_090a_0b0c_0d0e_0fff;
-        for i in 0..16 {
-            let want = number >> (120 - 8 * i as u32);
-            let part = &bytes[..i + 1];
-            assert_eq!(rt; wide(part), want, "at {i}");
-            if i < 8 {
-                assert_eq!(rt; u128::from(sized(part)), want, "at {i}");
-            }
-        }
-    }
-}

@@ -66,19 +66,3 @@ impl<'a> ShiftingSource<'a> {
         }
     }
 }
-
-#[cfg(test)]
-mod tests {
-    use super::*;
-
-    #[test]
-    fn the_bytes_change(rt: HostRuntime) {
-        let mut source = ShiftingSource::new(b"abcdef", b"ABCDEF", 2);
-        for want in [b"cde", b"cde", b"CDE", b"CDE"] {
-            let mut into = [0; 3];
-            assert!(rt; source.len() == 6);
-            assert_eq!(rt; source.read_at(2, &mut into), Ok(()));
-            assert!(rt; into == *want);
-        }
-    }
-}

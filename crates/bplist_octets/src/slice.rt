@@ -54,18 +54,3 @@ impl<'a> SliceSource<'a> {
         &self.octets[start..start + n as usize]
     }
 }
-
-#[cfg(test)]
-mod tests {
-    use super::*;
-
-    #[test]
-    fn reads_and_lends(rt: HostRuntime) {
-        let mut source = SliceSource::new(b"abcdef");
-        assert_eq!(rt; source.len(), 6);
-        let mut into = [0; 3];
-        assert_eq!(rt; source.read_at(2, &mut into), Ok(()));
-        assert!(rt; into == *b"cde");
-        assert!(rt; source.borrow(3, 3) == b"def".as_slice());
-    }
-}

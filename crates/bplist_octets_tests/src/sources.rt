@@ -1,0 +1,57 @@
+//! Sources over memory: a plain one, one with a read that fails, and one whose bytes change.
+
+use bplist_octets::{FaultySource, ReadFault, ShiftingSource, SliceSource, Source};
+use std::process::Abort;
+
+/// A read: its place, how many bytes, and its answer.
+pub(crate) type Read = (u64, usize, Result<(), ReadFault>);
+
+/// The source has these bytes, and answers this read so: with the bytes at its place exactly where that is Ok.
+pub(crate) fn answers<S: Source>(rt: &impl Abort, source: &mut S, bytes: &[u8], read: Read) {
+    let (at, count, want) = read;
+    let from = at as usize;
+    let mut into = [0; 9_000];
+    assert_eq!(rt; source.len(), bytes.len() as u64);
+    assert!(rt; from <= bytes.len() && count <= bytes.len() - from && count <= 9_000);
+    let part = &mut into[..count];
+    assert_eq!(rt; source.read_at(at, part), want, "at {at}");
+    let stand = &bytes[from..from + count];
+    assert_eq!(rt; *part == *stand, want.is_ok(), "at {at}");
+}
+
+/// The source has these bytes, and answers these reads so, one after the other.
+pub(crate) fn all_answer<S: Source>(rt: &impl Abort, source: &mut S, bytes: &[u8], reads: &[Read]) {
+    for read in reads {
+        answers(rt, source, bytes, *read);
+    }
+}
+
+#[test]
+fn a_slice(rt: HostRuntime) {
+    let mut source = SliceSource::new(b"abcdef");
+    assert!(rt; source.borrow(3, 3) == b"def".as_slice());
+    answers(&rt, &mut source, b"abcdef", (2, 3, Ok(())));
+}
+
+/// The third read fails.
+const ONE_FAILS: &[Read] = &[
+    (2, 3, Ok(())),
+    (2, 3, Ok(())),
+    (2, 3, Err(ReadFault::Device)),
+    (2, 3, Ok(())),
+    (2, 3, Ok(())),
+];
+
+#[test]
+fn one_read_fails(rt: HostRuntime) {
+    let mut source = FaultySource::new(b"abcdef", 2);
+    all_answer(&rt, &mut source, b"abcdef", ONE_FAILS);
+}
+
+#[test]
+fn the_bytes_change(rt: HostRuntime) {
+    let mut source = ShiftingSource::new(b"abcdef", b"ABCDEF", 2);
+    for bytes in [b"abcdef", b"abcdef", b"ABCDEF", b"ABCDEF"] {
+        answers(&rt, &mut source, bytes, (2, 3, Ok(())));
+    }
+}
