@@ -36,7 +36,7 @@ module _ (f : List ℕ) (F : Frame) (places : List ℕ) (kept : AreKept f F F.ob
       let fits = table_fits f F trailed in (
         h.n,
         first_high f F.table F.offset_size F.objects F.table h.n h.within (high h.n h.within fits h.high)
-        (λ k low. below fits k (let w = h.within in omega (arith, w, low)) (h.before k low)),
+            (λ k low. below fits k (let w = h.within in omega (arith, w, low)) (h.before k low)),
         h.object,
         h.place,
       )
