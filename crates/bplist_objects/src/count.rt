@@ -1,6 +1,6 @@
 //! The count of an object: in its marker, or as an integer object behind it.
 
-ghost use Rattle.std.specs.Prelude.{◌≡◌, ℕ, ◌+◌, ◌^◌, ◌≤◌, ◌<◌, List, false, true, IfOk, IfSome, MatchOption, is_err, length, slice_index};
+ghost use Rattle.std.specs.Prelude.{◌≡◌, ℕ, ◌+◌, ◌^◌, ◌≤◌, ◌<◌, List, false, true, IfOk, IfSome, MatchOption, length, slice_index};
 ghost use Rattle.bplist_octets.specs.Meaning.{OnlyReads, Honestly};
 ghost use Rattle.bplist_objects.specs.Answers.{Gives, read_failed};
 ghost use Rattle.bplist_objects.specs.Announced.{Marks, form_of, is_counted, IsLongOf, HasLongCount, Announces};
@@ -13,7 +13,7 @@ use crate::frame::ObjectNo;
 use crate::kind::Kind;
 use crate::numbers::{octet_in, wide_in};
 use crate::rule::Rule;
-use bplist_octets::{ReadFault, Source};
+use bplist_octets::Source;
 
 /// A small power of two.
 fn power_of_2(w: u8) -> u8
