@@ -4,8 +4,9 @@ use Rattle.bplist_objects.specs.Value.{Value, leaf, array, set, dict, text, Valu
 use Rattle.bplist_cursor.specs.declared.faces.Face.{Face}
 use Rattle.bplist_cursor.specs.declared.faults.CursorFault.{CursorFault}
 use Rattle.bplist_cursor.specs.declared.faults.CursorFault.TheVariants as cursor_faults
-use Rattle.bplist_cursor.specs.Causes as cursor
-use Rattle.bplist_cursor.specs.Members.{members, in_turn, member_of}
+use Rattle.bplist_cursor.proofs.Causes as cursor
+use Rattle.bplist_cursor.specs.Members.{members, member_of}
+use Rattle.bplist_cursor.proofs.Membership.{in_turn}
 use Rattle.bplist_cursor.specs.Replies.{face}
 use Rattle.bplint_engine.specs.declared.member_lines.Members.{Members}
 use Rattle.bplint_engine.specs.declared.member_lines.Members.TheVariants.{Array, Set, Dict}

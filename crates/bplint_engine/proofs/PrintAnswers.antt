@@ -14,7 +14,7 @@ use Rattle.bplist_cursor.specs.declared.found.Node.{Node}
 use Rattle.bplist_cursor.specs.declared.found.Found.TheVariants.{At}
 use Rattle.bplist_cursor.specs.declared.found.Why.{Why}
 use Rattle.bplist_cursor.specs.declared.reply.Query.TheVariants.{Get}
-use Rattle.bplist_cursor.specs.Causes.{IsExcused}
+use Rattle.bplist_cursor.proofs.Causes.{IsExcused}
 use Rattle.bplist_cursor.specs.Found.{IsFound, LeadTo, IsHeld}
 use Rattle.bplist_cursor.specs.Look.{look}
 use Rattle.bplist_ascii.specs.Sending.{Sending, SendsSome, Takes, TakesPart, AtMost}
@@ -111,7 +111,7 @@ node_to_path : (f : List ℕ) (F : Frame) (limit n : ℕ) (steps : List (List �
 node_to_path f F limit n steps v w leads is a h = subst (FoundSays f F limit steps a) (sym is) (n, leads, h)
 
 pub at_node : (checked : CheckedFile) (v : Value) (steps : List (List ℕ)) (node : Node) (limit : ℕ) (old new : Option (List ℕ)) (result : Result Said RunFault)
-    → IsFound checked v steps (At node)
+    → IsFound checked checked.frame.top.0 v steps (At node)
     → ((w : Value) → IsHeld checked node.object.0 w → LeavesBy (NodeSays checked.source.octets checked.frame limit node.object.0 w) limit old new result)
     → LeavesBy (PathSays checked.source.octets checked.frame limit steps v) limit old new result
 at_node checked v steps node limit old new result (leads, (w, is, held)) left =

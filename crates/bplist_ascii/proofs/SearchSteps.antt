@@ -22,8 +22,8 @@ use Rattle.bplist_cursor.specs.OldStyle.{comma, value_text, members_text, pairs_
 use Rattle.bplist_cursor.specs.Forms.{form_of_text}
 use Rattle.bplist_cursor.specs.Formless.{IsFormless, IsFirstFormless, IsFirstFormlessOf}
 use Rattle.bplist_cursor.specs.Found.{IsHeld}
-use Rattle.bplist_cursor.specs.Members.{HoldsMember, member_of, member_reference, named, node_of, members, in_turn}
-use Rattle.bplist_cursor.proofs.Membership.{held_members}
+use Rattle.bplist_cursor.specs.Members.{HoldsMember, member_of, member_reference, named, node_of, members}
+use Rattle.bplist_cursor.proofs.Membership.{in_turn, held_members}
 use Rattle.bplist_ascii.specs.Walks.{IsContainer, IsOfKind}
 use Rattle.bplist_ascii.specs.Searching.{places_of, HaveTexts, LeadsOn}
 use Rattle.bplist_ascii.proofs.WalkSteps.{IsMember, held_some, held_none}

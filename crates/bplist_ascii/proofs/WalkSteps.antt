@@ -13,10 +13,10 @@ use Rattle.bplist_objects.specs.Units.{units_at}
 use Rattle.bplist_cert.specs.CheckedFile.{CheckedFile}
 use Rattle.bplist_cert.specs.Valid.{IsVouchedBy}
 use Rattle.bplist_cursor.specs.declared.found.Node.{Node}
-use Rattle.bplist_cursor.specs.Members.{HoldsMember, member_of, member_reference, named, members, in_turn}
+use Rattle.bplist_cursor.specs.Members.{HoldsMember, member_of, member_reference, named, members}
 use Rattle.bplist_cursor.specs.Texts.{text_of_units, text_of_bytes}
 use Rattle.bplist_cursor.specs.OldStyle.{comma, IsFormed, AreFormed, ArePairsFormed, plain, plain_members, plain_pairs}
-use Rattle.bplist_cursor.proofs.Membership.{held_members}
+use Rattle.bplist_cursor.proofs.Membership.{in_turn, held_members}
 use Rattle.bplist_ascii.specs.Sending.{Sending, Takes}
 use Rattle.bplist_ascii.specs.Writing.{Adds}
 use Rattle.bplist_ascii.proofs.WriteSteps.{adds_more}

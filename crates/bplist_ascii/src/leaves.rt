@@ -64,12 +64,13 @@ fn write_text_body<S: Source, W: Write>(
     requires head { IsSafeBody (length checked.old.source.octets) text.now.head }
     ensures reads { Keeps (print_read result) checked.old checked.new }
     ensures adds { OnOk result (AddsText (W.contents out.old) (W.contents out.new) sink.old sink.new room.old room.new
-        (IsTrue checked.old.source.honest) (flat_map (styled text.now.style) (units_of checked.old.source.octets text.now.head))) }
+        (IsTrue checked.old.source.honest) (flat_map (styled text.now.style)
+        (units_of checked.old.source.octets text.now.head))) }
     ensures fails { IfErr result (λ e. HonestlyChecked checked.old
         (λ f _. list_all (fits text.now.style) (units_of f text.now.head) ≡ true
         → length (flat_map (styled text.now.style) (units_of f text.now.head)) ≤ room.old
-        → AddFails (W.contents out.old) (W.contents out.new) sink.old (flat_map (styled text.now.style) (units_of f text.now.head))
-        e)) }
+        → AddFails (W.contents out.old) (W.contents out.new) sink.old
+        (flat_map (styled text.now.style) (units_of f text.now.head)) e)) }
     ensures bounded { OnErr result (StaysWithin (W.contents out.old) (W.contents out.new) sink.old room.old) }
     ensures falls { OnOk result (text.now.style ≡ Bare → room.new + text.now.head.count ≤ room.old) }
 {
@@ -180,7 +181,8 @@ pub(crate) fn write_text<S: Source, W: Write>(
     ensures adds { OnOk result (AddsText (W.contents out.old) (W.contents out.new) sink.old sink.new room.old room.new
         (IsTrue checked.old.source.honest) (text_of_units (units_of checked.old.source.octets head.now))) }
     ensures fails { IfErr result (λ e. HonestlyChecked checked.old
-        (λ f _. FailsWithin (W.contents out.old) (W.contents out.new) sink.old room.old (text_of_units (units_of f head.now)) e)) }
+        (λ f _. FailsWithin (W.contents out.old) (W.contents out.new) sink.old room.old
+        (text_of_units (units_of f head.now)) e)) }
     ensures bounded { OnErr result (StaysWithin (W.contents out.old) (W.contents out.new) sink.old room.old) }
     ensures falls { OnOk result (room.new < room.old) }
 {

@@ -1,8 +1,8 @@
 -- Over a slice no read fails, so that a vouched object has its answer.
-use Rattle.std.proofs.Common.{◌≡◌, Bool, true, false, Result, Ok, Err, IfErr, IsOk, refl}
+use Rattle.std.proofs.Common.{◌≡◌, ◌≢◌, Bool, true, false, Result, Ok, Err, IfErr, IsOk, refl}
 use Rattle.bplist_octets.proofs.Sources.{never_fails}
 use Rattle.bplist_cert.specs.CheckedFile.{CheckedFile}
-use Rattle.bplist_cursor.specs.Causes.{GivesCursor, IsExcused, TakesNoMemory, cursor_read}
+use Rattle.bplist_cursor.specs.Causes.{GivesCursor, cursor_read}
 use Rattle.bplist_cursor.specs.Kept.{Keeps}
 use Rattle.bplist_cursor.specs.declared.faults.CursorFault.{CursorFault}
 use Rattle.bplist_cursor.specs.declared.faults.CursorFault.TheVariants as faults
@@ -18,7 +18,7 @@ kept_same false old new e kept = kept
 kept_same true old new e kept = cc e
 
 -- what is promised of the answer holds of it
-pub answered : {X : Type 0} (P : X → Type 0) (found : Result X CursorFault) → cursor_read found ≡ false → TakesNoMemory found
+pub answered : {X : Type 0} (P : X → Type 0) (found : Result X CursorFault) → cursor_read found ≡ false → found ≢ Err faults.Memory
     → GivesCursor P found → (x : X) × (found ≡ Ok x) × P x
 answered P (Ok x) read memory given = (x, refl, given)
 answered P (Err (faults.Read e)) read memory given = cc read
@@ -26,7 +26,7 @@ answered P (Err faults.Changed) read memory given = absurd (given refl)
 answered P (Err faults.Memory) read memory given = absurd (memory refl)
 
 -- there is an answer
-pub is_answered : {X : Type 0} (found : Result X CursorFault) → cursor_read found ≡ false → TakesNoMemory found → IfErr found IsExcused → IsOk found
+pub is_answered : {X : Type 0} (found : Result X CursorFault) → cursor_read found ≡ false → found ≢ Err faults.Memory → IfErr found (λ e. e ≢ faults.Changed) → IsOk found
 is_answered (Ok x) read memory excused = refl
 is_answered (Err (faults.Read e)) read memory excused = cc read
 is_answered (Err faults.Changed) read memory excused = absurd (excused refl)

@@ -31,7 +31,7 @@ lead_of (Missing step why) = record { status = number_of (why_status why); found
 abbrev pub FindSays : CheckedFile → List ℕ → Result Lead Status → Type 0
 FindSays checked bytes (Ok lead) =
     IsUtf8 bytes × (((steps : List (List ℕ)) × IsPathOf bytes steps × ((place : Found) × (lead ≡ lead_of place)
-    × ((v : Value) → Holds checked.source.octets checked.frame checked.frame.top.0 v → IsFound checked v steps place)))
+    × ((v : Value) → Holds checked.source.octets checked.frame checked.frame.top.0 v → IsFound checked checked.frame.top.0 v steps place)))
     ⊎ ((place : ℕ) × IsNoPath bytes place × (lead ≡ record { status = 12; found = record { object = 0; step = place } })))
 FindSays checked bytes (Err why) = ((IsUtf8 bytes → ⊥) × (why ≡ statuses.NotUtf8)) ⊎ (why ≡ statuses.Memory)
 

@@ -1,10 +1,10 @@
 //! Where paths lead.
 
-ghost use Rattle.std.specs.Prelude.{◌≡◌, ℕ, Result};
+ghost use Rattle.std.specs.Prelude.{◌≡◌, ◌∷◌, [], ℕ, Result};
 ghost use Rattle.bplist_c.specs.declared.found.Lead.{Lead as lead};
 ghost use Rattle.bplist_c.specs.declared.status.Status.{Status as status};
 ghost use Rattle.bplist_objects.specs.Holds.{Holds};
-ghost use Rattle.bplist_cursor.specs.OneStep.{IsStepFound};
+ghost use Rattle.bplist_cursor.specs.Found.{IsFound};
 ghost use Rattle.bplist_cursor.specs.declared.found.Found.{Found as place};
 ghost use Rattle.bplist_c.specs.Finding.{FindSays, TellsLead, lead_of, step_answer, why_status};
 ghost use Rattle.bplist_c.specs.Reading.{OnObject};
@@ -142,7 +142,7 @@ fn step_of(
 ) -> Result<u32, Status>
     ensures same { checked.new ≡ checked.old }
     ensures exact { OnObject checked.old object Holds (λ v answer. (found : place) × (answer ≡ step_answer found)
-        × IsStepFound checked.old.source.octets checked.old.frame object v units.now found) result }
+        × IsFound checked.old object v (units.now ∷ []) found) result }
 {
     let _before = checked.octets();
     let node = Node {
@@ -180,7 +180,7 @@ pub extern "C" fn bplist_find_key(
     ensures kept { IsSame handle.old handle.new }
     ensures exact { (answer : Result ℕ status) × Tells answer out.old out.new result
         × OnHandle file.entry handle.old (λ checked. OnObject checked object Holds (λ v answer. (found : place)
-        × (answer ≡ step_answer found) × IsStepFound checked.source.octets checked.frame object v units.now found)) answer }
+        × (answer ≡ step_answer found) × IsFound checked object v (units.now ∷ []) found)) answer }
 {
     let answer = match lend(alloc, handle, file) {
         Ok(lent) => {

@@ -1,7 +1,11 @@
 -- The number of binary digits.
-use Rattle.std.proofs.Common.{arith, ◌≡◌, ◌≤◌, ◌*◌, ◌/◌, ◌<◌, ◌^◌, ℕ, zero, suc, sym, subst}
+use Rattle.std.proofs.Common.{arith, ◌≡◌, ◌≤◌, ◌*◌, ◌/◌, ◌<◌, ◌^◌, ℕ, zero, suc, length, sym, subst}
 use Rattle.std.proofs.lemmas.Int.Digits.{length-digits_of_step, length-digits_of-le}
-use Rattle.bplist_cursor.specs.KeySearch.{digits_2}
+use Rattle.std.specs.Int.Digits.{digits_of}
+
+-- how many they are
+abbrev pub digits_2 : ℕ → ℕ
+digits_2 n = length (digits_of 2 n)
 
 -- the digits suffice
 below_digits : (turns n : ℕ) → n ≤ turns → n < 2 ^ digits_2 n

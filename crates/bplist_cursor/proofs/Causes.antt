@@ -7,7 +7,6 @@ use Rattle.bplist_cursor.specs.declared.faults.Unread.{Unread}
 use Rattle.bplist_cursor.specs.declared.faults.Unread.TheVariants as unread
 use Rattle.bplist_cursor.specs.declared.faults.CursorFault.{CursorFault}
 use Rattle.bplist_cursor.specs.declared.faults.CursorFault.TheVariants as faults
-use Rattle.bplist_cursor.specs.Causes.{IsExcused}
 
 -- what a fault of an object is to the cursor
 abbrev pub unread_of : ObjectFault → Unread
@@ -22,6 +21,10 @@ cursor_fault_of unread.Changed = faults.Changed
 -- a failed read, and not Changed
 abbrev pub IsUnread : Unread → Type 0
 IsUnread e = e ≢ unread.Changed
+
+-- a failed read or a refused growth, and not Changed
+abbrev pub IsExcused : CursorFault → Type 0
+IsExcused e = e ≢ faults.Changed
 
 -- without a fault it is a failed read
 pub unread_never : (e : ObjectFault) → GivesFault Never e → IsUnread (unread_of e)

@@ -4,8 +4,12 @@ use Rattle.std.specs.Prelude.{encode_utf8_all, slice_get, Some, None}
 use Rattle.std.proofs.Math.Seq.{drop-append_seam, take-append_seam, drop-nil}
 use Rattle.std.proofs.lemmas.Bool.{cases_lt}
 use Rattle.std.proofs.lemmas.Bool.Decides.{nat_tests}
-use Rattle.bplist_cursor.specs.Path.{escaped, written, IsLoose, IsWrong, IsWrongAt}
+use Rattle.bplist_cursor.specs.Path.{escaped, IsLoose, IsWrong, IsWrongAt}
 use Rattle.bplist_cursor.specs.Tokens.{IsClosed}
+
+-- the path text of tokens
+abbrev pub written : List (List ℕ) → List ℕ
+written tokens = flat_map (λ token. 0x2F ∷ flat_map escaped token) tokens
 
 pub closed-nil : IsClosed []
 closed-nil rest k low = absurd (omega (arith, low))

@@ -17,8 +17,8 @@ use Rattle.bplist_cursor.specs.Found.{LeadTo, IsHeld}
 use Rattle.bplist_cursor.specs.KeySearch.{halvings, halvings_at, RisesAtMost}
 use Rattle.bplist_cursor.specs.declared.found.Why.{Why}
 use Rattle.std.specs.Bool.{⊤}
-use Rattle.bplist_cursor.specs.Causes.{IsExcused, GivesCursor, read_failed}
-use Rattle.bplist_cursor.proofs.Causes.{IsUnread}
+use Rattle.bplist_cursor.specs.Causes.{GivesCursor, read_failed}
+use Rattle.bplist_cursor.proofs.Causes.{IsUnread, IsExcused}
 use Rattle.bplist_cursor.specs.Kept.{Keeps}
 use Rattle.bplist_octets.proofs.Sources.{never_fails}
 use Rattle.bplist_cursor.specs.declared.faults.Unread.{Unread}
@@ -109,6 +109,16 @@ module _ (checked : CheckedFile) (is : IsChecked checked) (honest : IsTrue check
     pub spent_done : RisesAtMost checked before made (halvings v steps)
     spent_done keyed has = let old = a.spent keyed has in omega (arith, old)
 
+  -- one step from an object that is vouched for
+  pub one_step : (v : Value) (n : ℕ) (s : List ℕ) (m : ℕ) → IsHeld checked n v → Leads f F n s m
+      → LeadTo f F n (s ∷ []) m × ((w : Value) × (look v (s ∷ []) ≡ Ok w) × IsHeld checked m w)
+  one_step v n s m held leads =
+      let q = leads_held f F (one_head f F) v n s m held.1 (λ c sp. few_refs f F (is.framed honest) n c sp) leads in
+      let there = taken_there f F v n s m held.1 leads.0 leads.1 leads.2 in (
+        (m, leads, refl),
+        (q.0, ap (λ x. on_either x (λ w. look_from 1 w []) (λ why. Err (0, why))) q.1, (lower_vouched n m leads.0 held.0 leads.1 there, q.2)),
+      )
+
   -- why nothing was read, where the answer for any value of the object says it
   pub unread_for : (n : ℕ) → IsVouchedBy heights n → (e : Unread) → ((v : Value) → Holds f F n v → IsUnread e) → IsUnread e
   unread_for n vouched e h = λ is. not_there (value_there n vouched) (λ p. h p.0 p.1 is)
@@ -122,6 +132,10 @@ module _ (checked : CheckedFile) (is : IsChecked checked) (honest : IsTrue check
       → ((v : Value) → Holds f F n v → GivesCursor (P v) r) → GivesCursor (λ _. ⊤) r
   quiet n vouched P (Ok x) h = tt
   quiet n vouched P (Err e) h = excused_for n vouched e h
+
+-- one step that can't be taken
+pub no_step : (v : Value) (s : List ℕ) (why : Why) → stepped v s ≡ Err why → look v (s ∷ []) ≡ Err (0, why)
+no_step v s why is = ap (λ x. on_either x (λ w. look_from 1 w []) (λ why. Err (0, why))) is
 
 -- a source without failures has not failed
 pub never_read : (old new : CheckedFile) (e : Unread) → Keeps (read_failed {X = ⊤} (Err e)) old new → new.source.failures ≡ 0 → IsUnread e → ⊥

@@ -8,7 +8,7 @@ pub mod TextParts
 pub mod FormlessObjects
 pub mod FormTables
 pub mod StepReferences
-mod Causes
+pub mod Causes
 pub mod VouchedObjects
 mod ShownFaces
 pub mod Membership

@@ -1,5 +1,5 @@
 -- The references for members, and what their objects hold.
-use Rattle.std.proofs.Common.{◌≡◌, ◌<◌, ◌≤◌, ◌+◌, ◌*◌, ◌/◌, ◌%◌, ◌-◌, ◌⊎◌, inl, inr, ℕ, zero, suc, List, [], ◌∷◌, ◌++◌, length, slice_index, slice_get, Some, None, refl, sym, ap, ◌∙◌, arith}
+use Rattle.std.proofs.Common.{◌≡◌, ◌<◌, ◌≤◌, ◌+◌, ◌*◌, ◌/◌, ◌%◌, ◌-◌, ◌⊎◌, inl, inr, ℕ, zero, suc, List, [], ◌∷◌, ◌++◌, length, slice_index, slice_get, flat_map, Some, None, refl, sym, ap, ◌∙◌, arith}
 use Rattle.std.proofs.lemmas.Bool.{cases_lt}
 use Rattle.std.proofs.lemmas.List.{get_or_append_left, get_or-append_right}
 use Rattle.std.proofs.lemmas.Option.{slice_get-get_or, slice_get_past}
@@ -7,12 +7,16 @@ use Rattle.bplist_objects.specs.declared.frame.Frame.{Frame}
 use Rattle.bplist_objects.specs.declared.kind.Kind.{Kind}
 use Rattle.bplist_objects.specs.declared.kind.Kind.TheVariants as kinds
 use Rattle.bplist_objects.specs.Numbers.{nums_at}
-use Rattle.bplist_objects.specs.Value.{Value, leaf, array, set, dict, Values, no_values, value, Pairs, no_pairs, pair}
+use Rattle.bplist_objects.specs.Value.{Value, leaf, array, set, dict, Values, no_values, value, Pairs, no_pairs, pair, text}
 use Rattle.bplist_objects.specs.Heads.{Content, Spells, content_of, refs}
 use Rattle.bplist_objects.specs.Holds.{Holds, HoldEach, HoldPairs}
 use Rattle.bplist_objects.specs.Safe.{ref_count}
 use Rattle.bplist_objects.proofs.References.{length-nums_at, length-refs, as_many}
-use Rattle.bplist_cursor.specs.Members.{members, in_turn, member_of, member_reference, named, node_of, IsNumberOf, HoldsMember}
+use Rattle.bplist_cursor.specs.Members.{members, entries, member_of, member_reference, named, node_of, IsNumberOf, HoldsMember}
+
+-- the keys and values of pairs, each key before its value
+abbrev pub in_turn : Pairs → List Value
+in_turn ps = flat_map (λ entry. leaf (text entry.0) ∷ entry.1 ∷ []) (entries ps)
 
 -- a number is even or odd
 halves : (i : ℕ) → (j : ℕ) × ((i ≡ 2 * j) ⊎ (i ≡ 2 * j + 1))

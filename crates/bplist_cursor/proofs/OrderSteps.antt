@@ -19,7 +19,7 @@ use Rattle.bplist_cert.proofs.VouchedObjects.{object_holds, references_lower}
 use Rattle.bplist_cursor.specs.declared.measures.Size.{Size}
 use Rattle.bplist_cursor.specs.Sizes.{Table, size_of, size_in, IsSized, AreMeasures}
 use Rattle.bplist_cursor.specs.declared.faults.CursorFault.{CursorFault}
-use Rattle.bplist_cursor.specs.Causes.{IsExcused}
+use Rattle.bplist_cursor.proofs.Causes.{IsExcused}
 use Rattle.bplist_cursor.specs.ObjectSizes.{AreVouched, IsOrder, IsEmpty, AreSet}
 
 -- a place of a member

@@ -10,7 +10,8 @@ use Rattle.bplist_objects.specs.Holds.{Holds}
 use Rattle.bplist_cursor.specs.Leads.{IsTaken, HasTextKeys, why_of}
 use Rattle.bplist_objects.proofs.References.{length-nums_at, as_many, dict_parts}
 use Rattle.bplist_objects.specs.declared.head.Head.{Head}
-use Rattle.bplist_cursor.specs.KeySearch.{digits_2, halvings_of, halvings_at}
+use Rattle.bplist_cursor.specs.KeySearch.{halvings_of, halvings_at}
+use Rattle.bplist_cursor.proofs.BinaryDigits.{digits_2}
 use Rattle.bplist_objects.specs.declared.kind.Kind.{Kind}
 use Rattle.bplist_objects.specs.declared.kind.Kind.TheVariants as kinds
 use Rattle.bplist_cursor.specs.Steps.{HaveTexts, IsKeyPlace, IsPlace}

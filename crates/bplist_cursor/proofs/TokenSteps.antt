@@ -8,12 +8,12 @@ use Rattle.std.specs.Char.Escape.{encode_utf16}
 use Rattle.std.proofs.lemmas.List.{length-append, map-append}
 use Rattle.std.proofs.lemmas.Grind.{flat_map-append}
 use Rattle.std.proofs.lemmas.Str.{chars_past_char, IsUtf8-past_char, chars-nil, encodes-append}
-use Rattle.bplist_cursor.specs.Path.{escaped, units, written, IsPathOf, IsLoose, IsWrongAt, IsNoPath}
+use Rattle.bplist_cursor.specs.Path.{escaped, units, IsPathOf, IsLoose, IsWrongAt, IsNoPath}
 use Rattle.bplist_cursor.specs.Tokens.{IsReadable, Reads, IsClosed, MeetsLoose, left, slash}
 use Rattle.bplist_cursor.specs.PathFaults.{OnText}
 use Rattle.bplist_cursor.specs.declared.path.PathFault.{PathFault}
 use Rattle.bplist_cursor.specs.declared.path.PathFault.TheVariants.{Text, Memory}
-use Rattle.bplist_cursor.proofs.Escapes.{closed-nil, closed-append, closed_written, closed-cons, first_wrong, written_not_wrong}
+use Rattle.bplist_cursor.proofs.Escapes.{written, closed-nil, closed-append, closed_written, closed-cons, first_wrong, written_not_wrong}
 
 -- a token in a path text, with its `/`
 abbrev written_token : List ℕ → List ℕ

@@ -10,7 +10,8 @@ use Rattle.bplist_objects.proofs.Fronts.{one_head}
 use Rattle.bplist_cert.specs.CheckedFile.{CheckedFile, IsChecked}
 use Rattle.bplist_cert.specs.Valid.{IsVouchedBy}
 use Rattle.bplist_cursor.specs.declared.faults.CursorFault.{CursorFault}
-use Rattle.bplist_cursor.specs.Causes.{GivesCursor, IsExcused}
+use Rattle.bplist_cursor.specs.Causes.{GivesCursor}
+use Rattle.bplist_cursor.proofs.Causes.{IsExcused}
 
 excused : (e : CursorFault) → ((IsExcused e → ⊥) → ⊥) → IsExcused e
 excused e h = λ is. h (λ no. no is)

@@ -19,14 +19,6 @@ cursor_read _ = false
 abbrev pub GivesRead : {X : Type 0} → (X → Type 0) → Result X Unread → Type 0
 GivesRead P answer = MatchResult answer P (λ fault. fault ≢ unread.Changed)
 
--- the fault is not `Changed`
-abbrev pub IsExcused : CursorFault → Type 0
-IsExcused fault = fault ≢ faults.Changed
-
 -- P holds of the answer, or the fault is not `Changed`
 abbrev pub GivesCursor : {X : Type 0} → (X → Type 0) → Result X CursorFault → Type 0
-GivesCursor P answer = MatchResult answer P IsExcused
-
--- the answer is no refused growth
-abbrev pub TakesNoMemory : {X : Type 0} → Result X CursorFault → Type 0
-TakesNoMemory answer = answer ≢ Err faults.Memory
+GivesCursor P answer = MatchResult answer P (λ fault. fault ≢ faults.Changed)

@@ -26,12 +26,12 @@ module _ (f : List ℕ) (F : Frame) where
 abbrev pub IsHeld : CheckedFile → ℕ → Value → Type 0
 IsHeld checked n v = IsVouchedBy checked.certificate.heights n × Holds checked.source.octets checked.frame n v
 
--- the node holds what the steps lead to, or the first step that can't be taken is named
-abbrev pub IsFound : CheckedFile → Value → List (List ℕ) → Found → Type 0
-IsFound checked v steps (At node) =
-    LeadTo checked.source.octets checked.frame checked.frame.top.0 steps node.object.0
+-- the node holds what the steps from object n, which holds v, lead to, or the first step that can't be taken is named
+abbrev pub IsFound : CheckedFile → ℕ → Value → List (List ℕ) → Found → Type 0
+IsFound checked n v steps (At node) =
+    LeadTo checked.source.octets checked.frame n steps node.object.0
     × ((w : Value) × (look v steps ≡ Ok w) × IsHeld checked node.object.0 w)
-IsFound checked v steps (Missing k y) = look v steps ≡ Err (k, y)
+IsFound checked n v steps (Missing k y) = look v steps ≡ Err (k, y)
 
 -- the table has the sizes of the values that the objects of the checked file hold
 abbrev pub AreMeasuresOf : CheckedFile → Table → Type 0

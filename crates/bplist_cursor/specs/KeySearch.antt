@@ -15,18 +15,14 @@ use Rattle.bplist_cursor.specs.Look.{stepped, on_either}
 use Rattle.bplist_cursor.specs.declared.faults.Unread.{Unread}
 use Rattle.bplist_cursor.specs.declared.faults.Unread.TheVariants.{Changed}
 
--- the number of binary digits
-abbrev pub digits_2 : ℕ → ℕ
-digits_2 n = length (digits_of 2 n)
-
--- so many comparisons suffice for a step at an object with this kind and count
+-- so many comparisons suffice for a step at an object with this kind and count: the binary digits of the count of pairs
 abbrev pub halvings_of : Kind → ℕ → ℕ
-halvings_of Dict count = digits_2 count
+halvings_of Dict count = length (digits_of 2 count)
 halvings_of _ count = 0
 
--- how many comparisons a step at this value may take
+-- how many comparisons a step at this value may take: the binary digits of the count of pairs
 abbrev pub halvings_at : Value → ℕ
-halvings_at (dict ps) = digits_2 (length (keys ps))
+halvings_at (dict ps) = length (digits_of 2 (length (keys ps)))
 halvings_at _ = 0
 
 -- the sum, over the dictionaries met, of the binary digits of their count of pairs

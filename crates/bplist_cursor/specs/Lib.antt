@@ -8,7 +8,6 @@ pub mod Leads
 pub mod Measured
 pub mod Texts
 pub mod OldStyle
-pub mod OneStep
 pub mod Formless
 pub mod Forms
 pub mod PathFaults

@@ -18,16 +18,12 @@ abbrev pub entries : Pairs → List (List ℕ × Value)
 entries no_pairs = []
 entries (pair u v ps) = (u, v) ∷ entries ps
 
--- the keys and values of pairs: number 2j is key j, and 2j + 1 is value j
-abbrev pub in_turn : Pairs → List Value
-in_turn ps = flat_map (λ entry. leaf (text entry.0) ∷ entry.1 ∷ []) (entries ps)
-
--- member i of a value; a leaf has none
+-- member i of a value; of a dictionary number 2j is key j, and 2j + 1 is value j; a leaf has none
 abbrev pub member_of : Value → ℕ → Option Value
 member_of (leaf l) i = None
 member_of (array vs) i = slice_get (members vs) i
 member_of (set vs) i = slice_get (members vs) i
-member_of (dict ps) i = slice_get (in_turn ps) i
+member_of (dict ps) i = slice_get (flat_map (λ entry. leaf (text entry.0) ∷ entry.1 ∷ []) (entries ps)) i
 
 -- the object that the reference for member i names: of a dictionary each key before its value
 abbrev pub member_reference : Content → ℕ → Option ℕ

@@ -7,17 +7,14 @@ use Rattle.std.specs.Char.Escape.{encode_utf16}
 abbrev pub escaped : ℕ → List ℕ
 escaped c = if c == 0x7E then 0x7E ∷ 0x30 ∷ [] else if c == 0x2F then 0x7E ∷ 0x31 ∷ [] else c ∷ []
 
--- the path text of tokens: each with a `/` before it
-abbrev pub written : List (List ℕ) → List ℕ
-written tokens = flat_map (λ token. 0x2F ∷ flat_map escaped token) tokens
-
 -- a token's characters as UTF-16 units
 abbrev pub units : List ℕ → List ℕ
 units token = flat_map encode_utf16 token
 
--- the text spells these steps: of each token the characters as UTF-16 units
+-- the text is that of tokens, each with a `/` before it, and the steps are their characters as UTF-16 units
 abbrev pub IsPathOf : List ℕ → List (List ℕ) → Type 0
-IsPathOf text steps = (tokens : List (List ℕ)) × (chars text ≡ written tokens) × (steps ≡ map (flat_map encode_utf16) tokens)
+IsPathOf text steps = (tokens : List (List ℕ)) × (chars text ≡ flat_map (λ token. 0x2F ∷ flat_map escaped token) tokens)
+    × (steps ≡ map (flat_map encode_utf16) tokens)
 
 -- the characters begin with a `~` that neither `0` nor `1` follows
 abbrev pub IsLoose : List ℕ → Type 0

@@ -1,6 +1,7 @@
 //! Looking up a key of a dictionary: by its sorted key list where the certificate has one, else one by one.
 
 ghost use Rattle.std.specs.Prelude.{◌≡◌, ℕ, ◌+◌, ◌^◌, ◌<◌, ◌≤◌, List, length, slice_index, IfOk, IfSome, MatchResult, Option, Some, None};
+ghost use Rattle.std.specs.Int.Digits.{digits_of};
 ghost use Rattle.bplist_octets.specs.Octets.{part};
 ghost use Rattle.bplist_cert.specs.CheckedFile.{HonestlyChecked};
 ghost use Rattle.bplist_objects.specs.Value.{text};
@@ -13,7 +14,7 @@ ghost use Rattle.bplist_cert.specs.Valid.{IsVouchedBy};
 ghost use Rattle.bplist_cursor.specs.Causes.{GivesRead, read_failed};
 ghost use Rattle.bplist_cursor.specs.Kept.{Keeps};
 ghost use Rattle.bplist_cursor.specs.Steps.{HaveTexts, HonestlyKeyed, IsKeyPlace};
-ghost use Rattle.bplist_cursor.specs.KeySearch.{digits_2, IsCompared, IsKeyList, RisesAtMost, ListStarts, IsUnlisted};
+ghost use Rattle.bplist_cursor.specs.KeySearch.{IsCompared, IsKeyList, RisesAtMost, ListStarts, IsUnlisted};
 
 use crate::checked_objects::{head_in, reference_in};
 use crate::faults::Unread;
@@ -117,7 +118,7 @@ fn search_keys<S: Source>(
         → start + length ks ≤ length keyed.positions → IsKeyList f F ks (part keyed.positions start (length ks))
         → GivesRead (IsKeyPlace f F ks units.now) result) }
     ensures inside { IfOk result (λ o. IfSome o (λ i. i < head.now.count)) }
-    ensures bound { made.new ≤ made.old + digits_2 head.now.count }
+    ensures bound { made.new ≤ made.old + length (digits_of 2 head.now.count) }
 {
     let mut low = 0u64;
     let mut high = head.count;
@@ -173,7 +174,7 @@ pub(crate) fn key_place<S: Source>(
         → (ks ms : List ℕ) → Spells f F n.0 (dict ks ms) → dict ks ms ≡ content_at f F head.now → HaveTexts f F ks
         → GivesRead (IsKeyPlace f F ks units.now) result) }
     ensures inside { IfOk result (λ o. IfSome o (λ i. i < head.now.count)) }
-    ensures bound { RisesAtMost checked.old made.old made.new (digits_2 head.now.count) }
+    ensures bound { RisesAtMost checked.old made.old made.new (length (digits_of 2 head.now.count)) }
 {
     let _frame = checked.frame();
     match list_start(checked, n, head.count)? {

@@ -1,13 +1,14 @@
 //! Where a path leads.
 
-ghost use Rattle.std.specs.Prelude.{⊤, ◌≡◌, ◌<◌, IsTrue, IsOk, IfOk, OnOk, Vec};
+ghost use Rattle.std.specs.Prelude.{⊤, ◌≡◌, ◌≢◌, ◌<◌, IsTrue, IsOk, IfOk, OnOk, Err, Vec};
 ghost use Rattle.bplist_cert.specs.CheckedFile.{HonestlyChecked};
 ghost use Rattle.bplist_objects.specs.Value.{Value};
 ghost use Rattle.bplist_objects.specs.Holds.{Holds};
-ghost use Rattle.bplist_cursor.specs.Causes.{GivesRead, GivesCursor, TakesNoMemory, read_failed, cursor_read};
+ghost use Rattle.bplist_cursor.specs.Causes.{GivesRead, GivesCursor, read_failed, cursor_read};
 ghost use Rattle.bplist_cursor.specs.Kept.{Keeps};
 ghost use Rattle.bplist_cursor.specs.KeySearch.{halvings, RisesAtMost};
 ghost use Rattle.bplist_cursor.specs.Found.{IsFound, units_of};
+ghost use Rattle.bplist_cursor.specs.declared.faults.CursorFault.TheVariants.{Memory};
 
 use crate::faults::{CursorFault, Unread};
 use crate::found::{Found, Node};
@@ -24,7 +25,7 @@ fn lead<S: Source>(
 ) -> Result<Found, Unread>
     ensures reads { Keeps (read_failed result) checked.old checked.new }
     ensures exact { HonestlyChecked checked.old (λ f F. (v : Value) → Holds f F F.top.0 v
-        → GivesRead (IsFound checked.old v (units_of steps.now)) result) }
+        → GivesRead (IsFound checked.old checked.old.frame.top.0 v (units_of steps.now)) result) }
     ensures bound { OnOk result (HonestlyChecked checked.old (λ f F. (v : Value) → Holds f F F.top.0 v
         → RisesAtMost checked.old made.old made.new (halvings v (units_of steps.now)))) }
 {
@@ -54,12 +55,12 @@ pub fn locate_counted<S: Source>(
 ) -> Result<(Found, u64), CursorFault>
     ensures reads { Keeps (cursor_read result) checked.old checked.new }
     ensures exact { HonestlyChecked checked.old (λ f F. (v : Value) → Holds f F F.top.0 v
-        → GivesCursor (λ found. IsFound checked.old v path.now found.0) result) }
+        → GivesCursor (λ found. IsFound checked.old checked.old.frame.top.0 v path.now found.0) result) }
     ensures bound { HonestlyChecked checked.old (λ f F. (v : Value) → Holds f F F.top.0 v
         → IfOk result (λ found. RisesAtMost checked.old 0 found.1 (halvings v path.now))) }
     ensures unchanged { IsTrue checked.old.source.honest → GivesCursor (λ _. ⊤) result }
     ensures found { IsTrue checked.old.source.honest → checked.new.source.failures ≡ 0 → IsOk result }
-    ensures memory { TakesNoMemory result }
+    ensures memory { result ≢ Err Memory }
 {
     let _frame = checked.frame();
     let mut made = 0u64;
@@ -75,10 +76,10 @@ pub fn locate_counted<S: Source>(
 pub fn locate<S: Source>(checked: &mut Checked<S>, path: &Path) -> Result<Found, CursorFault>
     ensures reads { Keeps (cursor_read result) checked.old checked.new }
     ensures exact { HonestlyChecked checked.old (λ f F. (v : Value) → Holds f F F.top.0 v
-        → GivesCursor (IsFound checked.old v path.now) result) }
+        → GivesCursor (IsFound checked.old checked.old.frame.top.0 v path.now) result) }
     ensures unchanged { IsTrue checked.old.source.honest → GivesCursor (λ _. ⊤) result }
     ensures found { IsTrue checked.old.source.honest → checked.new.source.failures ≡ 0 → IsOk result }
-    ensures memory { TakesNoMemory result }
+    ensures memory { result ≢ Err Memory }
 {
     let (found, _made) = locate_counted(checked, path)?;
     Ok(found)
@@ -88,7 +89,7 @@ pub fn locate<S: Source>(checked: &mut Checked<S>, path: &Path) -> Result<Found,
 pub fn locate_in_slice(checked: &mut Checked<SliceSource<'_>>, path: &Path) -> Found
     ensures same { checked.new ≡ checked.old }
     ensures exact { (v : Value) → Holds checked.old.source.octets checked.old.frame checked.old.frame.top.0 v
-        → IsFound checked.old v path.now result }
+        → IsFound checked.old checked.old.frame.top.0 v path.now result }
 {
     let _before = checked.octets();
     let found = locate(checked, path);

@@ -1,16 +1,16 @@
 //! The members of nodes.
 
-ghost use Rattle.std.specs.Prelude.{◌≡◌, ℕ, ◌+◌, ◌*◌, ◌^◌, ◌<◌, ◌≤◌, List, length, slice_index, false, IsTrue, IfOk, IfErr, IfSome, MatchOption, option_map, Some, None, Err};
+ghost use Rattle.std.specs.Prelude.{◌≡◌, ◌≢◌, ℕ, ◌+◌, ◌*◌, ◌^◌, ◌<◌, ◌≤◌, List, length, slice_index, false, IsTrue, IfOk, IfErr, IfSome, MatchOption, option_map, Some, None, Err};
 ghost use Rattle.bplist_cert.specs.CheckedFile.{HonestlyChecked};
 ghost use Rattle.bplist_objects.specs.Value.{Value};
 ghost use Rattle.bplist_objects.specs.Heads.{Content, Spells, array, content_at, set, dict, refs};
 ghost use Rattle.bplist_objects.specs.Holds.{Holds};
 ghost use Rattle.bplist_objects.specs.Safe.{IsSafeHead, ref_count};
 ghost use Rattle.bplist_cert.specs.Valid.{IsVouchedBy};
-ghost use Rattle.bplist_cursor.specs.Causes.{GivesCursor, GivesRead, IsExcused, TakesNoMemory, cursor_read, read_failed};
+ghost use Rattle.bplist_cursor.specs.Causes.{GivesCursor, GivesRead, cursor_read, read_failed};
 ghost use Rattle.bplist_cursor.specs.Kept.{Keeps};
 ghost use Rattle.bplist_cursor.specs.Members.{IsNumberOf, HoldsMember, member_of, member_reference, named, node_of};
-ghost use Rattle.bplist_cursor.specs.declared.faults.CursorFault.TheVariants.{Changed};
+ghost use Rattle.bplist_cursor.specs.declared.faults.CursorFault.TheVariants.{Changed, Memory};
 
 use crate::checked_objects::reference_in;
 use crate::faults::{CursorFault, Unread};
@@ -75,7 +75,7 @@ fn member_by_reference<S: Source>(
         (λ member. member ≡ named (member_reference content i)) result) }
     ensures vouched { IfOk result (λ member. IfSome member (λ m. IsVouchedBy checked.old.certificate.heights m.object.0)) }
     ensures unvouched { (IsVouchedBy checked.old.certificate.heights node.object.0 → ⊥) → result ≡ Err Changed }
-    ensures memory { TakesNoMemory result }
+    ensures memory { result ≢ Err Memory }
 {
     let head = node_head(checked, node)?;
     Ok(member_by_head(checked, &head, i)?)
@@ -112,9 +112,9 @@ pub fn member<S: Source>(
         → (v : Value) → Holds f F node.object.0 v → GivesCursor (HoldsMember f F (member_of v i)) result) }
     ensures vouched { IfOk result (λ member. IfSome member (λ m. IsVouchedBy checked.old.certificate.heights m.object.0)) }
     ensures unchanged { IsTrue checked.old.source.honest → IsVouchedBy checked.old.certificate.heights node.object.0
-        → IfErr result IsExcused }
+        → IfErr result (λ fault. fault ≢ Changed) }
     ensures unvouched { (IsVouchedBy checked.old.certificate.heights node.object.0 → ⊥) → result ≡ Err Changed }
-    ensures memory { TakesNoMemory result }
+    ensures memory { result ≢ Err Memory }
     ensures unread { checked.new.source.failures ≡ 0 → cursor_read result ≡ false }
 {
     let _frame = checked.frame();

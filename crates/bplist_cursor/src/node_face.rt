@@ -1,6 +1,6 @@
 //! The faces of nodes.
 
-ghost use Rattle.std.specs.Prelude.{◌≡◌, ℕ, IsTrue, IfOk, IfErr, length, Err};
+ghost use Rattle.std.specs.Prelude.{◌≡◌, ◌≢◌, ℕ, IsTrue, IfOk, IfErr, length, Err};
 ghost use Rattle.bplist_octets.specs.Octets.{part};
 ghost use Rattle.bplist_cert.specs.CheckedFile.{HonestlyChecked};
 ghost use Rattle.bplist_objects.specs.Value.{Value};
@@ -11,7 +11,7 @@ ghost use Rattle.bplist_objects.specs.Kinds.{IsLeafKind};
 ghost use Rattle.bplist_objects.specs.Units.{IsTextKind, units_of};
 ghost use Rattle.bplist_objects.specs.Safe.{IsSafeHead, IsSafeBody};
 ghost use Rattle.bplist_cert.specs.Valid.{IsVouchedBy};
-ghost use Rattle.bplist_cursor.specs.Causes.{GivesCursor, IsExcused, cursor_read};
+ghost use Rattle.bplist_cursor.specs.Causes.{GivesCursor, cursor_read};
 ghost use Rattle.bplist_cursor.specs.Kept.{Keeps};
 ghost use Rattle.bplist_cursor.specs.Replies.{face as face_of};
 ghost use Rattle.bplist_cursor.specs.Shown.{content_face, HasRoom};
@@ -112,7 +112,7 @@ pub fn face<S: Source>(
         → (content : Content) → Spells f F node.object.0 content → GivesCursor
         (λ shown. shown ≡ content_face content) result) }
     ensures unchanged { IsTrue checked.old.source.honest → IsVouchedBy checked.old.certificate.heights node.object.0
-        → IfErr result IsExcused }
+        → IfErr result (λ fault. fault ≢ Changed) }
     ensures unvouched { (IsVouchedBy checked.old.certificate.heights node.object.0 → ⊥) → result ≡ Err Changed }
     ensures room { IfOk result (HasRoom (length checked.old.source.octets)) }
 {

@@ -19,7 +19,8 @@ use bplist_octets::Source;
 /// The head of the object that a node names. `Changed`: the certificate does not vouch for that object, or the
 /// source gives other bytes than those that were checked.
 ///
-/// This is for a caller who reads a body in parts, or many members of one object by [`crate::member_by_head`].
+/// This is for a caller who reads a body in parts, by [`crate::body_bytes`] or [`crate::body_units`], or many members of one
+/// object, by [`crate::member_by_head`].
 pub fn node_head<S: Source>(checked: &mut Checked<S>, node: Node) -> Result<Head, Unread>
     ensures reads { Keeps (read_failed result) checked.old checked.new }
     ensures exact { HonestlyChecked checked.old (λ f F. IsVouchedBy checked.old.certificate.heights node.object.0

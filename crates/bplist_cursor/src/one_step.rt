@@ -1,13 +1,13 @@
 //! One step from a node.
 
-ghost use Rattle.std.specs.Prelude.{◌≡◌, IsTrue, Err};
+ghost use Rattle.std.specs.Prelude.{◌≡◌, ◌≢◌, ◌∷◌, [], IsTrue, Err};
 ghost use Rattle.bplist_objects.specs.Value.{Value};
 ghost use Rattle.bplist_objects.specs.Holds.{Holds};
 ghost use Rattle.bplist_cert.specs.Valid.{IsVouchedBy};
-ghost use Rattle.bplist_cursor.specs.Causes.{GivesCursor, TakesNoMemory, cursor_read};
+ghost use Rattle.bplist_cursor.specs.Causes.{GivesCursor, cursor_read};
 ghost use Rattle.bplist_cursor.specs.Kept.{Keeps};
-ghost use Rattle.bplist_cursor.specs.OneStep.{IsStepFound};
-ghost use Rattle.bplist_cursor.specs.declared.faults.CursorFault.TheVariants.{Changed};
+ghost use Rattle.bplist_cursor.specs.Found.{IsFound};
+ghost use Rattle.bplist_cursor.specs.declared.faults.CursorFault.TheVariants.{Changed, Memory};
 
 use crate::faults::CursorFault;
 use crate::found::{Found, Node};
@@ -29,9 +29,9 @@ pub fn step_from<S: Source>(
     ensures reads { Keeps (cursor_read result) checked.old checked.new }
     ensures exact { IsTrue checked.old.source.honest → IsVouchedBy checked.old.certificate.heights node.object.0 → (v : Value)
         → Holds checked.old.source.octets checked.old.frame node.object.0 v
-        → GivesCursor (IsStepFound checked.old.source.octets checked.old.frame node.object.0 v units.now) result }
+        → GivesCursor (IsFound checked.old node.object.0 v (units.now ∷ [])) result }
     ensures unvouched { (IsVouchedBy checked.old.certificate.heights node.object.0 → ⊥) → result ≡ Err Changed }
-    ensures memory { TakesNoMemory result }
+    ensures memory { result ≢ Err Memory }
 {
     let _frame = checked.frame();
     if checked.height(node.object) == 0 {

@@ -3,8 +3,7 @@ use Rattle.std.proofs.lemmas.Result.{err_from_is_err_and}
 use Rattle.bplist_octets.specs.Octets.{part}
 use Rattle.bplist_objects.specs.Value.{text}
 use Rattle.bplist_objects.specs.Heads.{Spells, leaf}
-use Rattle.bplist_cursor.specs.KeySearch.{digits_2}
-use Rattle.bplist_cursor.proofs.BinaryDigits.{some_digits, halved_digits}
+use Rattle.bplist_cursor.proofs.BinaryDigits.{digits_2, some_digits, halved_digits}
 use Rattle.bplist_cursor.proofs.Keys.{dict_counts, begin_search, go_left, go_right, none_left, list_at, position_below, compared_text}
 use Rattle.bplist_objects.proofs.UnitOrder.{compare_units-equal}
 use Rattle.bplist_cursor.proofs.key_search.search_keys.Goals as goal

@@ -2,7 +2,8 @@ use Rattle.std.proofs.Common.{◌≡◌, ◌≤◌, ◌+◌, ◌-◌, length, So
 use Rattle.bplist_octets.specs.Octets.{part}
 use Rattle.bplist_cert.specs.Lists.{Keyed}
 use Rattle.bplist_cursor.specs.Steps.{HonestlyKeyed}
-use Rattle.bplist_cursor.specs.KeySearch.{digits_2, IsKeyList}
+use Rattle.bplist_cursor.specs.KeySearch.{IsKeyList}
+use Rattle.bplist_cursor.proofs.BinaryDigits.{digits_2}
 use Rattle.bplist_cursor.proofs.Keys.{Searching}
 use Rattle.bplist_cursor.proofs.key_search.search_keys.Given as goal
 
