@@ -84,18 +84,20 @@ fn find_circle<P: Placed>(
     circle(alloc, &mut objects, heights, top)
 }
 
-/// What is known of the reached objects, by passes over them in the order of their numbers: they keep rules 14 to 20 and
-/// 31, or this is the first fault. As keys it names all objects: over an honest source it comes to a fault.
-fn find_reached_in_order<P: Placed>(
-    alloc: Global,
-    src: &mut P,
-) -> Result<(Reached, NamedKeys), LintRefusal>
+/// What is known of the reached objects, which keep rules 14 to 20 and 31, and what they name as keys; or their first fault.
+///
+/// Where the walk meets trouble, passes over the objects in the order of their numbers come to that fault, over an honest
+/// source. As keys all objects are named then.
+fn find_reached<P: Placed>(alloc: Global, src: &mut P) -> Result<(Reached, NamedKeys), LintRefusal>
     ensures reads { OnlyReads (lint_failed result) (P.means src.old) (P.means src.new) }
     ensures fits { IfOk result (λ known. Fits (frame_in (P.means src.old)) known.0) }
     ensures all_named { IfOk result (λ known. length known.1.marks.items ≡ (frame_in (P.means src.old)).objects) }
     ensures exact { HonestlyIn (P.means src.old) (λ f F. Lints
         (λ known. IsWalked f F known.0 × AreNamed f F known.1.marks.items) (IsReachFault f F) no_circle result) }
 {
+    if let Some(known) = walk(alloc, src)? {
+        return Ok(known);
+    }
     let frame = src.frame();
     let len = src.len();
     if frame.table > u32::MAX as u64 {
@@ -108,20 +110,6 @@ fn find_reached_in_order<P: Placed>(
     let Marked { marks, bare, named } = mark_reached(alloc, src)?;
     let tally = check_reached(src, &marks)?;
     Ok((Reached { marks, bare, tally }, named))
-}
-
-/// What is known of the reached objects, which keep rules 14 to 20 and 31, or their first fault.
-fn find_reached<P: Placed>(alloc: Global, src: &mut P) -> Result<(Reached, NamedKeys), LintRefusal>
-    ensures reads { OnlyReads (lint_failed result) (P.means src.old) (P.means src.new) }
-    ensures fits { IfOk result (λ known. Fits (frame_in (P.means src.old)) known.0) }
-    ensures all_named { IfOk result (λ known. length known.1.marks.items ≡ (frame_in (P.means src.old)).objects) }
-    ensures exact { HonestlyIn (P.means src.old) (λ f F. Lints
-        (λ known. IsWalked f F known.0 × AreNamed f F known.1.marks.items) (IsReachFault f F) no_circle result) }
-{
-    match walk(alloc, src)? {
-        Some(known) => Ok(known),
-        None => find_reached_in_order(alloc, src),
-    }
 }
 
 /// Looks at the reached objects by rules 14 to 20 and 31, and where no more than a third of all objects are named as keys,
