@@ -8,7 +8,7 @@ ghost use Rattle.bplist_keys.specs.Texts.{AreOffsets};
 ghost use Rattle.bplist_objects.specs.Spelled.{refs_at};
 ghost use Rattle.bplist_objects.specs.Value.{Value};
 ghost use Rattle.bplist_objects.specs.File.{FileHolds};
-ghost use Rattle.bplist_objects.specs.Answers.{Gives, Never, read_failed};
+ghost use Rattle.bplist_objects.specs.Answers.{Never};
 ghost use Rattle.bplist_objects.specs.Heads.{HasShape};
 ghost use Rattle.bplist_objects.specs.declared.head.Head.{Head as head};
 ghost use Rattle.bplist_keys.specs.Failures.{failed_to_read};
@@ -35,10 +35,8 @@ use crate::reach_rules::check_reached;
 use crate::refusal::LintRefusal;
 use crate::walk::{Reached, walk};
 use bplist_cert::Certificate;
-use bplist_keys::{Failure, NamedKeys, Placed, Table, places_of};
-use bplist_objects::{
-    Fault, Framed, Kind, ObjectFault, ObjectNo, Plist, Rule, shape_at, trailer_of,
-};
+use bplist_keys::{Failure, NamedKeys, Placed, Table, placed_shape, places_of};
+use bplist_objects::{Fault, Framed, Kind, ObjectNo, Plist, Rule, trailer_of};
 use bplist_octets::Source;
 use std::alloc::Global;
 
@@ -224,18 +222,6 @@ fn lint_reached<P: Placed>(
     lint_sifted(alloc, &mut table, reached)
 }
 
-/// The kind of the top.
-fn top_kind<P: Placed>(src: &mut P) -> Result<Kind, ObjectFault>
-    ensures reads { OnlyReads (read_failed result) (P.means src.old) (P.means src.new) }
-    ensures exact { HonestlyIn (P.means src.old) (λ f F. (x : head) → HasShape f F F.top.0 x
-        → Gives (λ kind. kind ≡ x.kind) Never result) }
-{
-    let frame = src.frame();
-    let place = src.place(frame.top.0)?;
-    let head = shape_at(src, &frame, frame.top, place)?;
-    Ok(head.kind)
-}
-
 /// What the linter says of a file whose frame and places keep rules 1 to 13, and beside a yes the kind of the top.
 fn lint_objects<P: Placed>(
     alloc: Global,
@@ -251,8 +237,9 @@ fn lint_objects<P: Placed>(
 {
     let (reached, places) = sift(alloc, src, places)?;
     let lint = lint_reached(alloc, src, reached, places)?;
-    let kind = top_kind(src)?;
-    Ok((lint, kind))
+    let frame = src.frame();
+    let head = placed_shape(src, frame.top.0)?;
+    Ok((lint, head.kind))
 }
 
 /// What `lint` says, and beside a yes the kind of the top, which no caller has to read again.
