@@ -1,5 +1,5 @@
 -- One visit of a reached object: the rules that it keeps, and its references.
-use Rattle.std.proofs.Common.{◌≡◌, ℕ, ◌<◌, ◌≤◌, inl, inr, Bool, true, List, [], ◌∷◌, ◌++◌, length, set, ap, subst, arith, Result, Ok, Err, OnOk}
+use Rattle.std.proofs.Common.{◌≡◌, ℕ, ◌<◌, ◌≤◌, inl, inr, Bool, true, List, [], ◌∷◌, ◌++◌, length, set, ap, subst, arith}
 use Rattle.std.proofs.lemmas.List.Elements.{Contains-push}
 use Rattle.bplist_objects.specs.declared.frame.Frame.{Frame}
 use Rattle.bplist_objects.specs.declared.head.Head.{Head}
@@ -27,16 +27,6 @@ use Rattle.bplist_lint.specs.Walks.{Noted, IsWalkState}
 use Rattle.bplist_lint.proofs.MarkSteps.{noted_none, fresh-set}
 use Rattle.bplist_lint.proofs.ObjectReferences.{no_refs_leaf}
 use Rattle.bplist_lint.proofs.Walks.{walking_visit}
-
--- what holds where the answer is Ok, and what follows from it
-pub both_ok : {X E P Q R : Type 0} (r : Result X E) → OnOk r P → OnOk r Q → (P → Q → R) → OnOk r R
-both_ok (Ok x) h k then = then h k
-both_ok (Err e) h k then = h
-
--- two facts of an answer that is Ok
-pub both_with : {X E : Type 0} (P Q : Type 0) (r : Result X E) → OnOk r P → OnOk r Q → OnOk r (P × Q)
-both_with P Q (Ok x) h k = (h, k)
-both_with P Q (Err e) h k = h
 
 module _ (f : List ℕ) (F : Frame) (n : ℕ) (head : Head) (has : HasHead f F n head) (kept : KeepsAll (KeepsByObject f F n) shape_rules) where
   -- what is said of this head is said of any that the object has

@@ -8,7 +8,7 @@ ghost use Rattle.bplist_keys.specs.Texts.{AreOffsets};
 ghost use Rattle.bplist_objects.specs.Spelled.{refs_at};
 ghost use Rattle.bplist_objects.specs.Value.{Value};
 ghost use Rattle.bplist_objects.specs.File.{FileHolds};
-ghost use Rattle.bplist_objects.specs.Answers.{Gives, Never, read_failed};
+ghost use Rattle.bplist_objects.specs.Answers.{Never};
 ghost use Rattle.bplist_objects.specs.Heads.{HasShape};
 ghost use Rattle.bplist_objects.specs.declared.head.Head.{Head as head};
 ghost use Rattle.bplist_keys.specs.Failures.{failed_to_read};
@@ -35,10 +35,8 @@ use crate::reach_rules::check_reached;
 use crate::refusal::LintRefusal;
 use crate::walk::{Reached, walk};
 use bplist_cert::Certificate;
-use bplist_keys::{Failure, NamedKeys, Placed, Table, places_of};
-use bplist_objects::{
-    Fault, Framed, Kind, ObjectFault, ObjectNo, Plist, Rule, shape_at, trailer_of,
-};
+use bplist_keys::{Failure, NamedKeys, Placed, Table, placed_shape, places_of};
+use bplist_objects::{Fault, Framed, Kind, ObjectNo, Plist, Rule, trailer_of};
 use bplist_octets::Source;
 use std::alloc::Global;
 
@@ -84,18 +82,20 @@ fn find_circle<P: Placed>(
     circle(alloc, &mut objects, heights, top)
 }
 
-/// What is known of the reached objects, by passes over them in the order of their numbers: they keep rules 14 to 20 and
-/// 31, or this is the first fault. As keys it names all objects: over an honest source it comes to a fault.
-fn find_reached_in_order<P: Placed>(
-    alloc: Global,
-    src: &mut P,
-) -> Result<(Reached, NamedKeys), LintRefusal>
+/// What is known of the reached objects, which keep rules 14 to 20 and 31, and what they name as keys; or their first fault.
+///
+/// Where the walk meets trouble, passes over the objects in the order of their numbers come to that fault, over an honest
+/// source. As keys all objects are named then.
+fn find_reached<P: Placed>(alloc: Global, src: &mut P) -> Result<(Reached, NamedKeys), LintRefusal>
     ensures reads { OnlyReads (lint_failed result) (P.means src.old) (P.means src.new) }
     ensures fits { IfOk result (λ known. Fits (frame_in (P.means src.old)) known.0) }
     ensures all_named { IfOk result (λ known. length known.1.marks.items ≡ (frame_in (P.means src.old)).objects) }
     ensures exact { HonestlyIn (P.means src.old) (λ f F. Lints
         (λ known. IsWalked f F known.0 × AreNamed f F known.1.marks.items) (IsReachFault f F) no_circle result) }
 {
+    if let Some(known) = walk(alloc, src)? {
+        return Ok(known);
+    }
     let frame = src.frame();
     let len = src.len();
     if frame.table > u32::MAX as u64 {
@@ -108,20 +108,6 @@ fn find_reached_in_order<P: Placed>(
     let Marked { marks, bare, named } = mark_reached(alloc, src)?;
     let tally = check_reached(src, &marks)?;
     Ok((Reached { marks, bare, tally }, named))
-}
-
-/// What is known of the reached objects, which keep rules 14 to 20 and 31, or their first fault.
-fn find_reached<P: Placed>(alloc: Global, src: &mut P) -> Result<(Reached, NamedKeys), LintRefusal>
-    ensures reads { OnlyReads (lint_failed result) (P.means src.old) (P.means src.new) }
-    ensures fits { IfOk result (λ known. Fits (frame_in (P.means src.old)) known.0) }
-    ensures all_named { IfOk result (λ known. length known.1.marks.items ≡ (frame_in (P.means src.old)).objects) }
-    ensures exact { HonestlyIn (P.means src.old) (λ f F. Lints
-        (λ known. IsWalked f F known.0 × AreNamed f F known.1.marks.items) (IsReachFault f F) no_circle result) }
-{
-    match walk(alloc, src)? {
-        Some(known) => Ok(known),
-        None => find_reached_in_order(alloc, src),
-    }
 }
 
 /// Looks at the reached objects by rules 14 to 20 and 31, and where no more than a third of all objects are named as keys,
@@ -236,18 +222,6 @@ fn lint_reached<P: Placed>(
     lint_sifted(alloc, &mut table, reached)
 }
 
-/// The kind of the top.
-fn top_kind<P: Placed>(src: &mut P) -> Result<Kind, ObjectFault>
-    ensures reads { OnlyReads (read_failed result) (P.means src.old) (P.means src.new) }
-    ensures exact { HonestlyIn (P.means src.old) (λ f F. (x : head) → HasShape f F F.top.0 x
-        → Gives (λ kind. kind ≡ x.kind) Never result) }
-{
-    let frame = src.frame();
-    let place = src.place(frame.top.0)?;
-    let head = shape_at(src, &frame, frame.top, place)?;
-    Ok(head.kind)
-}
-
 /// What the linter says of a file whose frame and places keep rules 1 to 13, and beside a yes the kind of the top.
 fn lint_objects<P: Placed>(
     alloc: Global,
@@ -263,8 +237,9 @@ fn lint_objects<P: Placed>(
 {
     let (reached, places) = sift(alloc, src, places)?;
     let lint = lint_reached(alloc, src, reached, places)?;
-    let kind = top_kind(src)?;
-    Ok((lint, kind))
+    let frame = src.frame();
+    let head = placed_shape(src, frame.top.0)?;
+    Ok((lint, head.kind))
 }
 
 /// What `lint` says, and beside a yes the kind of the top, which no caller has to read again.

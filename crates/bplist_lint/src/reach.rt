@@ -119,19 +119,13 @@ fn follow<P: Framed>(src: &mut P, head: &Head, search: &mut Search) -> Result<()
     ensures good { search.new.good ≡ search.old.good }
     ensures work { OnOk result (count_by not search.new.marks.items + vec_len search.new.stack
         ≤ count_by not search.old.marks.items + vec_len search.old.stack) }
-    ensures looked { OnOk result (HonestlyIn (P.means src.old) (λ f F.
+    ensures exact { OnOk result (HonestlyIn (P.means src.old) (λ f F.
         AreBelow f head.now.body F.ref_size (ref_count head.now.kind head.now.count) F.objects
         → AreFollowed f F search.old.followed.words.items search.old.marks.items
         → Looked (refs (content_at f F head.now))
-        search.old.marks.items search.old.stack.items search.new.marks.items search.new.stack.items)) }
-    ensures all { OnOk result (HonestlyIn (P.means src.old) (λ f F.
-        AreBelow f head.now.body F.ref_size (ref_count head.now.kind head.now.count) F.objects
-        → AreFollowed f F search.old.followed.words.items search.old.marks.items
-        → HasMarks search.new.marks.items (refs (content_at f F head.now)))) }
-    ensures followed { OnOk result (HonestlyIn (P.means src.old) (λ f F.
-        AreBelow f head.now.body F.ref_size (ref_count head.now.kind head.now.count) F.objects
-        → AreFollowed f F search.old.followed.words.items search.old.marks.items
-        → AreFollowed f F search.new.followed.words.items search.new.marks.items)) }
+        search.old.marks.items search.old.stack.items search.new.marks.items search.new.stack.items
+        × HasMarks search.new.marks.items (refs (content_at f F head.now))
+        × AreFollowed f F search.new.followed.words.items search.new.marks.items)) }
 {
     let frame = src.frame();
     let first = number_of(src, head.body);
@@ -169,30 +163,6 @@ fn look_at<P: Placed>(src: &mut P, n: u32, search: &mut Search) -> Result<(), Fa
     Ok(())
 }
 
-/// The search before its first step: the top is marked, and its references are still to be followed.
-fn begin<P: Framed>(alloc: Global, src: &P) -> Result<Search, AllocError>
-    requires small { (frame_in (P.means src.now)).table < 2 ^ 32 }
-    ensures ready { IfOk result (IsReady (frame_in (P.means src.now))) }
-    ensures searching { IfOk result (λ search. (f : List ℕ)
-        → Searching f (frame_in (P.means src.now)) search.stack.items search) }
-{
-    let frame = src.frame();
-    let mut marks = vec![in alloc; false; frame.objects as usize]?;
-    marks[frame.top.0 as usize] = true;
-    let mut stack = Vec::with_capacity(alloc, frame.objects as usize)?;
-    stack.push(frame.top.0)?;
-    let size = frame.ref_size as u64;
-    let numbers = (frame.table / size + 1) * size;
-    let good = PlaceSet::new(alloc, numbers)?;
-    let followed = PlaceSet::new(alloc, numbers)?;
-    Ok(Search {
-        marks,
-        stack,
-        good,
-        followed,
-    })
-}
-
 /// Marks exactly the objects that the top reaches.
 pub fn mark_reached<P: Placed>(alloc: Global, src: &mut P) -> Result<Marked, Failure>
     requires small { (frame_in (P.means src.old)).table < 2 ^ 32 }
@@ -204,8 +174,22 @@ pub fn mark_reached<P: Placed>(alloc: Global, src: &mut P) -> Result<Marked, Fai
     ensures bare { IfOk result (λ marked. (n : ℕ) → IsMarked marked.bare.items n → ⊥) }
     ensures named { IfOk result (λ marked. marked.named.marks.items ≡ replicate (frame_in (P.means src.old)).objects true) }
 {
-    let objects = src.frame().objects as usize;
-    let mut search = begin(alloc, src)?;
+    let frame = src.frame();
+    let objects = frame.objects as usize;
+    let mut marks = vec![in alloc; false; objects]?;
+    marks[frame.top.0 as usize] = true;
+    let mut stack = Vec::with_capacity(alloc, objects)?;
+    stack.push(frame.top.0)?;
+    let size = frame.ref_size as u64;
+    let numbers = (frame.table / size + 1) * size;
+    let good = PlaceSet::new(alloc, numbers)?;
+    let followed = PlaceSet::new(alloc, numbers)?;
+    let mut search = Search {
+        marks,
+        stack,
+        good,
+        followed,
+    };
     while let Some(n) = search.stack.pop() {
         look_at(src, n, &mut search)?;
     }

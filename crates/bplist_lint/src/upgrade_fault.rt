@@ -3,6 +3,9 @@
 ghost use Rattle.std.specs.Prelude.{◌≡◌};
 ghost use Rattle.bplist_objects.specs.declared.fault.ObjectFault.{ObjectFault as object_fault};
 ghost use Rattle.bplist_cert.specs.declared.refusal.Refusal.{Refusal as cert_refusal};
+ghost use Rattle.bplist_cert.specs.Refusals.{refusal_of, refusal_of_keys};
+ghost use Rattle.bplist_lint.specs.declared.upgrade_fault.UpgradeFault.TheVariants.{Memory as is_memory};
+ghost use Rattle.bplist_lint.specs.Upgrades.{of_check};
 
 use bplist_cert::Refusal;
 use bplist_keys::Failure;
@@ -22,9 +25,6 @@ pub enum UpgradeFault {
 }
 
 impl From<ObjectFault> for UpgradeFault {
-    ghost use Rattle.bplist_cert.specs.Refusals.{refusal_of};
-    ghost use Rattle.bplist_lint.specs.Upgrades.{of_check};
-
     ghost from_gives = { λ fault e. e ≡ of_check (refusal_of fault) };
 
     fn from(fault: ObjectFault) -> UpgradeFault {
@@ -36,8 +36,6 @@ impl From<ObjectFault> for UpgradeFault {
 }
 
 impl From<Refusal> for UpgradeFault {
-    ghost use Rattle.bplist_lint.specs.Upgrades.{of_check};
-
     ghost from_gives = { λ refusal e. e ≡ of_check refusal };
 
     fn from(refusal: Refusal) -> UpgradeFault {
@@ -50,9 +48,6 @@ impl From<Refusal> for UpgradeFault {
 }
 
 impl From<Failure> for UpgradeFault {
-    ghost use Rattle.bplist_cert.specs.Refusals.{refusal_of_keys};
-    ghost use Rattle.bplist_lint.specs.Upgrades.{of_check};
-
     ghost from_gives = { λ fault e. e ≡ of_check (refusal_of_keys fault) };
 
     fn from(fault: Failure) -> UpgradeFault {
@@ -64,9 +59,7 @@ impl From<Failure> for UpgradeFault {
 }
 
 impl<T: Drop> From<AllocFailed<T>> for UpgradeFault {
-    ghost use Rattle.bplist_lint.specs.declared.upgrade_fault.UpgradeFault.TheVariants.{Memory};
-
-    ghost from_gives = { λ _ e. e ≡ Memory };
+    ghost from_gives = { λ _ e. e ≡ is_memory };
 
     fn from(_refused: AllocFailed<T>) -> UpgradeFault {
         UpgradeFault::Memory
@@ -74,9 +67,7 @@ impl<T: Drop> From<AllocFailed<T>> for UpgradeFault {
 }
 
 impl From<AllocError> for UpgradeFault {
-    ghost use Rattle.bplist_lint.specs.declared.upgrade_fault.UpgradeFault.TheVariants.{Memory};
-
-    ghost from_gives = { λ _ e. e ≡ Memory };
+    ghost from_gives = { λ _ e. e ≡ is_memory };
 
     fn from(_refused: AllocError) -> UpgradeFault {
         UpgradeFault::Memory

@@ -12,7 +12,7 @@ ghost use Rattle.bplist_lint.specs.Upgrades.{Upgrades, upgrade_failed};
 use crate::key_lists::KeySorting;
 use crate::upgrade_fault::UpgradeFault;
 use bplist_cert::{Certificate, Checked, KeyLists, vouched_keys};
-use bplist_keys::{Placed, Ranks, Table, placed_shape, places_of, ranks_of};
+use bplist_keys::{Placed, Table, placed_shape, places_of, ranks_of};
 use bplist_objects::{Framed, Kind};
 use bplist_octets::Source;
 use std::alloc::Global;
@@ -46,34 +46,7 @@ fn list_object<P: Placed>(src: &mut P, n: u32, lists: &mut KeySorting) -> Result
 }
 
 /// The key lists of the vouched dictionaries, which are those with a height above 0, one behind the other in the order of
-/// the objects, by these ranks of the texts that they name as keys.
-fn list_all<P: Placed>(
-    alloc: Global,
-    src: &mut P,
-    heights: &[u32],
-    ranks: Ranks,
-) -> Result<KeyLists, UpgradeFault>
-    requires { length heights.now ≡ (frame_in (P.means src.old)).objects }
-    ensures reads { OnlyReads (upgrade_failed result) (P.means src.old) (P.means src.new) }
-    ensures starts { IfOk result (λ keys. length keys.starts ≡ (frame_in (P.means src.old)).objects) }
-    ensures exact { HonestlyIn (P.means src.old) (λ f F. IsValid f F heights.now
-        → (named : List Bool) → AreRanks f F named ranks.table.items
-        → ((n : ℕ) → IsVouchedBy heights.now n → HasNamedKeys f F named n)
-        → Upgrades (λ keys. Listed f F heights.now F.objects keys.starts keys.positions) result) }
-{
-    let frame = src.frame();
-    let mut starts = vec![in alloc; 0; frame.objects as usize]?;
-    let mut lists = KeySorting::new(alloc, ranks);
-    for n in 0..frame.objects {
-        if heights[n as usize] > 0 {
-            starts[n as usize] = list_object(src, n, &mut lists)?;
-        }
-    }
-    let KeySorting { positions, .. } = lists;
-    Ok(KeyLists { starts, positions })
-}
-
-/// The key lists of the vouched dictionaries of a file, where the heights and the places are given.
+/// the objects.
 fn list_vouched<P: Placed>(
     alloc: Global,
     src: &mut P,
@@ -85,26 +58,18 @@ fn list_vouched<P: Placed>(
     ensures exact { HonestlyIn (P.means src.old) (λ f F. IsValid f F heights.now
         → Upgrades (λ keys. Listed f F heights.now F.objects keys.starts keys.positions) result) }
 {
+    let frame = src.frame();
     let named = vouched_keys(alloc, src, heights)?;
     let ranks = ranks_of(alloc, src, named)?;
-    list_all(alloc, src, heights, ranks)
-}
-
-/// The key lists of the vouched dictionaries of a file, where the heights are given.
-fn list_keys_of<P: Framed>(
-    alloc: Global,
-    src: &mut P,
-    heights: &[u32],
-) -> Result<KeyLists, UpgradeFault>
-    requires { length heights.now ≡ (frame_in (P.means src.old)).objects }
-    ensures reads { OnlyReads (upgrade_failed result) (P.means src.old) (P.means src.new) }
-    ensures starts { IfOk result (λ keys. length keys.starts ≡ (frame_in (P.means src.old)).objects) }
-    ensures exact { HonestlyIn (P.means src.old) (λ f F. IsValid f F heights.now
-        → Upgrades (λ keys. Listed f F heights.now F.objects keys.starts keys.positions) result) }
-{
-    let frame = src.frame();
-    let places = places_of(alloc, src, &frame)?;
-    list_vouched(alloc, &mut Table::new(src, frame, &places), heights)
+    let mut starts = vec![in alloc; 0; frame.objects as usize]?;
+    let mut lists = KeySorting::new(alloc, ranks);
+    for n in 0..frame.objects {
+        if heights[n as usize] > 0 {
+            starts[n as usize] = list_object(src, n, &mut lists)?;
+        }
+    }
+    let KeySorting { positions, .. } = lists;
+    Ok(KeyLists { starts, positions })
 }
 
 /// The certificate of version 2 of a checked file: its heights, and the key lists of the vouched dictionaries one behind
@@ -125,9 +90,10 @@ pub fn upgrade<S: Source>(
     ensures exact { IsTrue checked.old.source.honest → Upgrades (λ certificate.
         ∥ IsUpgraded checked.old.source.octets checked.old.frame checked.old.certificate.heights certificate ∥₁) result }
 {
-    let _frame = checked.frame();
+    let frame = checked.frame();
     let heights = checked.certificate().heights.to_vec(alloc)?;
-    let keys = list_keys_of(alloc, checked, &heights)?;
+    let places = places_of(alloc, checked, &frame)?;
+    let keys = list_vouched(alloc, &mut Table::new(checked, frame, &places), &heights)?;
     Ok(Certificate {
         heights,
         keys: Some(keys),

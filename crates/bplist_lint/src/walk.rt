@@ -1,6 +1,6 @@
 //! One walk over the reached objects, for files in which none of them breaks a rule and all have room.
 
-ghost use Rattle.std.specs.Prelude.{◌≡◌, ◌≢◌, ◌↔◌, ℕ, List, ◌+◌, ◌≤◌, ◌<◌, [], ◌∷◌, ◌++◌, not, IsTrue, false, IfOk, IfSome, OnOk, count_by, length, slice_index, vec_len};
+ghost use Rattle.std.specs.Prelude.{◌≡◌, ◌≢◌, ◌↔◌, ℕ, ◌+◌, ◌≤◌, ◌<◌, [], ◌∷◌, ◌++◌, not, IsTrue, false, IfOk, IfSome, OnOk, count_by, length, slice_index, vec_len};
 ghost use Rattle.bplist_octets.specs.Meaning.{OnlyReads};
 ghost use Rattle.bplist_objects.specs.declared.fault.ObjectFault.{ObjectFault as object_fault};
 ghost use Rattle.bplist_objects.specs.Framed.{frame_in, HonestlyIn};
@@ -170,15 +170,13 @@ fn mark_body<P: Framed>(
     ensures current { worklist.new.current ≡ worklist.old.current }
     ensures work { OnOk result (count_by not worklist.new.marks.items + vec_len worklist.new.stack
         ≤ count_by not worklist.old.marks.items + vec_len worklist.old.stack) }
-    ensures below { OnOk result (HonestlyIn (P.means src.old) (λ f F.
-        AreBelow f head.now.body F.ref_size (ref_count head.now.kind head.now.count) F.objects)) }
-    ensures noted { OnOk result (HonestlyIn (P.means src.old) (λ f F.
-        Noted (refs (content_at f F head.now)) (worklist.old.current + 1) (ref_count head.now.kind head.now.count)
-        worklist.old.marks.items worklist.old.stack.items worklist.new.marks.items worklist.new.stack.items)) }
     ensures all_named { length named.new.marks.items ≡ (frame_in (P.means src.old)).objects }
     ensures keeps_named { (m : ℕ) → IsMarked named.old.marks.items m → IsMarked named.new.marks.items m }
-    ensures named { OnOk result (HonestlyIn (P.means src.old) (λ f F. head.now.kind ≡ Dict → (k : ℕ) → k < head.now.count
-        → IsMarked named.new.marks.items (key_ref f F head.now k))) }
+    ensures exact { OnOk result (HonestlyIn (P.means src.old) (λ f F.
+        AreBelow f head.now.body F.ref_size (ref_count head.now.kind head.now.count) F.objects
+        × Noted (refs (content_at f F head.now)) (worklist.old.current + 1) (ref_count head.now.kind head.now.count)
+        worklist.old.marks.items worklist.old.stack.items worklist.new.marks.items worklist.new.stack.items
+        × (head.now.kind ≡ Dict → (k : ℕ) → k < head.now.count → IsMarked named.new.marks.items (key_ref f F head.now k)))) }
 {
     let objects = src.frame().objects;
     let count = refs_of(head);
@@ -244,35 +242,17 @@ fn visit_from<P: Placed>(src: &mut P, n: u32, progress: &mut Progress) -> Result
     Ok(())
 }
 
-/// Visits all reached objects, of which only the top is marked yet.
-fn visit_all<P: Placed>(src: &mut P, progress: &mut Progress) -> Result<(), Stop>
-    requires steady { IsSteadyWalk (frame_in (P.means src.old)) progress.old }
-    requires empty { vec_len progress.old.worklist.stack ≡ 0 }
+/// Visits all reached objects: the top is marked first, and those that are marked are visited in the order of their numbers.
+fn visit_all<P: Placed>(alloc: Global, src: &mut P) -> Result<Progress, Stop>
     ensures reads { OnlyReads (stop_failed result) (P.means src.old) (P.means src.new) }
-    ensures steady { OnOk result (IsSteadyWalk (frame_in (P.means src.old)) progress.new) }
-    ensures walking { OnOk result (HonestlyIn (P.means src.old) (λ f F.
-        Walking f F 0 [] progress.old → Walking f F F.objects [] progress.new)) }
-{
-    let frame = src.frame();
-    for n in 0..frame.objects {
-        if progress.worklist.marks[n as usize] {
-            visit_from(src, n, progress)?;
-        }
-    }
-    Ok(())
-}
-
-/// The walk's first step: the top is marked.
-fn begin<P: Framed>(alloc: Global, src: &P) -> Result<Progress, AllocError>
-    ensures steady { IfOk result (IsSteadyWalk (frame_in (P.means src.now))) }
-    ensures empty { IfOk result (λ progress. vec_len progress.worklist.stack ≡ 0) }
-    ensures walking { IfOk result (λ progress. (f : List ℕ) → Walking f (frame_in (P.means src.now)) 0 [] progress) }
+    ensures steady { IfOk result (IsSteadyWalk (frame_in (P.means src.old))) }
+    ensures walking { HonestlyIn (P.means src.old) (λ f F. IfOk result (Walking f F F.objects [])) }
 {
     let frame = src.frame();
     let mut marks = vec![in alloc; false; frame.objects as usize]?;
     marks[frame.top.0 as usize] = true;
     let bare = vec![in alloc; false; frame.objects as usize]?;
-    Ok(Progress {
+    let mut progress = Progress {
         worklist: Worklist {
             marks,
             // A Vec that grows holds more than its items.
@@ -282,7 +262,13 @@ fn begin<P: Framed>(alloc: Global, src: &P) -> Result<Progress, AllocError>
         bare,
         named: NamedKeys::new(alloc, frame.objects)?,
         tally: Tally::new(),
-    })
+    };
+    for n in 0..frame.objects {
+        if progress.worklist.marks[n as usize] {
+            visit_from(src, n, &mut progress)?;
+        }
+    }
+    Ok(progress)
 }
 
 /// Visits each reached object once, and says what is known of them: all keep rules 14 to 20 and 31. Beside that the objects
@@ -295,17 +281,17 @@ pub fn walk<P: Placed>(alloc: Global, src: &mut P) -> Result<Option<(Reached, Na
         (λ known. IsWalked f F known.0 × AreNamed f F known.1.marks.items))) }
 {
     let _frame = src.frame();
-    let mut progress = begin(alloc, src)?;
-    let visited = visit_all(src, &mut progress);
-    let Progress {
-        worklist,
-        bare,
-        named,
-        tally,
-    } = progress;
-    let marks = worklist.marks;
-    match visited {
-        Ok(()) => Ok(Some((Reached { marks, bare, tally }, named))),
+    match visit_all(alloc, src) {
+        Ok(progress) => {
+            let Progress {
+                worklist,
+                bare,
+                named,
+                tally,
+            } = progress;
+            let marks = worklist.marks;
+            Ok(Some((Reached { marks, bare, tally }, named)))
+        }
         Err(Stop::Trouble) => Ok(None),
         Err(Stop::Read(error)) => Err(Failure::Read(error)),
         Err(Stop::Memory) => Err(Failure::Memory),

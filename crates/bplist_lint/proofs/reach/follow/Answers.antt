@@ -103,10 +103,14 @@ loop-number-preserved g c =
       ];
     }
 
-pub returns-clause-all : goal.returns-clause-all
-returns-clause-all g c = λ honest below all.
+pub returns-clause-exact : goal.returns-clause-exact
+returns-clause-exact g c = λ honest below all.
     let f = (g.P.Source.means c.args.src.now).octets in
     let F : Frame = frame_in (g.P.Source.means c.args.src.now) in
     let h = c.args.head.now in
     let i = c.loop-number.invariant in
-    all_marked f F h c.frame-frame.ensures.framed.safe.safe.ref_low c.requires.head c.loop-number.search.followed.words.items c.loop-number.search.marks.items (i.followed honest below all) (λ k low. i.known _ (omega (arith, c.number_of-first.ensures)) (omega (arith, low, c.loop-number-test.false, c.number_of-first.ensures, c.refs_of.ensures)))
+    let followed = i.followed honest below all in (
+      i.looked honest below all,
+      all_marked f F h c.frame-frame.ensures.framed.safe.safe.ref_low c.requires.head c.loop-number.search.followed.words.items c.loop-number.search.marks.items followed (λ k low. i.known _ (omega (arith, c.number_of-first.ensures)) (omega (arith, low, c.loop-number-test.false, c.number_of-first.ensures, c.refs_of.ensures))),
+      followed,
+    )

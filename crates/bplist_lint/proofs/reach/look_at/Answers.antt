@@ -20,10 +20,8 @@ returns-in_ok-follow-clause-searching g c = λ honest w.
     let good = (rw c.in_ok-head.ensures.reads at c.in_ok-all.ensures.good) honest w.known_good in
     let below = exact.0 c.if-all.true in
     let same = refs_as_shape _ _ c.args.n c.in-Some.head has below in
-    let looked = (rw (c.in_ok-all.ensures.reads, c.in_ok-head.ensures.reads) at c.in_ok-follow.ensures.looked) honest below w.known_followed in
-    let all = (rw (c.in_ok-all.ensures.reads, c.in_ok-head.ensures.reads) at c.in_ok-follow.ensures.all) honest below w.known_followed in
-    let followed = (rw (c.in_ok-all.ensures.reads, c.in_ok-head.ensures.reads) at c.in_ok-follow.ensures.followed) honest below w.known_followed in
-    searching_step _ _ c.args.n _ _ _ _ _ _ _ _ w (rw same looked) (rw same all) (rw (ap (λ (s : PlaceSet). s.words.items) c.follow.ensures.good) good) followed
+    let follow = (rw (c.in_ok-all.ensures.reads, c.in_ok-head.ensures.reads) at c.in_ok-follow.ensures.exact) honest below w.known_followed in
+    searching_step _ _ c.args.n _ _ _ _ _ _ _ _ w (rw same follow.0) (rw same follow.1) (rw (ap (λ (s : PlaceSet). s.words.items) c.follow.ensures.good) good) follow.2
 
 pub returns-else-all-clause-searching : goal.returns-else-all-clause-searching
 returns-else-all-clause-searching g c = λ honest w.

@@ -1,9 +1,25 @@
-use Rattle.std.proofs.Common.{◌<◌, arith, false, length, sym, ◌∙◌}
+use Rattle.std.proofs.Common.{◌≡◌, ◌<◌, arith, rules, false, length, replicate, sym, ◌∙◌}
 use Rattle.std.proofs.lemmas.Grind.{common_steps}
 use Rattle.std.proofs.lemmas.List.{get_or_read}
-use Rattle.bplist_lint.proofs.Walks.{walking_over}
+use Rattle.bplist_objects.specs.declared.frame.Frame.{Frame}
+use Rattle.bplist_objects.specs.Framed.{frame_in}
+use Rattle.bplist_lint.proofs.Walks.{walking_start, walking_over}
 use Rattle.bplist_lint.proofs.walk.visit_all.Goals as goal
 use Rattle.bplist_lint.proofs.walk.visit_all.Goals.{then-index+in_ok-visit_from, else-index}
+
+pub loop-n-init : goal.loop-n-init
+loop-n-init g c =
+    let marks_new : c.in_ok-marks.marks.items ≡ replicate c.frame-frame.result.objects false = search rules in
+    let bare_new : c.in_ok-bare.bare.items ≡ replicate c.frame-frame.result.objects false = search rules in
+    record {
+      reads = cc;
+      steady = search rules;
+      empty = grind (arith, common_steps);
+      walking = λ honest.
+          let f = (g.P.Source.means c.args.src.now).octets in
+          let F : Frame = frame_in (g.P.Source.means c.args.src.now) in
+          rw (marks_new, bare_new, c.new-2.ensures, c.frame-frame.ensures.frame) (walking_start f F c.frame-frame.ensures.framed.safe.top _);
+    }
 
 pub loop-n-preserved : goal.loop-n-preserved
 loop-n-preserved g c =
@@ -18,12 +34,12 @@ loop-n-preserved g c =
         reads = w.in_ok-visit_from.ensures.reads ∙ i.reads;
         steady = rw i.reads at w.in_ok-visit_from.ensures.steady;
         empty = w.in_ok-visit_from.ensures.empty;
-        walking = λ honest start. (rw i.reads at w.in_ok-visit_from.ensures.walking) honest (sym read ∙ w.if-index.true) (i.walking honest start);
+        walking = λ honest. (rw i.reads at w.in_ok-visit_from.ensures.walking) honest (sym read ∙ w.if-index.true) (i.walking honest);
       })
       | else-index w ↦ rw (w.src-is, w.progress-is) (record {
         reads = i.reads;
         steady = i.steady;
         empty = i.empty;
-        walking = λ honest start. walking_over _ _ _ _ _ _ _ (i.walking honest start) (sym read ∙ w.if-index.false);
+        walking = λ honest. walking_over _ _ _ _ _ _ _ (i.walking honest) (sym read ∙ w.if-index.false);
       })
     ]

@@ -10,5 +10,5 @@ invariant-loop-n g l =
       reads : means l.src ≡ means l.fn.src;
       steady : IsSteadyWalk (frame_in (means l.fn.src)) l.progress;
       empty : vec_len l.progress.worklist.stack ≡ 0;
-      walking : HonestlyIn (means l.fn.src) (λ f F. Walking f F 0 [] l.fn.progress → Walking f F l.n [] l.progress);
+      walking : HonestlyIn (means l.fn.src) (λ f F. Walking f F l.n [] l.progress);
     }

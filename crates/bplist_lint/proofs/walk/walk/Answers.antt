@@ -11,5 +11,5 @@ returns-in-Ok-clause-exact g c = λ honest.
     let F : Frame = frame_in (g.P.Source.means c.args.src.now) in
     let steady = c.in-Ok.ensures.steady in
     let all = steady.worklist.all_marks in
-    let long : length c.visit_all-visited.new.progress.worklist.marks.items ≡ F.objects = grind (arith, common_steps) in
-    walking_end f F (c.frame-frame.ensures.framed.framed honest) _ long _ (c.in-Ok.ensures.walking honest (c.in_ok-progress.ensures.walking f)) steady.roomy.room
+    let long : length c.in-Ok.progress.worklist.marks.items ≡ F.objects = grind (arith, common_steps) in
+    walking_end f F (c.frame-frame.ensures.framed.framed honest) _ long _ (c.in-Ok.ensures.walking honest) steady.roomy.room
