@@ -1,11 +1,10 @@
 //! Calls of the library, and their answers as text.
 
 use arrayvec::ArrayVec;
-use bplist_ascii::{PrintFault, print, text_of_bytes, text_of_units};
+use bplist_ascii::{print, text_of_bytes, text_of_units};
 use bplist_cert::{Certificate, Checked};
 use bplist_cursor::{
-    CursorFault, Face, Found, Measures, Node, Path, PathFault, Query, Reply, answer, answer_all,
-    face, locate, locate_counted, measure, member,
+    Node, Path, PathFault, Query, answer, answer_all, face, locate, locate_counted, measure, member,
 };
 use bplist_lint::{Lint, LintRefusal, UpgradeFault, lint, upgrade};
 use bplist_objects::ObjectNo;
@@ -35,34 +34,6 @@ pub enum Call {
     TextOfBytes(&'static [u8]),
 }
 
-/// What a call answered.
-#[derive(Drop)]
-pub enum Answer {
-    Lint(Result<Lint, LintRefusal>),
-    Certificate(Result<Certificate, UpgradeFault>),
-    Octets(Result<Vec<u8>, AllocError>),
-    Found(Result<Found, CursorFault>),
-    Counted(Result<(Found, u64), CursorFault>),
-    Face(Result<Face, CursorFault>),
-    Member(Result<Option<Node>, CursorFault>),
-    Reply(Result<Reply, CursorFault>),
-    Replies(Result<Vec<Reply>, CursorFault>),
-    Measures(Result<Measures, CursorFault>),
-    Printed(Result<ArrayVec<u8, 64>, PrintFault>),
-    Path(Result<Path, PathFault>),
-}
-
-fn printed<S: Source>(alloc: Global, checked: &mut Checked<S>, node: Node, limit: u64) -> Answer {
-    match measure(alloc, checked) {
-        Ok(measures) => {
-            let mut out = ArrayVec::new();
-            let answer = print(alloc, checked, &measures, node, limit, &mut out);
-            Answer::Printed(answer.map(|_| out))
-        }
-        Err(fault) => Answer::Measures(Err(fault)),
-    }
-}
-
 impl Call {
     /// The variant's name.
     pub fn name(&self) -> &'static str {
@@ -84,32 +55,27 @@ impl Call {
         }
     }
 
-    /// Makes the call, and gives its answer as text.
+    /// Makes the call, and gives its answer as text: `Err(..)` for a fault.
     pub fn told<S: Source>(
         &self,
         alloc: Global,
         checked: &mut Checked<S>,
     ) -> Result<String, AllocError> {
-        self.on(alloc, checked).text(alloc)
-    }
-
-    /// Makes the call.
-    pub fn on<S: Source>(&self, alloc: Global, checked: &mut Checked<S>) -> Answer {
         match self {
-            Call::Lint => Answer::Lint(lint(alloc, checked)),
-            Call::Upgrade => Answer::Certificate(upgrade(alloc, checked)),
-            Call::Octets => Answer::Octets(checked.certificate().to_octets(alloc)),
-            Call::Locate(path) => Answer::Found(locate(checked, path)),
-            Call::LocateCounted(path) => Answer::Counted(locate_counted(checked, path)),
-            Call::Face(node) => Answer::Face(face(alloc, checked, *node)),
-            Call::Member(node, i) => Answer::Member(member(checked, *node, *i)),
-            Call::Answer(query) => Answer::Reply(answer(alloc, checked, query)),
-            Call::AnswerAll(queries) => Answer::Replies(answer_all(alloc, checked, queries)),
-            Call::Measure => Answer::Measures(measure(alloc, checked)),
-            Call::Print(node, limit) => printed(alloc, checked, *node, *limit),
-            Call::Parse(text) => Answer::Path(Path::parse(alloc, text)),
-            Call::TextOfUnits(units) => Answer::Octets(text_of_units(alloc, units)),
-            Call::TextOfBytes(bytes) => Answer::Octets(text_of_bytes(alloc, bytes)),
+            Call::Lint => lint_text(alloc, &lint(alloc, checked)),
+            Call::Upgrade => upgrade_text(alloc, &upgrade(alloc, checked)),
+            Call::Octets => octets_text(alloc, &checked.certificate().to_octets(alloc)),
+            Call::Locate(path) => text_of(alloc, &locate(checked, path)),
+            Call::LocateCounted(path) => text_of(alloc, &locate_counted(checked, path)),
+            Call::Face(node) => text_of(alloc, &face(alloc, checked, *node)),
+            Call::Member(node, i) => text_of(alloc, &member(checked, *node, *i)),
+            Call::Answer(query) => text_of(alloc, &answer(alloc, checked, query)),
+            Call::AnswerAll(queries) => text_of(alloc, &answer_all(alloc, checked, queries)),
+            Call::Measure => text_of(alloc, &measure(alloc, checked)),
+            Call::Print(node, limit) => print_text(alloc, checked, *node, *limit),
+            Call::Parse(text) => text_of(alloc, &Path::parse(alloc, text)),
+            Call::TextOfUnits(units) => octets_text(alloc, &text_of_units(alloc, units)),
+            Call::TextOfBytes(bytes) => octets_text(alloc, &text_of_bytes(alloc, bytes)),
         }
     }
 }
@@ -130,32 +96,48 @@ fn certificate_text(alloc: Global, certificate: &Certificate) -> Result<String, 
     }
 }
 
-fn lint_text(alloc: Global, lint: &Lint) -> Result<String, AllocError> {
-    let certificate = certificate_text(alloc, &lint.certificate)?;
-    let (reached, height, references) = (lint.reached, lint.height, lint.references);
-    format!(in alloc; "{certificate} {reached} {height} {references}")
+fn lint_text(alloc: Global, linted: &Result<Lint, LintRefusal>) -> Result<String, AllocError> {
+    match linted {
+        Ok(lint) => {
+            let certificate = certificate_text(alloc, &lint.certificate)?;
+            let (reached, height, references) = (lint.reached, lint.height, lint.references);
+            format!(in alloc; "{certificate} {reached} {height} {references}")
+        }
+        Err(refusal) => format!(in alloc; "Err({refusal:?})"),
+    }
 }
 
-impl Answer {
-    /// The answer as text: `Err(..)` for a fault.
-    pub fn text(&self, alloc: Global) -> Result<String, AllocError> {
-        match self {
-            Answer::Lint(Ok(lint)) => lint_text(alloc, lint),
-            Answer::Lint(Err(refusal)) => format!(in alloc; "Err({refusal:?})"),
-            Answer::Certificate(Ok(certificate)) => certificate_text(alloc, certificate),
-            Answer::Certificate(Err(fault)) => format!(in alloc; "Err({fault:?})"),
-            Answer::Octets(Ok(octets)) => text_of(alloc, octets),
-            Answer::Octets(Err(_)) => String::from_str(alloc, "Err(Memory)"),
-            Answer::Found(answer) => text_of(alloc, answer),
-            Answer::Counted(answer) => text_of(alloc, answer),
-            Answer::Face(answer) => text_of(alloc, answer),
-            Answer::Member(answer) => text_of(alloc, answer),
-            Answer::Reply(answer) => text_of(alloc, answer),
-            Answer::Replies(answer) => text_of(alloc, answer),
-            Answer::Measures(answer) => text_of(alloc, answer),
-            Answer::Printed(answer) => text_of(alloc, answer),
-            Answer::Path(answer) => text_of(alloc, answer),
+fn upgrade_text(
+    alloc: Global,
+    upgraded: &Result<Certificate, UpgradeFault>,
+) -> Result<String, AllocError> {
+    match upgraded {
+        Ok(certificate) => certificate_text(alloc, certificate),
+        Err(fault) => format!(in alloc; "Err({fault:?})"),
+    }
+}
+
+fn octets_text(alloc: Global, octets: &Result<Vec<u8>, AllocError>) -> Result<String, AllocError> {
+    match octets {
+        Ok(octets) => text_of(alloc, octets),
+        Err(_) => String::from_str(alloc, "Err(Memory)"),
+    }
+}
+
+/// What print answers, to a writer that takes no memory, behind the measures.
+fn print_text<S: Source>(
+    alloc: Global,
+    checked: &mut Checked<S>,
+    node: Node,
+    limit: u64,
+) -> Result<String, AllocError> {
+    match measure(alloc, checked) {
+        Ok(measures) => {
+            let mut out: ArrayVec<u8, 64> = ArrayVec::new();
+            let printed = print(alloc, checked, &measures, node, limit, &mut out);
+            text_of(alloc, &printed.map(|_| out))
         }
+        Err(fault) => format!(in alloc; "Err({fault:?})"),
     }
 }
 

@@ -16,7 +16,7 @@
 //! | dictionaries with and without a text | [`PRINTABLE_DICT`], [`UNPRINTABLE_DICT`] |
 //! | a file whose tree is too large to walk | [`doubling`] |
 //! | files with their certificates | [`Row`], [`tested_rows`], [`thousand_keys`] |
-//! | a call of each kind, with its answer as text | [`Call`], [`all_calls`], [`Answer`], [`checked_text`] |
+//! | a call of each kind, with its answer as text | [`Call`], [`all_calls`], [`checked_text`] |
 //! | a source that counts what is asked of it | [`CountingSource`], [`Counts`] |
 //! | a writer with little room, or that is interrupted | [`ShortWriter`], [`Last`] |
 #![tactic(auto)]
@@ -27,7 +27,7 @@ mod files;
 mod rows;
 mod writers;
 
-pub use calls::{Answer, Call, all_calls, checked_text};
+pub use calls::{Call, all_calls, checked_text};
 pub use counting::{CountingSource, Counts};
 pub use files::{
     A_TO_ONE, PRINTABLE_DICT, Parts, SMALLEST_FILE, THREE_KEYS, TWO_TRUES, UNPRINTABLE_DICT,
