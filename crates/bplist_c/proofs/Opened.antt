@@ -51,7 +51,7 @@ module _ (file : Bor (List ℕ)) (checked : CheckedFile) (is : IsChecked checked
       → IsPair file.now octets (certified checked.frame checked.certificate)
   is_pair octets spelled e =
       let accepted = subst (λ (m : Meaning). ∥ IsAccepted m.octets checked.frame checked.certificate ∥₁) same (is.accepted honest) in
-      (checked.frame, framed, accepted, spelled, e, refl, refl, refl)
+      (checked.frame, framed, (spelled, e, accepted), refl, refl, refl)
 
   -- what is shown of the checked file's top is shown of the file's
   pub shows_top : (verdict : BplistVerdict) → ShowsTop checked.source.octets checked.frame (certified checked.frame checked.certificate) verdict

@@ -7,7 +7,7 @@ use Rattle.bplist_cert.specs.CheckedFile.{CheckedFile}
 use Rattle.bplist_cursor.specs.declared.found.Found.{Found}
 use Rattle.bplist_cursor.specs.declared.found.Found.TheVariants.{At, Missing}
 use Rattle.bplist_cursor.specs.declared.found.Why.{Why}
-use Rattle.bplist_cursor.specs.declared.found.Why.TheVariants as why
+use Rattle.bplist_cursor.specs.declared.found.Why.TheVariants.{NoIndex, NoKey, NotSteppable}
 use Rattle.bplist_cursor.specs.Found.{IsFound}
 use Rattle.bplist_cursor.specs.Path.{IsPathOf, IsNoPath}
 use Rattle.bplist_c.specs.declared.found.BplistFound.{BplistFound}
@@ -18,9 +18,7 @@ use Rattle.bplist_c.specs.Statuses.{number_of}
 
 -- the status for a reason
 abbrev pub why_status : Why → Status
-why_status why.NoKey = statuses.NoKey
-why_status why.NoIndex = statuses.NoIndex
-why_status why.NotSteppable = statuses.NotSteppable
+why_status why = elim why [ NoKey ↦ statuses.NoKey | NoIndex ↦ statuses.NoIndex | NotSteppable ↦ statuses.NotSteppable ]
 
 -- what is told of a place
 abbrev pub lead_of : Found → Lead
@@ -42,5 +40,4 @@ TellsLead (Err why) old new status = (status ≡ number_of why) × (new ≡ old)
 
 -- the object that one step leads to, or why none
 abbrev pub step_answer : Found → Result ℕ Status
-step_answer (At node) = Ok node.object.0
-step_answer (Missing step why) = Err (why_status why)
+step_answer place = elim place [ At node ↦ Ok node.object.0 | Missing step why ↦ Err (why_status why) ]

@@ -40,8 +40,7 @@ int_answer _ = Err statuses.OtherKind
 
 -- the number of the UID that is spelled
 abbrev pub uid_answer : Content → Result ℕ Status
-uid_answer (leaf (uid x)) = Ok (x % 2 ^ 32)
-uid_answer _ = Err statuses.OtherKind
+uid_answer content = elim content [ leaf (uid x) ↦ Ok (x % 2 ^ 32) | _ ↦ Err statuses.OtherKind ]
 
 -- the text's units from one on, as many as fit, are at the front of the buffer, and the answer is their count; or OtherKind
 pub record UnitsSay (f : List ℕ) (from : ℕ) (old new : List ℕ) (head : Head) (answer : Result ℕ Status) : Type 0 where

@@ -1,6 +1,7 @@
 -- What a verdict shows. Source: profile.
-use Rattle.std.specs.Prelude.{◌≡◌, ℕ, List, ◌⊎◌, ◌<◌, length, map, slice_index, option_map, unwrap_or, Result, Ok, Err, Vec}
+use Rattle.std.specs.Prelude.{◌≡◌, ℕ, List, ◌⊎◌, ◌<◌, length, map, slice_index, Result, Ok, Err, Vec}
 use Rattle.std.specs.Global.{Global}
+use Rattle.std.specs.Option.{option_len, option_map_or}
 use Rattle.bplist_objects.specs.declared.fault.Fault.{Fault}
 use Rattle.bplist_objects.specs.declared.frame.Frame.{Frame}
 use Rattle.bplist_objects.specs.declared.frame.ObjectNo.{ObjectNo}
@@ -23,9 +24,8 @@ use Rattle.bplist_c.specs.Statuses.{PutsAll}
 -- the verdict on a file with this fault
 abbrev pub fault_verdict : Fault → BplistVerdict
 fault_verdict fault =
-    let has = unwrap_or (option_map (λ _. 1) fault.object) 0 in
-    let n = unwrap_or (option_map number fault.object) 0 in
-    record NO_VERDICT { rule = number_of_rule fault.rule; has_object = has; object = n; place = fault.place }
+    let n = option_map_or number fault.object 0 in
+    record NO_VERDICT { rule = number_of_rule fault.rule; has_object = option_len fault.object; object = n; place = fault.place }
 
 -- the verdict on a file with this circle
 abbrev pub circle_verdict : List ObjectNo → BplistVerdict

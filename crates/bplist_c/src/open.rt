@@ -1,10 +1,11 @@
 //! Handles, opened and closed.
 
-ghost use Rattle.std.specs.Prelude.{◌≡◌, ◌≢◌, ◌⊎◌, ℕ, None, Result, IfSome, IsSome, MatchResult, Vec as vec};
+ghost use Rattle.std.specs.Prelude.{◌≡◌, ◌≢◌, ◌⊎◌, ⊤, ℕ, None, Result, IfSome, IsSome, MatchResult, Vec as vec};
 ghost use Rattle.std.specs.Global.{Global as global};
 ghost use Rattle.bplist_objects.specs.declared.head.Head.{Head as head};
 ghost use Rattle.bplist_objects.specs.Heads.{IsHeadOf};
 ghost use Rattle.bplist_octets.specs.Slices.{source_over};
+ghost use Rattle.bplist_cert.specs.CertifiedFile.{IsVouchingFault};
 ghost use Rattle.bplist_cert.specs.CheckedFile.{IsChecked};
 ghost use Rattle.bplist_cert.specs.Encoding.{octets_of as certificate_octets};
 ghost use Rattle.bplist_cert.specs.Lists.{IsCertificate};
@@ -16,7 +17,7 @@ ghost use Rattle.bplist_lint.specs.Linted.{IsLinted};
 ghost use Rattle.bplist_lint.specs.Refusals.{Lints, no_circle};
 ghost use Rattle.bplist_c.specs.declared.status.Status.{Status as status};
 ghost use Rattle.bplist_c.specs.declared.status.Status.TheVariants.{Memory};
-ghost use Rattle.bplist_c.specs.Opening.{CertificateSays, IsAcceptedFor, IsCheckedFor, IsKept, IsOpened, IsPair, IsPairRefusal};
+ghost use Rattle.bplist_c.specs.Opening.{CertificateSays, IsAcceptedFor, IsCheckedFor, IsKept, IsOpened, IsPair};
 ghost use Rattle.bplist_c.specs.Opening.{certified};
 ghost use Rattle.bplist_c.specs.Reading.{kind_number};
 ghost use Rattle.bplist_c.specs.Sessions.{IsSame, IsSessionOf};
@@ -160,7 +161,7 @@ fn check_pair<'a>(
 ) -> Result<Checked<SliceSource<'a>>, CertRefusal>
     ensures { MatchResult result (λ checked. IsChecked checked × IsCertificate checked.certificate
         × (certificate.now ≡ certificate_octets checked.certificate) × (checked.source ≡ source_over file.entry))
-        (IsPairRefusal file.now certificate.now) }
+        (λ why. elim why [ refusals.Fault x ↦ IsVouchingFault file.now certificate.now x | refusals.Memory ↦ ⊤ ]) }
 {
     let certificate = Certificate::from_octets(alloc, certificate)?;
     match check(alloc, SliceSource::new(file), certificate) {
@@ -212,8 +213,7 @@ pub extern "C" fn bplist_open_certified(
 ) -> u32
     ensures opened { handle.old.length ≢ 0 → IsSame handle.old handle.new × (out.new ≡ NO_VERDICT) × (result ≡ 4) }
     ensures exact { handle.old.length ≡ 0 → (answer : Result lint_answer lint_refusal)
-        × Lints (IsPair file.now certificate.now) (λ fault. IsPairRefusal file.now certificate.now (refusals.Fault fault))
-        no_circle answer
+        × Lints (IsPair file.now certificate.now) (IsVouchingFault file.now certificate.now) no_circle answer
         × ShowsLint file.now answer out.new result
         × MatchResult answer (λ lint. IsOpened file.now lint.certificate sorted handle.new) (λ _. handle.new.length ≡ 0) }
 {

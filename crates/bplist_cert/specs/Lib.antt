@@ -14,3 +14,4 @@ pub mod KeyPlaces
 pub mod KeyClasses
 pub mod KeyPairs
 pub mod LowBytes
+pub mod CertifiedFile

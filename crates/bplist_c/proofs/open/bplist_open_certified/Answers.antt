@@ -1,8 +1,8 @@
 use Rattle.std.proofs.Common.{◌≡◌, Err, refl}
-use Rattle.bplist_cert.specs.declared.certificate.CertRefusal.TheVariants as refusals
+use Rattle.bplist_cert.specs.CertifiedFile.{IsVouchingFault}
 use Rattle.bplist_lint.specs.declared.refusal.LintRefusal.TheVariants as lint_refusals
 use Rattle.bplist_lint.specs.Refusals.{no_circle}
-use Rattle.bplist_c.specs.Opening.{IsPair, IsPairRefusal, certified}
+use Rattle.bplist_c.specs.Opening.{IsPair, certified}
 use Rattle.bplist_c.specs.Verdicts.{fault_verdict}
 use Rattle.bplist_c.proofs.Opened.{is_pair, opened, shows_top}
 use Rattle.bplist_c.proofs.open.bplist_open_certified.Goals as goal
@@ -14,7 +14,7 @@ returns-in-Ok-clause-exact c = λ closed.
     let checked = c.in-Ok.checked in
     let is = c.in-Ok.ensures in
     let kept = rw is.3 at c.keep.ensures in
-    opened f c.args.sorted (IsPair f octets) (λ fault. IsPairRefusal f octets (refusals.Fault fault)) no_circle
+    opened f c.args.sorted (IsPair f octets) (IsVouchingFault f octets) no_circle
     (certified checked.frame checked.certificate) c.keep.new.handle c.verdict_of.result c.keep.new.out c.keep.result
     (is_pair c.args.file checked is.0 is.3 octets is.1 is.2) (shows_top c.args.file checked is.0 is.3 c.verdict_of.result c.verdict_of.ensures) kept
 
