@@ -1,23 +1,22 @@
 -- Texts of rules that stand in a table.
-use Prim.Native.String.{String}
-use Rattle.std.proofs.Common.{◌≡◌, ℕ, ◌-◌, ◌<◌, List, [], length, map, sym, ap, ◌∙◌, get_or, slice_index_or, arith, codes}
+use Rattle.std.proofs.Common.{◌≡◌, ℕ, ◌-◌, ◌<◌, List, [], length, map, sym, ap, ◌∙◌, get_or, slice_index_or, arith}
 use Rattle.std.proofs.lemmas.List.{get_or-map, length-map}
 use Rattle.bplist_objects.specs.Words.{number_of}
 use Rattle.bplist_objects.specs.declared.rule.Rule.{Rule}
 use Rattle.bplist_objects.specs.declared.rule.Rule.TheVariants.{TooLarge}
-use Rattle.bplint_lines.specs.RuleTexts.{texts, text_of}
+use Rattle.bplint_lines.specs.declared.rule_texts.TheConstants.{TEXTS}
 
-within : (rule : Rule) → number_of rule - 1 < length texts
+pub within : (rule : Rule) → number_of rule - 1 < length TEXTS
 within TooLarge = omega arith
 within _ = omega arith
 
--- in a table whose rows show the texts, each rule's row shows its text
-pub in_row : {X : Type 0} (shows : X → List ℕ) (text : String × String → String) (rows : List X) (rule : Rule) (n : ℕ) (d : X) → n ≡ number_of rule
-    → map shows rows ≡ map (λ t. codes (text t)) texts → shows (slice_index_or rows (n - 1) d) ≡ codes (text (text_of rule))
-in_row shows text rows rule n d number same =
-    let long : length rows ≡ length texts = sym (length-map rows shows) ∙ ap length same ∙ length-map texts (λ t. codes (text t)) in
-    let low = within rule in
+-- where rows show what a table shows, each rule's row shows what the table's shows
+pub in_row : {X Y : Type 0} (rows : List X) (table : List Y) (shows : X → List ℕ) (text : Y → List ℕ) (rule : Rule) (n : ℕ) (d : X) (e : Y)
+    → number_of rule - 1 < length table → n ≡ number_of rule → map shows rows ≡ map text table
+    → shows (slice_index_or rows (n - 1) d) ≡ text (get_or table (number_of rule - 1) e)
+in_row rows table shows text rule n d e low number same =
+    let long : length rows ≡ length table = sym (length-map rows shows) ∙ ap length same ∙ length-map table text in
     sym (get_or-map shows rows (n - 1) d [] (omega (arith, long, low, number)))
     ∙ ap (λ l. get_or l (n - 1) []) same
-    ∙ get_or-map (λ t. codes (text t)) texts (n - 1) ("", "") [] (omega (arith, low, number))
-    ∙ ap (λ k. codes (text (get_or texts (k - 1) ("", "")))) number
+    ∙ get_or-map text table (n - 1) e [] (omega (arith, low, number))
+    ∙ ap (λ k. text (get_or table (k - 1) e)) number
