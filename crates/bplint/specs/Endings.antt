@@ -1,5 +1,5 @@
 -- What is shown of a file, and the exit status of a run. Source: profile.
-use Rattle.std.specs.Prelude.{◌≡◌, ◌⊎◌, ℕ, List, map, string_bytes, Option, Result, Ok, Err}
+use Rattle.std.specs.Prelude.{◌≡◌, ◌⊎◌, ℕ, List, [], ◌∷◌, map, string_bytes, Option, Result, Ok, Err}
 use Rattle.clap.specs.declared.error.kind.ErrorKind.{ErrorKind}
 use Rattle.clap.specs.declared.error.kind.ErrorKind.TheVariants as kinds
 use Rattle.bplint.specs.declared.args.Shown.{Shown}
@@ -7,24 +7,26 @@ use Rattle.bplint.specs.declared.args.Shown.TheVariants.{Map, Members, Text, Val
 use Rattle.bplint_lines.specs.declared.fault.RunFault.{RunFault}
 use Rattle.bplint_lines.specs.declared.said.Said.{Said}
 use Rattle.bplint_lines.specs.declared.said.Said.TheVariants.{All, SomeMissing}
-use Rattle.bplint_lines.specs.Answers.{Leaves}
-use Rattle.bplint_lines.specs.FaultLines.{status_of}
+use Rattle.bplint_lines.specs.Answers.{Leaves, LeavesBy}
+use Rattle.bplint_lines.specs.FaultLines.{report_of}
+use Rattle.bplint_engine.specs.Get.{GetSays}
 use Rattle.bplint_engine.specs.Ls.{ListSays}
-use Rattle.bplint_engine.specs.Show.{ShowSays, TextSays}
-use Rattle.bplint_map.specs.Map.{LeavesMap}
+use Rattle.bplint_engine.specs.Print.{PrintSays}
+use Rattle.bplint_engine.specs.Show.{LeastLeads}
+use Rattle.bplint_map.specs.Map.{MapSays}
 
 -- what is left with the writer is what `show`, `show --text`, `ls` or `map` says of the file
 abbrev pub LeavesShown : List ℕ → Shown → Option (List ℕ) → Option (List ℕ) → Result Said RunFault → Type 0
-LeavesShown f (Values paths) old new result = Leaves (ShowSays f (map (λ path. string_bytes path) paths.items)) 0 old new result
-LeavesShown f (Text path limit) old new result = Leaves (TextSays f path.now limit) limit old new result
+LeavesShown f (Values paths) old new result = Leaves (LeastLeads GetSays f (map (λ path. string_bytes path) paths.items)) 0 old new result
+LeavesShown f (Text path limit) old new result = Leaves (LeastLeads (PrintSays limit) f (path.now ∷ [])) limit old new result
 LeavesShown f (Members path) old new result = Leaves (ListSays f path.now) 0 old new result
-LeavesShown f Map old new result = LeavesMap f old new result
+LeavesShown f Map old new result = (most : ℕ) × LeavesBy (MapSays f) most old new result
 
 -- the exit status of an answer; that of refused memory may stand for another fault's, since its line takes memory
 abbrev pub EndsWith : Result Said RunFault → ℕ → Type 0
 EndsWith (Ok All) status = status ≡ 0
 EndsWith (Ok SomeMissing) status = status ≡ 1
-EndsWith (Err fault) status = (status ≡ status_of fault) ⊎ (status ≡ 4)
+EndsWith (Err fault) status = (status ≡ (report_of fault).1) ⊎ (status ≡ 4)
 
 -- the exit status of a command line that clap refuses: help and version were asked for, memory was refused, or it is wrong
 abbrev pub IsRefusedWith : ErrorKind → ℕ → Type 0

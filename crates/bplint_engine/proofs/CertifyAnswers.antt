@@ -4,7 +4,7 @@ use Rattle.bplist_lint.specs.declared.refusal.LintRefusal.{LintRefusal}
 use Rattle.bplist_lint.specs.declared.refusal.LintRefusal.TheVariants as lint_refusals
 use Rattle.bplist_lint.specs.FileFault.{IsFileFault, IsFileCircle}
 use Rattle.bplist_lint.specs.Refusals.{Refuses}
-use Rattle.bplint_lines.specs.Answers.{IsRefusal}
+use Rattle.bplint_engine.specs.Output.{IsRefusal}
 use Rattle.bplint_engine.specs.Certify.{CertifySays}
 use Rattle.bplint_engine.proofs.FaultsBelow.{lint_fault}
 

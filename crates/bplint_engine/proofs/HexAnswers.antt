@@ -1,16 +1,18 @@
 -- Answers over inputs that may be hexadecimal texts.
 use Rattle.std.proofs.Common.{◌≡◌, ◌⊎◌, inl, inr, ℕ, List, [], true, false, sym, subst, refl, Option, Result, Ok, Err}
-use Rattle.std.specs.Prelude.{MatchResult, IsErr}
+use Rattle.std.specs.Prelude.{MatchResult, IsErr, if◌then◌else◌}
 use Rattle.std.proofs.Math.Logic.{∥∥₁_map}
 use Rattle.std.proofs.lemmas.Grind.{merely}
+use Rattle.hex.specs.Hex.{decode_pairs}
 use Rattle.hex.specs.declared.error.FromHexError.{FromHexError}
 use Rattle.bplint_lines.specs.declared.fault.RunFault.{RunFault}
 use Rattle.bplint_lines.specs.declared.fault.RunFault.TheVariants.{Hex, Memory}
 use Rattle.bplint_lines.specs.declared.said.Said.{Said}
-use Rattle.bplint_lines.specs.Answers.{Answer, refuses, Leaves, is_read}
+use Rattle.bplint_lines.specs.Answers.{Answer, refuses, Leaves}
+use Rattle.bplint_engine.specs.Output.{is_read}
 use Rattle.bplint_engine.specs.Commands.{Asked}
 use Rattle.bplint_engine.specs.Hexadecimal.{spelled}
-use Rattle.bplint_engine.specs.Said.{Says, SaysBeside, SaysOver, takes_cert, most}
+use Rattle.bplint_engine.specs.Said.{Says, SaysOver, Spells, most, takes_cert}
 use Rattle.bplint_engine.proofs.LeftBytes.{begins_nothing, kept_self, said_as}
 
 -- the inputs are the bytes themselves
@@ -21,10 +23,15 @@ as_bytes command file cert old new result hex left =
 
 -- the file's text spells bytes
 over_file : (command : Asked) (file cert f : List ℕ) → command.hex ≡ true → spelled file ≡ Ok f → (a : Answer)
-    → SaysBeside (takes_cert command.verb) command f cert a → SaysOver command.hex command file cert a
+    → Spells (Says command f) (if takes_cert command.verb then cert else []) a → SaysOver command.hex command file cert a
 over_file command file cert f hex is a h =
     subst (λ b. SaysOver b command file cert a) (sym hex)
-    (subst (λ r. MatchResult r (λ g. SaysBeside (takes_cert command.verb) command g cert a) (λ _. a ≡ refuses Hex)) (sym is) h)
+    (subst (λ r. MatchResult r (λ g. Spells (Says command g) (if takes_cert command.verb then cert else []) a) (λ _. a ≡ refuses Hex)) (sym is) h)
+
+-- the empty text spells no bytes
+none_spelled : spelled [] ≡ Ok []
+unfolding decode_pairs
+none_spelled = refl
 
 -- the certificate is not looked at
 pub as_file : (command : Asked) (file cert f : List ℕ) (old new : Option (List ℕ)) (result : Result Said RunFault) → command.hex ≡ true
@@ -32,7 +39,8 @@ pub as_file : (command : Asked) (file cert f : List ℕ) (old new : Option (List
     → Leaves (SaysOver command.hex command file cert) (most command) old new result
 as_file command file cert f old new result hex is alone left =
     ∥∥₁_map left (said_as (Says command f []) (SaysOver command.hex command file cert) (most command) old new result
-    (λ a h. over_file command file cert f hex is a (subst (λ b. SaysBeside b command f cert a) (sym alone) h)))
+    (λ a h. over_file command file cert f hex is a (subst (λ b. Spells (Says command f) (if b then cert else []) a) (sym alone)
+    (subst (λ r. MatchResult r (λ o. Says command f o a) (λ _. a ≡ refuses Hex)) (sym none_spelled) h))))
 
 -- the certificate's text spells bytes too
 pub as_texts : (command : Asked) (file cert f octets : List ℕ) (old new : Option (List ℕ)) (result : Result Said RunFault) → command.hex ≡ true
@@ -40,7 +48,7 @@ pub as_texts : (command : Asked) (file cert f octets : List ℕ) (old new : Opti
     → Leaves (SaysOver command.hex command file cert) (most command) old new result
 as_texts command file cert f octets old new result hex is takes spells left =
     ∥∥₁_map left (said_as (Says command f octets) (SaysOver command.hex command file cert) (most command) old new result
-    (λ a h. over_file command file cert f hex is a (subst (λ b. SaysBeside b command f cert a) (sym takes)
+    (λ a h. over_file command file cert f hex is a (subst (λ b. Spells (Says command f) (if b then cert else []) a) (sym takes)
     (subst (λ r. MatchResult r (λ o. Says command f o a) (λ _. a ≡ refuses Hex)) (sym spells) h))))
 
 -- a text that spells nothing
@@ -55,7 +63,7 @@ pub text_refused : (command : Asked) (file cert f : List ℕ) (old : Option (Lis
 text_refused command file cert f old fault hex is takes (inl memory) = rw memory (merely (begins_nothing (SaysOver command.hex command file cert) (most command) old old (kept_self old)))
 text_refused command file cert f old fault hex is takes (inr (wrong, none)) =
     rw wrong (merely (
-      over_file command file cert f hex is (refuses Hex) (subst (λ b. SaysBeside b command f cert (refuses Hex)) (sym takes)
+      over_file command file cert f hex is (refuses Hex) (subst (λ b. Spells (Says command f) (if b then cert else []) (refuses Hex)) (sym takes)
           (wrong_says (spelled cert) (λ o. Says command f o (refuses Hex)) (refuses Hex ≡ refuses Hex) none refl)),
       kept_self old,
     ))

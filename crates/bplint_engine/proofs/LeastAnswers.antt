@@ -1,7 +1,6 @@
 -- What `show` and `ls` say, from the linter's certificate and the answers of the cursor.
 use Rattle.std.proofs.Common.{◌≡◌, inl, inr, ℕ, List, [], ◌∷◌, map, Option, None, Result, Ok, Err, refl, sym, ap, subst}
-use Rattle.std.specs.List.{AllZip}
-use Rattle.std.specs.List.{flat_map}
+use Rattle.std.specs.List.{AllZip, flat_map}
 use Rattle.std.proofs.Math.Logic.{∥∥₁_map}
 use Rattle.std.proofs.lemmas.Grind.{not_there}
 use Rattle.bplist_objects.specs.declared.frame.Frame.{Frame}
@@ -14,6 +13,7 @@ use Rattle.bplist_cert.specs.Sorted.{AreListed, IsAccepted}
 use Rattle.bplist_cursor.specs.declared.reply.Query.{Query}
 use Rattle.bplist_cursor.specs.declared.reply.Query.TheVariants.{Get}
 use Rattle.bplist_cursor.specs.Look.{look}
+use Rattle.bplist_cursor.specs.Path.{IsPathOf}
 use Rattle.bplist_cursor.specs.Replies.{reply}
 use Rattle.bplist_lint.specs.declared.answer.Lint.{Lint}
 use Rattle.bplist_lint.specs.declared.refusal.LintRefusal.{LintRefusal}
@@ -23,19 +23,19 @@ use Rattle.bplist_lint.specs.Linted.{IsLinted, IsLintedBy}
 use Rattle.bplist_lint.specs.Refusals.{Refuses}
 use Rattle.bplint_lines.specs.declared.fault.RunFault.{RunFault}
 use Rattle.bplint_lines.specs.declared.fault.RunFault.TheVariants as faults
-use Rattle.bplint_lines.specs.declared.output.Output.{Output}
+use Rattle.bplint_engine.specs.declared.output.Output.{Output}
 use Rattle.bplint_lines.specs.declared.said.Said.{Said}
-use Rattle.bplint_lines.specs.Answers.{Answer, refuses, Answers, IsRefusal, Leaves, LeavesBy}
-use Rattle.bplint_engine.specs.PathQueries.{IsAskingFault, IsQueryOf, IsWrongAmong}
-use Rattle.bplint_lines.specs.Faults.{Gives, IsExcused, OnPath}
+use Rattle.bplint_lines.specs.Answers.{Answer, refuses, Leaves, LeavesBy}
+use Rattle.bplint_engine.specs.Output.{Answers, IsRefusal}
+use Rattle.bplint_engine.specs.PathTexts.{IsAskingFault, IsWrongAmong, OnPath}
+use Rattle.bplint_lines.specs.Faults.{Gives, IsExcused}
 use Rattle.bplint_engine.proofs.FaultsBelow.{lint_fault}
-use Rattle.bplint_engine.specs.Get.{reply_line, said_of}
-use Rattle.bplint_engine.specs.Lint.{LintSays, IsLintFault}
+use Rattle.bplint_engine.specs.Get.{GetSays, replies_said, reply_line}
+use Rattle.bplint_engine.specs.Lint.{LintSays}
 use Rattle.bplint_engine.specs.Ls.{ListGives, ListSays}
-use Rattle.bplint_engine.specs.Print.{PathSays}
-use Rattle.bplint_engine.specs.Show.{LeastLeads, ShowSays, TextSays}
-use Rattle.bplint_engine.specs.CertifiedFile.{IsLeastFor}
-use Rattle.bplint_engine.proofs.GetAnswers.{excused_refused, file_fault}
+use Rattle.bplint_engine.specs.Print.{PathSays, PrintSays}
+use Rattle.bplint_engine.specs.Show.{IsLeastFor, LeastLeads}
+use Rattle.bplint_engine.proofs.GetAnswers.{excused_refused, file_fault, told_of}
 use Rattle.bplint_engine.proofs.LeftBytes.{said_as}
 use Rattle.bplint_engine.proofs.PrintAnswers.{path_to_print}
 
@@ -68,31 +68,32 @@ least_for f G lint lists (F, is, by) same fits frames agreed =
     }
 
 -- the first fault of the file is one of `show` and `ls`
-pub show_fault : (f : List ℕ) (texts : List (List ℕ)) (queries : List Query) (fault : RunFault) → AllZip IsQueryOf texts queries
-    → IsLintFault f fault → IsAskingFault (IsLintFault f) texts fault
-show_fault f texts queries fault are h = file_fault (IsLintFault f) texts queries fault (λ place x. x) are h
+pub show_fault : (f : List ℕ) (texts : List (List ℕ)) (paths : List (List (List ℕ))) (fault : RunFault) → AllZip IsPathOf texts paths
+    → LintSays f (refuses fault) → IsAskingFault (LintSays f) texts fault
+show_fault f texts paths fault are h = file_fault (LintSays f) texts paths fault (λ place x. x) are h
 
 -- the same with the least certificate
-pub least_fault : (Says : List ℕ → Answer → Type 0) (f : List ℕ) (texts : List (List ℕ)) (queries : List Query) (fault : RunFault) → AllZip IsQueryOf texts queries
-    → IsLintFault f fault → LeastLeads Says f texts (refuses fault)
-least_fault Says f texts queries fault are h = inl (fault, refl, show_fault f texts queries fault are h)
+pub least_fault : (Says : List ℕ → List ℕ → List (List ℕ) → Answer → Type 0) (f : List ℕ) (texts : List (List ℕ)) (paths : List (List (List ℕ))) (fault : RunFault)
+    → AllZip IsPathOf texts paths → LintSays f (refuses fault) → LeastLeads Says f texts (refuses fault)
+least_fault Says f texts paths fault are h = inl (fault, refl, show_fault f texts paths fault are h)
 
 -- a path text is wrong
-pub path_refused : (Says : List ℕ → Answer → Type 0) (f : List ℕ) (texts : List (List ℕ)) (fault : RunFault) → OnPath (IsWrongAmong texts) fault
+pub path_refused : (Says : List ℕ → List ℕ → List (List ℕ) → Answer → Type 0) (f : List ℕ) (texts : List (List ℕ)) (fault : RunFault) → OnPath (IsWrongAmong texts) fault
     → IsRefusal (LeastLeads Says f texts) fault
 path_refused Says f texts (faults.Path place) h = inl (faults.Path place, refl, h)
 path_refused Says f texts faults.Memory h = tt
 path_refused Says f texts _ h = absurd h
 
 -- the queries of `show` were answered
-pub show_says : (f : List ℕ) (texts : List (List ℕ)) (queries : List Query) (F : Frame) (lists : Lists) (made : Result Output RunFault)
-    → AllZip IsQueryOf texts queries → IsLeastFor f F lists
+pub show_says : (f : List ℕ) (texts : List (List ℕ)) (paths : List (List (List ℕ))) (queries : List Query) (F : Frame) (lists : Lists) (made : Result Output RunFault)
+    → AllZip IsPathOf texts paths → queries ≡ map Get paths → IsLeastFor f F lists
     → Gives (λ output. (v : Value) → Holds f F F.top.0 v
-    → (output.said ≡ said_of (map (reply v) queries)) × (output.bytes.items ≡ flat_map reply_line (map (reply v) queries))) made
-    → Answers (ShowSays f texts) made
-show_says f texts queries F lists (Ok output) are least told =
-    inr (F, least.lint, least.frame, least.linted, (queries, F, lists, are, least.vouched, told))
-show_says f texts queries F lists (Err fault) are least told = excused_refused (ShowSays f texts) fault told
+    → (output.said ≡ replies_said (map (reply v) queries)) × (output.bytes.items ≡ flat_map reply_line (map (reply v) queries))) made
+    → Answers (LeastLeads GetSays f texts) made
+show_says f texts paths queries F lists (Ok output) are asked least told =
+    inr (F, least.lint, least.frame, least.linted,
+    (paths, F, lists, are, least.vouched, λ v holds. told_of v paths queries output.said output.bytes.items asked (told v holds)))
+show_says f texts paths queries F lists (Err fault) are asked least told = excused_refused (LeastLeads GetSays f texts) fault told
 
 -- a fault that is excused where a value is there is excused
 excused_there : {X : Type 0} (fault : RunFault) → ∥ X ∥₁ → (X → IsExcused fault) → IsExcused fault
@@ -111,7 +112,7 @@ excused_there faults.InputTooLong there told = not_there there told
 
 -- the members under the path of `ls` were listed
 pub list_says : (f text : List ℕ) (steps : List (List ℕ)) (F : Frame) (lists : Lists) (made : Result Output RunFault)
-    → AllZip IsQueryOf (text ∷ []) (Get steps ∷ []) → IsLeastFor f F lists → ∥ ((v : Value) × Holds f F F.top.0 v) ∥₁
+    → AllZip IsPathOf (text ∷ []) (steps ∷ []) → IsLeastFor f F lists → ∥ ((v : Value) × Holds f F F.top.0 v) ∥₁
     → ((v : Value) → Holds f F F.top.0 v → Gives (λ output. ListGives text (look v steps) output.said output.bytes.items) made)
     → Answers (ListSays f text) made
 list_says f text steps F lists (Ok output) are least value told = (steps, F, least.lint, are.0, least.frame, least.linted, told)
@@ -120,16 +121,16 @@ list_says f text steps F lists (Err fault) are least value told =
 
 -- the answer for the value that the file holds is that of `show --text`
 path_to_text : (f text : List ℕ) (limit : ℕ) (steps : List (List ℕ)) (F : Frame) (lists : Lists) (v : Value)
-    → AllZip IsQueryOf (text ∷ []) (Get steps ∷ []) → IsLeastFor f F lists → Holds f F F.top.0 v
-    → (a : Answer) → PathSays f F limit steps v a → TextSays f text limit a
+    → AllZip IsPathOf (text ∷ []) (steps ∷ []) → IsLeastFor f F lists → Holds f F F.top.0 v
+    → (a : Answer) → PathSays f F limit steps v a → LeastLeads (PrintSays limit) f (text ∷ []) a
 path_to_text f text limit steps F lists v are l holds a h =
     inr (F, l.lint, l.frame, l.linted, path_to_print f (octets_of l.lint.certificate) (text ∷ []) limit steps F lists v are l.vouched holds a h)
 
 pub text_leaves : (f text : List ℕ) (limit : ℕ) (steps : List (List ℕ)) (F : Frame) (lists : Lists) (old new : Option (List ℕ))
-    (result : Result Said RunFault) → AllZip IsQueryOf (text ∷ []) (Get steps ∷ []) → IsLeastFor f F lists
+    (result : Result Said RunFault) → AllZip IsPathOf (text ∷ []) (steps ∷ []) → IsLeastFor f F lists
     → ∥ ((v : Value) × Holds f F F.top.0 v) ∥₁
     → ((v : Value) → Holds f F F.top.0 v → LeavesBy (PathSays f F limit steps v) limit old new result)
-    → Leaves (TextSays f text limit) limit old new result
+    → Leaves (LeastLeads (PrintSays limit) f (text ∷ [])) limit old new result
 text_leaves f text limit steps F lists old new result are least value left =
-    ∥∥₁_map value (λ h. said_as (PathSays f F limit steps h.0) (TextSays f text limit) limit old new result
+    ∥∥₁_map value (λ h. said_as (PathSays f F limit steps h.0) (LeastLeads (PrintSays limit) f (text ∷ [])) limit old new result
     (path_to_text f text limit steps F lists h.0 are least h.1) (left h.0 h.1))

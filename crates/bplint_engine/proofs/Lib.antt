@@ -18,3 +18,4 @@ mod OnePrint
 mod PathQueries
 mod PrintAnswers
 mod RefusedCertificates
+mod SentTexts

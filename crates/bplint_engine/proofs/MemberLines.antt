@@ -5,14 +5,15 @@ use Rattle.bplist_cursor.specs.declared.faces.Face.{Face}
 use Rattle.bplist_cursor.specs.declared.faults.CursorFault.{CursorFault}
 use Rattle.bplist_cursor.specs.declared.faults.CursorFault.TheVariants as cursor_faults
 use Rattle.bplist_cursor.proofs.Causes as cursor
-use Rattle.bplist_cursor.specs.Members.{members, member_of}
+use Rattle.std.specs.List.{enumerate_from, flat_map}
+use Rattle.bplist_cursor.specs.Members.{entries, members, member_of}
 use Rattle.bplist_cursor.proofs.Membership.{in_turn}
 use Rattle.bplist_cursor.specs.Replies.{face}
 use Rattle.bplint_engine.specs.declared.member_lines.Members.{Members}
 use Rattle.bplint_engine.specs.declared.member_lines.Members.TheVariants.{Array, Set, Dict}
 use Rattle.bplint_lines.specs.Faults.{IsExcused}
 use Rattle.bplint_engine.proofs.FaultsBelow.{cursor_fault}
-use Rattle.bplint_engine.specs.Ls.{IsContainer, IsLeaf, first_lines, line_of_member, line_of_pair, listed, member_line, named_line, pair_lines, value_lines}
+use Rattle.bplint_engine.specs.Ls.{IsContainer, IsLeaf, first_lines, line_of_member, line_of_pair, listed, member_line, named_line}
 use Rattle.bplint_lines.specs.MemberNames.{bracketed, index_name, key_name}
 use Rattle.bplint_lines.specs.OutputLines.{face_line}
 
@@ -88,6 +89,14 @@ added lines name mid new shown m named behind is =
     ∙ ap (λ x. lines ++ (name ++ 9 ∷ (face_line x ++ 10 ∷ []))) is
 
 -- ---- all lines, one after the other
+-- the lines of values from number i on, with these names
+abbrev value_lines : (ℕ → List ℕ) → ℕ → Values → List ℕ
+value_lines name i vs = flat_map (λ (e : ℕ × Value). named_line (name e.0) e.1) (enumerate_from i (members vs))
+
+-- the lines of pairs from number i on
+abbrev pair_lines : List ℕ → ℕ → Pairs → List ℕ
+pair_lines path i ps = flat_map (λ (e : ℕ × (List ℕ × Value)). named_line (key_name path e.0 e.1.0) e.1.1) (enumerate_from i (entries ps))
+
 sums : (ℕ → List ℕ) → ℕ → List ℕ
 sums g zero = []
 sums g (suc n) = sums g n ++ g n

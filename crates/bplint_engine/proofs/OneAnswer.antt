@@ -1,12 +1,12 @@
 -- The answer to a command is one.
 use Rattle.std.proofs.Common.{◌≡◌, ℕ, List, [], Bool, true, false, Result, Ok, Err, sym, ◌∙◌}
-use Rattle.std.specs.Prelude.{MatchResult}
+use Rattle.std.specs.Prelude.{MatchResult, if◌then◌else◌}
 use Rattle.hex.specs.declared.error.FromHexError.{FromHexError}
 use Rattle.bplint_lines.specs.declared.fault.RunFault.TheVariants as faults
 use Rattle.bplint_lines.specs.Answers.{Answer, refuses}
 use Rattle.bplint_engine.specs.Commands.{Asked}
 use Rattle.bplint_engine.specs.Hexadecimal.{spelled}
-use Rattle.bplint_engine.specs.Said.{Says, SaysBy, SaysBeside, SaysOver, takes_cert}
+use Rattle.bplint_engine.specs.Said.{Says, SaysBy, SaysOver, Spells, takes_cert}
 use Rattle.bplint_engine.specs.declared.command.Verb.{Verb}
 use Rattle.bplint_engine.specs.declared.command.Verb.TheVariants as verbs
 use Rattle.bplint_engine.proofs.OneLint.{one_lint}
@@ -33,11 +33,9 @@ one_spelled : (text : Result (List ℕ) FromHexError) (P : List ℕ → Answer �
 one_spelled (Ok xs) P a b one h k = one xs h k
 one_spelled (Err _) P a b one h k = h ∙ sym k
 
-one_beside : (takes : Bool) (command : Asked) (f text : List ℕ) (a b : Answer) → SaysBeside takes command f text a → SaysBeside takes command f text b → a ≡ b
-one_beside false command f text a b h k = one_answer command f [] a b h k
-one_beside true command f text a b h k = one_spelled (spelled text) (λ cert. Says command f cert) a b (λ cert. one_answer command f cert a b) h k
-
 pub one_answer_over : (hex : Bool) (command : Asked) (file cert : List ℕ) (a b : Answer) → SaysOver hex command file cert a → SaysOver hex command file cert b → a ≡ b
 one_answer_over false command file cert a b h k = one_answer command file cert a b h k
 one_answer_over true command file cert a b h k =
-    one_spelled (spelled file) (λ f. SaysBeside (takes_cert command.verb) command f cert) a b (λ f. one_beside (takes_cert command.verb) command f cert a b) h k
+    let looked = if takes_cert command.verb then cert else [] in
+    one_spelled (spelled file) (λ f. Spells (Says command f) looked) a b
+    (λ f. one_spelled (spelled looked) (λ octets. Says command f octets) a b (λ octets. one_answer command f octets a b)) h k

@@ -1,17 +1,23 @@
 -- What `certify` says is one, with and without key lists.
 use Rattle.std.proofs.Common.{◌≡◌, ℕ, List, Bool, true, false, sym, ap, ◌∙◌, subst}
+use Rattle.std.specs.Prelude.{MatchBool}
 use Rattle.bplist_objects.specs.declared.frame.Frame.{Frame}
 use Rattle.bplist_cert.specs.Encoding.{octets_of}
-use Rattle.bplist_cert.specs.Lists.{Lists}
+use Rattle.bplist_cert.specs.Lists.{IsCertificate, Lists}
 use Rattle.bplist_lint.specs.declared.answer.Lint.{Lint}
 use Rattle.bplist_lint.specs.Linted.{IsLintedBy}
 use Rattle.bplist_lint.specs.Upgraded.{IsUpgraded}
 use Rattle.bplist_lint.proofs.FirstFaults.{one_frame}
 use Rattle.bplint_lines.specs.Answers.{Answer, gives, refuses}
-use Rattle.bplint_engine.specs.Certify.{AreWritten, CertifySays, written}
+use Rattle.bplint_engine.specs.Certify.{CertifySays, written}
 use Rattle.bplint_engine.proofs.OneKeyLists.{one_upgraded}
 use Rattle.bplint_engine.proofs.EqualAnswers.{same_gives, open_bytes}
 use Rattle.bplint_engine.proofs.OneLint.{one_lint_fault, not_linted, same_heights}
+
+-- the lists that are written: those of the least heights, or with key lists
+abbrev AreWritten : Bool → List ℕ → Frame → Lists → Lists → Type 0
+AreWritten sorted f F least lists =
+    MatchBool sorted (IsCertificate lists × ∥ IsUpgraded f F least.heights lists ∥₁) (lists ≡ least)
 
 -- the bytes of what is written are one
 one_written : (sorted hex : Bool) (f : List ℕ) (F : Frame) (x y : Lint) (c d : Lists) (xs ys : List ℕ) → IsLintedBy f F x → IsLintedBy f F y

@@ -6,6 +6,7 @@ use Rattle.std.proofs.Math.Logic.{∥∥₁_elim}
 use Rattle.bplist_objects.specs.declared.fault.Fault.{Fault}
 use Rattle.bplist_objects.specs.declared.frame.Frame.{Frame}
 use Rattle.bplist_objects.specs.Frame.{trailer}
+use Rattle.bplist_cert.specs.CertifiedFile.{IsVouchedFor, IsVouchingFault}
 use Rattle.bplist_cert.specs.Encoding.{octets_of}
 use Rattle.bplist_cert.specs.Lists.{Lists, IsCertificate}
 use Rattle.bplist_cert.specs.PairFault.{IsPairFault}
@@ -17,7 +18,6 @@ use Rattle.bplint_lines.specs.declared.fault.RunFault.TheVariants as faults
 use Rattle.bplint_lines.specs.Answers.{Answer, gives, refuses}
 use Rattle.bplint_engine.specs.Check.{CheckSays}
 use Rattle.bplint_lines.specs.OutputLines.{check_line}
-use Rattle.bplint_engine.specs.CertifiedFile.{IsVouchedFor, IsVouchingFault}
 use Rattle.bplint_engine.proofs.EqualAnswers.{same_gives}
 
 module _ (f cert : List ℕ) where
@@ -30,21 +30,21 @@ module _ (f cert : List ℕ) where
   pub same_frame : (F G : Frame) (l m : Lists) → IsVouchedFor f cert F l → IsVouchedFor f cert G m → F ≡ G
   same_frame F G l m v w = vouched_frame F l v ∙ sym (vouched_frame G m w)
 
-  pub not_vouched : (F : Frame) (lists : Lists) (a : RunFault) → IsVouchedFor f cert F lists → IsVouchingFault f cert a → ⊥
+  pub not_vouched : (F : Frame) (lists : Lists) (a : RunFault) → IsVouchedFor f cert F lists → CheckSays f cert (refuses a) → ⊥
   not_vouched F lists (faults.Fault a) v (inl h) = octets_kept cert lists a v.0 v.1 h
   not_vouched F lists (faults.Fault a) v (inr (other, is, spelled, h)) =
       let same = same_lists other lists is v.0 spelled v.1 in
       not_there v.2 (λ accepted. fault_refutes f F lists a (subst (λ l. IsPairFault f l a) same h) accepted)
   not_vouched F lists _ v h = h
 
-  one_fault : (a b : Fault) → IsVouchingFault f cert (faults.Fault a) → IsVouchingFault f cert (faults.Fault b) → a ≡ b
+  one_fault : (a b : Fault) → IsVouchingFault f cert a → IsVouchingFault f cert b → a ≡ b
   one_fault a b (inl h) (inl k) = one_octets_fault cert a b h k
   one_fault a b (inl h) (inr (lists, is, spelled, k)) = absurd (octets_kept cert lists a is spelled h)
   one_fault a b (inr (lists, is, spelled, h)) (inl k) = absurd (octets_kept cert lists b is spelled k)
   one_fault a b (inr (l, is, spelled, h)) (inr (m, is', spelled', k)) =
       one_pair_fault f m a b (subst (λ x. IsPairFault f x a) (same_lists l m is is' spelled spelled') h) k
 
-  pub one_vouching : (a b : RunFault) → IsVouchingFault f cert a → IsVouchingFault f cert b → a ≡ b
+  pub one_vouching : (a b : RunFault) → CheckSays f cert (refuses a) → CheckSays f cert (refuses b) → a ≡ b
   one_vouching (faults.Fault a) (faults.Fault b) h k = ap faults.Fault (one_fault a b h k)
   one_vouching (faults.Fault a) _ h k = absurd k
   one_vouching _ b h k = absurd h

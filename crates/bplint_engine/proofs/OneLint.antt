@@ -11,12 +11,12 @@ use Rattle.bplist_lint.proofs.FirstFaults.{one_frame, one_file_fault, one_file_c
 use Rattle.bplint_lines.specs.declared.fault.RunFault.{RunFault}
 use Rattle.bplint_lines.specs.declared.fault.RunFault.TheVariants as faults
 use Rattle.bplint_lines.specs.Answers.{Answer, gives, refuses}
-use Rattle.bplint_engine.specs.Lint.{IsLintFault, LintSays}
+use Rattle.bplint_engine.specs.Lint.{LintSays}
 use Rattle.bplint_lines.specs.OutputLines.{kind_word, lint_line}
 use Rattle.bplint_engine.proofs.EqualAnswers.{same_gives, same_numbers}
 
 module _ (f : List ℕ) where
-  pub one_lint_fault : (a b : RunFault) → IsLintFault f a → IsLintFault f b → a ≡ b
+  pub one_lint_fault : (a b : RunFault) → LintSays f (refuses a) → LintSays f (refuses b) → a ≡ b
   one_lint_fault (faults.Fault x) (faults.Fault y) h k = ap faults.Fault (one_file_fault f x y h k)
   one_lint_fault (faults.Fault x) (faults.Circle ns) h k = absurd (fault_or_circle f x (map number ns) h k)
   one_lint_fault (faults.Fault x) _ h k = absurd k
@@ -26,7 +26,7 @@ module _ (f : List ℕ) where
   one_lint_fault (faults.Circle ns) _ h k = absurd k
   one_lint_fault _ b h k = absurd h
 
-  pub not_linted : (F : Frame) (lint : Lint) (a : RunFault) → IsLintedBy f F lint → IsLintFault f a → ⊥
+  pub not_linted : (F : Frame) (lint : Lint) (a : RunFault) → IsLintedBy f F lint → LintSays f (refuses a) → ⊥
   not_linted F lint (faults.Fault x) l h = fault_not_held f x l.value h l.holds
   not_linted F lint (faults.Circle ns) l h = circle_not_held f (map number ns) l.value h l.holds
   not_linted F lint _ l h = h

@@ -6,6 +6,7 @@ use Rattle.std.proofs.Math.Logic.{∥∥₁_map}
 use Rattle.bplist_objects.specs.declared.frame.Frame.{Frame}
 use Rattle.bplist_objects.specs.Value.{Value}
 use Rattle.bplist_objects.specs.Holds.{Holds}
+use Rattle.bplist_cert.specs.CertifiedFile.{IsVouchedFor}
 use Rattle.bplist_cert.specs.CheckedFile.{CheckedFile}
 use Rattle.bplist_cert.specs.Lists.{Lists}
 use Rattle.bplist_cursor.specs.declared.faults.CursorFault.{CursorFault}
@@ -13,10 +14,10 @@ use Rattle.bplist_cursor.specs.declared.faults.CursorFault.TheVariants as cursor
 use Rattle.bplist_cursor.specs.declared.found.Node.{Node}
 use Rattle.bplist_cursor.specs.declared.found.Found.TheVariants.{At}
 use Rattle.bplist_cursor.specs.declared.found.Why.{Why}
-use Rattle.bplist_cursor.specs.declared.reply.Query.TheVariants.{Get}
 use Rattle.bplist_cursor.proofs.Causes.{IsExcused}
 use Rattle.bplist_cursor.specs.Found.{IsFound, LeadTo, IsHeld}
 use Rattle.bplist_cursor.specs.Look.{look}
+use Rattle.bplist_cursor.specs.Path.{IsPathOf}
 use Rattle.bplist_ascii.specs.Sending.{Sending, SendsSome, Takes, TakesPart, AtMost}
 use Rattle.bplist_ascii.specs.Printed.{IsPut, HasText}
 use Rattle.bplist_ascii.specs.declared.sink.WriteFault.{WriteFault}
@@ -25,16 +26,16 @@ use Rattle.bplist_ascii.specs.declared.print_fault.PrintFault.TheVariants as pri
 use Rattle.bplist_ascii.proofs.SinkSteps.{out_start, out_takes, out_end, out_part, cut_more, takes_then_part}
 use Rattle.bplint_lines.specs.declared.fault.RunFault.{RunFault}
 use Rattle.bplint_lines.specs.declared.fault.RunFault.TheVariants as faults
-use Rattle.bplint_lines.specs.declared.output.Output.{Output}
+use Rattle.bplint_engine.specs.declared.output.Output.{Output}
 use Rattle.bplint_lines.specs.declared.said.Said.{Said}
 use Rattle.bplint_lines.specs.declared.said.Said.TheVariants.{All, SomeMissing}
-use Rattle.bplint_lines.specs.Answers.{Answer, gives, Answers, BeginsAnswer, IsRefusal, Leaves, LeavesBy}
-use Rattle.bplint_engine.specs.PathQueries.{IsQueryOf, IsWrongAmong}
+use Rattle.bplint_lines.specs.Answers.{Answer, gives, BeginsAnswer, Leaves, LeavesBy}
+use Rattle.bplint_engine.specs.Output.{Answers, IsRefusal}
+use Rattle.bplint_engine.specs.PathTexts.{IsWrongAmong}
 use Rattle.bplint_engine.proofs.FaultsBelow.{cursor_fault, print_fault}
-use Rattle.bplint_lines.specs.Faults.{OnPath}
+use Rattle.bplint_engine.specs.PathTexts.{OnPath}
 use Rattle.bplint_lines.specs.OutputLines.{missing_line}
 use Rattle.bplint_engine.specs.Print.{NodeSays, PathSays, PrintSays}
-use Rattle.bplint_engine.specs.CertifiedFile.{IsVouchedFor}
 use Rattle.bplint_engine.proofs.EqualAnswers.{same_gives}
 use Rattle.bplint_engine.proofs.LeftBytes.{begins_nothing, kept_self, said_as}
 
@@ -129,23 +130,23 @@ missing_says f F limit steps v step why (Err fault) is _ memory = subst (IsRefus
 
 -- the answer for the value that the file holds is that of the command
 pub path_to_print : (f cert : List ℕ) (texts : List (List ℕ)) (limit : ℕ) (steps : List (List ℕ)) (F : Frame) (lists : Lists) (v : Value)
-    → AllZip IsQueryOf texts (Get steps ∷ []) → IsVouchedFor f cert F lists → Holds f F F.top.0 v
-    → (a : Answer) → PathSays f F limit steps v a → PrintSays f cert texts limit a
+    → AllZip IsPathOf texts (steps ∷ []) → IsVouchedFor f cert F lists → Holds f F F.top.0 v
+    → (a : Answer) → PathSays f F limit steps v a → PrintSays limit f cert texts a
 path_to_print f cert texts limit steps F lists v are vouched holds a h = inr (steps, F, lists, v, are, vouched, holds, h)
 
 -- a path text is wrong
 pub print_path_refused : (f cert : List ℕ) (texts : List (List ℕ)) (limit : ℕ) (fault : RunFault) → OnPath (IsWrongAmong texts) fault
-    → IsRefusal (PrintSays f cert texts limit) fault
+    → IsRefusal (PrintSays limit f cert texts) fault
 print_path_refused f cert texts limit (faults.Path place) h = inl (faults.Path place, refl, h)
 print_path_refused f cert texts limit faults.Memory h = tt
 print_path_refused f cert texts limit _ h = absurd h
 
 pub print_leaves : (f cert : List ℕ) (texts : List (List ℕ)) (limit : ℕ) (steps : List (List ℕ)) (F : Frame) (lists : Lists) (old new : Option (List ℕ))
-    (result : Result Said RunFault) → AllZip IsQueryOf texts (Get steps ∷ []) → IsVouchedFor f cert F lists → ∥ ((v : Value) × Holds f F F.top.0 v) ∥₁
+    (result : Result Said RunFault) → AllZip IsPathOf texts (steps ∷ []) → IsVouchedFor f cert F lists → ∥ ((v : Value) × Holds f F F.top.0 v) ∥₁
     → ((v : Value) → Holds f F F.top.0 v → LeavesBy (PathSays f F limit steps v) limit old new result)
-    → Leaves (PrintSays f cert texts limit) limit old new result
+    → Leaves (PrintSays limit f cert texts) limit old new result
 print_leaves f cert texts limit steps F lists old new result are vouched value left =
-    ∥∥₁_map value (λ h. said_as (PathSays f F limit steps h.0) (PrintSays f cert texts limit) limit old new result
+    ∥∥₁_map value (λ h. said_as (PathSays f F limit steps h.0) (PrintSays limit f cert texts) limit old new result
     (path_to_print f cert texts limit steps F lists h.0 are vouched h.1) (left h.0 h.1))
 
 -- a line feed was put in, and a flush cut it

@@ -8,7 +8,7 @@ use Rattle.bplist_cert.specs.declared.certificate.CertRefusal.{CertRefusal}
 use Rattle.bplist_cert.specs.declared.certificate.CertRefusal.TheVariants as cert_refusals
 use Rattle.bplist_cert.specs.declared.refusal.Refusal.{Refusal}
 use Rattle.bplist_cert.specs.declared.refusal.Refusal.TheVariants as refusals
-use Rattle.bplint_lines.specs.Answers.{IsRefusal}
+use Rattle.bplint_engine.specs.Output.{IsRefusal}
 use Rattle.bplint_engine.proofs.FaultsBelow.{check_fault, octets_fault}
 use Rattle.bplint_engine.specs.Check.{CheckSays}
 

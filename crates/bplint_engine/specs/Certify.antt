@@ -10,20 +10,15 @@ use Rattle.bplist_lint.specs.Linted.{IsLintedBy}
 use Rattle.bplist_lint.specs.Upgraded.{IsUpgraded}
 use Rattle.bplint_lines.specs.declared.said.Said.TheVariants.{All}
 use Rattle.bplint_lines.specs.Answers.{Answer, gives, refuses}
-use Rattle.bplint_engine.specs.Lint.{IsLintFault}
+use Rattle.bplint_engine.specs.Lint.{LintSays}
 
 -- a certificate's bytes, or their hexadecimal text with a line feed
 abbrev pub written : Bool → List ℕ → List ℕ
 written hex octets = if hex then encode_lower octets ++ 10 ∷ [] else octets
 
--- the lists that are written: those of the least heights, or with key lists
-abbrev pub AreWritten : Bool → List ℕ → Frame → Lists → Lists → Type 0
-AreWritten sorted f F least lists =
-    MatchBool sorted (IsCertificate lists × ∥ IsUpgraded f F least.heights lists ∥₁) (lists ≡ least)
-
--- `certify`, with or without key lists, answers a certificate of the least heights
+-- `certify` answers the certificate of the least heights, or with `sorted` one with these heights and key lists
 abbrev pub CertifySays : Bool → Bool → List ℕ → Answer → Type 0
-CertifySays sorted hex f (gives said bytes) =
-    (F : Frame) × (lint : Lint) × (lists : Lists) × IsFrame f F × IsLintedBy f F lint
-    × AreWritten sorted f F lint.certificate lists × (said ≡ All) × (bytes ≡ written hex (octets_of lists))
-CertifySays sorted hex f (refuses fault) = IsLintFault f fault
+CertifySays sorted hex f (gives said bytes) = (F : Frame) × (lint : Lint) × (lists : Lists) × IsFrame f F × IsLintedBy f F lint
+    × MatchBool sorted (IsCertificate lists × ∥ IsUpgraded f F lint.certificate.heights lists ∥₁) (lists ≡ lint.certificate)
+    × (said ≡ All) × (bytes ≡ written hex (octets_of lists))
+CertifySays sorted hex f (refuses fault) = LintSays f (refuses fault)

@@ -1,15 +1,16 @@
 -- What `check` says. Source: profile.
 use Rattle.std.specs.Prelude.{◌≡◌, ◌∷◌, ◌++◌, ℕ, List, [], slice_index}
 use Rattle.bplist_objects.specs.declared.frame.Frame.{Frame}
+use Rattle.bplist_cert.specs.CertifiedFile.{IsVouchedFor, IsVouchingFault}
 use Rattle.bplist_cert.specs.Lists.{Lists}
+use Rattle.bplint_lines.specs.declared.fault.RunFault.TheVariants.{Fault}
 use Rattle.bplint_lines.specs.declared.said.Said.TheVariants.{All}
 use Rattle.bplint_lines.specs.Answers.{Answer, gives, refuses}
 use Rattle.bplint_lines.specs.OutputLines.{check_line}
-use Rattle.bplint_engine.specs.CertifiedFile.{IsVouchedFor, IsVouchingFault}
 
 -- `check` answers the number of objects and the top's height, or the first fault of certificate bytes and file
 abbrev pub CheckSays : List ℕ → List ℕ → Answer → Type 0
 CheckSays f cert (gives said bytes) =
     (F : Frame) × (lists : Lists) × IsVouchedFor f cert F lists
     × (said ≡ All) × (bytes ≡ check_line F.objects (slice_index lists.heights F.top.0) ++ 10 ∷ [])
-CheckSays f cert (refuses fault) = IsVouchingFault f cert fault
+CheckSays f cert (refuses fault) = elim fault [ Fault x ↦ IsVouchingFault f cert x | _ ↦ ⊥ ]

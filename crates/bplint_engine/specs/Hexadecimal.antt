@@ -3,10 +3,6 @@ use Rattle.std.specs.Prelude.{ℕ, ◌-◌, ◌==◌, if◌then◌else◌, List,
 use Rattle.hex.specs.declared.error.FromHexError.{FromHexError}
 use Rattle.hex.specs.Hex.{decode_of}
 
--- the text without one line feed at its end
-abbrev pub digits_of : List ℕ → List ℕ
-digits_of text = if slice_index text (length text - 1) == 10 then take (length text - 1) text else text
-
--- the bytes that the text spells, or why it spells none
+-- the bytes that the text spells, without one line feed at its end, or why it spells none
 abbrev pub spelled : List ℕ → Result (List ℕ) FromHexError
-spelled text = decode_of (digits_of text)
+spelled text = let last = length text - 1 in decode_of (if slice_index text last == 10 then take last text else text)

@@ -1,4 +1,3 @@
-pub mod CertifiedFile
 pub mod Certify
 pub mod Check
 pub mod Commands
@@ -6,7 +5,8 @@ pub mod Get
 pub mod Hexadecimal
 pub mod Lint
 pub mod Ls
-pub mod PathQueries
+pub mod Output
+pub mod PathTexts
 pub mod Print
 pub mod Said
 pub mod Show

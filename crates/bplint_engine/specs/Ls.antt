@@ -1,12 +1,13 @@
 -- What `ls` says: the members of a value, one line each. Source: the path texts RFC 6901; the lines profile.
 use Rattle.std.specs.Prelude.{◌≡◌, ◌∷◌, ◌++◌, ℕ, zero, suc, ◌+◌, ◌*◌, length, List, [], Option, None, Some, Result, Ok, Err, ⊤}
+use Rattle.std.specs.List.{enumerate_from, flat_map}
 use Rattle.bplist_objects.specs.declared.frame.Frame.{Frame}
 use Rattle.bplist_objects.specs.Frame.{IsFrame}
 use Rattle.bplist_objects.specs.Holds.{Holds}
-use Rattle.bplist_objects.specs.Value.{Value, Values, Pairs, leaf, array, set, dict, no_values, value, no_pairs, pair, text, keys}
+use Rattle.bplist_objects.specs.Value.{Value, leaf, array, set, dict, text, keys}
 use Rattle.bplist_cursor.specs.declared.found.Why.{Why}
 use Rattle.bplist_cursor.specs.Look.{look}
-use Rattle.bplist_cursor.specs.Members.{members, member_of}
+use Rattle.bplist_cursor.specs.Members.{entries, members, member_of}
 use Rattle.bplist_cursor.specs.Path.{IsPathOf}
 use Rattle.bplist_cursor.specs.Replies.{face}
 use Rattle.bplist_lint.specs.declared.answer.Lint.{Lint}
@@ -18,8 +19,8 @@ use Rattle.bplint_lines.specs.declared.said.Said.TheVariants.{All, SomeMissing}
 use Rattle.bplint_lines.specs.Answers.{Answer, gives, refuses}
 use Rattle.bplint_lines.specs.MemberNames.{bracketed, index_name, key_name}
 use Rattle.bplint_lines.specs.OutputLines.{face_line, missing_line}
-use Rattle.bplint_engine.specs.Lint.{IsLintFault}
-use Rattle.bplint_engine.specs.PathQueries.{IsAskingFault}
+use Rattle.bplint_engine.specs.Lint.{LintSays}
+use Rattle.bplint_engine.specs.PathTexts.{IsAskingFault}
 
 -- the value is a leaf
 abbrev pub IsLeaf : Value → Type 0
@@ -59,22 +60,12 @@ abbrev pub first_lines : List ℕ → Value → ℕ → List ℕ
 first_lines path w zero = []
 first_lines path w (suc n) = first_lines path w n ++ member_line path w n
 
--- the lines of values from number i on, with these names
-abbrev pub value_lines : (ℕ → List ℕ) → ℕ → Values → List ℕ
-value_lines name i no_values = []
-value_lines name i (value v vs) = named_line (name i) v ++ value_lines name (i + 1) vs
-
--- the lines of pairs from number i on
-abbrev pub pair_lines : List ℕ → ℕ → Pairs → List ℕ
-pair_lines path i no_pairs = []
-pair_lines path i (pair u v ps) = named_line (key_name path i u) v ++ pair_lines path (i + 1) ps
-
 -- all lines of a value: of its members, or of the leaf
 abbrev pub listed : List ℕ → Value → List ℕ
 listed path (leaf l) = named_line path (leaf l)
-listed path (array vs) = value_lines (index_name path) 0 vs
-listed path (set vs) = value_lines bracketed 0 vs
-listed path (dict ps) = pair_lines path 0 ps
+listed path (array vs) = flat_map (λ e. named_line (index_name path e.0) e.1) (enumerate_from 0 (members vs))
+listed path (set vs) = flat_map (λ e. named_line (bracketed e.0) e.1) (enumerate_from 0 (members vs))
+listed path (dict ps) = flat_map (λ e. named_line (key_name path e.0 e.1.0) e.1.1) (enumerate_from 0 (entries ps))
 
 -- what `ls` writes of a found value, or of a path that leads nowhere
 abbrev pub ListGives : List ℕ → Result Value (ℕ × Why) → Said → List ℕ → Type 0
@@ -86,4 +77,4 @@ abbrev pub ListSays : List ℕ → List ℕ → Answer → Type 0
 ListSays f path (gives said bytes) =
     (steps : List (List ℕ)) × (F : Frame) × (lint : Lint) × IsPathOf path steps × IsFrame f F × IsLintedBy f F lint
     × ((v : Value) → Holds f F F.top.0 v → ListGives path (look v steps) said bytes)
-ListSays f path (refuses fault) = IsAskingFault (IsLintFault f) (path ∷ []) fault
+ListSays f path (refuses fault) = IsAskingFault (LintSays f) (path ∷ []) fault

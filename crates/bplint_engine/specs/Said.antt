@@ -1,5 +1,5 @@
 -- What a run says. Source: profile.
-use Rattle.std.specs.Prelude.{◌≡◌, ℕ, List, [], Bool, true, false, MatchBool, MatchResult}
+use Rattle.std.specs.Prelude.{◌≡◌, ℕ, List, [], Bool, true, false, MatchBool, MatchResult, if◌then◌else◌}
 use Rattle.bplint_engine.specs.declared.command.Verb.{Verb}
 use Rattle.bplint_engine.specs.declared.command.Verb.TheVariants.{Lint, Check, Get, Certify, Print}
 use Rattle.bplint_lines.specs.declared.fault.RunFault.TheVariants.{Hex}
@@ -18,36 +18,25 @@ SaysBy Lint command f cert answer = LintSays f answer
 SaysBy Check command f cert answer = CheckSays f cert answer
 SaysBy Certify command f cert answer = CertifySays command.sorted command.hex f answer
 SaysBy Get command f cert answer = GetSays f cert command.paths answer
-SaysBy Print command f cert answer = PrintSays f cert command.paths command.limit answer
+SaysBy Print command f cert answer = PrintSays command.limit f cert command.paths answer
 
 -- a command's answer for a file and certificate bytes
 abbrev pub Says : Asked → List ℕ → List ℕ → Answer → Type 0
 Says command f cert answer = SaysBy command.verb command f cert answer
 
 -- how many bytes may go out before a failed read or refused memory: those of Print
-abbrev pub most_by : Verb → ℕ → ℕ
-most_by Print limit = limit
-most_by _ limit = 0
-
--- the same of a command
 abbrev pub most : Asked → ℕ
-most command = most_by command.verb command.limit
+most command = elim command.verb [ Print ↦ command.limit | _ ↦ 0 ]
 
 -- the verb looks at the certificate
 abbrev pub takes_cert : Verb → Bool
-takes_cert Lint = false
-takes_cert Certify = false
-takes_cert _ = true
+takes_cert verb = elim verb [ Lint ↦ false | Certify ↦ false | _ ↦ true ]
 
 -- P of the bytes that a hexadecimal text spells, or `Hex` where it spells none
 abbrev pub Spells : (List ℕ → Answer → Type 0) → List ℕ → Answer → Type 0
 Spells P text answer = MatchResult (spelled text) (λ bytes. P bytes answer) (λ _. answer ≡ refuses Hex)
 
--- a command's answer for a file's bytes and a certificate's text, where it looks at one
-abbrev pub SaysBeside : Bool → Asked → List ℕ → List ℕ → Answer → Type 0
-SaysBeside takes command f text answer = MatchBool takes (Spells (Says command f) text answer) (Says command f [] answer)
-
--- a command's answer for inputs; with `hex` for the bytes that they spell
+-- a command's answer for inputs; with `hex` for the bytes that they spell, of the certificate where it is looked at
 abbrev pub SaysOver : Bool → Asked → List ℕ → List ℕ → Answer → Type 0
-SaysOver hex command file cert answer =
-    MatchBool hex (Spells (λ f. SaysBeside (takes_cert command.verb) command f cert) file answer) (Says command file cert answer)
+SaysOver hex c file cert answer = MatchBool hex
+    (Spells (λ f. Spells (Says c f) (if takes_cert c.verb then cert else [])) file answer) (Says c file cert answer)

@@ -4,10 +4,11 @@ ghost use Rattle.bplist_octets.specs.Meaning.{OnlyReads};
 ghost use Rattle.bplist_objects.specs.Holds.{Holds};
 ghost use Rattle.bplist_objects.specs.Value.{Value};
 ghost use Rattle.bplist_cert.specs.Lists.{AreWords, IsCertificate};
-ghost use Rattle.bplint_lines.specs.Answers.{IsRefusal, is_read};
+ghost use Rattle.bplint_engine.specs.Output.{IsRefusal, is_read};
 ghost use Rattle.bplint_engine.specs.Check.{CheckSays};
 ghost use Rattle.bplint_engine.specs.Lint.{LintSays};
-ghost use Rattle.bplint_engine.specs.CertifiedFile.{IsLeastFor, IsVouchedFor};
+ghost use Rattle.bplist_cert.specs.CertifiedFile.{IsVouchedFor};
+ghost use Rattle.bplint_engine.specs.Show.{IsLeastFor};
 
 use bplint_lines::RunFault;
 use bplist_cert::{Certificate, Checked, check};

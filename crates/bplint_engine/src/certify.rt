@@ -4,11 +4,13 @@ ghost use Rattle.bplist_octets.specs.Meaning.{OnlyReads};
 ghost use Rattle.bplist_cert.specs.Encoding.{octets_of};
 ghost use Rattle.bplist_cert.specs.Lists.{Lists, IsCertificate};
 ghost use Rattle.bplist_lint.specs.Upgraded.{IsUpgraded};
-ghost use Rattle.bplint_lines.specs.Answers.{Answers, read_failed};
+ghost use Rattle.bplint_lines.specs.Answers.{read_failed};
+ghost use Rattle.bplint_engine.specs.Output.{Answers};
 ghost use Rattle.bplint_engine.specs.Certify.{CertifySays, written};
 ghost use Rattle.bplint_lines.specs.Faults.{Gives};
 
-use bplint_lines::{Output, RunFault, Said};
+use crate::output::Output;
+use bplint_lines::{RunFault, Said};
 use bplist_cert::{Certificate, Checked, check};
 use bplist_lint::{UpgradeFault, lint, upgrade};
 use bplist_octets::Source;

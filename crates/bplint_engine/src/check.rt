@@ -1,12 +1,14 @@
 //! The answer of `check`.
 ghost use Rattle.std.specs.Prelude.{◌≡◌, ◌∷◌, ◌++◌, [], IfErr, IfOk, IsTrue, slice_index};
 ghost use Rattle.bplist_octets.specs.Meaning.{OnlyReads};
-ghost use Rattle.bplint_lines.specs.Answers.{Answers, read_failed};
+ghost use Rattle.bplint_lines.specs.Answers.{read_failed};
+ghost use Rattle.bplint_engine.specs.Output.{Answers};
 ghost use Rattle.bplint_engine.specs.Check.{CheckSays};
 ghost use Rattle.bplint_lines.specs.OutputLines.{check_line};
 
 use crate::certified_file::check_octets;
-use bplint_lines::{Output, RunFault, Said, add_check};
+use crate::output::Output;
+use bplint_lines::{RunFault, Said, add_check};
 use bplist_cert::Checked;
 use bplist_octets::Source;
 use std::alloc::Global;

@@ -7,14 +7,16 @@ ghost use Rattle.bplist_objects.specs.Holds.{Holds};
 ghost use Rattle.bplist_objects.specs.Value.{Value};
 ghost use Rattle.bplist_cursor.specs.Kept.{Keeps};
 ghost use Rattle.bplist_cursor.specs.Replies.{reply};
-ghost use Rattle.bplint_lines.specs.Answers.{Answers, read_failed};
+ghost use Rattle.bplint_lines.specs.Answers.{read_failed};
+ghost use Rattle.bplint_engine.specs.Output.{Answers};
 ghost use Rattle.bplint_lines.specs.Faults.{Gives};
 ghost use Rattle.bplint_engine.specs.Get.{GetSays, reply_line};
 ghost use Rattle.bplint_engine.specs.Get as spec;
 
 use crate::certified_file::check_octets;
 use crate::path_queries::queries_of;
-use bplint_lines::{Output, RunFault, Said, add_face, add_missing};
+use crate::output::Output;
+use bplint_lines::{RunFault, Said, add_face, add_missing};
 use bplist_cert::Checked;
 use bplist_cursor::{Query, Reply, answer_all};
 use bplist_octets::Source;
@@ -50,7 +52,7 @@ pub(crate) fn answer_queries<S: Source>(
     ensures source { OnlyReads (read_failed result.0) checked.source (S.means result.1) }
     ensures exact { IsTrue checked.source.honest → Gives (λ output. (v : Value)
         → Holds checked.source.octets checked.frame checked.frame.top.0 v
-        → (output.said ≡ spec.said_of (map (reply v) queries.now))
+        → (output.said ≡ spec.replies_said (map (reply v) queries.now))
         × (output.bytes.items ≡ flat_map reply_line (map (reply v) queries.now))) result.0 }
 {
     let mut checked = checked;
@@ -67,7 +69,7 @@ fn lines_for<S: Source>(
     ensures reads { Keeps (read_failed result) checked.old checked.new }
     ensures exact { IsTrue checked.old.source.honest → Gives (λ output. (v : Value)
         → Holds checked.old.source.octets checked.old.frame checked.old.frame.top.0 v
-        → (output.said ≡ spec.said_of (map (reply v) queries.now))
+        → (output.said ≡ spec.replies_said (map (reply v) queries.now))
         × (output.bytes.items ≡ flat_map reply_line (map (reply v) queries.now))) result }
 {
     let replies = answer_all(alloc, checked, queries)?;
@@ -76,7 +78,7 @@ fn lines_for<S: Source>(
 
 /// The lines of replies, and whether one of them says that a path leads nowhere.
 fn lines_of(alloc: Global, replies: &[Reply]) -> Result<Output, AllocError>
-    ensures { IfOk result (λ output. (output.said ≡ spec.said_of replies.now)
+    ensures { IfOk result (λ output. (output.said ≡ spec.replies_said replies.now)
         × (output.bytes.items ≡ flat_map reply_line replies.now)) }
 {
     let mut bytes = Vec::new(alloc);
@@ -90,7 +92,7 @@ fn lines_of(alloc: Global, replies: &[Reply]) -> Result<Output, AllocError>
 }
 
 fn said_of(replies: &[Reply]) -> Said
-    ensures { result ≡ spec.said_of replies.now }
+    ensures { result ≡ spec.replies_said replies.now }
 {
     if have_missing(replies) {
         Said::SomeMissing

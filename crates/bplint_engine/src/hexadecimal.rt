@@ -1,6 +1,6 @@
 //! Inputs that are hexadecimal text.
-ghost use Rattle.std.specs.Prelude.{◌≡◌, ◌⊎◌, IfOk, IfErr, Ok, IsErr};
-ghost use Rattle.bplint_engine.specs.Hexadecimal.{digits_of, spelled};
+ghost use Rattle.std.specs.Prelude.{◌≡◌, ◌⊎◌, ◌-◌, ◌==◌, IfOk, IfErr, IsErr, Ok, if◌then◌else◌, length, slice_index, take};
+ghost use Rattle.bplint_engine.specs.Hexadecimal.{spelled};
 
 use bplint_lines::RunFault;
 use hex::FromHexError;
@@ -21,7 +21,8 @@ pub fn undo_hex(alloc: Global, text: &[u8]) -> Result<Vec<u8>, RunFault>
 }
 
 fn without_line_feed(text: &[u8]) -> &[u8]
-    ensures { result.now ≡ digits_of text.now }
+    ensures { let last = length text.now - 1 in
+        result.now ≡ (if slice_index text.now last == 10 then take last text.now else text.now) }
 {
     match text {
         [digits @ .., b'\n'] => digits,

@@ -1,11 +1,13 @@
 //! The answer of `lint`.
 ghost use Rattle.std.specs.Prelude.{◌≡◌, ◌∷◌, ◌++◌, [], IfOk, IsTrue};
 ghost use Rattle.bplist_octets.specs.Meaning.{OnlyReads};
-ghost use Rattle.bplint_lines.specs.Answers.{Answers, read_failed};
+ghost use Rattle.bplint_lines.specs.Answers.{read_failed};
+ghost use Rattle.bplint_engine.specs.Output.{Answers};
 ghost use Rattle.bplint_engine.specs.Lint.{LintSays};
 ghost use Rattle.bplint_lines.specs.OutputLines.{kind_word, lint_line};
 
-use bplint_lines::{Output, RunFault, Said, add_lint};
+use crate::output::Output;
+use bplint_lines::{RunFault, Said, add_lint};
 use bplist_lint::lint_with_kind;
 use bplist_objects::Kind;
 use bplist_octets::Source;

@@ -1,8 +1,8 @@
 //! Path texts, and what is asked about the paths.
-ghost use Rattle.std.specs.Prelude.{◌≡◌, ◌∷◌, [], MatchResult, length, map, string_bytes};
+ghost use Rattle.std.specs.Prelude.{◌≡◌, ◌∷◌, [], ℕ, List, MatchResult, length, map, string_bytes};
 ghost use Rattle.std.specs.List.{AllZip};
-ghost use Rattle.bplint_engine.specs.PathQueries.{IsQueryOf, IsWrongAmong};
-ghost use Rattle.bplint_lines.specs.Faults.{OnPath};
+ghost use Rattle.bplist_cursor.specs.Path.{IsPathOf};
+ghost use Rattle.bplint_engine.specs.PathTexts.{IsWrongAmong, OnPath};
 
 use bplint_lines::RunFault;
 use bplist_cursor::{Path, Query};
@@ -11,7 +11,8 @@ use std::alloc::Global;
 /// Asks what lies under the path of each text, in their order. The fault is the first wrong text.
 pub(crate) fn queries_of(alloc: Global, texts: &[String]) -> Result<Vec<Query>, RunFault>
     ensures { MatchResult result
-        (λ queries. AllZip IsQueryOf (map (λ text. string_bytes text) texts.now) queries.items)
+        (λ queries. (paths : List (List (List ℕ))) × AllZip IsPathOf (map (λ text. string_bytes text) texts.now) paths
+        × (queries.items ≡ map (λ path. Query.Get path) paths))
         (OnPath (IsWrongAmong (map (λ text. string_bytes text) texts.now))) }
 {
     let mut queries = Vec::new(alloc);
@@ -26,7 +27,7 @@ pub(crate) fn queries_of(alloc: Global, texts: &[String]) -> Result<Vec<Query>, 
 pub(crate) fn path_of(alloc: Global, texts: &[String]) -> Result<Path, RunFault>
     requires { length texts.now ≡ 1 }
     ensures { MatchResult result
-        (λ path. AllZip IsQueryOf (map (λ text. string_bytes text) texts.now) (Query.Get path ∷ []))
+        (λ path. AllZip IsPathOf (map (λ text. string_bytes text) texts.now) (path ∷ []))
         (OnPath (IsWrongAmong (map (λ text. string_bytes text) texts.now))) }
 {
     path_in(alloc, texts[0].as_str())
@@ -35,7 +36,7 @@ pub(crate) fn path_of(alloc: Global, texts: &[String]) -> Result<Path, RunFault>
 /// The path of a text.
 pub(crate) fn path_in(alloc: Global, text: &str) -> Result<Path, RunFault>
     ensures { MatchResult result
-        (λ path. AllZip IsQueryOf (text.now ∷ []) (Query.Get path ∷ []))
+        (λ path. AllZip IsPathOf (text.now ∷ []) (path ∷ []))
         (OnPath (IsWrongAmong (text.now ∷ []))) }
 {
     Ok(Path::parse(alloc, text)?)

@@ -12,7 +12,9 @@ ghost use Rattle.bplint_engine.specs.Print.{NodeSays, PathSays, PrintSays};
 
 use crate::certified_file::check_octets;
 use crate::path_queries::path_of;
-use bplint_lines::{Output, RunFault, Said, add_missing, send_output};
+use crate::delivery::send_output;
+use crate::output::Output;
+use bplint_lines::{RunFault, Said, add_missing};
 use bplist_ascii::{Sink, WriteFault, print_into};
 use bplist_cert::Checked;
 use bplist_cursor::{Found, Node, Path, Why, locate, measure};
@@ -33,7 +35,7 @@ pub(crate) fn print_answer<S: Source, W: Write>(
     requires { length texts.now ≡ 1 }
     ensures source { OnlyReads (read_failed result.0) (S.means src) (S.means result.1) }
     ensures exact { IsTrue (S.means src).honest
-        → Leaves (PrintSays (S.means src).octets cert.now (map (λ text. string_bytes text) texts.now) limit) limit
+        → Leaves (PrintSays limit (S.means src).octets cert.now (map (λ text. string_bytes text) texts.now)) limit
         (W.contents out.old) (W.contents out.new) result.0 }
 {
     let path = match path_of(alloc, texts) {

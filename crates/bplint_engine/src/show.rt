@@ -1,14 +1,19 @@
 //! Values under paths of a file, with no certificate at hand.
-ghost use Rattle.std.specs.Prelude.{◌≡◌, IsTrue, map, string_bytes};
+ghost use Rattle.std.specs.Prelude.{◌∷◌, [], IsTrue, map, string_bytes};
 ghost use Rattle.bplist_octets.specs.Meaning.{OnlyReads};
-ghost use Rattle.bplint_lines.specs.Answers.{Answers, Leaves, read_failed};
-ghost use Rattle.bplint_engine.specs.Show.{ShowSays, TextSays};
+ghost use Rattle.bplint_lines.specs.Answers.{Leaves, read_failed};
+ghost use Rattle.bplint_engine.specs.Output.{Answers};
+ghost use Rattle.bplint_engine.specs.Get.{GetSays};
+ghost use Rattle.bplint_engine.specs.Print.{PrintSays};
+ghost use Rattle.bplint_engine.specs.Show.{LeastLeads};
 
 use crate::certified_file::check_least;
 use crate::get::answer_queries;
 use crate::path_queries::{path_in, queries_of};
 use crate::print::print_checked;
-use bplint_lines::{Output, RunFault, Said, send_made};
+use crate::delivery::send_made;
+use crate::output::Output;
+use bplint_lines::{RunFault, Said};
 use bplist_octets::Source;
 use std::alloc::Global;
 use std::io::Write;
@@ -25,7 +30,7 @@ pub fn show_on<S: Source, W: Write>(
 ) -> (Result<Said, RunFault>, S)
     ensures source { OnlyReads (read_failed result.0) (S.means src) (S.means result.1) }
     ensures exact { IsTrue (S.means src).honest
-        → Leaves (ShowSays (S.means src).octets (map (λ text. string_bytes text) paths.now)) 0
+        → Leaves (LeastLeads GetSays (S.means src).octets (map (λ text. string_bytes text) paths.now)) 0
         (W.contents out.old) (W.contents out.new) result.0 }
 {
     send_made(show_output(alloc, src, paths), out)
@@ -35,7 +40,7 @@ pub fn show_on<S: Source, W: Write>(
 fn show_output<S: Source>(alloc: Global, src: S, texts: &[String]) -> (Result<Output, RunFault>, S)
     ensures source { OnlyReads (read_failed result.0) (S.means src) (S.means result.1) }
     ensures exact { IsTrue (S.means src).honest
-        → Answers (ShowSays (S.means src).octets (map (λ text. string_bytes text) texts.now)) result.0 }
+        → Answers (LeastLeads GetSays (S.means src).octets (map (λ text. string_bytes text) texts.now)) result.0 }
 {
     let queries = match queries_of(alloc, texts) {
         Ok(queries) => queries,
@@ -61,7 +66,8 @@ pub fn show_text_on<S: Source, W: Write>(
     out: &mut W,
 ) -> (Result<Said, RunFault>, S)
     ensures source { OnlyReads (read_failed result.0) (S.means src) (S.means result.1) }
-    ensures exact { IsTrue (S.means src).honest → Leaves (TextSays (S.means src).octets path.now limit) limit
+    ensures exact { IsTrue (S.means src).honest
+        → Leaves (LeastLeads (PrintSays limit) (S.means src).octets (path.now ∷ [])) limit
         (W.contents out.old) (W.contents out.new) result.0 }
 {
     let path = match path_in(alloc, path) {

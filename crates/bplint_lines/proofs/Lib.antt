@@ -1,2 +1,1 @@
 mod RuleTables
-mod SentTexts

@@ -4,7 +4,6 @@ use Rattle.std.specs.Io.KnownBytes.{Appends, Keeps}
 use Rattle.bplist_ascii.specs.Sending.{SendsSome, IsCut, AtMost}
 use Rattle.bplint_lines.specs.declared.fault.RunFault.{RunFault}
 use Rattle.bplint_lines.specs.declared.fault.RunFault.TheVariants as faults
-use Rattle.bplint_lines.specs.declared.output.Output.{Output}
 use Rattle.bplint_lines.specs.declared.said.Said.{Said}
 
 -- bytes to write and what they say, or a fault
@@ -14,30 +13,7 @@ pub data Answer : Type 0 where
 
 -- the answer is a failed read
 abbrev pub read_failed : {X : Type 0} → Result X RunFault → Bool
-read_failed (Err (faults.Read _)) = true
-read_failed _ = false
-
--- the error is a failed read
-abbrev pub is_read : RunFault → Bool
-is_read fault = read_failed {X = Unit {0}} (Err fault)
-
--- a fault before anything is written; nothing is said of a failed read or of refused memory
-abbrev pub IsRefusal : (Answer → Type 0) → RunFault → Type 0
-IsRefusal Says (faults.Write _) = ⊥
-IsRefusal Says (faults.Read _) = Unit {0}
-IsRefusal Says faults.Memory = Unit {0}
-IsRefusal Says fault = Says (refuses fault)
-
--- bytes to write, or a fault, are the answer
-abbrev pub Answers : (Answer → Type 0) → Result Output RunFault → Type 0
-Answers Says (Ok output) = Says (gives output.said output.bytes.items)
-Answers Says (Err fault) = IsRefusal Says fault
-
--- what was made is sent: all its bytes went out, or where a write failed a first part of them; of a fault nothing does
-abbrev pub Sends : Option (List ℕ) → Option (List ℕ) → Result Output RunFault → Result Said RunFault → Type 0
-Sends old new (Ok output) (Ok said) = (said ≡ output.said) × Appends old new output.bytes.items
-Sends old new (Ok output) (Err fault) = (sent : ℕ) × (fault ≡ faults.Write sent) × IsCut old new output.bytes.items sent
-Sends old new (Err fault) result = (result ≡ Err fault) × Keeps old new
+read_failed answer = elim answer [ Err (faults.Read _) ↦ true | _ ↦ false ]
 
 -- nothing went out, or a first part of the answer of at most `most` bytes
 abbrev pub BeginsAnswer : (Answer → Type 0) → ℕ → Option (List ℕ) → Option (List ℕ) → Type 0

@@ -16,7 +16,7 @@ fault_line rule object place =
     let number = unwrap_or (option_map (λ (n : ObjectNo). decimal n.0) object) (codes "none") in
     codes "fault " ++ (word_of rule ++ (codes " object " ++ (number ++ (codes " place " ++ decimal place))))
 
--- what is reported of a fault: its line, and the exit status, 1 what the file or its text is, 2 a wrong path text, 4 refused memory,
+-- what is reported of a fault: its line; and the exit status, 1 what the file or its text is, 2 a wrong path text, 4 refused memory,
 -- 3 all else
 abbrev pub report_of : RunFault → List ℕ × ℕ
 report_of (is_fault fault) =
@@ -32,11 +32,3 @@ report_of (Write sent) = (codes "write " ++ decimal sent, 3)
 report_of Memory = (codes "memory", 4)
 report_of Open = (codes "read Open", 3)
 report_of InputTooLong = (codes "read TooLong", 3)
-
--- the line of a fault
-abbrev pub line_of : RunFault → List ℕ
-line_of fault = (report_of fault).0
-
--- the exit status of a fault
-abbrev pub status_of : RunFault → ℕ
-status_of fault = (report_of fault).1

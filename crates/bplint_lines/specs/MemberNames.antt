@@ -9,10 +9,6 @@ use Rattle.bplist_cursor.specs.Path.{escaped}
 abbrev pub has_path_text : List ℕ → Bool
 has_path_text units = not (list_any (λ u. nat_lt u 0x20 || u == 0x7F) units) && not (has_unpaired_surrogate units)
 
--- a member's path text: its container's, `/`, and the escaped token
-abbrev pub path_behind : List ℕ → List ℕ → List ℕ
-path_behind path token = path ++ 0x2F ∷ flat_map escaped token
-
 -- a place among the members, in brackets
 abbrev pub bracketed : ℕ → List ℕ
 bracketed i = 0x5B ∷ (decimal i ++ 0x5D ∷ [])
@@ -21,6 +17,7 @@ bracketed i = 0x5B ∷ (decimal i ++ 0x5D ∷ [])
 abbrev pub index_name : List ℕ → ℕ → List ℕ
 index_name path i = path ++ 0x2F ∷ decimal i
 
--- the name of value i: the path by its key, or its place if that cannot be shown
+-- the name of value i: its container's path text, `/` and the escaped key, or its place if that cannot be shown
 abbrev pub key_name : List ℕ → ℕ → List ℕ → List ℕ
-key_name path i units = if has_path_text units then path_behind path (encode_utf8_all (utf16_lossy_chars units)) else bracketed i
+key_name path i units =
+    if has_path_text units then path ++ 0x2F ∷ flat_map escaped (encode_utf8_all (utf16_lossy_chars units)) else bracketed i

@@ -9,7 +9,7 @@ ghost use Rattle.bplist_cursor.specs.declared.faults.CursorFault.TheVariants as 
 ghost use Rattle.bplist_cursor.specs.declared.path.PathFault.TheVariants as path;
 ghost use Rattle.bplist_lint.specs.declared.refusal.LintRefusal.TheVariants as lint;
 ghost use Rattle.bplist_lint.specs.declared.upgrade_fault.UpgradeFault.TheVariants as upgrade;
-ghost use Rattle.bplint_lines.specs.FaultLines.{line_of, status_of, fault_line};
+ghost use Rattle.bplint_lines.specs.FaultLines.{fault_line, report_of};
 
 use bplist_ascii::{PrintFault, WriteFault};
 use bplist_cert::{CertRefusal, Refusal};
@@ -192,7 +192,7 @@ impl<T: Drop> From<AllocFailed<T>> for RunFault {
 impl RunFault {
     /// The exit status.
     pub fn status(&self) -> u8
-        ensures { result ≡ status_of self.now }
+        ensures { result ≡ (report_of self.now).1 }
     {
         match self {
             RunFault::Fault(fault) => match fault.rule {
@@ -213,7 +213,7 @@ impl RunFault {
 
     /// The printed line, without its line feed. Only memory can be refused.
     pub fn line(&self, alloc: Global) -> Result<String, AllocError>
-        ensures { IfOk result (λ text. string_bytes text ≡ line_of self.now) }
+        ensures { IfOk result (λ text. string_bytes text ≡ (report_of self.now).0) }
     {
         match self {
             RunFault::Fault(fault) => line_of_rule(alloc, fault.rule, fault.object, fault.place),
@@ -236,7 +236,7 @@ impl RunFault {
 }
 
 fn line_of_read(fault: ReadFault) -> &'static str
-    ensures { result.now ≡ line_of (Read fault) }
+    ensures { result.now ≡ (report_of (Read fault)).0 }
 {
     match fault {
         ReadFault::Device => "read Device",
@@ -261,7 +261,7 @@ fn line_of_rule(
 }
 
 fn line_of_circle(alloc: Global, objects: &[ObjectNo]) -> Result<String, AllocError>
-    ensures { IfOk result (λ text. string_bytes text ≡ line_of (Circle objects.now)) }
+    ensures { IfOk result (λ text. string_bytes text ≡ (report_of (Circle objects.now)).0) }
 {
     let mut line = String::from_str(alloc, "circle")?;
     for object in objects {

@@ -1,4 +1,4 @@
-//! The lines that bplint writes, and their way to the writer: faults, exit statuses, rules in plain words, values.
+//! The lines that bplint writes: faults, exit statuses, rules in plain words, values.
 //!
 //! ```
 //! if let Err(fault) = answer {
@@ -15,27 +15,23 @@
 //! | what a rule asks, and the rule of a word | [`rule_text`], [`rule_of_word`] |
 //! | the lines of answers | [`add_lint`], [`add_check`], [`add_face`], [`add_missing`], [`kind_name`] |
 //! | the names of members in them | [`add_index_name`], [`add_key_name`], [`add_place`] |
-//! | what a command has to write, and sending it | [`Output`], [`Said`], [`send_output`], [`send_made`] |
+//! | what a run says of its answer | [`Said`] |
 //!
-//! What went out is said by clause `sent`, in the words of specs/Answers.antt.
+//! Answers, and what a run leaves with the writer, are defined in specs/Answers.antt.
 #![tactic(auto)]
 
-mod delivery;
 mod explanation;
 mod fault;
 mod member_names;
 mod object_path;
-mod output;
 mod output_lines;
 mod rule_lines;
 mod rule_texts;
 mod said;
 
-pub use delivery::{send_made, send_output};
 pub use explanation::explain;
 pub use fault::RunFault;
 pub use member_names::{add_index_name, add_key_name, add_place};
-pub use output::Output;
 pub use output_lines::{add_check, add_face, add_lint, add_missing, kind_name};
 pub use rule_lines::{rule_of_word, rule_text};
 pub use said::Said;

@@ -1,11 +1,11 @@
 //! The names that lines have for the members of containers.
 //!
 //! Each call adds its name to the bytes. The one refusal is that of a growth.
-ghost use Rattle.std.specs.Prelude.{◌≡◌, ◌++◌, ◌||◌, ◌==◌, IfOk, MatchOption, OnOk, encode_utf8_all, false, nat_lt, string_bytes, true};
+ghost use Rattle.std.specs.Prelude.{◌≡◌, ◌++◌, ◌∷◌, ◌||◌, ◌==◌, IfOk, MatchOption, OnOk, encode_utf8_all, false, nat_lt, string_bytes, true};
 ghost use Rattle.std.specs.Char.Utf16.{utf16_lossy_chars};
 ghost use Rattle.std.specs.List.{flat_map, list_any};
 ghost use Rattle.bplist_cursor.specs.Path.{escaped};
-ghost use Rattle.bplint_lines.specs.MemberNames.{bracketed, has_path_text, index_name, key_name, path_behind};
+ghost use Rattle.bplint_lines.specs.MemberNames.{bracketed, has_path_text, index_name, key_name};
 
 use std::alloc::{AllocError, Global};
 
@@ -76,7 +76,7 @@ fn is_control(unit: u16) -> bool
 
 /// Adds a path text, `/` and a token, in which `~0` stands for `~` and `~1` for `/`.
 fn add_path(path: &str, token: &[u8], lines: &mut Vec<u8>) -> Result<(), AllocError>
-    ensures { OnOk result (lines.new.items ≡ lines.old.items ++ path_behind path.now token.now) }
+    ensures { OnOk result (lines.new.items ≡ lines.old.items ++ (path.now ++ 0x2F ∷ flat_map escaped token.now)) }
 {
     lines.extend_from_slice(path.as_bytes())?;
     lines.push(b'/')?;

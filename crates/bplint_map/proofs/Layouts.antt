@@ -1,12 +1,28 @@
 -- Gaps and overlaps of a map.
-use Rattle.std.proofs.Common.{◌≡◌, ◌⊎◌, ap, codes, length, refl, ℕ, ◌<◌, ◌≤◌, List, [], ◌∷◌, ◌++◌, inl, inr, max, min, cond, nat_lt, Bool, true, false, arith}
+use Rattle.std.proofs.Common.{◌≡◌, ◌⊎◌, All, ap, codes, length, refl, subst, sym, slice_index_or, zero, suc, ℕ, ◌<◌, ◌≤◌, List, [], ◌∷◌, ◌++◌, inl, inr, max, min, cond, nat_lt, Bool, true, false, arith}
 use Rattle.std.proofs.lemmas.Bool.{cases_lt}
 use Rattle.std.proofs.lemmas.Bool.Decides.{nat_tests}
 use Rattle.bplint_map.specs.declared.rows.Row.{Row}
-use Rattle.bplint_map.specs.Layout.{Part, bare, AreInOrder, Covers, IsAmong, IsBare, IsCoveredTwice, bare_up, before, parts, row_end}
-use Rattle.std.specs.List.{AllByRecursion}
+use Rattle.bplint_map.specs.Layout.{Part, bare, AreInOrder, Covers, IsBare, IsCoveredTwice, bare_up, before, parts, row_end}
+use Rattle.std.specs.List.{Any}
 
--- ---- one of several parts
+-- ---- one of several
+-- P holds of one of these
+abbrev pub IsAmong : {X : Type 0} → (X → Type 0) → List X → Type 0
+IsAmong P [] = ⊥
+IsAmong P (x ∷ xs) = P x ⊎ IsAmong P xs
+
+module _ {X : Type 0} (P : X → Type 0) where
+  pub any_of : (xs : List X) → IsAmong P xs → Any P xs
+  any_of [] h = absurd h
+  any_of (x ∷ xs) (inl h) = (0, x, omega arith, refl, h)
+  any_of (x ∷ xs) (inr h) = let r = any_of xs h in (suc r.0, r.1, omega (arith, r.2), r.3, r.4)
+
+  pub among_of : (xs : List X) → Any P xs → IsAmong P xs
+  among_of [] (k, x, low, at, h) = absurd (omega (arith, low))
+  among_of (y ∷ xs) (zero, x, low, at, h) = inl (subst P (sym at) h)
+  among_of (y ∷ xs) (suc k, x, low, at, h) = inr (among_of xs (k, x, omega (arith, low), at, h))
+
 among_left : (P : Part → Type 0) (xs ys : List Part) → IsAmong P xs → IsAmong P (xs ++ ys)
 among_left P [] ys h = absurd h
 among_left P (x ∷ xs) ys (inl h) = inl h
@@ -54,10 +70,19 @@ no_overlap : (x a b : ℕ) → IsAmong (IsBare (codes "overlap") x) (bare_up (co
 no_overlap x a b h = let e : 3 ≡ 7 = ap length (of_bare (codes "gap") (codes "overlap") x a b h).0 in omega (arith, e)
 
 -- ---- rows that stand from a place on
-stand_covered : (p x : ℕ) (rows : List Row) → AllByRecursion (λ (later : Row). p ≤ later.place) rows → IsAmong (Covers x) rows → p ≤ x
+stand_covered : (p x : ℕ) (rows : List Row) → All (λ (later : Row). p ≤ later.place) rows → IsAmong (Covers x) rows → p ≤ x
 stand_covered p x [] s h = absurd h
-stand_covered p x (row ∷ rows) s (inl h) = omega (arith, s.0, h.0)
-stand_covered p x (row ∷ rows) s (inr h) = stand_covered p x rows s.1 h
+stand_covered p x (row ∷ rows) s (inl h) = omega (arith, s 0 row (omega arith), h.0)
+stand_covered p x (row ∷ rows) s (inr h) = stand_covered p x rows (λ k d l. s (suc k) d (omega (arith, l))) h
+
+-- the rows behind the first of rows in order
+module _ (row : Row) (rows : List Row) (order : AreInOrder (row ∷ rows)) where
+  all_later : All (λ (later : Row). row.place ≤ later.place) rows
+  all_later = λ k d l. order.1 0 (suc k) d (omega arith) (omega (arith, l))
+
+  rest_in_order : AreInOrder rows
+  rest_in_order =
+      (λ k d l. order.0 (suc k) d (omega (arith, l)), λ i j d low l. order.1 (suc i) (suc j) d (omega (arith, low)) (omega (arith, l)))
 
 below_max : (x a b : ℕ) → x < max a b → (x < a) ⊎ (x < b)
 below_max x a b h = elim (cases_lt x a) [
@@ -92,7 +117,7 @@ module _ (table x : ℕ) where
       | inr o ↦ absurd (no_gap x row.place (min reached (row_end row)) o)
     ]
     | inr (inl o) ↦ absurd o
-    | inr (inr r) ↦ later (gaps_alone (max reached (row_end row)) rows order.2 r)
+    | inr (inr r) ↦ later (gaps_alone (max reached (row_end row)) rows (rest_in_order row rows order) r)
   ]
     where
       first : (reached ≤ x) × (x < row.place) → (reached ≤ x) × (IsAmong (Covers x) (row ∷ rows) → ⊥)
@@ -100,7 +125,7 @@ module _ (table x : ℕ) where
         g.0,
         λ c. elim c [
           | inl own ↦ omega (arith, own.0, g.1)
-          | inr other ↦ omega (arith, stand_covered row.place x rows order.1 other, g.1)
+          | inr other ↦ omega (arith, stand_covered row.place x rows (all_later row rows order) other, g.1)
         ],
       )
 
@@ -122,7 +147,7 @@ module _ (table x : ℕ) where
   overlaps_all reached (row ∷ rows) (inl (low, inr other)) =
       among_right (IsBare (codes "overlap") x) (before reached row) _ (inr (overlaps_all (max reached (row_end row)) rows (inl (grind (arith, nat_tests), other))))
   overlaps_all reached (row ∷ rows) (inr (inl (own, other))) =
-      among_right (IsBare (codes "overlap") x) (before reached row) _ (inr (overlaps_all (max reached (row_end row)) rows (inl (grind (arith, nat_tests, own.1), other))))
+      among_right (IsBare (codes "overlap") x) (before reached row) _ (inr (overlaps_all (max reached (row_end row)) rows (inl (grind (arith, nat_tests, own.1), among_of (Covers x) rows other))))
   overlaps_all reached (row ∷ rows) (inr (inr twice)) =
       among_right (IsBare (codes "overlap") x) (before reached row) _ (inr (overlaps_all (max reached (row_end row)) rows (inr twice)))
 
@@ -135,7 +160,7 @@ module _ (table x : ℕ) where
       | inr o ↦ own (of_overlap x row.place (min reached (row_end row)) o)
     ]
     | inr (inl o) ↦ absurd o
-    | inr (inr r) ↦ later (overlaps_alone (max reached (row_end row)) rows order.2 r)
+    | inr (inr r) ↦ later (overlaps_alone (max reached (row_end row)) rows (rest_in_order row rows order) r)
   ]
     where
       own : (row.place ≤ x) × (x < min reached (row_end row)) → ((x < reached) × IsAmong (Covers x) (row ∷ rows)) ⊎ IsCoveredTwice x (row ∷ rows)
@@ -144,15 +169,15 @@ module _ (table x : ℕ) where
       later : ((x < max reached (row_end row)) × IsAmong (Covers x) rows) ⊎ IsCoveredTwice x rows → ((x < reached) × IsAmong (Covers x) (row ∷ rows)) ⊎ IsCoveredTwice x (row ∷ rows)
       later (inl (low, other)) = elim (below_max x reached (row_end row) low) [
         | inl l ↦ inl (l, inr other)
-        | inr l ↦ inr (inl ((stand_covered row.place x rows order.1 other, l), other))
+        | inr l ↦ inr (inl ((stand_covered row.place x rows (all_later row rows order) other, l), any_of (Covers x) rows other))
       ]
       later (inr twice) = inr (inr twice)
 
 -- no object takes a byte before place 8
 from_8 : (x : ℕ) (rows : List Row) → AreInOrder rows → IsAmong (Covers x) rows → 8 ≤ x
 from_8 x [] order h = absurd h
-from_8 x (row ∷ rows) order (inl own) = let low = order.0 (omega (arith, own.0, own.1)) in omega (arith, low, own.0)
-from_8 x (row ∷ rows) order (inr other) = from_8 x rows order.2 other
+from_8 x (row ∷ rows) order (inl own) = let low = order.0 0 row (omega arith) (omega (arith, own.0, own.1)) in omega (arith, low, own.0)
+from_8 x (row ∷ rows) order (inr other) = from_8 x rows (rest_in_order row rows order) other
 
 pub twice : (x : ℕ) (rows : List Row) → AreInOrder rows → ((x < 8) × IsAmong (Covers x) rows) ⊎ IsCoveredTwice x rows → IsCoveredTwice x rows
 twice x rows order (inl (low, h)) = absurd (omega (arith, low, from_8 x rows order h))

@@ -1,5 +1,5 @@
 -- The text of a map, and its way to the writer.
-use Rattle.std.proofs.Common.{◌≡◌, inl, inr, ℕ, ◌+◌, ◌<◌, ◌≤◌, List, [], ◌∷◌, ◌++◌, max, length, map, drop, cond, nat_lt, Bool, true, false, refl, sym, ap, ◌∙◌, subst, add-one, append_assoc, append-nil, Option, None, Some, Ok, Err, get_or, arith, codes}
+use Rattle.std.proofs.Common.{◌≡◌, inl, inr, ℕ, ◌+◌, ◌<◌, ◌≤◌, List, [], ◌∷◌, ◌++◌, max, length, map, drop, cond, nat_lt, Bool, true, false, refl, sym, ap, ◌∙◌, subst, add-one, append_assoc, append-nil, Option, None, Some, Result, Ok, Err, get_or, arith, codes}
 use Rattle.std.proofs.lemmas.Grind.{flat_map-append}
 use Rattle.std.proofs.lemmas.List.{drop_all, get_or-map, length-map}
 use Rattle.std.proofs.Math.Seq.{drop-cons}
@@ -18,11 +18,12 @@ use Rattle.bplint_map.specs.declared.rows.Finding.{Finding}
 use Rattle.bplint_map.specs.declared.rows.Row.{Row}
 use Rattle.bplint_map.specs.declared.verdict.Verdict.{Verdict}
 use Rattle.bplint_lines.specs.declared.said.Said.TheVariants.{All}
-use Rattle.bplint_lines.specs.Answers.{BeginsAnswer, gives}
+use Rattle.bplint_lines.specs.declared.said.Said.{Said}
+use Rattle.bplint_lines.specs.Answers.{BeginsAnswer, LeavesBy, gives}
 use Rattle.bplint_map.proofs.Findings.{findings_of}
 use Rattle.bplint_map.specs.Layout.{object, bare, before, parts, row_end}
 use Rattle.bplint_map.specs.Lines.{bare_line, bare_lines, part_line, part_lines}
-use Rattle.bplint_map.specs.Map.{IsVerdict, LeavesMap, MapSays, PutsSome, map_text}
+use Rattle.bplint_map.specs.Map.{IsVerdict, MapSays, PutsSome, map_text}
 use Rattle.bplint_map.specs.Rows.{AreFindings, IsByPlace, left_behind, placed, row, rows}
 
 -- ---- the text
@@ -117,6 +118,10 @@ module _ (old new : Option (List ℕ)) (s : Sending) where
   some_of_more text xs ys faults.InputTooLong some e = absurd some
 
 -- ---- what is left with the writer
+-- what a run leaves with the writer, where after a failed read or refused memory any first part of the map may be out
+abbrev LeavesMap : List ℕ → Option (List ℕ) → Option (List ℕ) → Result Said RunFault → Type 0
+LeavesMap f old new result = (most : ℕ) × LeavesBy (MapSays f) most old new result
+
 kept_self : (old : Option (List ℕ)) → Keeps old old
 kept_self None = tt
 kept_self (Some xs) = refl

@@ -1,6 +1,6 @@
 -- Rows of objects with the gaps and the overlaps between them. Source: profile.
-use Rattle.std.specs.Prelude.{◌≡◌, ◌⊎◌, ℕ, ◌<◌, ◌≤◌, max, min, cond, nat_lt, List, [], ◌∷◌, ◌++◌, codes}
-use Rattle.std.specs.List.{AllByRecursion}
+use Rattle.std.specs.Prelude.{◌≡◌, ◌⊎◌, ℕ, ◌<◌, ◌≤◌, All, max, min, cond, nat_lt, List, [], ◌∷◌, ◌++◌, codes}
+use Rattle.std.specs.List.{AllPairs, Any}
 use Rattle.bplint_map.specs.declared.rows.Finding.{Finding}
 use Rattle.bplint_map.specs.declared.rows.Finding.TheVariants.{Whole, Wrong, Lost}
 use Rattle.bplint_map.specs.declared.rows.Row.{Row}
@@ -13,9 +13,7 @@ pub data Part : Type 0 where
 
 -- where an object at this place ends; one without a head takes no bytes
 abbrev pub end_by : ℕ → Finding → ℕ
-end_by place (Whole head) = head.end
-end_by place (Wrong head rule) = head.end
-end_by place (Lost rule) = place
+end_by place finding = elim finding [ Whole head ↦ head.end | Wrong head rule ↦ head.end | Lost rule ↦ place ]
 
 -- where the object of a row ends
 abbrev pub row_end : Row → ℕ
@@ -38,23 +36,15 @@ parts table reached (row ∷ rows) = before reached row ++ (object row ∷ parts
 abbrev pub Covers : ℕ → Row → Type 0
 Covers x row = (row.place ≤ x) × (x < row_end row)
 
--- P holds of one of these
-abbrev pub IsAmong : {X : Type 0} → (X → Type 0) → List X → Type 0
-IsAmong P [] = ⊥
-IsAmong P (x ∷ xs) = P x ⊎ IsAmong P xs
-
 -- place x lies in the objects of two of these rows
 abbrev pub IsCoveredTwice : ℕ → List Row → Type 0
 IsCoveredTwice x [] = ⊥
-IsCoveredTwice x (row ∷ rows) = (Covers x row × IsAmong (Covers x) rows) ⊎ IsCoveredTwice x rows
+IsCoveredTwice x (row ∷ rows) = (Covers x row × Any (Covers x) rows) ⊎ IsCoveredTwice x rows
 
 -- place x lies in this part, which has this word and is no object
 abbrev pub IsBare : List ℕ → ℕ → Part → Type 0
-IsBare word x (object row) = ⊥
-IsBare word x (bare own from to) = (own ≡ word) × (from ≤ x) × (x < to)
+IsBare word x part = elim part [ bare own from to ↦ (own ≡ word) × (from ≤ x) × (x < to) | object row ↦ ⊥ ]
 
--- each row stands at the places of all later ones or before them, and objects take bytes from place 8 on alone
+-- objects take bytes from place 8 on alone, and each row stands at the places of all later ones or before them
 abbrev pub AreInOrder : List Row → Type 0
-AreInOrder [] = Unit {0}
-AreInOrder (row ∷ rows) =
-    ((row.place < row_end row) → 8 ≤ row.place) × AllByRecursion (λ (later : Row). row.place ≤ later.place) rows × AreInOrder rows
+AreInOrder rows = All (λ (r : Row). r.place < row_end r → 8 ≤ r.place) rows × AllPairs (λ (r s : Row). r.place ≤ s.place) rows

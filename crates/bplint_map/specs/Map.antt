@@ -10,11 +10,10 @@ use Rattle.bplist_lint.specs.Linted.{IsLinted}
 use Rattle.bplint_lines.specs.declared.fault.RunFault.{RunFault}
 use Rattle.bplint_lines.specs.declared.fault.RunFault.TheVariants as faults
 use Rattle.bplint_map.specs.declared.rows.Finding.{Finding}
-use Rattle.bplint_lines.specs.declared.said.Said.{Said}
 use Rattle.bplint_lines.specs.declared.said.Said.TheVariants.{All}
 use Rattle.bplint_map.specs.declared.verdict.Verdict.{Verdict}
 use Rattle.bplint_map.specs.declared.verdict.Verdict.TheVariants as verdicts
-use Rattle.bplint_lines.specs.Answers.{Answer, gives, refuses, LeavesBy}
+use Rattle.bplint_lines.specs.Answers.{Answer, gives, refuses}
 use Rattle.bplint_map.specs.Layout.{parts}
 use Rattle.bplint_map.specs.Lines.{bare_line, part_line}
 use Rattle.bplint_map.specs.Rows.{AreFindings, IsByPlace, rows}
@@ -26,23 +25,14 @@ IsVerdict f (verdicts.Heights heights) = (lint : Lint) × IsLinted f lint × (he
 IsVerdict f (verdicts.Fault fault) = IsFileFault f fault
 IsVerdict f verdicts.Circle = (circle : List ℕ) × IsFileCircle f circle
 
--- the line that names the columns, and that of the header
-abbrev pub front_text : List ℕ
-front_text = codes "place\tend\tobject\tkind\tcount\theight\n" ++ bare_line 0 8 (codes "header")
-
--- the lines of offset table and trailer, in a file of so many bytes
-abbrev pub back_text : Frame → ℕ → List ℕ
-back_text F length =
-    let table_end = F.table + F.objects * F.offset_size in
-    bare_line F.table table_end (codes "table") ++ bare_line table_end length (codes "trailer")
-
--- the lines of the objects and of what lies between them; of bodies 16 times the bytes before the offset table are looked at
-abbrev pub rows_text : List ℕ → Frame → Verdict → (ℕ → Finding) → List ℕ → List ℕ
-rows_text f F verdict findings order = flat_map (part_line verdict) (parts F.table 8 (rows f F findings (16 * F.table) order))
-
--- all lines of a map
+-- all lines of a map: the names of the columns, the header, the objects and what lies between them, the offset table and the
+-- trailer; of bodies 16 times the bytes before the offset table are looked at
 abbrev pub map_text : List ℕ → Frame → Verdict → (ℕ → Finding) → List ℕ → List ℕ
-map_text f F verdict findings order = front_text ++ (rows_text f F verdict findings order ++ back_text F (length f))
+map_text f F verdict findings order =
+    let front = codes "place\tend\tobject\tkind\tcount\theight\n" ++ bare_line 0 8 (codes "header") in
+    let lines = flat_map (part_line verdict) (parts F.table 8 (rows f F findings (16 * F.table) order)) in
+    let table_end = F.table + F.objects * F.offset_size in
+    front ++ (lines ++ (bare_line F.table table_end (codes "table") ++ bare_line table_end (length f) (codes "trailer")))
 
 -- the answer of `map`, of a file that keeps rules 1 to 13: what `lint` says of it and what is found of each object, in byte
 -- order; of any other file the first of these rules that it breaks
@@ -50,8 +40,7 @@ abbrev pub MapSays : List ℕ → Answer → Type 0
 MapSays f (gives said bytes) =
     (F : Frame) × (verdict : Verdict) × (findings : ℕ → Finding) × (order : List ℕ) × IsFrame f F × IsVerdict f verdict
     × AreFindings f F findings × IsByPlace f F order × (said ≡ All) × (bytes ≡ map_text f F verdict findings order)
-MapSays f (refuses (faults.Fault fault)) = IsFrameFault f fault
-MapSays f (refuses _) = ⊥
+MapSays f (refuses fault) = elim fault [ faults.Fault x ↦ IsFrameFault f x | _ ↦ ⊥ ]
 
 -- ---- the way to the writer
 -- a text was not put into a sink, and what went out
@@ -65,7 +54,3 @@ PutsSome old new before text _ = ⊥
 abbrev pub Puts : Option (List ℕ) → Option (List ℕ) → Sending → Sending → List ℕ → Result (Unit {0}) RunFault → Type 0
 Puts old new before after text (Ok _) = Takes old new before after text
 Puts old new before after text (Err fault) = PutsSome old new before text fault
-
--- what a run leaves with the writer, where after a failed read or refused memory any first part of the map may be out
-abbrev pub LeavesMap : List ℕ → Option (List ℕ) → Option (List ℕ) → Result Said RunFault → Type 0
-LeavesMap f old new result = (most : ℕ) × LeavesBy (MapSays f) most old new result

@@ -1,11 +1,13 @@
 //! The answer of `map`.
-ghost use Rattle.std.specs.Prelude.{◌≡◌, ℕ, List, ◌*◌, ◌^◌, ◌<◌, All, IfOk, IsTrue, length, string_bytes, map as map_of};
+ghost use Rattle.std.specs.Prelude.{◌≡◌, ℕ, List, ◌+◌, ◌++◌, ◌*◌, ◌^◌, ◌<◌, All, IfOk, IsTrue, codes, length, string_bytes, map as map_of};
 ghost use Rattle.bplist_octets.specs.Meaning.{OnlyReads};
 ghost use Rattle.bplist_objects.specs.Framed.{HonestlyIn, frame_in};
 ghost use Rattle.bplist_objects.specs.Safe.{IsSafe};
-ghost use Rattle.bplint_lines.specs.Answers.{read_failed};
-ghost use Rattle.bplint_map.specs.Map.{LeavesMap, Puts, back_text, front_text, map_text, rows_text};
-ghost use Rattle.bplint_map.specs.Rows.{AreFindings, placed};
+ghost use Rattle.bplint_lines.specs.Answers.{LeavesBy, read_failed};
+ghost use Rattle.bplint_map.specs.Layout.{parts};
+ghost use Rattle.bplint_map.specs.Lines.{bare_line, part_lines};
+ghost use Rattle.bplint_map.specs.Map.{MapSays, Puts, map_text};
+ghost use Rattle.bplint_map.specs.Rows.{AreFindings, placed, rows};
 ghost use Rattle.bplint_map.specs.declared.rows.Finding.{Finding};
 
 use crate::lines::{add_any, add_bare, add_row, end_of};
@@ -47,7 +49,7 @@ pub fn map_on<S: Source, W: Write>(
     out: &mut W,
 ) -> Result<Said, RunFault>
     ensures source { OnlyReads (read_failed result) (S.means src.old) (S.means src.new) }
-    ensures exact { IsTrue (S.means src.old).honest → LeavesMap (S.means src.old).octets
+    ensures exact { IsTrue (S.means src.old).honest → (most : ℕ) × LeavesBy (MapSays (S.means src.old).octets) most
         (W.contents out.old) (W.contents out.new) result }
 {
     let frame = match frame_of(src) {
@@ -89,7 +91,8 @@ fn put_map<P: Framed, W: Write>(
 
 /// The line that names the columns, and that of the header.
 fn front_lines(alloc: Global) -> Result<String, AllocError>
-    ensures { IfOk result (λ lines. string_bytes lines ≡ front_text) }
+    ensures { IfOk result (λ lines. string_bytes lines
+        ≡ codes "place\tend\tobject\tkind\tcount\theight\n" ++ bare_line 0 8 (codes "header")) }
 {
     let mut lines = String::from_str(alloc, TITLE)?;
     add_bare(&mut lines, 0, 8, "header")?;
@@ -99,7 +102,8 @@ fn front_lines(alloc: Global) -> Result<String, AllocError>
 /// The lines of offset table and trailer, in a file of so many bytes.
 fn back_lines(alloc: Global, frame: &Frame, length: u64) -> Result<String, AllocError>
     requires { IsSafe length frame.now }
-    ensures { IfOk result (λ lines. string_bytes lines ≡ back_text frame.now length) }
+    ensures { let end = frame.now.table + frame.now.objects * frame.now.offset_size in IfOk result (λ lines. string_bytes lines
+        ≡ bare_line frame.now.table end (codes "table") ++ bare_line end length (codes "trailer")) }
 {
     let table_end = frame.table + frame.objects as u64 * frame.offset_size as u64;
     let mut lines = String::new(alloc);
@@ -120,7 +124,8 @@ fn put_rows<P: Framed, W: Write>(
     ensures reads { OnlyReads (read_failed result) (P.means src.old) (P.means src.new) }
     ensures exact { HonestlyIn (P.means src.old) (λ f F. (order : List ℕ)
         → map.now.objects.items ≡ map_of (placed f F) order → (findings : ℕ → Finding) → AreFindings f F findings
-        → Puts (W.contents out.old) (W.contents out.new) sink.old sink.new (rows_text f F map.now.verdict findings order) result) }
+        → Puts (W.contents out.old) (W.contents out.new) sink.old sink.new
+        (part_lines map.now.verdict (parts F.table 8 (rows f F findings (16 * F.table) order))) result) }
 {
     let mut line = String::new(alloc);
     let frame = src.frame();

@@ -1,4 +1,3 @@
-use Rattle.bplint_engine.specs.CertifiedFile.{IsVouchingFault}
 use Rattle.bplint_engine.specs.Check.{CheckSays}
 use Rattle.bplint_engine.specs.Get.{GetSays}
 use Rattle.bplint_engine.proofs.GetAnswers.{file_fault, get_says, refused_as}
@@ -10,7 +9,7 @@ returns-in-Ok-check_octets-clause-exact g c =
     λ honest. let same = c.in-Ok-check_octets.ensures.handed in
     let lent = c.deref.ensures.value in
     let told = rw (same, lent) at c.answer_queries.ensures.exact in
-    get_says _ _ _ _ _ _ _ c.in-Ok.ensures (c.in-Ok-check_octets.ensures.exact honest) (told honest)
+    get_says _ _ _ _ _ _ _ _ c.in-Ok.ensures.1 c.in-Ok.ensures.2 (c.in-Ok-check_octets.ensures.exact honest) (told honest)
 
 pub returns-clause-exact : goal.returns-clause-exact
 returns-clause-exact g c =
@@ -18,4 +17,4 @@ returns-clause-exact g c =
     let cert = c.args.cert.now in
     let texts = bytes_of c.args.texts.now in
     refused_as (CheckSays f cert) (GetSays f cert texts) _
-    (λ x h. file_fault (IsVouchingFault f cert) texts c.in-Ok.queries.items x (λ place y. y) c.in-Ok.ensures h) (c.in-Err-check_octets.ensures.exact honest)
+    (λ x h. file_fault (CheckSays f cert) texts c.in-Ok.ensures.0 x (λ place y. y) c.in-Ok.ensures.1 h) (c.in-Err-check_octets.ensures.exact honest)

@@ -1,5 +1,4 @@
 use Rattle.std.proofs.Common.{◌∷◌, []}
-use Rattle.bplist_cursor.specs.declared.reply.Query.TheVariants.{Get}
 use Rattle.bplint_engine.specs.Ls.{ListSays}
 use Rattle.bplint_engine.specs.Lint.{LintSays}
 use Rattle.bplint_engine.proofs.GetAnswers.{refused_as}
@@ -14,5 +13,5 @@ returns-in-Ok-check_least-clause-exact g c =
 
 pub returns-clause-exact : goal.returns-clause-exact
 returns-clause-exact g c =
-    λ honest. refused_as (LintSays (g.S.Source.means c.args.src).octets) (ListSays (g.S.Source.means c.args.src).octets c.args.text.now) _ (λ x h. show_fault _ (c.args.text.now ∷ []) (Get c.in-Ok.path ∷ []) x c.in-Ok.ensures h)
+    λ honest. refused_as (LintSays (g.S.Source.means c.args.src).octets) (ListSays (g.S.Source.means c.args.src).octets c.args.text.now) _ (λ x h. show_fault _ (c.args.text.now ∷ []) (c.in-Ok.path ∷ []) x c.in-Ok.ensures h)
     (c.in-Err-check_least.ensures.exact honest)

@@ -1,7 +1,5 @@
 use Rattle.std.proofs.Common.{◌∷◌, [], inl, refl}
 use Rattle.std.proofs.lemmas.Grind.{merely}
-use Rattle.bplist_cursor.specs.declared.reply.Query.TheVariants.{Get}
-use Rattle.bplint_engine.specs.CertifiedFile.{IsVouchingFault}
 use Rattle.bplint_engine.specs.Check.{CheckSays}
 use Rattle.bplint_engine.specs.Print.{PrintSays}
 use Rattle.bplint_engine.proofs.GetAnswers.{file_fault, refused_as}
@@ -21,7 +19,7 @@ returns-in-Err-clause-exact g c =
     λ honest. let f = (g.S.Source.means c.args.src).octets in
     let cert = c.args.cert.now in
     let texts = bytes_of c.args.texts.now in
-    merely (refused (PrintSays f cert texts c.args.limit) c.args.limit _ _ _
+    merely (refused (PrintSays c.args.limit f cert texts) c.args.limit _ _ _
     (print_path_refused f cert texts c.args.limit _ c.in-Err.ensures) (kept_self _))
 
 pub returns-clause-exact : goal.returns-clause-exact
@@ -30,6 +28,6 @@ returns-clause-exact g c =
     let cert = c.args.cert.now in
     let texts = bytes_of c.args.texts.now in
     let limit = c.args.limit in
-    merely (refused (PrintSays f cert texts limit) limit _ _ _ (refused_as (CheckSays f cert) (PrintSays f cert texts limit) _
-    (λ x h. inl (x, refl, file_fault (IsVouchingFault f cert) texts (Get c.in-Ok.path ∷ []) x (λ place y. y) c.in-Ok.ensures h))
+    merely (refused (PrintSays limit f cert texts) limit _ _ _ (refused_as (CheckSays f cert) (PrintSays limit f cert texts) _
+    (λ x h. inl (x, refl, file_fault (CheckSays f cert) texts (c.in-Ok.path ∷ []) x (λ place y. y) c.in-Ok.ensures h))
     (c.in-Err-check_octets.ensures.exact honest)) (kept_self _))

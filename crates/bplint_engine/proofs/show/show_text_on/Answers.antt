@@ -1,8 +1,7 @@
 use Rattle.std.proofs.Common.{◌∷◌, []}
 use Rattle.std.proofs.lemmas.Grind.{merely}
-use Rattle.bplist_cursor.specs.declared.reply.Query.TheVariants.{Get}
 use Rattle.bplint_engine.specs.Print.{PrintSays}
-use Rattle.bplint_engine.specs.Show.{TextSays}
+use Rattle.bplint_engine.specs.Show.{LeastLeads}
 use Rattle.bplint_engine.proofs.LeftBytes.{kept_self, refused}
 use Rattle.bplint_engine.specs.Lint.{LintSays}
 use Rattle.bplint_engine.proofs.GetAnswers.{refused_as}
@@ -19,14 +18,14 @@ pub returns-in-Err-clause-exact : goal.returns-in-Err-clause-exact
 returns-in-Err-clause-exact g c =
     λ honest. let f = (g.S.Source.means c.args.src).octets in
     let text = c.args.path.now in
-    merely (refused (TextSays f text c.args.limit) c.args.limit _ _ _
-    (path_refused (λ cert. PrintSays f cert (text ∷ []) c.args.limit) f (text ∷ []) _ c.in-Err.ensures) (kept_self _))
+    merely (refused (LeastLeads (PrintSays c.args.limit) f (text ∷ [])) c.args.limit _ _ _
+    (path_refused (PrintSays c.args.limit) f (text ∷ []) _ c.in-Err.ensures) (kept_self _))
 
 pub returns-clause-exact : goal.returns-clause-exact
 returns-clause-exact g c =
     λ honest. let f = (g.S.Source.means c.args.src).octets in
     let text = c.args.path.now in
     let limit = c.args.limit in
-    merely (refused (TextSays f text limit) limit _ _ _
-    (refused_as (LintSays f) (TextSays f text limit) _ (λ x h. least_fault (λ cert. PrintSays f cert (text ∷ []) limit) f (text ∷ []) (Get c.in-Ok.path ∷ []) x c.in-Ok.ensures h)
+    merely (refused (LeastLeads (PrintSays limit) f (text ∷ [])) limit _ _ _
+    (refused_as (LintSays f) (LeastLeads (PrintSays limit) f (text ∷ [])) _ (λ x h. least_fault (PrintSays limit) f (text ∷ []) (c.in-Ok.path ∷ []) x c.in-Ok.ensures h)
     (c.in-Err-check_least.ensures.exact honest)) (kept_self _))

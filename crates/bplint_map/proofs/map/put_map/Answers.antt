@@ -1,12 +1,24 @@
-use Rattle.std.proofs.Common.{◌≡◌, ◌∙◌, ◌++◌, ap, append_assoc, length, refl, sym}
+use Rattle.std.proofs.Common.{◌≡◌, ◌∙◌, ◌+◌, ◌*◌, ◌++◌, ℕ, List, ap, append_assoc, codes, length, refl, sym}
 use Rattle.std.proofs.lemmas.Result.{err_from_is_err_and}
 use Rattle.bplist_objects.specs.Framed.{frame_in}
 use Rattle.bplist_objects.specs.declared.frame.Frame.{Frame}
 use Rattle.bplist_ascii.proofs.SinkSteps.{some_of_takes, takes_more, takes_nothing}
 use Rattle.bplint_lines.specs.declared.fault.RunFault.TheVariants as faults
-use Rattle.bplint_map.specs.Map.{back_text, front_text, map_text, rows_text}
+use Rattle.bplint_map.specs.Layout.{parts}
+use Rattle.bplint_map.specs.Lines.{bare_line, part_lines}
+use Rattle.bplint_map.specs.Map.{map_text}
+use Rattle.bplint_map.specs.Rows.{rows}
 use Rattle.bplint_map.proofs.Texts.{some_of_more, then_some}
 use Rattle.bplint_map.proofs.map.put_map.Goals as goal
+
+-- the lines before those of the objects
+abbrev front_text : List ℕ
+front_text = codes "place\tend\tobject\tkind\tcount\theight\n" ++ bare_line 0 8 (codes "header")
+
+-- the lines behind those of the objects, in a file of so many bytes
+abbrev back_text : Frame → ℕ → List ℕ
+back_text F length =
+    let end = F.table + F.objects * F.offset_size in bare_line F.table end (codes "table") ++ bare_line end length (codes "trailer")
 
 pub returns-in_err-front-clause-exact : goal.returns-in_err-front-clause-exact
 returns-in_err-front-clause-exact g c = λ honest order all findings are.
@@ -30,33 +42,33 @@ returns-in_err-put_rows-clause-exact g c = λ honest order all findings are.
     let p = err_from_is_err_and c.from_residual-in_err-put_rows.result c.from_residual-in_err-put_rows.ensures.1 in
     let f = (g.P.Source.means c.args.src.now).octets in
     let F = frame_in (g.P.Source.means c.args.src.now) in
-    let rows = rows_text f F c.args.map.now.verdict findings order in
+    let lines = part_lines c.args.map.now.verdict (parts F.table 8 (rows f F findings (16 * F.table) order)) in
     let back = back_text F (length f) in
     let line : c.as_bytes.result.now ≡ front_text = c.as_bytes.ensures.value ∙ c.in_ok-front.ensures in
     let taken = rw line at c.in_ok-put.ensures.taken in
     let some = c.in_err-put_rows.ensures.exact honest order all findings are in
-    rw (p.1, p.2) (then_some _ _ _ _ _ _ front_text (rows ++ back) _ taken
-    (some_of_more (g.W.Write.contents c.put.new.out) (g.W.Write.contents c.put_rows.new.out) c.put.new.self (rows ++ back) rows back _ some refl) refl)
+    rw (p.1, p.2) (then_some _ _ _ _ _ _ front_text (lines ++ back) _ taken
+    (some_of_more (g.W.Write.contents c.put.new.out) (g.W.Write.contents c.put_rows.new.out) c.put.new.self (lines ++ back) lines back _ some refl) refl)
 
 pub returns-in_err-put-2-clause-exact : goal.returns-in_err-put-2-clause-exact
 returns-in_err-put-2-clause-exact g c = λ honest order all findings are.
     let p = err_from_is_err_and c.from_residual-in_err-put-2.result c.from_residual-in_err-put-2.ensures.1 in
     let f = (g.P.Source.means c.args.src.now).octets in
     let F = frame_in (g.P.Source.means c.args.src.now) in
-    let rows = rows_text f F c.args.map.now.verdict findings order in
+    let lines = part_lines c.args.map.now.verdict (parts F.table 8 (rows f F findings (16 * F.table) order)) in
     let back = back_text F (length f) in
     let line : c.as_bytes.result.now ≡ front_text = c.as_bytes.ensures.value ∙ c.in_ok-front.ensures in
     let end : c.as_bytes-2.result.now ≡ back = c.as_bytes-2.ensures.value ∙ c.in_ok-back.ensures ∙ ap (λ (G : Frame). back_text G c.len.result) c.frame.ensures.frame ∙ ap (back_text F) c.len.ensures in
     let taken = rw line at c.in_ok-put.ensures.taken in
     let part = rw end at c.in_err-put-2.ensures.part in
-    rw (p.1, p.2) (then_some _ _ _ _ _ _ (front_text ++ rows) back (faults.Write _) (takes_more taken (c.in_ok-put_rows.ensures.exact honest order all findings are)) part
-    (sym (append_assoc front_text rows back)))
+    rw (p.1, p.2) (then_some _ _ _ _ _ _ (front_text ++ lines) back (faults.Write _) (takes_more taken (c.in_ok-put_rows.ensures.exact honest order all findings are)) part
+    (sym (append_assoc front_text lines back)))
 
 pub returns-clause-exact : goal.returns-clause-exact
 returns-clause-exact g c = λ honest order all findings are.
     let f = (g.P.Source.means c.args.src.now).octets in
     let F = frame_in (g.P.Source.means c.args.src.now) in
-    let rows = rows_text f F c.args.map.now.verdict findings order in
+    let lines = part_lines c.args.map.now.verdict (parts F.table 8 (rows f F findings (16 * F.table) order)) in
     let back = back_text F (length f) in
     let line : c.as_bytes.result.now ≡ front_text = c.as_bytes.ensures.value ∙ c.in_ok-front.ensures in
     let end : c.as_bytes-2.result.now ≡ back = c.as_bytes-2.ensures.value ∙ c.in_ok-back.ensures ∙ ap (λ (G : Frame). back_text G c.len.result) c.frame.ensures.frame ∙ ap (back_text F) c.len.ensures in

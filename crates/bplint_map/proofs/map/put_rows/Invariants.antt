@@ -1,10 +1,9 @@
-use Rattle.std.proofs.Common.{◌≡◌, ℕ, List, ◌++◌, drop, map as map_of}
+use Rattle.std.proofs.Common.{◌≡◌, ℕ, List, ◌*◌, ◌++◌, drop, map as map_of}
 use Rattle.bplist_objects.specs.Framed.{HonestlyIn}
 use Rattle.bplist_ascii.specs.Sending.{Takes}
 use Rattle.bplint_map.specs.declared.rows.Finding.{Finding}
 use Rattle.bplint_map.specs.Layout.{parts}
 use Rattle.bplint_map.specs.Lines.{part_lines}
-use Rattle.bplint_map.specs.Map.{rows_text}
 use Rattle.bplint_map.specs.Rows.{AreFindings, placed, rows}
 use Rattle.bplint_map.proofs.map.put_rows.Given as goal
 
@@ -17,6 +16,6 @@ invariant-loop-object g l =
       written : HonestlyIn (means l.fn.src) (λ f F. (order : List ℕ) → l.map.objects.items ≡ map_of (placed f F) order
           → (findings : ℕ → Finding) → AreFindings f F findings → (done : List ℕ)
           × Takes (g.W.Write.contents l.fn.out) (g.W.Write.contents l.out) l.fn.sink l.sink done
-          × (rows_text f F l.map.verdict findings order
+          × (part_lines l.map.verdict (parts F.table 8 (rows f F findings (16 * F.table) order))
           ≡ done ++ part_lines l.map.verdict (parts F.table l.reached (rows f F findings l.left (drop l.object-index order)))));
     }

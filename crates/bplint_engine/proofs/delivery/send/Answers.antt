@@ -1,5 +1,5 @@
-use Rattle.bplint_lines.proofs.SentTexts.{all_sent}
-use Rattle.bplint_lines.proofs.delivery.send.Goals as goal
+use Rattle.bplint_engine.proofs.SentTexts.{all_sent}
+use Rattle.bplint_engine.proofs.delivery.send.Goals as goal
 
 pub returns : goal.returns
 returns g c =

@@ -2,17 +2,17 @@
 ghost use Rattle.std.specs.Prelude.{◌≡◌, MatchResult};
 ghost use Rattle.std.specs.Io.KnownBytes.{Appends};
 ghost use Rattle.bplist_ascii.specs.Sending.{IsCut};
-ghost use Rattle.bplint_lines.specs.Answers.{Sends, read_failed};
+ghost use Rattle.bplint_lines.specs.Answers.{read_failed};
+ghost use Rattle.bplint_engine.specs.Output.{Sends};
 
-use crate::fault::RunFault;
 use crate::output::Output;
-use crate::said::Said;
+use bplint_lines::{RunFault, Said};
 use bplist_ascii::{Sink, WriteFault};
 use bplist_octets::Source;
 use std::io::Write;
 
 /// Writes what was made, and hands the source on.
-pub fn send_made<S: Source, W: Write>(
+pub(crate) fn send_made<S: Source, W: Write>(
     made: (Result<Output, RunFault>, S),
     out: &mut W,
 ) -> (Result<Said, RunFault>, S)
@@ -25,7 +25,7 @@ pub fn send_made<S: Source, W: Write>(
 }
 
 /// Writes what was made, or hands its fault on.
-pub fn send_output<W: Write>(made: Result<Output, RunFault>, out: &mut W) -> Result<Said, RunFault>
+pub(crate) fn send_output<W: Write>(made: Result<Output, RunFault>, out: &mut W) -> Result<Said, RunFault>
     ensures sent { Sends (W.contents out.old) (W.contents out.new) made result }
     ensures reads { read_failed result ≡ read_failed made }
 {

@@ -1,0 +1,31 @@
+-- What a command has to write, or why not, and sending it.
+use Rattle.std.specs.Prelude.{◌≡◌, ℕ, List, Bool, Option, Result, Ok, Err}
+use Rattle.std.specs.Io.KnownBytes.{Appends, Keeps}
+use Rattle.bplist_ascii.specs.Sending.{IsCut}
+use Rattle.bplint_lines.specs.declared.fault.RunFault.{RunFault}
+use Rattle.bplint_lines.specs.declared.fault.RunFault.TheVariants as faults
+use Rattle.bplint_lines.specs.declared.said.Said.{Said}
+use Rattle.bplint_lines.specs.Answers.{Answer, gives, refuses, read_failed}
+use Rattle.bplint_engine.specs.declared.output.Output.{Output}
+
+-- the error is a failed read
+abbrev pub is_read : RunFault → Bool
+is_read fault = read_failed {X = Unit {0}} (Err fault)
+
+-- a fault before anything is written; nothing is said of a failed read or of refused memory
+abbrev pub IsRefusal : (Answer → Type 0) → RunFault → Type 0
+IsRefusal Says (faults.Write _) = ⊥
+IsRefusal Says (faults.Read _) = Unit {0}
+IsRefusal Says faults.Memory = Unit {0}
+IsRefusal Says fault = Says (refuses fault)
+
+-- bytes to write, or a fault, are the answer
+abbrev pub Answers : (Answer → Type 0) → Result Output RunFault → Type 0
+Answers Says (Ok output) = Says (gives output.said output.bytes.items)
+Answers Says (Err fault) = IsRefusal Says fault
+
+-- what was made is sent: all its bytes went out, or where a write failed a first part of them; of a fault nothing does
+abbrev pub Sends : Option (List ℕ) → Option (List ℕ) → Result Output RunFault → Result Said RunFault → Type 0
+Sends old new (Ok output) (Ok said) = (said ≡ output.said) × Appends old new output.bytes.items
+Sends old new (Ok output) (Err fault) = (sent : ℕ) × (fault ≡ faults.Write sent) × IsCut old new output.bytes.items sent
+Sends old new (Err fault) result = (result ≡ Err fault) × Keeps old new
