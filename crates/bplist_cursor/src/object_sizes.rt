@@ -30,9 +30,6 @@ use std::alloc::Global;
 /// How many references are read at once at most.
 const BLOCK: usize = 128;
 
-/// How many references are read at once at most.
-const BLOCK: usize = 128;
-
 /// What the table says of an object, None outside.
 fn size_at(sizes: &[Option<Size>], n: u64) -> Option<Size>
     ensures { result ≡ size_in sizes.now n }
