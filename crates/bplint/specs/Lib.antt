@@ -1,5 +1,5 @@
-pub mod Endings
+pub mod ExitStatuses
 pub mod FileNames
 pub mod Inputs
-pub mod Lines
+pub mod CommandLines
 pub mod Usage

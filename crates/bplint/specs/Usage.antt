@@ -7,7 +7,7 @@ use Rattle.clap.specs.declared.builder.Arg.{Arg}
 use Rattle.clap.specs.declared.builder.Command.{Command}
 use Rattle.clap.specs.declared.parser.matches.ArgMatches.{ArgMatches}
 use Rattle.bplint.specs.declared.args.Line.{Line}
-use Rattle.bplint.specs.Lines.{IsLineOf}
+use Rattle.bplint.specs.CommandLines.{IsLineOf}
 
 -- the argument has the rule, and is of one command alone
 abbrev pub IsArg : Rule → Arg → Type 0

@@ -1,6 +1,6 @@
 //! The command line, by `clap`.
 ghost use Rattle.std.specs.Prelude.{◌≡◌, ◌≢◌, ◌≤◌, ◌<◌, ◌∷◌, [], IfOk, codes, false, length, map, string_bytes, true};
-ghost use Rattle.bplint.specs.Lines.{ExplainsWord, IsFlag, IsLimit, IsLineOf, IsShownBy, RunsOnePath, paths_in, shown_in, text_in, texts_in, verb_named};
+ghost use Rattle.bplint.specs.CommandLines.{ExplainsWord, IsFlag, IsLimit, IsLineOf, IsShownBy, RunsOnePath, paths_in, shown_in, text_in, texts_in, verb_named};
 ghost use Rattle.bplint.specs.Usage.{IsLineIn};
 ghost use Rattle.std.specs.Str.{bytes_eq};
 ghost use Rattle.bplint_engine.specs.Commands.{PrintsOnePath};

@@ -17,7 +17,7 @@
 #![tactic(auto)]
 
 ghost use Rattle.std.specs.Prelude.{◌≡◌, ◌≤◌, Err, IsTrue, MatchResult, max};
-ghost use Rattle.bplint.specs.Endings.{EndsWith, IsRefusedWith, LeavesShown};
+ghost use Rattle.bplint.specs.ExitStatuses.{EndsWith, IsRefusedWith, LeavesShown};
 ghost use Rattle.bplint_engine.specs.Commands.{PrintsOnePath};
 ghost use Rattle.clap.specs.Values.{kind_of};
 

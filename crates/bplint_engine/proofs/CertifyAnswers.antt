@@ -6,7 +6,7 @@ use Rattle.bplist_lint.specs.FileFault.{IsFileFault, IsFileCircle}
 use Rattle.bplist_lint.specs.Refusals.{Refuses}
 use Rattle.bplint_engine.specs.Output.{IsRefusal}
 use Rattle.bplint_engine.specs.Certify.{CertifySays}
-use Rattle.bplint_engine.proofs.FaultsBelow.{lint_fault}
+use Rattle.bplint_engine.proofs.LowerFaults.{lint_fault}
 
 -- the file holds no value
 pub lint_refused : (hex : Bool) (f : List ℕ) (refusal : LintRefusal) → Refuses (IsFileFault f) (IsFileCircle f) refusal

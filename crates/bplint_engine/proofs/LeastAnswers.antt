@@ -29,7 +29,7 @@ use Rattle.bplint_lines.specs.Answers.{Answer, refuses, Leaves, LeavesBy}
 use Rattle.bplint_engine.specs.Output.{Answers, IsRefusal}
 use Rattle.bplint_engine.specs.PathTexts.{IsAskingFault, IsWrongAmong, OnPath}
 use Rattle.bplint_lines.specs.Faults.{Gives, IsExcused}
-use Rattle.bplint_engine.proofs.FaultsBelow.{lint_fault}
+use Rattle.bplint_engine.proofs.LowerFaults.{lint_fault}
 use Rattle.bplint_engine.specs.Get.{GetSays, replies_said, reply_line}
 use Rattle.bplint_engine.specs.Lint.{LintSays}
 use Rattle.bplint_engine.specs.Ls.{ListGives, ListSays}
@@ -91,8 +91,13 @@ pub show_says : (f : List ℕ) (texts : List (List ℕ)) (paths : List (List (Li
     → (output.said ≡ replies_said (map (reply v) queries)) × (output.bytes.items ≡ flat_map reply_line (map (reply v) queries))) made
     → Answers (LeastLeads GetSays f texts) made
 show_says f texts paths queries F lists (Ok output) are asked least told =
-    inr (F, least.lint, least.frame, least.linted,
-    (paths, F, lists, are, least.vouched, λ v holds. told_of v paths queries output.said output.bytes.items asked (told v holds)))
+    inr (
+      F,
+      least.lint,
+      least.frame,
+      least.linted,
+      (paths, F, lists, are, least.vouched, λ v holds. told_of v paths queries output.said output.bytes.items asked (told v holds)),
+    )
 show_says f texts paths queries F lists (Err fault) are asked least told = excused_refused (LeastLeads GetSays f texts) fault told
 
 -- a fault that is excused where a value is there is excused

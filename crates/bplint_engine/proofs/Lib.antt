@@ -1,6 +1,6 @@
 mod CertifyAnswers
 mod EqualAnswers
-mod FaultsBelow
+mod LowerFaults
 mod GetAnswers
 mod HexAnswers
 mod LeastAnswers

@@ -12,7 +12,7 @@ use Rattle.bplist_cursor.specs.Replies.{face}
 use Rattle.bplint_engine.specs.declared.member_lines.Members.{Members}
 use Rattle.bplint_engine.specs.declared.member_lines.Members.TheVariants.{Array, Set, Dict}
 use Rattle.bplint_lines.specs.Faults.{IsExcused}
-use Rattle.bplint_engine.proofs.FaultsBelow.{cursor_fault}
+use Rattle.bplint_engine.proofs.LowerFaults.{cursor_fault}
 use Rattle.bplint_engine.specs.Ls.{IsContainer, IsLeaf, first_lines, line_of_member, line_of_pair, listed, member_line, named_line}
 use Rattle.bplint_lines.specs.MemberNames.{bracketed, index_name, key_name}
 use Rattle.bplint_lines.specs.OutputLines.{face_line}

@@ -9,7 +9,7 @@ use Rattle.bplist_cursor.specs.declared.path.PathFault.TheVariants.{Text, Memory
 use Rattle.bplist_cursor.specs.Path.{IsNoPath, IsPathOf}
 use Rattle.bplist_cursor.specs.PathFaults.{OnText}
 use Rattle.bplint_engine.specs.PathTexts.{IsWrongAmong, OnPath}
-use Rattle.bplint_engine.proofs.FaultsBelow.{path_fault}
+use Rattle.bplint_engine.proofs.LowerFaults.{path_fault}
 
 -- the bytes of each text
 abbrev pub bytes_of : List (String Global) → List (List ℕ)

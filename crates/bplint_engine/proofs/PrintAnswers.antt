@@ -32,7 +32,7 @@ use Rattle.bplint_lines.specs.declared.said.Said.TheVariants.{All, SomeMissing}
 use Rattle.bplint_lines.specs.Answers.{Answer, gives, BeginsAnswer, Leaves, LeavesBy}
 use Rattle.bplint_engine.specs.Output.{Answers, IsRefusal}
 use Rattle.bplint_engine.specs.PathTexts.{IsWrongAmong}
-use Rattle.bplint_engine.proofs.FaultsBelow.{cursor_fault, print_fault}
+use Rattle.bplint_engine.proofs.LowerFaults.{cursor_fault, print_fault}
 use Rattle.bplint_engine.specs.PathTexts.{OnPath}
 use Rattle.bplint_lines.specs.OutputLines.{missing_line}
 use Rattle.bplint_engine.specs.Print.{NodeSays, PathSays, PrintSays}

@@ -9,7 +9,7 @@ use Rattle.bplist_cert.specs.declared.certificate.CertRefusal.TheVariants as cer
 use Rattle.bplist_cert.specs.declared.refusal.Refusal.{Refusal}
 use Rattle.bplist_cert.specs.declared.refusal.Refusal.TheVariants as refusals
 use Rattle.bplint_engine.specs.Output.{IsRefusal}
-use Rattle.bplint_engine.proofs.FaultsBelow.{check_fault, octets_fault}
+use Rattle.bplint_engine.proofs.LowerFaults.{check_fault, octets_fault}
 use Rattle.bplint_engine.specs.Check.{CheckSays}
 
 -- the bytes are not those of a certificate

@@ -25,7 +25,10 @@ pub(crate) fn send_made<S: Source, W: Write>(
 }
 
 /// Writes what was made, or hands its fault on.
-pub(crate) fn send_output<W: Write>(made: Result<Output, RunFault>, out: &mut W) -> Result<Said, RunFault>
+pub(crate) fn send_output<W: Write>(
+    made: Result<Output, RunFault>,
+    out: &mut W,
+) -> Result<Said, RunFault>
     ensures sent { Sends (W.contents out.old) (W.contents out.new) made result }
     ensures reads { read_failed result ≡ read_failed made }
 {

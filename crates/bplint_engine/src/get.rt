@@ -14,8 +14,8 @@ ghost use Rattle.bplint_engine.specs.Get.{GetSays, reply_line};
 ghost use Rattle.bplint_engine.specs.Get as spec;
 
 use crate::certified_file::check_octets;
-use crate::path_queries::queries_of;
 use crate::output::Output;
+use crate::path_queries::queries_of;
 use bplint_lines::{RunFault, Said, add_face, add_missing};
 use bplist_cert::Checked;
 use bplist_cursor::{Query, Reply, answer_all};

@@ -14,11 +14,11 @@ ghost use Rattle.bplint_lines.specs.Faults.{Gives};
 ghost use Rattle.bplint_engine.specs.Ls.{IsContainer, IsLeaf, ListGives, ListSays, listed};
 
 use crate::certified_file::check_least;
+use crate::delivery::send_made;
 use crate::member_lines::{Container, Members, add_members, add_value};
+use crate::output::Output;
 use crate::path_queries::path_in;
 use crate::print::missing_output;
-use crate::delivery::send_made;
-use crate::output::Output;
 use bplint_lines::{RunFault, Said};
 use bplist_cert::Checked;
 use bplist_cursor::{Face, Found, Node, Path, face, locate};

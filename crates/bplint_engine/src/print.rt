@@ -11,9 +11,9 @@ ghost use Rattle.bplint_lines.specs.OutputLines.{missing_line};
 ghost use Rattle.bplint_engine.specs.Print.{NodeSays, PathSays, PrintSays};
 
 use crate::certified_file::check_octets;
-use crate::path_queries::path_of;
 use crate::delivery::send_output;
 use crate::output::Output;
+use crate::path_queries::path_of;
 use bplint_lines::{RunFault, Said, add_missing};
 use bplist_ascii::{Sink, WriteFault, print_into};
 use bplist_cert::Checked;

@@ -8,11 +8,11 @@ ghost use Rattle.bplint_engine.specs.Print.{PrintSays};
 ghost use Rattle.bplint_engine.specs.Show.{LeastLeads};
 
 use crate::certified_file::check_least;
+use crate::delivery::send_made;
 use crate::get::answer_queries;
+use crate::output::Output;
 use crate::path_queries::{path_in, queries_of};
 use crate::print::print_checked;
-use crate::delivery::send_made;
-use crate::output::Output;
 use bplint_lines::{RunFault, Said};
 use bplist_octets::Source;
 use std::alloc::Global;

@@ -15,7 +15,7 @@ use bplist_octets::{SliceSource, Source, sized};
 use std::alloc::{AllocError, Global};
 
 /// How many bytes before a place are shown, and how many from it on.
-const BESIDE: u64 = 8;
+const CONTEXT: u64 = 8;
 
 /// How many bytes a trailer has.
 const TRAILER: u64 = 32;
@@ -231,8 +231,8 @@ fn bytes_line<S: Source>(alloc: Global, src: &mut S, place: u64) -> Result<Strin
 {
     let length = src.len();
     let place = place.min(length);
-    let start = place - place.min(BESIDE);
-    let stop = length.min(place.saturating_add(BESIDE));
+    let start = place - place.min(CONTEXT);
+    let stop = length.min(place.saturating_add(CONTEXT));
     let mut octets = [0u8; 16];
     let count = (stop - start) as usize;
     let shown = &mut octets[..count];

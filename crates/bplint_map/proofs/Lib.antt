@@ -1,4 +1,4 @@
 mod Findings
 mod Layouts
 mod Orders
-mod Texts
+mod MapText

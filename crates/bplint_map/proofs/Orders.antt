@@ -10,7 +10,7 @@ use Rattle.std.proofs.lemmas.List.Elements.{All-map}
 use Rattle.std.proofs.lemmas.List.Sorted.{All-permutation, IsPermutation-map}
 use Rattle.bplist_objects.specs.declared.frame.Frame.{Frame}
 use Rattle.bplist_objects.specs.Frame.{off}
-use Rattle.bplint_map.specs.declared.placed.Placed.{Placed}
+use Rattle.bplint_map.specs.declared.object_order.ObjectOffset.{ObjectOffset}
 use Rattle.bplint_map.specs.Rows.{ComesBefore, IsByPlace, placed}
 
 -- numbers from a on, and one more
@@ -18,7 +18,7 @@ pub range_more : (a n : ℕ) → range_with_len a (suc n) ≡ range_with_len a n
 range_more a zero = let e : a ≡ a + 0 = omega arith in ap (λ x. x ∷ []) e
 range_more a (suc n) = let e : (a + 1) + n ≡ a + suc n = omega arith in ap (λ l. a ∷ l) (range_more (a + 1) n ∙ ap (λ x. range_with_len (a + 1) n ++ x ∷ []) e)
 
-abbrev number_of : Placed → ℕ
+abbrev number_of : ObjectOffset → ℕ
 number_of object = object.number
 
 by_two : (a b m n : ℕ) → is_lt (ordering_then (nat_cmp b a) (nat_cmp n m)) ≡ false → (a < b) ⊎ ((a ≡ b) × (m ≤ n))
@@ -37,17 +37,17 @@ module _ (f : List ℕ) (F : Frame) where
   numbers_back [] = refl
   numbers_back (n ∷ ns) = ap (λ l. n ∷ l) (numbers_back ns)
 
-  abbrev IsPlaced : Placed → Type 0
+  abbrev IsPlaced : ObjectOffset → Type 0
   IsPlaced object = object ≡ placed f F object.number
 
-  placed_back : (objects : List Placed) → All IsPlaced objects → objects ≡ map (placed f F) (map number_of objects)
+  placed_back : (objects : List ObjectOffset) → All IsPlaced objects → objects ≡ map (placed f F) (map number_of objects)
   placed_back [] all = refl
   placed_back (object ∷ objects) all =
       let first : object ≡ placed f F object.number = all 0 object (omega arith) in
       let rest = placed_back objects (λ k d l. all (suc k) d (omega (arith, l))) in
       ap (λ x. x ∷ objects) first ∙ ap (λ l. placed f F object.number ∷ l) rest
 
-  comes_before : (x y : Placed) → IsPlaced x → IsPlaced y → is_lt (ordering_then (nat_cmp y.place x.place) (nat_cmp y.number x.number)) ≡ false
+  comes_before : (x y : ObjectOffset) → IsPlaced x → IsPlaced y → is_lt (ordering_then (nat_cmp y.place x.place) (nat_cmp y.number x.number)) ≡ false
       → ComesBefore f F x.number y.number
   comes_before x y px py h =
       let a : x.place ≡ off f F x.number = ap (λ o. o.place) px in
@@ -57,7 +57,7 @@ module _ (f : List ℕ) (F : Frame) where
         | inr e ↦ inr (sym a ∙ e.0 ∙ b, e.1)
       ]
 
-  pub ordered : (objects : List Placed) → IsPermutation (map (placed f F) (range_with_len 0 F.objects)) objects
+  pub ordered : (objects : List ObjectOffset) → IsPermutation (map (placed f F) (range_with_len 0 F.objects)) objects
       → IsSorted (λ x y. ordering_then (nat_cmp x.place y.place) (nat_cmp x.number y.number)) objects
       → (order : List ℕ) × IsByPlace f F order × (objects ≡ map (placed f F) order)
   ordered objects moved sorted =

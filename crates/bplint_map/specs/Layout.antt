@@ -9,7 +9,7 @@ use Rattle.bplint_map.specs.declared.rows.Row.{Row}
 -- their first place on and without their end
 pub data Part : Type 0 where
   object : Row → Part
-  bare : List ℕ → ℕ → ℕ → Part
+  region : List ℕ → ℕ → ℕ → Part
 
 -- where an object at this place ends; one without a head takes no bytes
 abbrev pub end_by : ℕ → Finding → ℕ
@@ -20,16 +20,17 @@ abbrev pub row_end : Row → ℕ
 row_end row = end_by row.place row.finding
 
 -- the bytes of this word from here up to there, where there are any
-abbrev pub bare_up : List ℕ → ℕ → ℕ → List Part
-bare_up word from to = cond (nat_lt from to) (bare word from to ∷ []) []
+abbrev pub region_between : List ℕ → ℕ → ℕ → List Part
+region_between word from to = cond (nat_lt from to) (region word from to ∷ []) []
 
 -- the gap and the overlap before a row, where the objects so far reach up to `reached`
 abbrev pub before : ℕ → Row → List Part
-before reached row = bare_up (codes "gap") reached row.place ++ bare_up (codes "overlap") row.place (min reached (row_end row))
+before reached row =
+    region_between (codes "gap") reached row.place ++ region_between (codes "overlap") row.place (min reached (row_end row))
 
 -- the parts from `reached` up to the offset table
 abbrev pub parts : ℕ → ℕ → List Row → List Part
-parts table reached [] = bare_up (codes "gap") reached table
+parts table reached [] = region_between (codes "gap") reached table
 parts table reached (row ∷ rows) = before reached row ++ (object row ∷ parts table (max reached (row_end row)) rows)
 
 -- place x lies in the object of this row
@@ -42,8 +43,8 @@ IsCoveredTwice x [] = ⊥
 IsCoveredTwice x (row ∷ rows) = (Covers x row × Any (Covers x) rows) ⊎ IsCoveredTwice x rows
 
 -- place x lies in this part, which has this word and is no object
-abbrev pub IsBare : List ℕ → ℕ → Part → Type 0
-IsBare word x part = elim part [ bare own from to ↦ (own ≡ word) × (from ≤ x) × (x < to) | object row ↦ ⊥ ]
+abbrev pub IsRegion : List ℕ → ℕ → Part → Type 0
+IsRegion word x part = elim part [ region own from to ↦ (own ≡ word) × (from ≤ x) × (x < to) | object row ↦ ⊥ ]
 
 -- objects take bytes from place 8 on alone, and each row stands at the places of all later ones or before them
 abbrev pub AreInOrder : List Row → Type 0

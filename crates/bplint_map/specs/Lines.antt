@@ -10,12 +10,12 @@ use Rattle.bplint_map.specs.declared.verdict.Verdict.{Verdict}
 use Rattle.bplint_map.specs.declared.verdict.Verdict.TheVariants as verdicts
 use Rattle.bplint_map.specs.declared.rows.Finding.{Finding}
 use Rattle.bplint_map.specs.declared.rows.Finding.TheVariants.{Whole, Wrong, Lost}
-use Rattle.bplint_map.specs.Layout.{Part, object, bare, parts}
+use Rattle.bplint_map.specs.Layout.{Part, object, region, parts}
 use Rattle.bplint_lines.specs.OutputLines.{kind_word}
 
 -- the line of bytes that are no object
-abbrev pub bare_line : ℕ → ℕ → List ℕ → List ℕ
-bare_line from to word = decimal from ++ (codes "\t" ++ (decimal to ++ (codes "\t-\t" ++ (word ++ codes "\t-\t-\n"))))
+abbrev pub region_line : ℕ → ℕ → List ℕ → List ℕ
+region_line from to word = decimal from ++ (codes "\t" ++ (decimal to ++ (codes "\t-\t" ++ (word ++ codes "\t-\t-\n"))))
 
 -- the last column of an object that breaks no rule by itself: its height, or the rule by which `lint` refuses it
 abbrev pub note : Verdict → ℕ → List ℕ
@@ -39,12 +39,12 @@ found_line verdict place number (Lost rule) =
 -- the line of a part
 abbrev pub part_line : Verdict → Part → List ℕ
 part_line verdict (object row) = found_line verdict row.place row.number row.finding
-part_line verdict (bare word from to) = bare_line from to word
+part_line verdict (region word from to) = region_line from to word
 
 -- the lines of parts
 abbrev pub part_lines : Verdict → List Part → List ℕ
 part_lines verdict parts = flat_map (part_line verdict) parts
 
 -- the line of bytes that are no object, where there are any
-abbrev pub bare_lines : ℕ → ℕ → List ℕ → List ℕ
-bare_lines from to word = if nat_lt from to then bare_line from to word else []
+abbrev pub region_lines : ℕ → ℕ → List ℕ → List ℕ
+region_lines from to word = if nat_lt from to then region_line from to word else []

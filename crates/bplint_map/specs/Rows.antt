@@ -8,7 +8,7 @@ use Rattle.bplist_objects.specs.Frame.{off}
 use Rattle.bplist_objects.specs.Heads.{HasShape}
 use Rattle.bplist_objects.specs.ObjectRules.{KeepsByObject, IsObjectFault, object_rules, shape_rules}
 use Rattle.bplist_objects.specs.Rules.{KeepsAll}
-use Rattle.bplint_map.specs.declared.placed.Placed.{Placed}
+use Rattle.bplint_map.specs.declared.object_order.ObjectOffset.{ObjectOffset}
 use Rattle.bplint_map.specs.declared.rows.Finding.{Finding}
 use Rattle.bplint_map.specs.declared.rows.Finding.TheVariants.{Whole, Wrong, Lost}
 use Rattle.bplint_map.specs.declared.rows.Row.{Row}
@@ -36,7 +36,7 @@ module _ (f : List ℕ) (F : Frame) where
   AreFindings findings = (n : ℕ) → n < F.objects → IsFinding n (findings n)
 
   -- object n with its place
-  abbrev pub placed : ℕ → Placed
+  abbrev pub placed : ℕ → ObjectOffset
   placed n = record { place = off f F n; number = n }
 
   -- object n comes before object m: by its place, at one place by its number

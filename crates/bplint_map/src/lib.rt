@@ -15,7 +15,7 @@
 mod laws;
 mod lines;
 mod map;
-mod placed;
+mod object_order;
 mod rows;
 mod verdict;
 

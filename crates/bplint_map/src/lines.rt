@@ -5,7 +5,7 @@ ghost use Rattle.std.specs.Prelude.{◌≡◌, ◌++◌, [], ◌∷◌, OnOk, st
 ghost use Rattle.bplist_objects.specs.declared.head.Head.{Head as head_type};
 ghost use Rattle.bplist_objects.specs.Words.{word_of as word_of_rule};
 ghost use Rattle.bplint_map.specs.Layout.{before, object, row_end};
-ghost use Rattle.bplint_map.specs.Lines.{bare_line, bare_lines, found_line, head_columns, note, part_lines};
+ghost use Rattle.bplint_map.specs.Lines.{region_line, region_lines, found_line, head_columns, note, part_lines};
 
 use crate::rows::{Finding, Row};
 use crate::verdict::Verdict;
@@ -14,18 +14,23 @@ use bplist_objects::{Head, rule_name};
 use std::alloc::AllocError;
 
 /// Adds the line of bytes that are no object.
-pub(crate) fn add_bare(line: &mut String, from: u64, to: u64, word: &str) -> Result<(), AllocError>
-    ensures { OnOk result (string_bytes line.new ≡ string_bytes line.old ++ bare_line from to word.now) }
+pub(crate) fn add_region(
+    line: &mut String,
+    from: u64,
+    to: u64,
+    word: &str,
+) -> Result<(), AllocError>
+    ensures { OnOk result (string_bytes line.new ≡ string_bytes line.old ++ region_line from to word.now) }
 {
     write!(line, "{from}\t{to}\t-\t{word}\t-\t-\n")
 }
 
 /// Adds the line of bytes that are no object, where there are any.
 pub(crate) fn add_any(line: &mut String, from: u64, to: u64, word: &str) -> Result<(), AllocError>
-    ensures { OnOk result (string_bytes line.new ≡ string_bytes line.old ++ bare_lines from to word.now) }
+    ensures { OnOk result (string_bytes line.new ≡ string_bytes line.old ++ region_lines from to word.now) }
 {
     if from < to {
-        add_bare(line, from, to, word)?;
+        add_region(line, from, to, word)?;
     }
     Ok(())
 }

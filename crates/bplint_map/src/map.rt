@@ -5,13 +5,13 @@ ghost use Rattle.bplist_objects.specs.Framed.{HonestlyIn, frame_in};
 ghost use Rattle.bplist_objects.specs.Safe.{IsSafe};
 ghost use Rattle.bplint_lines.specs.Answers.{LeavesBy, read_failed};
 ghost use Rattle.bplint_map.specs.Layout.{parts};
-ghost use Rattle.bplint_map.specs.Lines.{bare_line, part_lines};
+ghost use Rattle.bplint_map.specs.Lines.{region_line, part_lines};
 ghost use Rattle.bplint_map.specs.Map.{MapSays, Puts, map_text};
 ghost use Rattle.bplint_map.specs.Rows.{AreFindings, placed, rows};
 ghost use Rattle.bplint_map.specs.declared.rows.Finding.{Finding};
 
-use crate::lines::{add_any, add_bare, add_row, end_of};
-use crate::placed::{Placed, placed_objects};
+use crate::lines::{add_any, add_region, add_row, end_of};
+use crate::object_order::{ObjectOffset, objects_in_order};
 use crate::rows::row_of;
 use crate::verdict::{Verdict, verdict_of};
 use bplint_lines::{RunFault, Said};
@@ -30,7 +30,7 @@ pub(crate) struct Map {
     /// What `lint` says of the objects.
     pub verdict: Verdict,
     /// The objects in byte order.
-    pub objects: Vec<Placed>,
+    pub objects: Vec<ObjectOffset>,
 }
 
 /// Writes what lies where in a file that keeps rules 1 to 13, be it sound or not: by places a line each for the header,
@@ -59,7 +59,7 @@ pub fn map_on<S: Source, W: Write>(
     };
     let verdict = verdict_of(alloc, src)?;
     let mut plist = Plist::new(src, frame);
-    let objects = placed_objects(alloc, &mut plist)?;
+    let objects = objects_in_order(alloc, &mut plist)?;
     let map = Map { verdict, objects };
     let mut sink = Sink::new();
     put_map(alloc, &mut plist, &map, &mut sink, out)?;
@@ -92,10 +92,10 @@ fn put_map<P: Framed, W: Write>(
 /// The line that names the columns, and that of the header.
 fn front_lines(alloc: Global) -> Result<String, AllocError>
     ensures { IfOk result (λ lines. string_bytes lines
-        ≡ codes "place\tend\tobject\tkind\tcount\theight\n" ++ bare_line 0 8 (codes "header")) }
+        ≡ codes "place\tend\tobject\tkind\tcount\theight\n" ++ region_line 0 8 (codes "header")) }
 {
     let mut lines = String::from_str(alloc, TITLE)?;
-    add_bare(&mut lines, 0, 8, "header")?;
+    add_region(&mut lines, 0, 8, "header")?;
     Ok(lines)
 }
 
@@ -103,12 +103,12 @@ fn front_lines(alloc: Global) -> Result<String, AllocError>
 fn back_lines(alloc: Global, frame: &Frame, length: u64) -> Result<String, AllocError>
     requires { IsSafe length frame.now }
     ensures { let end = frame.now.table + frame.now.objects * frame.now.offset_size in IfOk result (λ lines. string_bytes lines
-        ≡ bare_line frame.now.table end (codes "table") ++ bare_line end length (codes "trailer")) }
+        ≡ region_line frame.now.table end (codes "table") ++ region_line end length (codes "trailer")) }
 {
     let table_end = frame.table + frame.objects as u64 * frame.offset_size as u64;
     let mut lines = String::new(alloc);
-    add_bare(&mut lines, frame.table, table_end, "table")?;
-    add_bare(&mut lines, table_end, length, "trailer")?;
+    add_region(&mut lines, frame.table, table_end, "table")?;
+    add_region(&mut lines, table_end, length, "trailer")?;
     Ok(lines)
 }
 

@@ -6,7 +6,7 @@ ghost use Rattle.bplist_objects.specs.Framed.{HonestlyIn, frame_in};
 ghost use Rattle.bplist_objects.specs.Heads.{HasShape};
 ghost use Rattle.bplint_map.specs.Rows.{AreFindings, IsFinding, left_behind, placed, row};
 
-use crate::placed::Placed;
+use crate::object_order::ObjectOffset;
 use bplist_objects::{Framed, Head, ObjectFault, ObjectNo, Rule, head_in, shape_in};
 use bplist_octets::ReadFault;
 
@@ -35,7 +35,7 @@ pub(crate) struct Row {
 /// The row of an object. Its body is looked at where it has no more than the bytes that are left, and takes from them.
 pub(crate) fn row_of<P: Framed>(
     src: &mut P,
-    object: Placed,
+    object: ObjectOffset,
     left: &mut u64,
 ) -> Result<Row, ReadFault>
     requires { object.number < (frame_in (P.means src.old)).objects }
@@ -67,7 +67,11 @@ pub(crate) fn row_of<P: Framed>(
 }
 
 /// What the body of an object with this head says.
-fn finding_of<P: Framed>(src: &mut P, object: Placed, head: Head) -> Result<Finding, ReadFault>
+fn finding_of<P: Framed>(
+    src: &mut P,
+    object: ObjectOffset,
+    head: Head,
+) -> Result<Finding, ReadFault>
     requires { object.number < (frame_in (P.means src.old)).objects }
     ensures reads { OnlyReads (is_err result) (P.means src.old) (P.means src.new) }
     ensures exact { HonestlyIn (P.means src.old) (λ f F. object.place ≡ off f F object.number

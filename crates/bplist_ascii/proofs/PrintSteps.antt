@@ -10,7 +10,7 @@ use Rattle.bplist_cursor.specs.OldStyle.{value_text, plain}
 use Rattle.bplist_ascii.specs.declared.print_fault.PrintFault.{PrintFault}
 use Rattle.bplist_ascii.specs.declared.print_fault.PrintFault.TheVariants.{NoAsciiForm, TooLong, Write, Read, Changed, Memory}
 use Rattle.bplist_ascii.specs.Sending.{Sending, SendsSome, Takes, TakesPart, IsOut, IsCut, AtMost}
-use Rattle.bplist_ascii.specs.Writing.{AddFails, TakesWithin}
+use Rattle.bplist_ascii.specs.BoundedWrites.{AddFails, TakesWithin}
 use Rattle.bplist_ascii.specs.Printed.{FitsLimit, IsPut, IsPrinted, HasText}
 use Rattle.bplist_ascii.proofs.SinkSteps.{out_start, out_takes, out_part, out_long}
 use Rattle.bplist_ascii.proofs.WriteSteps.{print_fault_of}

@@ -25,7 +25,7 @@ use Rattle.bplist_cursor.specs.Found.{IsHeld}
 use Rattle.bplist_cursor.specs.Members.{HoldsMember, member_of, member_reference, named, node_of, members}
 use Rattle.bplist_cursor.proofs.Membership.{in_turn, held_members}
 use Rattle.bplist_ascii.specs.Walks.{IsContainer, IsOfKind}
-use Rattle.bplist_ascii.specs.Searching.{places_of, HaveTexts, LeadsOn}
+use Rattle.bplist_ascii.specs.FormlessSearch.{places_of, HaveForms, HasSameFormless}
 use Rattle.bplist_ascii.proofs.WalkSteps.{IsMember, held_some, held_none}
 
 -- a form says whether there is a text
@@ -63,7 +63,7 @@ pairs_have (suc (suc i)) (pair u v ps) end texts e =
     both_texts (value_text v) (pairs_text ps) (λ t r. text_of_units u ++ (0x3D ∷ (t ++ (0x3B ∷ r)))) (texts 1 (omega arith) v refl)
     (pairs_have i ps end (λ j l. texts (suc (suc j)) (omega (arith, l)))) e
 
-all_have : (k : Kind) (v : Value) (i : ℕ) → IsOfKind k v → member_of v i ≡ None → HaveTexts v i → value_text v ≡ None → ⊥
+all_have : (k : Kind) (v : Value) (i : ℕ) → IsOfKind k v → member_of v i ≡ None → HaveForms v i → value_text v ≡ None → ⊥
 all_have kinds.Array (array vs) i o end texts e = members_have i vs end texts (no_map (λ t. 0x28 ∷ (t ++ 0x29 ∷ [])) (members_text vs) e)
 all_have kinds.Dict (dict ps) i o end texts e = pairs_have i ps end texts (no_map (λ t. 0x7B ∷ (t ++ 0x7D ∷ [])) (pairs_text ps) e)
 all_have _ _ i o end texts e = absurd o
@@ -99,12 +99,12 @@ pub passes_few : (k : Kind) (i distance : ℕ) → Passes k i distance → (1 �
 passes_few kinds.Dict i distance (odd, p) = (omega (arith, p), omega (arith, p))
 passes_few _ i distance p = (omega (arith, p), omega (arith, p))
 
-pub texts_start : (k : Kind) (v : Value) → IsOfKind k v → HaveTexts v (places_of k).0
+pub texts_start : (k : Kind) (v : Value) → IsOfKind k v → HaveForms v (places_of k).0
 texts_start kinds.Array (array vs) o j l w is e = absurd (omega (arith, l))
 texts_start kinds.Dict (dict ps) o j l w is e = key_has j ps w (omega (arith, l)) is e
 texts_start _ _ o j l w is e = absurd o
 
-pub texts_more : (k : Kind) (v : Value) (i distance : ℕ) → IsOfKind k v → Passes k i distance → HaveTexts v i → ((w : Value) → member_of v i ≡ Some w → value_text w ≡ None → ⊥) → HaveTexts v (i + distance)
+pub texts_more : (k : Kind) (v : Value) (i distance : ℕ) → IsOfKind k v → Passes k i distance → HaveForms v i → ((w : Value) → member_of v i ≡ Some w → value_text w ≡ None → ⊥) → HaveForms v (i + distance)
 texts_more kinds.Array (array vs) i distance o p texts here j l w is e = elim (cases_lt j i) [
   | inl below ↦ texts j below w is e
   | inr above ↦ here w (ap (slice_get (members vs)) (omega (arith, above, l, p)) ∙ is) e
@@ -185,7 +185,7 @@ module _ (f : List ℕ) (F : Frame) where
       match_some _ (value_text v) (texts 1 (omega arith) v refl) (first_of_pairs i ks ms ps node w e is (λ j l. texts (suc (suc j)) (omega (arith, l))) none x h)
 
   first_of_value : (k : Kind) (n : ℕ) (v : Value) (i : ℕ) (node : Node) (w : Value) → IsOfKind k v → Holds f F n v → ((c : Content) → Spells f F n c → Some node ≡ named (member_reference c i))
-      → member_of v i ≡ Some w → HaveTexts v i → value_text w ≡ None → (x : ℕ) → IsFormless f F node.object.0 w x → IsFormless f F n v x
+      → member_of v i ≡ Some w → HaveForms v i → value_text w ≡ None → (x : ℕ) → IsFormless f F node.object.0 w x → IsFormless f F n v x
   first_of_value kinds.Array n (array vs) i node w o h e is texts none x p = (h.0, h.1, first_of_each i h.0 vs node w (e (Content.array h.0) h.1) is texts none x p)
   first_of_value kinds.Dict n (dict ps) i node w o h e is texts none x p = (h.0, h.1, h.2, first_of_pairs i h.0 h.1 ps node w (e (Content.dict h.0 h.1) h.2) is texts none x p)
   first_of_value _ n _ i node w o h e is texts none x p = absurd o
@@ -233,13 +233,13 @@ module _ (checked : CheckedFile) (head : Head) (n : ℕ) (v : Value) (held : IsH
       has h.0 h.2 (ap value_text same ∙ none)
 
   -- behind the last member all have texts
-  pub not_all : (i : ℕ) → IsMember checked head i None → HaveTexts v i → value_text v ≡ None → ⊥
+  pub not_all : (i : ℕ) → IsMember checked head i None → HaveForms v i → value_text v ≡ None → ⊥
   not_all i is texts none = all_have head.kind v i kind_is (held_none checked.source.octets checked.frame (member_of v i) (member_is i None is)) texts none
 
   -- the first member without a text
-  pub leads : IsChecked checked → IsTrue checked.source.honest → (i : ℕ) (node : Node) → IsMember checked head i (Some node) → IsVouchedBy checked.certificate.heights node.object.0 → HaveTexts v i
+  pub leads : IsChecked checked → IsTrue checked.source.honest → (i : ℕ) (node : Node) → IsMember checked head i (Some node) → IsVouchedBy checked.certificate.heights node.object.0 → HaveForms v i
       → ((w : Value) → Holds checked.source.octets checked.frame node.object.0 w → value_text w ≡ None)
-      → LeadsOn checked n v node.object.0 × (slice_index checked.certificate.heights node.object.0 < slice_index checked.certificate.heights n)
+      → HasSameFormless checked n v node.object.0 × (slice_index checked.certificate.heights node.object.0 < slice_index checked.certificate.heights n)
   leads is honest i node member vouched texts lacks =
       let f = checked.source.octets in
       let F = checked.frame in
@@ -260,7 +260,7 @@ module _ (checked : CheckedFile) (head : Head) (n : ℕ) (v : Value) (held : IsH
       )
 
 -- where the search goes on
-pub leads_further : (checked : CheckedFile) (n : ℕ) (v : Value) (m k : ℕ) → (a : LeadsOn checked n v m) → LeadsOn checked m a.value k → LeadsOn checked n v k
+pub leads_further : (checked : CheckedFile) (n : ℕ) (v : Value) (m k : ℕ) → (a : HasSameFormless checked n v m) → HasSameFormless checked m a.value k → HasSameFormless checked n v k
 leads_further checked n v m k a b = record { value = b.value; held = b.held; none = b.none; on = λ x i. a.on x (b.on x i) }
 
 pub leads_none : {X A : Type 0} (B : X → Type 0) (o : Option X) → ((x : X) → o ≡ Some x → ⊥) → MatchOption o A B → A

@@ -18,14 +18,14 @@ use Rattle.bplist_cursor.specs.Texts.{text_of_units, text_of_bytes}
 use Rattle.bplist_cursor.specs.OldStyle.{comma, IsFormed, AreFormed, ArePairsFormed, plain, plain_members, plain_pairs}
 use Rattle.bplist_cursor.proofs.Membership.{in_turn, held_members}
 use Rattle.bplist_ascii.specs.Sending.{Sending, Takes}
-use Rattle.bplist_ascii.specs.Writing.{Adds}
+use Rattle.bplist_ascii.specs.BoundedWrites.{Adds}
 use Rattle.bplist_ascii.proofs.WriteSteps.{adds_more}
 use Rattle.bplist_ascii.specs.declared.walk.Opened.{Opened}
-use Rattle.bplist_ascii.specs.Walks.{opening_of, mark_of, closing_of, members_from, pairs_from, text_from, AreSafe, IsOfKind, IsRead, OpenedLeft, StackLeft, GoesOn}
+use Rattle.bplist_ascii.specs.Walks.{opening_of, separator_of, closing_of, members_from, pairs_from, text_from, AreSafe, IsOfKind, IsRead, OpenedLeft, StackLeft, GoesOn}
 
 -- the text of a container from member i on
 
-members_next : (i : ℕ) (vs : Values) (w : Value) → slice_get (members vs) i ≡ Some w → members_from i vs ≡ mark_of kinds.Array i ++ (plain w ++ members_from (suc i) vs)
+members_next : (i : ℕ) (vs : Values) (w : Value) → slice_get (members vs) i ≡ Some w → members_from i vs ≡ separator_of kinds.Array i ++ (plain w ++ members_from (suc i) vs)
 members_next i no_values w e = cc e
 members_next zero (value v vs) w e =
     let is : v ≡ w = cc e in
@@ -44,7 +44,7 @@ members_end (suc zero) (value v no_values) e = refl
 members_end (suc zero) (value v (value x xs)) e = cc e
 members_end (suc (suc i)) (value v vs) e = members_end (suc i) vs e
 
-pairs_next : (i : ℕ) (ps : Pairs) (w : Value) → slice_get (in_turn ps) i ≡ Some w → pairs_from i ps ≡ mark_of kinds.Dict i ++ (plain w ++ pairs_from (suc i) ps)
+pairs_next : (i : ℕ) (ps : Pairs) (w : Value) → slice_get (in_turn ps) i ≡ Some w → pairs_from i ps ≡ separator_of kinds.Dict i ++ (plain w ++ pairs_from (suc i) ps)
 pairs_next i no_pairs w e = cc e
 pairs_next zero (pair u v ps) w e =
     let is : leaf (text u) ≡ w = cc e in
@@ -63,7 +63,7 @@ pairs_end (suc zero) (pair u v ps) e = cc e
 pairs_end (suc (suc zero)) (pair u v ps) e = ap (λ l. 59 ∷ l) (pairs_end zero ps e)
 pairs_end (suc (suc (suc i))) (pair u v ps) e = pairs_end (suc i) ps e
 
-text_next : (k : Kind) (v : Value) (i : ℕ) (w : Value) → IsOfKind k v → member_of v i ≡ Some w → text_from v i ≡ mark_of k i ++ (plain w ++ text_from v (suc i))
+text_next : (k : Kind) (v : Value) (i : ℕ) (w : Value) → IsOfKind k v → member_of v i ≡ Some w → text_from v i ≡ separator_of k i ++ (plain w ++ text_from v (suc i))
 text_next kinds.Array (array vs) i w o e = members_next i vs w e
 text_next kinds.Dict (dict ps) i w o e = pairs_next i ps w e
 text_next _ _ i w o e = absurd o
@@ -79,13 +79,13 @@ text_opens kinds.Dict (dict ps) o = refl
 text_opens _ _ o = absurd o
 
 -- what stands before a value of a dictionary, and before a further key
-pub mark_odd : (i : ℕ) → i % 2 ≡ 1 → mark_of kinds.Dict i ≡ 61 ∷ []
+pub mark_odd : (i : ℕ) → i % 2 ≡ 1 → separator_of kinds.Dict i ≡ 61 ∷ []
 mark_odd zero e = absurd (omega (arith, e))
 mark_odd (suc zero) e = refl
 mark_odd (suc (suc zero)) e = absurd (omega (arith, e))
 mark_odd (suc (suc (suc i))) e = mark_odd (suc i) (omega (arith, e))
 
-pub mark_even : (i : ℕ) → (i ≡ 0 → ⊥) → (i % 2 ≡ 1 → ⊥) → mark_of kinds.Dict i ≡ 59 ∷ []
+pub mark_even : (i : ℕ) → (i ≡ 0 → ⊥) → (i % 2 ≡ 1 → ⊥) → separator_of kinds.Dict i ≡ 59 ∷ []
 mark_even zero some e = absurd (some refl)
 mark_even (suc zero) some e = absurd (e refl)
 mark_even (suc (suc zero)) some e = refl
@@ -210,7 +210,7 @@ module _ (checked : CheckedFile) where
     pub formed : IsFormed value
     pub rest : List ℕ
     pub pushed : (i : ℕ) → i ≡ suc o.next → StackLeft checked (os ++ record { head = o.head; next = i } ∷ []) rest
-    pub is : left ≡ mark_of o.head.kind o.next ++ (plain value ++ rest)
+    pub is : left ≡ separator_of o.head.kind o.next ++ (plain value ++ rest)
 
   pub goes_on : (os : List Opened) (o : Opened) (node : Node) (left : List ℕ) → StackLeft checked (os ++ o ∷ []) left → IsMember o.head o.next (Some node) → Next os o node left
   goes_on os o node left s is =
@@ -218,7 +218,7 @@ module _ (checked : CheckedFile) where
       let v = p.2.0 in
       let r = p.2.1 in
       let w = held_some checked.source.octets checked.frame (member_of v o.next) node (member_held o v (Some node) r is) in
-      let c = mark_of o.head.kind o.next in
+      let c = separator_of o.head.kind o.next in
       let rest = text_from v (suc o.next) in
       record {
         value = w.0;

@@ -12,10 +12,10 @@ use Rattle.bplist_octets.specs.Octets.{part}
 use Rattle.bplist_cert.specs.CheckedFile.{CheckedFile}
 use Rattle.bplist_ascii.specs.Sending.{Sending, SendsSome, TakesPart}
 use Rattle.bplist_cursor.specs.Texts.{is_plain, text_of_units, quoted}
-use Rattle.bplist_ascii.specs.declared.style.Style.TheVariants.{Bare, Quoted}
+use Rattle.bplist_ascii.specs.declared.style.Style.TheVariants.{Unquoted, Quoted}
 use Rattle.bplist_cursor.specs.declared.faults.Unread.{Unread}
 use Rattle.bplist_cursor.specs.declared.faults.Unread.TheVariants as unread
-use Rattle.bplist_ascii.specs.Writing.{styled, fits, is_bare_text, Adds, AddsText, AddFails, StaysWithin}
+use Rattle.bplist_ascii.specs.BoundedWrites.{styled, fits, is_unquoted_text, Adds, AddsText, AddFails, StaysWithin}
 use Rattle.bplist_ascii.specs.declared.print_fault.PrintFault.{PrintFault}
 use Rattle.bplist_ascii.specs.declared.print_fault.PrintFault.TheVariants.{NoAsciiForm, TooLong, Write, Read, Changed, Memory}
 use Rattle.bplist_cursor.proofs.StepObjects.{not_true}
@@ -126,9 +126,9 @@ pub on_err : {X E : Type 0} {P : Type 0} (r : Result X E) → P → OnErr r P
 on_err (Ok x) p = tt
 on_err (Err e) p = p
 
-pub length-bare : (us : List ℕ) → length (flat_map (styled Bare) us) ≡ length us
-length-bare [] = refl
-length-bare (u ∷ us) = ap suc (length-bare us)
+pub length-unquoted : (us : List ℕ) → length (flat_map (styled Unquoted) us) ≡ length us
+length-unquoted [] = refl
+length-unquoted (u ∷ us) = ap suc (length-unquoted us)
 
 -- bytes, and then a text
 pub text_after : {old mid new : Option (List ℕ)} {s t u : Sending} {r r' r'' : ℕ} {P : Type 0} {xs ys : List ℕ} → Adds old mid s t r r' xs → AddsText mid new t u r' r'' P ys → AddsText old new s u r r'' P (xs ++ ys)
@@ -142,29 +142,29 @@ all_fit (u ∷ us) = all_fit us
 pub all_more : (p : ℕ → Bool) (us : List ℕ) (a n : ℕ) → list_all p (take a us) ≡ true → list_all p (part us a n) ≡ true → list_all p (take (a + n) us) ≡ true
 all_more p us a n h k = ap (list_all p) (take-add a n us) ∙ list_all-append p (take a us) (part us a n) ∙ ap (λ b. b && list_all p (part us a n)) h ∙ k
 
-pub all_is_bare : (us : List ℕ) → 0 < length us → list_all is_plain us ≡ true → is_bare_text us ≡ true
-all_is_bare [] l h = absurd (omega (arith, l))
-all_is_bare (u ∷ us) l h = h
+pub all_is_unquoted : (us : List ℕ) → 0 < length us → list_all is_plain us ≡ true → is_unquoted_text us ≡ true
+all_is_unquoted [] l h = absurd (omega (arith, l))
+all_is_unquoted (u ∷ us) l h = h
 
-bare_all : (us : List ℕ) → is_bare_text us ≡ true → list_all is_plain us ≡ true
-bare_all [] h = refl
-bare_all (u ∷ us) h = h
+unquoted_all : (us : List ℕ) → is_unquoted_text us ≡ true → list_all is_plain us ≡ true
+unquoted_all [] h = refl
+unquoted_all (u ∷ us) h = h
 
 -- a part that is not plain
-pub part_not_bare : (us : List ℕ) (a n : ℕ) → list_all is_plain (part us a n) ≡ false → false ≡ is_bare_text us
-part_not_bare us a n h = sym (not_true (is_bare_text us) (λ bare. let k = all_in_part is_plain us a n (bare_all us bare) in cc (h, k)))
+pub part_not_unquoted : (us : List ℕ) (a n : ℕ) → list_all is_plain (part us a n) ≡ false → false ≡ is_unquoted_text us
+part_not_unquoted us a n h = sym (not_true (is_unquoted_text us) (λ unquoted. let k = all_in_part is_plain us a n (unquoted_all us unquoted) in cc (h, k)))
 
-pub bare_text : (us : List ℕ) → is_bare_text us ≡ true → (text_of_units us ≡ us) × (list_all (fits Bare) us ≡ true)
-bare_text [] h = absurd (cc h)
-bare_text (u ∷ us) h = (rw h refl, h)
+pub unquoted_text : (us : List ℕ) → is_unquoted_text us ≡ true → (text_of_units us ≡ us) × (list_all (fits Unquoted) us ≡ true)
+unquoted_text [] h = absurd (cc h)
+unquoted_text (u ∷ us) h = (rw h refl, h)
 
-pub quoted_text : (us : List ℕ) → is_bare_text us ≡ false → text_of_units us ≡ quoted us
+pub quoted_text : (us : List ℕ) → is_unquoted_text us ≡ false → text_of_units us ≡ quoted us
 quoted_text [] h = refl
 quoted_text (u ∷ us) h = rw h refl
 
-pub flat_bare : (us : List ℕ) → flat_map (styled Bare) us ≡ us
-flat_bare [] = refl
-flat_bare (u ∷ us) = ap (λ l. u ∷ l) (flat_bare us)
+pub flat_unquoted : (us : List ℕ) → flat_map (styled Unquoted) us ≡ us
+flat_unquoted [] = refl
+flat_unquoted (u ∷ us) = ap (λ l. u ∷ l) (flat_unquoted us)
 
 -- a text that is another under its premise
 pub text_under : {old new : Option (List ℕ)} {s t : Sending} {r r' : ℕ} {P : Type 0} {xs ys : List ℕ} → (P → xs ≡ ys) → AddsText old new s t r r' P xs → AddsText old new s t r r' P ys

@@ -1,5 +1,5 @@
 pub mod Sending
-pub mod Writing
+pub mod BoundedWrites
 pub mod Walks
-pub mod Searching
+pub mod FormlessSearch
 pub mod Printed

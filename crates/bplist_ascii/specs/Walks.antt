@@ -11,7 +11,7 @@ use Rattle.bplist_cert.specs.CheckedFile.{CheckedFile}
 use Rattle.bplist_cursor.specs.Found.{IsHeld}
 use Rattle.bplist_cursor.specs.OldStyle.{comma, IsFormed, plain, plain_members, plain_pairs}
 use Rattle.bplist_ascii.specs.Sending.{Sending}
-use Rattle.bplist_ascii.specs.Writing.{Adds}
+use Rattle.bplist_ascii.specs.BoundedWrites.{Adds}
 use Rattle.bplist_ascii.specs.declared.walk.Opened.{Opened}
 
 -- what stands before the members of a container
@@ -20,13 +20,13 @@ opening_of kinds.Dict = 0x7B ∷ []
 opening_of _ = 0x28 ∷ []
 
 -- what stands before member i: of an array `,`, of a dictionary `=` before a value and `;` before a further key
-abbrev pub mark_of : Kind → ℕ → List ℕ
-mark_of kinds.Dict zero = []
-mark_of kinds.Dict (suc zero) = 0x3D ∷ []
-mark_of kinds.Dict (suc (suc zero)) = 0x3B ∷ []
-mark_of kinds.Dict (suc (suc (suc i))) = mark_of kinds.Dict (suc i)
-mark_of _ zero = []
-mark_of _ (suc i) = 0x2C ∷ []
+abbrev pub separator_of : Kind → ℕ → List ℕ
+separator_of kinds.Dict zero = []
+separator_of kinds.Dict (suc zero) = 0x3D ∷ []
+separator_of kinds.Dict (suc (suc zero)) = 0x3B ∷ []
+separator_of kinds.Dict (suc (suc (suc i))) = separator_of kinds.Dict (suc i)
+separator_of _ zero = []
+separator_of _ (suc i) = 0x2C ∷ []
 
 -- what stands behind the members of a container, which are so many
 abbrev pub closing_of : Kind → ℕ → List ℕ

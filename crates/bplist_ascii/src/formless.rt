@@ -15,7 +15,7 @@ ghost use Rattle.bplist_cursor.specs.OldStyle.{value_text};
 ghost use Rattle.bplist_cursor.specs.Formless.{IsFormless};
 ghost use Rattle.bplist_cursor.specs.Found.{IsHeld};
 ghost use Rattle.bplist_ascii.specs.Walks.{IsContainer};
-ghost use Rattle.bplist_ascii.specs.Searching.{LeadsOn, places_of};
+ghost use Rattle.bplist_ascii.specs.FormlessSearch.{HasSameFormless, places_of};
 
 use bplist_cert::Checked;
 use bplist_cursor::{Form, Measures, Node, Unread, member_by_head, node_head};
@@ -52,7 +52,7 @@ fn first_without_text<S: Source>(
     ensures reads { Keeps (read_failed result) checked.old checked.new }
     ensures exact { HonestlyChecked checked.old (λ f F. (n : ℕ) (v : Value) → IsHeld checked.old n v → value_text v ≡ None
         → ((c : Content) → Spells f F n c → c ≡ content_at f F head.now)
-        → GivesRead (λ node. LeadsOn checked.old n v node.object.0 × (slice_index checked.old.certificate.heights node.object.0
+        → GivesRead (λ node. HasSameFormless checked.old n v node.object.0 × (slice_index checked.old.certificate.heights node.object.0
         < slice_index checked.old.certificate.heights n)) result) }
 {
     let (mut i, distance) = places(head.kind);
@@ -77,7 +77,7 @@ fn next_formless<S: Source>(
     ensures reads { Keeps (read_failed result) checked.old checked.new }
     ensures exact { HonestlyChecked checked.old (λ f F. (v : Value) → IsHeld checked.old node.object.0 v → value_text v ≡ None
         → GivesRead (λ next. MatchOption next (IsFormless f F node.object.0 v node.object.0)
-        (λ m. LeadsOn checked.old node.object.0 v m.object.0)) result) }
+        (λ m. HasSameFormless checked.old node.object.0 v m.object.0)) result) }
     ensures lower { IfOk result (λ next. IfSome next (λ m. slice_index checked.old.certificate.heights m.object.0
         < slice_index checked.old.certificate.heights node.object.0)) }
 {

@@ -10,8 +10,8 @@ ghost use Rattle.bplist_objects.specs.declared.kind.Kind.TheVariants.{Bytes};
 ghost use Rattle.bplist_cursor.specs.Causes.{GivesRead, read_failed};
 ghost use Rattle.bplist_cursor.specs.Kept.{Keeps};
 ghost use Rattle.bplist_cursor.specs.Texts.{hex_digits, text_of_units, text_of_bytes, quoted};
-ghost use Rattle.bplist_ascii.specs.Writing.{print_read, AddsText, AddFails, FailsWithin, StaysWithin, styled, fits, is_bare_text};
-ghost use Rattle.bplist_ascii.specs.declared.style.Style.TheVariants.{Bare};
+ghost use Rattle.bplist_ascii.specs.BoundedWrites.{print_read, AddsText, AddFails, FailsWithin, StaysWithin, styled, fits, is_unquoted_text};
+ghost use Rattle.bplist_ascii.specs.declared.style.Style.TheVariants.{Unquoted};
 
 use crate::output::{write, write_digits, write_units};
 use crate::print_fault::PrintFault;
@@ -27,13 +27,13 @@ use std::io::Write;
 const PART: usize = 128;
 
 /// Whether a text has a unit and all are letters and digits of ASCII.
-fn is_bare<S: Source>(checked: &mut Checked<S>, head: &Head) -> Result<bool, Unread>
+fn is_unquoted<S: Source>(checked: &mut Checked<S>, head: &Head) -> Result<bool, Unread>
     requires kind { IsTextKind head.now.kind }
     requires head { IsSafeBody (length checked.old.source.octets) head.now }
     ensures reads { Keeps (read_failed result) checked.old checked.new }
-    ensures exact { GivesRead (λ bare. HonestlyChecked checked.old
-        (λ f _. bare ≡ is_bare_text (units_of f head.now))) result }
-    ensures some { IfOk result (λ bare. bare ≡ true → 0 < head.now.count) }
+    ensures exact { GivesRead (λ unquoted. HonestlyChecked checked.old
+        (λ f _. unquoted ≡ is_unquoted_text (units_of f head.now))) result }
+    ensures some { IfOk result (λ unquoted. unquoted ≡ true → 0 < head.now.count) }
 {
     if head.count == 0 {
         return Ok(false);
@@ -72,7 +72,7 @@ fn write_text_body<S: Source, W: Write>(
         → AddFails (W.contents out.old) (W.contents out.new) sink.old
         (flat_map (styled text.now.style) (units_of f text.now.head)) e)) }
     ensures bounded { OnErr result (StaysWithin (W.contents out.old) (W.contents out.new) sink.old room.old) }
-    ensures falls { OnOk result (text.now.style ≡ Bare → room.new + text.now.head.count ≤ room.old) }
+    ensures falls { OnOk result (text.now.style ≡ Unquoted → room.new + text.now.head.count ≤ room.old) }
 {
     let mut buffer = [0; PART];
     let mut done = 0;
@@ -186,10 +186,10 @@ pub(crate) fn write_text<S: Source, W: Write>(
     ensures bounded { OnErr result (StaysWithin (W.contents out.old) (W.contents out.new) sink.old room.old) }
     ensures falls { OnOk result (room.new < room.old) }
 {
-    if is_bare(checked, head)? {
+    if is_unquoted(checked, head)? {
         let text = Styled {
             head: *head,
-            style: Style::Bare,
+            style: Style::Unquoted,
         };
         return write_text_body(checked, &text, sink, out, room);
     }

@@ -3,7 +3,7 @@
 ghost use Rattle.std.specs.Prelude.{◌≡◌, ◌<◌, ◌≤◌, false, true, length, flat_map, OnOk, IfErr, OnErr};
 ghost use Rattle.std.specs.List.{list_all};
 ghost use Rattle.bplist_cursor.specs.Texts.{hex_digits};
-ghost use Rattle.bplist_ascii.specs.Writing.{print_read, Adds, AddFails, FailsWithin, StaysWithin, styled, fits};
+ghost use Rattle.bplist_ascii.specs.BoundedWrites.{print_read, Adds, AddFails, FailsWithin, StaysWithin, styled, fits};
 
 use crate::print_fault::PrintFault;
 use crate::sink::Sink;
@@ -48,7 +48,7 @@ fn write_unit<W: Write>(
     ensures bounded { OnErr result (StaysWithin (W.contents out.old) (W.contents out.new) sink.old room.old) }
 {
     match style {
-        Style::Bare => {
+        Style::Unquoted => {
             if !is_plain(unit) {
                 return Err(PrintFault::Changed);
             }

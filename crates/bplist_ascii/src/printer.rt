@@ -8,7 +8,7 @@ ghost use Rattle.bplist_cert.specs.Valid.{IsVouchedBy};
 ghost use Rattle.bplist_cursor.specs.Kept.{Keeps};
 ghost use Rattle.bplist_cursor.specs.Sizes.{AreMeasures};
 ghost use Rattle.bplist_ascii.specs.Sending.{AtMost, Takes};
-ghost use Rattle.bplist_ascii.specs.Writing.{print_read};
+ghost use Rattle.bplist_ascii.specs.BoundedWrites.{print_read};
 ghost use Rattle.bplist_ascii.specs.Printed.{IsPut, IsPrinted};
 ghost use Rattle.bplist_ascii.specs.declared.print_fault.PrintFault.TheVariants.{Changed};
 

@@ -6,7 +6,7 @@ use bplist_objects::Head;
 #[derive(Clone, Copy, Debug, PartialEq, Eq, Drop)]
 pub(crate) enum Style {
     /// As they are.
-    Bare,
+    Unquoted,
     /// Between quotes.
     Quoted,
 }

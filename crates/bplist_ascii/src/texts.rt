@@ -16,7 +16,7 @@ pub fn text_of_units(alloc: Global, units: &[u16]) -> Result<Vec<u8>, AllocError
     ensures { IfOk result (λ text. text.items ≡ spec.text_of_units units.now) }
 {
     if !units.is_empty() && are_plain(units) {
-        return bare_text(alloc, units);
+        return unquoted_text(alloc, units);
     }
     let mut text = Vec::new(alloc);
     text.push(b'"')?;
@@ -28,7 +28,7 @@ pub fn text_of_units(alloc: Global, units: &[u16]) -> Result<Vec<u8>, AllocError
 }
 
 /// The units themselves, a byte for each.
-fn bare_text(alloc: Global, units: &[u16]) -> Result<Vec<u8>, AllocError>
+fn unquoted_text(alloc: Global, units: &[u16]) -> Result<Vec<u8>, AllocError>
     requires { list_all spec.is_plain units.now ≡ true }
     ensures { IfOk result (λ text. text.items ≡ units.now) }
 {

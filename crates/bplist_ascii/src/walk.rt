@@ -3,9 +3,9 @@
 ghost use Rattle.std.specs.Prelude.{◌≡◌, ◌<◌, ◌++◌, [], ◌∷◌, List, ℕ, OnOk, IfErr, OnErr};
 ghost use Rattle.bplist_objects.specs.Safe.{IsSafeHead};
 ghost use Rattle.bplist_cursor.specs.Kept.{Keeps};
-ghost use Rattle.bplist_ascii.specs.Writing.{print_read, AddsSome, TakesWithin, FailsWithin, StaysWithin};
+ghost use Rattle.bplist_ascii.specs.BoundedWrites.{print_read, AddsSome, TakesWithin, FailsWithin, StaysWithin};
 ghost use Rattle.bplist_ascii.specs.Sending.{Takes};
-ghost use Rattle.bplist_ascii.specs.Walks.{opening_of, mark_of, closing_of, AreSafe, HonestlyLeft, HonestlyPlain, StackLeft, GoesOn};
+ghost use Rattle.bplist_ascii.specs.Walks.{opening_of, separator_of, closing_of, AreSafe, HonestlyLeft, HonestlyPlain, StackLeft, GoesOn};
 
 use crate::leaves::{write_data, write_text};
 use crate::output::write;
@@ -57,8 +57,8 @@ fn opening(kind: Kind) -> &'static [u8]
 }
 
 /// What stands before member `i` of a container.
-fn mark(kind: Kind, i: u64) -> &'static [u8]
-    ensures { result.now ≡ mark_of kind i }
+fn separator(kind: Kind, i: u64) -> &'static [u8]
+    ensures { result.now ≡ separator_of kind i }
 {
     match kind {
         _ if i == 0 => b"",
@@ -138,7 +138,7 @@ fn step<S: Source, W: Write>(
     let Some(node) = member_by_head(checked, head, opened.next)? else {
         return write(sink, out, &mut walk.room, closing(head.kind, opened.next));
     };
-    write(sink, out, &mut walk.room, mark(head.kind, opened.next))?;
+    write(sink, out, &mut walk.room, separator(head.kind, opened.next))?;
     walk.stack.push(Opened {
         next: opened.next + 1,
         ..opened

@@ -7,7 +7,7 @@ use Rattle.bplist_objects.specs.declared.kind.Kind.TheVariants as kinds
 use Rattle.bplist_objects.specs.Value.{int}
 use Rattle.bplist_objects.specs.Heads.{content_of, leaf}
 use Rattle.bplist_objects.specs.Numbers.{integer, num_at}
-use Rattle.bplist_c.specs.Reading.{int_answer, uid_answer}
+use Rattle.bplist_c.specs.Objects.{int_answer, uid_answer}
 use Rattle.bplist_c.specs.declared.status.Status.TheVariants as statuses
 
 module _ (f : List ℕ) (F : Frame) where

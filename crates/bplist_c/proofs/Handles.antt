@@ -24,7 +24,7 @@ use Rattle.std.specs.contracts.alloc.Global as heap
 use Rattle.std.proofs.alloc.Global.TheLaws as heap_laws
 use Rattle.std.specs.contracts.impls.GlobalAllocator.TheImpl.{ghosts}
 use Rattle.std_alloc.specs.Box.Ownership.{box_owns}
-use Rattle.bplist_c.specs.Held.{handle_owns}
+use Rattle.bplist_c.specs.Handles.{handle_owns}
 use Rattle.bplist_c.specs.declared.session.Session.{Session}
 use Rattle.bplist_c.specs.contracts.session.Session as session
 use Rattle.bplist_c.specs.contracts.handle.BplistHeld as handle

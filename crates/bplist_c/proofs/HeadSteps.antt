@@ -10,7 +10,7 @@ use Rattle.bplist_objects.specs.Answers.{Gives, Never, read_failed}
 use Rattle.bplist_objects.specs.Heads.{Content, HasShape, IsHeadOf, Spells, content_at}
 use Rattle.bplist_cert.specs.CheckedFile.{CheckedFile, IsChecked}
 use Rattle.bplist_cert.specs.Valid.{IsVouchedBy}
-use Rattle.bplist_c.specs.Reading.{OnObject, kind_number}
+use Rattle.bplist_c.specs.Objects.{OnObject, kind_number}
 use Rattle.bplist_c.specs.declared.status.Status.{Status}
 use Rattle.bplist_c.specs.declared.status.Status.TheVariants as statuses
 use Rattle.bplist_c.specs.declared.verdict.Top.{Top}

@@ -6,4 +6,4 @@ pub mod KeptLists
 pub mod TextSteps
 pub mod Values
 pub mod Handles
-pub mod Opened
+pub mod OpenedHandles

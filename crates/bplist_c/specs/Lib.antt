@@ -1,9 +1,9 @@
-pub mod Finding
-pub mod Held
-pub mod Opening
-pub mod Reading
+pub mod Lookup
+pub mod Handles
+pub mod Lifecycle
+pub mod Objects
 pub mod Sessions
-pub mod Sizing
+pub mod Sizes
 pub mod Statuses
 pub mod Texts
 pub mod Verdicts

@@ -16,7 +16,7 @@ use Rattle.bplist_c.specs.declared.status.Status.{Status}
 use Rattle.bplist_c.specs.declared.status.Status.TheVariants as statuses
 use Rattle.bplist_c.specs.declared.verdict.BplistVerdict.{BplistVerdict}
 use Rattle.bplist_c.specs.declared.verdict.TheConstants.{NO_VERDICT}
-use Rattle.bplist_c.specs.Reading.{kind_number}
+use Rattle.bplist_c.specs.Objects.{kind_number}
 use Rattle.bplist_objects.specs.Words.{number_of as number_of_rule, word_of}
 use Rattle.bplist_lint.specs.Trail.{number}
 use Rattle.bplist_c.specs.Statuses.{PutsAll}

@@ -19,7 +19,7 @@ pub struct BplistHeld {
 }
 
 impl Model for BplistHeld {
-    ghost use Rattle.bplist_c.specs.Held.{handle_owns};
+    ghost use Rattle.bplist_c.specs.Handles.{handle_owns};
 
     ghost also_owns = { λ h. handle_owns h.alloc h.at h.value };
 }

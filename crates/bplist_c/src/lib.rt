@@ -13,8 +13,8 @@
 //! | module | exports |
 //! |---|---|
 //! | `linter` | `bplist_lint`, `bplist_circle`, `bplist_rule_name` |
-//! | `open` | `bplist_open`, `bplist_open_certified`, `bplist_close`, `bplist_certificate` |
-//! | `found` | `bplist_find`, `bplist_find_key` |
+//! | `lifecycle` | `bplist_open`, `bplist_open_certified`, `bplist_close`, `bplist_certificate` |
+//! | `lookup` | `bplist_find`, `bplist_find_key` |
 //! | `object` | `bplist_face`, `bplist_int`, `bplist_uid`, `bplist_member`, `bplist_units` |
 //! | `sizes`, `text` | `bplist_size`, `bplist_text` |
 //!
@@ -22,13 +22,13 @@
 //! makes the `Checked` of both by moves (`loan`). `status` and `verdict` turn answers into numbers.
 #![tactic(auto)]
 
-mod found;
 mod handle;
+mod lifecycle;
 mod linter;
 mod loan;
+mod lookup;
 mod loose;
 mod object;
-mod open;
 mod session;
 mod sizes;
 mod status;

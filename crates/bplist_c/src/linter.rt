@@ -15,7 +15,7 @@ ghost use Rattle.std.specs.Global.{Global as global};
 ghost use Rattle.bplist_c.specs.declared.status.Status.{Status as status};
 ghost use Rattle.bplist_c.specs.declared.status.Status.TheVariants.{Memory};
 ghost use Rattle.bplist_c.specs.Statuses.{Puts};
-ghost use Rattle.bplist_c.specs.Reading.{kind_number as number_of_kind};
+ghost use Rattle.bplist_c.specs.Objects.{kind_number as number_of_kind};
 ghost use Rattle.bplist_c.specs.Verdicts.{CircleSays, NamesRule, ShowsLint};
 
 use crate::object::number_of as kind_number;

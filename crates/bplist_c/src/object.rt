@@ -6,7 +6,7 @@ ghost use Rattle.bplist_objects.specs.Numbers.{integer, num_at};
 ghost use Rattle.bplist_objects.specs.Units.{IsTextKind, units_of};
 ghost use Rattle.bplist_objects.specs.Value.{int};
 ghost use Rattle.bplist_objects.specs.declared.kind.Kind.TheVariants.{Int, Uid};
-ghost use Rattle.bplist_objects.specs.Announced.{unit};
+ghost use Rattle.bplist_objects.specs.Announced.{item_size};
 ghost use Rattle.bplist_objects.specs.Heads.{IsHeadOf, Spells, leaf};
 ghost use Rattle.bplist_objects.specs.Safe.{IsSafeBody, IsSafeHead};
 ghost use Rattle.bplist_cursor.specs.Members.{member_reference};
@@ -14,7 +14,7 @@ ghost use Rattle.bplist_c.specs.declared.object.BplistBody.{BplistBody as body};
 ghost use Rattle.bplist_c.specs.declared.status.Status.{Status as status};
 ghost use Rattle.bplist_c.specs.declared.status.Status.TheVariants.{NoMember};
 ghost use Rattle.bplist_c.specs.declared.object.BplistInteger.{BplistInteger as number};
-ghost use Rattle.bplist_c.specs.Reading.{OnObject, UnitsSay, body_of, int_answer, kind_number, uid_answer};
+ghost use Rattle.bplist_c.specs.Objects.{OnObject, UnitsSay, body_of, int_answer, kind_number, uid_answer};
 ghost use Rattle.bplist_c.specs.Sessions.{IsFileOf, IsSame, OnHandle};
 ghost use Rattle.bplist_c.specs.Statuses.{Tells};
 
@@ -80,9 +80,9 @@ pub(crate) fn number_of(kind: Kind) -> u32
 }
 
 /// How many bytes of the body one of the count takes.
-fn unit_of(kind: Kind, ref_size: u8) -> u8
+fn item_size(kind: Kind, ref_size: u8) -> u8
     requires { ref_size ≤ 8 }
-    ensures { result ≡ unit ref_size kind }
+    ensures { result ≡ item_size ref_size kind }
 {
     match kind {
         Kind::Wide => 2,
@@ -99,12 +99,12 @@ fn face_of(checked: &Checked<SliceSource<'_>>, object: u32) -> Result<BplistBody
     let frame = checked.frame();
     let _octets = checked.octets();
     let head = head_of_object(checked, object)?;
-    let unit = unit_of(head.kind, frame.ref_size) as u64;
+    let item_size = item_size(head.kind, frame.ref_size) as u64;
     Ok(BplistBody {
         kind: number_of(head.kind),
         count: head.count,
         place: head.body,
-        length: head.count * unit,
+        length: head.count * item_size,
     })
 }
 

@@ -5,7 +5,7 @@ ghost use Rattle.bplist_c.specs.declared.status.Status.{Status as status};
 ghost use Rattle.bplist_c.specs.declared.text.Text.{Text as text};
 ghost use Rattle.bplist_c.specs.Sessions.{IsFileOf, IsSame, OnHandle};
 ghost use Rattle.bplist_c.specs.Statuses.{PutsAll};
-ghost use Rattle.bplist_c.specs.Reading.{OnObject};
+ghost use Rattle.bplist_c.specs.Objects.{OnObject};
 ghost use Rattle.bplist_objects.specs.Holds.{Holds};
 ghost use Rattle.bplist_c.specs.Texts.{IsTextOf, TellsText, printed_as, text_length};
 

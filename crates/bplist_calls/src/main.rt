@@ -22,16 +22,16 @@
 mod answers;
 mod counts;
 mod lines;
+mod repeated_calls;
 mod requests;
-mod twice;
 
 use answers::answer_lines;
 use anyhow::{Result, bail};
 use counts::write_counts;
 use lines::has_same_file;
+use repeated_calls::make_twice;
 use std::alloc::Global;
 use std::io::{self, BufRead, BufReader, BufWriter, Read, Write};
-use twice::make_twice;
 
 fn answer_requests(rt: &HostRuntime, alloc: Global) -> Result<()> {
     let lines: Vec<String> = BufReader::new(alloc, rt.reader())?

@@ -30,10 +30,10 @@ use Rattle.bplist_cert.specs.Lists.{Keyed, Lists, lists, list_of}
 use Rattle.bplist_cert.specs.Valid.{IsVouchedBy, IsVouched, IsValid}
 use Rattle.bplist_cert.specs.Sorted.{IsSorted, HasSortedKeys, AreListed, IsAccepted}
 use Rattle.bplist_cert.specs.Heights.{ref}
-use Rattle.bplist_cert.specs.Looks.{AreSeen}
-use Rattle.bplist_cert.specs.Keys.{HaveTexts, KeysDiffer, AreInOrder}
+use Rattle.bplist_cert.specs.Looks.{KeepBeforeKeysBelow}
+use Rattle.bplist_cert.specs.KeyKinds.{KeysAreTexts, KeysDiffer, AreInOrder}
 use Rattle.bplist_cert.specs.CheckRules.{Asks, KeepsByCheck, BreaksByCheck, BreaksAtCheck, KeepsCheck, IsCheckFault, HasOrder, BreaksOrder, KeepsLast, vouched_rules, last_rule}
-use Rattle.bplist_cert.specs.PairFault.{IsKept, IsVouchedFault, IsCountFault, IsPairFault}
+use Rattle.bplist_cert.specs.PairFault.{KeepsPairRules, IsVouchedFault, IsCountFault, IsPairFault}
 use Rattle.bplist_cert.proofs.CheckSteps.{vouched_inside, key_count, last_kept}
 use Rattle.bplist_cert.proofs.KeyTies.{HaveKeys, keys_from_rules, rules_from_keys}
 use Rattle.bplist_cert.proofs.TextKeys.{key_refs, texts_are, units_at_key, ordered_differ}
@@ -45,7 +45,7 @@ last_by f F heights None n head has kind k = subst (KeysDiffer f F head) (key_co
 last_by f F heights (Some keyed) n head has kind k = k head has kind
 
 -- keys differ where the rule is kept
-last_differs : (f : List ℕ) (F : Frame) (keys : Option Keyed) (n : ℕ) (head : Head) → HaveTexts f F head head.count → KeepsLast f F keys n head → KeysDiffer f F head head.count
+last_differs : (f : List ℕ) (F : Frame) (keys : Option Keyed) (n : ℕ) (head : Head) → KeysAreTexts f F head head.count → KeepsLast f F keys n head → KeysDiffer f F head head.count
 last_differs f F None n head texts k = k
 last_differs f F (Some keyed) n head texts k = ordered_differ f F head (list_of keyed n head.count) texts k.1
 
@@ -77,12 +77,12 @@ module _ (f : List ℕ) (F : Frame) (heights : List ℕ) (keys : Option Keyed) (
         spells = spells.1;
         lower = all_refs f F (λ m. IsVouchedBy heights m × (slice_index heights m < slice_index heights n)) head.kind head.count head.body (λ i l. (met i l, low i l));
         keys = keys_from_rules f F n head spells.0 (content_at f F head) spells.1 (λ kind.
-            let texts = subst (HaveTexts f F head) (key_count head kind) (rest.1.1.1.0 head has kind) in
+            let texts = subst (KeysAreTexts f F head) (key_count head kind) (rest.1.1.1.0 head has kind) in
             (texts, last_differs f F keys n head texts (last_by f F heights keys n head has kind rest.1.1.1.1.0)));
       }
 
 -- a list in order is sorted
-sorted : (f : List ℕ) (F : Frame) (head : Head) (list : List ℕ) → length list ≡ head.count → HaveTexts f F head head.count → AreInOrder f F head list head.count → IsSorted f F (key_refs f F head) list
+sorted : (f : List ℕ) (F : Frame) (head : Head) (list : List ℕ) → length list ≡ head.count → KeysAreTexts f F head head.count → AreInOrder f F head list head.count → IsSorted f F (key_refs f F head) list
 sorted f F head list all texts order =
     let us = texts_are f F head texts in
     let many = length-nums_at f head.body F.ref_size head.count in
@@ -112,7 +112,7 @@ listed f F heights (Some keyed) frame all kept = λ n ks ms v s.
     let has = shape_announced f F n head s.has in
     let more = k.1 in
     let is = dict_refs f F head.kind head.count head.body ks ms s.means in
-    let texts = subst (HaveTexts f F head) (key_count head is.0) (more.1.1.1.0 head has is.0) in
+    let texts = subst (KeysAreTexts f F head) (key_count head is.0) (more.1.1.1.0 head has is.0) in
     let order = more.1.1.1.1.0 head has is.0 in
     let many = length-nums_at f head.body F.ref_size head.count in
     let whole : length (list_of keyed n head.count) ≡ head.count = length-take-le head.count (drop (slice_index keyed.starts n) keyed.positions) (omega (arith, length-drop (slice_index keyed.starts n) keyed.positions, order.0)) in
@@ -121,7 +121,7 @@ listed f F heights (Some keyed) frame all kept = λ n ks ms v s.
       subst (λ c. IsSorted f F (key_refs f F head) (part keyed.positions (slice_index keyed.starts n) c)) (sym many) (sorted f F head (list_of keyed n head.count) whole texts order.1),
     )
 
-pub accepted : (f : List ℕ) (F : Frame) (certificate : Lists) → IsKept f F certificate → IsAccepted f F certificate
+pub accepted : (f : List ℕ) (F : Frame) (certificate : Lists) → KeepsPairRules f F certificate → IsAccepted f F certificate
 accepted f F certificate k =
     let heights = certificate.heights in
     let keys = certificate.keys in
@@ -171,7 +171,7 @@ module _ (f : List ℕ) (F : Frame) (heights : List ℕ) (valid : IsValid f F he
       omega (arith, b, large)
 
 -- where heights are valid, looks show that
-pub valid_seen : (f : List ℕ) (F : Frame) (heights : List ℕ) → IsValid f F heights → AreSeen f F heights F.objects
+pub valid_seen : (f : List ℕ) (F : Frame) (heights : List ℕ) → IsValid f F heights → KeepBeforeKeysBelow f F heights F.objects
 valid_seen f F heights valid n lt v =
     let o = valid.vouched n v in
     record {
@@ -228,7 +228,7 @@ keeps_all f F certificate a n v =
           (
             λ other h i l. (seen.lower other h i l).1,
             (
-              λ other h kind. subst (HaveTexts f F other) (sym (key_count other kind)) (vouched_keys f F heights valid n v other h kind).0,
+              λ other h kind. subst (KeysAreTexts f F other) (sym (key_count other kind)) (vouched_keys f F heights valid n v other h kind).0,
               (last_kept f F heights keys n head has (λ kind. last_there f F heights keys valid a.listed n v head has kind), tt),
             ),
           ),

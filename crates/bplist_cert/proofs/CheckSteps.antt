@@ -30,13 +30,13 @@ use Rattle.bplist_cert.specs.Lists.{Keyed, Lists, lists, HasStarts, HasCount}
 use Rattle.bplist_cert.specs.Valid.{IsVouchedBy}
 use Rattle.bplist_cert.specs.Heights.{AreMet, IsHeightFault}
 use Rattle.bplist_objects.specs.Claims.{FailsAt}
-use Rattle.bplist_cert.specs.Keys.{HaveTexts, KeysDiffer}
+use Rattle.bplist_cert.specs.KeyKinds.{KeysAreTexts, KeysDiffer}
 use Rattle.bplist_cert.specs.CheckRules.{Asks, KeepsByCheck, BreaksAtCheck, KeepsCheck, IsCheckFault, vouched_rules, last_rule, HasOrder, KeepsLast, IsLastFault}
 use Rattle.bplist_cert.specs.declared.checker.Look.{Look}
 use Rattle.bplist_cert.specs.declared.checker.Look.TheVariants.{Quick, Exact}
-use Rattle.bplist_cert.specs.Looks.{IsSeen, AreSeen, IsShown, IsShownFault}
-use Rattle.bplist_cert.specs.KeyClasses.{HasGoodKeys, BreaksKeys, IsFirstKeysFault}
-use Rattle.bplist_cert.specs.PairFault.{IsHeld, Running, IsWalkFault, IsSeenFault, IsVouchedFault, IsPairFault}
+use Rattle.bplist_cert.specs.Looks.{KeepsBeforeKeys, KeepBeforeKeysBelow, IsShown, IsShownFault}
+use Rattle.bplist_cert.specs.KeyRepeats.{HasGoodKeys, BreaksKeys, IsFirstKeysFault}
+use Rattle.bplist_cert.specs.PairFault.{IsCheckedObject, AreCheckedBelow, IsWalkFault, IsSeenFault, IsVouchedFault, IsPairFault}
 use Rattle.bplist_cert.specs.Refusals.{GivesRefusal, Judges, refusal_of}
 
 -- the first references of a dictionary are those to its keys
@@ -126,7 +126,7 @@ module _ (f : List ℕ) (F : Frame) (heights : List ℕ) (keys : Option Keyed) (
 
       module _ (met : AreMet f F heights head Vouched (ref_count head.kind head.count)) (low : AreMet f F heights head (Below (slice_index heights n)) (ref_count head.kind head.count)) where
         -- the object keeps the rules before those of keys
-        pub seen : IsHeld f F (lists heights keys) Quick n now
+        pub seen : IsCheckedObject f F (lists heights keys) Quick n now
         seen = record {
           sums = more;
           room = room;
@@ -138,7 +138,7 @@ module _ (f : List ℕ) (F : Frame) (heights : List ℕ) (keys : Option Keyed) (
         }
 
         -- the object keeps all rules
-        pub held : (head.kind ≡ kinds.Dict → HaveTexts f F head head.count × KeepsLast f F keys n head) → IsHeld f F (lists heights keys) Exact n now
+        pub held : (head.kind ≡ kinds.Dict → KeysAreTexts f F head head.count × KeepsLast f F keys n head) → IsCheckedObject f F (lists heights keys) Exact n now
         held last = record {
           sums = more;
           room = room;
@@ -151,7 +151,7 @@ module _ (f : List ℕ) (F : Frame) (heights : List ℕ) (keys : Option Keyed) (
                 (
                   by_head rules.HeightNotLess low,
                   (
-                    by_head rules.KeyKind (λ kind. subst (HaveTexts f F head) (sym (key_count head kind)) (last kind).0),
+                    by_head rules.KeyKind (λ kind. subst (KeysAreTexts f F head) (sym (key_count head kind)) (last kind).0),
                     (last_kept f F heights keys n head has (λ kind. (last kind).1), tt),
                   ),
                 ),
@@ -172,24 +172,24 @@ module _ (f : List ℕ) (F : Frame) (heights : List ℕ) (keys : Option Keyed) (
             subst (λ k. IsShown f F (lists heights keys) look k) e (here (subst (IsVouchedBy heights) (sym e) v))
 
     -- an object that is not vouched for
-    pub passed : (slice_index heights n ≡ 0) → (t : ℕ) → Running f F (lists heights keys) look n t → Running f F (lists heights keys) look (suc n) t
+    pub passed : (slice_index heights n ≡ 0) → (t : ℕ) → AreCheckedBelow f F (lists heights keys) look n t → AreCheckedBelow f F (lists heights keys) look (suc n) t
     passed none t run =
         let never : IsVouchedBy heights n → ⊥ = λ v. omega (arith, v, none) in
         record { sums = sums_same f F (IsVouchedBy heights) n t never run.sums; room = run.room; kept = below_by run.kept (λ v. absurd (never v)) }
 
     -- one vouched object more
-    pub held_more : (t : ℕ) → Running f F (lists heights keys) look n t → (u : ℕ) → IsHeld f F (lists heights keys) look n u → Running f F (lists heights keys) look (suc n) u
+    pub held_more : (t : ℕ) → AreCheckedBelow f F (lists heights keys) look n t → (u : ℕ) → IsCheckedObject f F (lists heights keys) look n u → AreCheckedBelow f F (lists heights keys) look (suc n) u
     held_more t run u h = record { sums = h.sums; room = h.room; kept = below_by run.kept (λ _. h.kept) }
 
   -- the fault of a vouched object is that of the walk
-  fault_met : IsVouchedBy heights n → (look : Look) (t : ℕ) → Running f F (lists heights keys) Quick n t → (fault : Fault)
+  fault_met : IsVouchedBy heights n → (look : Look) (t : ℕ) → AreCheckedBelow f F (lists heights keys) Quick n t → (fault : Fault)
       → IsShownFault f F (lists heights keys) look n fault → IsWalkFault f F (lists heights keys) look fault
   fault_met v Quick t run fault h = tt
   fault_met v Exact t run fault h = record { object = n; vouched = v; first = h; seen = run.kept }
 
   -- the answer for a vouched object is that of the walk
-  pub stepped : (look : Look) → IsVouchedBy heights n → (t : ℕ) → Running f F (lists heights keys) Quick n t → (result : Result ℕ Refusal)
-      → Judges (IsHeld f F (lists heights keys) Quick n) (IsShownFault f F (lists heights keys) look n) result → Judges (Running f F (lists heights keys) Quick (suc n)) (IsWalkFault f F (lists heights keys) look) result
+  pub stepped : (look : Look) → IsVouchedBy heights n → (t : ℕ) → AreCheckedBelow f F (lists heights keys) Quick n t → (result : Result ℕ Refusal)
+      → Judges (IsCheckedObject f F (lists heights keys) Quick n) (IsShownFault f F (lists heights keys) look n) result → Judges (AreCheckedBelow f F (lists heights keys) Quick (suc n)) (IsWalkFault f F (lists heights keys) look) result
   stepped look v t run (Ok t') h = held_more Quick t run t' h
   stepped look v t run (Err (refusals.Fault fault)) h = fault_met v look t run fault h
   stepped look v t run (Err (refusals.Read r)) h = tt
@@ -203,7 +203,7 @@ vouched_inside heights count n e v = elim (cases_lt n (length heights)) [
 ]
 
 -- before the first object
-pub start : (f : List ℕ) (F : Frame) (certificate : Lists) (look : Look) → IsFrame f F → Running f F certificate look 0 0
+pub start : (f : List ℕ) (F : Frame) (certificate : Lists) (look : Look) → IsFrame f F → AreCheckedBelow f F certificate look 0 0
 start f F certificate look frame = record {
   sums = sums_none f F (IsVouchedBy certificate.heights);
   room = omega (arith, (numbered frame).table_early);
@@ -214,11 +214,11 @@ start f F certificate look frame = record {
 pub good_kept : (f : List ℕ) (F : Frame) (heights : List ℕ) (keys : Option Keyed) (n : ℕ) → HasGoodKeys f F keys n
     → KeepsByCheck f F (lists heights keys) n rules.KeyKind × KeepsByCheck f F (lists heights keys) n (last_rule keys)
 good_kept f F heights None n good = (
-  λ head has dict. subst (HaveTexts f F head) (sym (key_count head dict)) (good head has dict).0,
+  λ head has dict. subst (KeysAreTexts f F head) (sym (key_count head dict)) (good head has dict).0,
   λ head has dict. subst (KeysDiffer f F head) (sym (key_count head dict)) (good head has dict).1,
 )
 good_kept f F heights (Some keyed) n good =
-    (λ head has dict. subst (HaveTexts f F head) (sym (key_count head dict)) (good head has dict).0, λ head has dict. (good head has dict).1)
+    (λ head has dict. subst (KeysAreTexts f F head) (sym (key_count head dict)) (good head has dict).0, λ head has dict. (good head has dict).1)
 
 -- where each rule that is broken names an object, the first fault does
 names_object : (keeps : Rule → Type 0) (breaks : Rule → Option ObjectNo → ℕ → Type 0) (o : Option ObjectNo) → ((rule : Rule) (object : Option ObjectNo) (place : ℕ) → breaks rule object place → object ≡ o)
@@ -238,11 +238,11 @@ module _ (f : List ℕ) (F : Frame) (heights : List ℕ) (keys : Option Keyed) w
   pub first_of_keys : (n : ℕ) (fault : Fault) → BreaksKeys f F (length heights) keys n fault
       → IsFirstFault (KeepsByCheck f F (lists heights keys) n) (BreaksAtCheck f F (lists heights keys) n) (rules.KeyKind ∷ last_rule keys ∷ []) fault
   first_of_keys n fault (head, has, (kind, inl (rule, object, (i, first, place)))) =
-      inl (rule, (object, (head, i, has, keys_fail head kind (HaveTexts f F head) (λ m k few t i l. t i (omega (arith, few, l))) i first, place)))
+      inl (rule, (object, (head, i, has, keys_fail head kind (KeysAreTexts f F head) (λ m k few t i l. t i (omega (arith, few, l))) i first, place)))
   first_of_keys n fault (head, has, (kind, inr (texts, last))) =
-      inr (any_head f F n head has (Asks f F (lists heights keys) n rules.KeyKind) (λ _. subst (HaveTexts f F head) (sym (key_count head kind)) texts), inl (last_broken f F heights keys n head has kind fault last))
+      inr (any_head f F n head has (Asks f F (lists heights keys) n rules.KeyKind) (λ _. subst (KeysAreTexts f F head) (sym (key_count head kind)) texts), inl (last_broken f F heights keys n head has kind fault last))
 
-  module _ (n : ℕ) (s : IsSeen f F heights n) where
+  module _ (n : ℕ) (s : KeepsBeforeKeys f F heights n) where
     -- a seen object with good keys keeps all rules
     pub good_keeps : HasGoodKeys f F keys n → KeepsCheck f F (lists heights keys) n
     good_keeps good =
@@ -255,12 +255,12 @@ module _ (f : List ℕ) (F : Frame) (heights : List ℕ) (keys : Option Keyed) w
         inr (s.own, inr (s.room, inr ((λ head has i l. (s.lower head has i l).0), inr ((λ head has i l. (s.lower head has i l).1), first_of_keys n fault h))))
 
   -- where all vouched objects are seen, and their keys are good, they keep all rules
-  pub all_good : (t : ℕ) → Running f F (lists heights keys) Quick F.objects t → ((n : ℕ) → n < F.objects → IsVouchedBy heights n → HasGoodKeys f F keys n) → Running f F (lists heights keys) Exact F.objects t
+  pub all_good : (t : ℕ) → AreCheckedBelow f F (lists heights keys) Quick F.objects t → ((n : ℕ) → n < F.objects → IsVouchedBy heights n → HasGoodKeys f F keys n) → AreCheckedBelow f F (lists heights keys) Exact F.objects t
   all_good t run good = record { sums = run.sums; room = run.room; kept = λ m lt v. good_keeps m (run.kept m lt v) (good m lt v) }
 
   module _ (fault : Fault) where
     -- the first fault of keys is the first of all, where all vouched objects up to it are seen
-    pub keys_first : (bound : ℕ) → AreSeen f F heights bound → IsFirstKeysFault f F (lists heights keys) bound fault → IsVouchedFault f F (lists heights keys) fault
+    pub keys_first : (bound : ℕ) → KeepBeforeKeysBelow f F heights bound → IsFirstKeysFault f F (lists heights keys) bound fault → IsVouchedFault f F (lists heights keys) fault
     keys_first bound seen k = record {
       object = k.object;
       vouched = k.vouched;

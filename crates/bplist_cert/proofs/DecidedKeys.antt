@@ -13,10 +13,10 @@ use Rattle.bplist_objects.proofs.KeptOrBroken.{object_kept_or_fault}
 use Rattle.bplist_objects.proofs.HeadTies.{kept_announces}
 use Rattle.bplist_objects.proofs.UnitOrder.{compare_units-cases, compare_units-less, compare_units-not_less}
 use Rattle.bplist_cert.specs.Heights.{ref}
-use Rattle.bplist_cert.specs.Keys.{IsText, IsKey, HaveTexts, IsFirstKeyless, KeysDiffer, IsFirstTwice}
-use Rattle.bplist_cert.specs.Keys.{AreInOrder}
+use Rattle.bplist_cert.specs.KeyKinds.{IsText, IsKey, KeysAreTexts, IsFirstKeyless, KeysDiffer, IsFirstTwice}
+use Rattle.bplist_cert.specs.KeyKinds.{AreInOrder}
 use Rattle.bplist_objects.specs.Claims.{FailsAt}
-use Rattle.bplist_cert.proofs.Texts.{text_there, no_text, other_kind}
+use Rattle.bplist_cert.proofs.TextObjects.{text_there, no_text, other_kind}
 use Rattle.bplist_cert.proofs.OrderedLists.{text_once, IsInOrder}
 
 pub dict_decided : (kind : Kind) → Either (kind ≡ kinds.Dict)
@@ -63,7 +63,7 @@ module _ (f : List ℕ) (F : Frame) (frame : IsFrame f F) where
 
   module _ (head : Head) where
     -- ---- rule 21
-    pub texts_or_first : HaveTexts f F head head.count ⊎ ((i : ℕ) × IsFirstKeyless f F head i)
+    pub texts_or_first : KeysAreTexts f F head head.count ⊎ ((i : ℕ) × IsFirstKeyless f F head i)
     texts_or_first = elim (all_or_first Text (λ i. Text i → ⊥) (λ i. is_text (ref f F head i)) head.count) [
       | inl all ↦ inl all
       | inr (i, within, none, before) ↦ inr (i, (within, before, λ more. none (more i (omega arith))))

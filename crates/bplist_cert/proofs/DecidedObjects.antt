@@ -25,9 +25,9 @@ use Rattle.bplist_cert.specs.declared.checker.Look.TheVariants.{Exact}
 use Rattle.bplist_cert.specs.Lists.{Keyed, Lists, lists, list_of}
 use Rattle.bplist_cert.specs.Valid.{IsVouchedBy}
 use Rattle.bplist_cert.specs.Heights.{ref, Meets, AreMet, IsFirstUnmet, IsHeightFault}
-use Rattle.bplist_cert.specs.Keys.{HaveTexts}
+use Rattle.bplist_cert.specs.KeyKinds.{KeysAreTexts}
 use Rattle.bplist_cert.specs.CheckRules.{KeepsLast, IsLastFault, IsKeysFault, IsCheckFault}
-use Rattle.bplist_cert.specs.PairFault.{IsHeld, Running, IsVouchedFault, IsCountFault, IsPairFault}
+use Rattle.bplist_cert.specs.PairFault.{IsCheckedObject, AreCheckedBelow, IsVouchedFault, IsCountFault, IsPairFault}
 use Rattle.bplist_cert.specs.Sorted.{IsAccepted}
 use Rattle.bplist_cert.proofs.CheckSteps.{object_fault, overfull_fault, heights_fault, keys_break, seen, held, held_more, passed, start}
 use Rattle.bplist_cert.proofs.AcceptedCertificates.{accepted}
@@ -103,7 +103,7 @@ module _ (f : List ℕ) (F : Frame) where
     ]
 
     keys_or_fault : (count : ℕ) (keys : Option Keyed) (n : ℕ) (head : Head)
-        → (head.kind ≡ kinds.Dict → HaveTexts f F head head.count × KeepsLast f F keys n head)
+        → (head.kind ≡ kinds.Dict → KeysAreTexts f F head head.count × KeepsLast f F keys n head)
         ⊎ ((fault : Fault) × IsKeysFault f F count keys n head fault)
     keys_or_fault count keys n head = elim (dict_decided head.kind) [
       | inr other ↦ inl (λ dict. absurd (other dict))
@@ -125,7 +125,7 @@ module _ (f : List ℕ) (F : Frame) where
       module _ (n : ℕ) (lt : n < F.objects) (vouched : IsVouchedBy heights n) (t : ℕ) (sums : Sums f F (IsVouchedBy heights) n t) where
         abbrev HeldOrFault : Type 0
         HeldOrFault =
-            ((u : ℕ) × IsHeld f F certificate Exact n u)
+            ((u : ℕ) × IsCheckedObject f F certificate Exact n u)
             ⊎ ((fault : Fault) × IsCheckFault f F certificate n fault)
 
         module _ (head : Head) (has : HasHead f F n head) (kept : KeepsAll (KeepsByObject f F n) object_rules) where
@@ -162,7 +162,7 @@ module _ (f : List ℕ) (F : Frame) where
 
       -- ---- all vouched objects
       running_or_fault : (n : ℕ) → n ≤ F.objects
-          → ((t : ℕ) × Running f F certificate Exact n t) ⊎ ((fault : Fault) × IsVouchedFault f F certificate fault)
+          → ((t : ℕ) × AreCheckedBelow f F certificate Exact n t) ⊎ ((fault : Fault) × IsVouchedFault f F certificate fault)
       running_or_fault zero l = inl (0, start f F certificate Exact frame)
       running_or_fault (suc n) l = elim (running_or_fault n (omega (arith, l))) [
         | inr fault ↦ inr fault

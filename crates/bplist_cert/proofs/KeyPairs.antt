@@ -13,14 +13,14 @@ use Rattle.bplist_keys.specs.Texts.{HasTextShape, text_units}
 use Rattle.bplist_keys.proofs.WeightSteps.{text_units-head}
 use Rattle.bplist_cert.specs.Heights.{ref}
 use Rattle.bplist_cert.specs.Lists.{Keyed, IsWhole}
-use Rattle.bplist_cert.specs.Looks.{IsSeen}
-use Rattle.bplist_cert.specs.Keys.{HaveTexts, AreInOrder}
-use Rattle.bplist_cert.specs.KeyClasses.{KeysAreSound, HasGoodKeys}
+use Rattle.bplist_cert.specs.Looks.{KeepsBeforeKeys}
+use Rattle.bplist_cert.specs.KeyKinds.{KeysAreTexts, AreInOrder}
+use Rattle.bplist_cert.specs.KeyRepeats.{KeysAreSound, HasGoodKeys}
 use Rattle.bplist_cert.specs.declared.key_lists.ReadKey.{ReadKey}
 use Rattle.bplist_cert.specs.KeyPairs.{Ascends, ArePairs, Follows, HaveTextShapes}
-use Rattle.bplist_cert.proofs.KeyClasses.{good_low, no_keys}
+use Rattle.bplist_cert.proofs.KeyRepeats.{good_low, no_keys}
 use Rattle.bplist_cert.proofs.AllNumbers.{onto}
-use Rattle.bplist_cert.proofs.Texts.{text_there}
+use Rattle.bplist_cert.proofs.TextObjects.{text_there}
 
 -- lists of units that ascend one by one ascend
 pub ascend_all : (u : ℕ → List ℕ) (count : ℕ) → ((k : ℕ) → suc k < count → compare_units (u k) (u (suc k)) ≡ Less) → (d i : ℕ) → suc (i + d) < count → compare_units (u i) (u (suc (i + d))) ≡ Less
@@ -33,16 +33,16 @@ ascend_all u count up (suc d) i l =
     (compare_units-less_less (u i) (u (suc (i + d))) (u (suc (suc (i + d)))) (ascend_all u count up d i (omega (arith, l))) (up (suc (i + d)) (omega (arith, l))))
 
 module _ (f : List ℕ) (F : Frame) where
-  -- one pair more takes its row
-  pub pairs_more : (rows : List ℕ) (r a b : ℕ) → r < length rows → b < 4294967296 → ArePairs f F rows → Ascends f F a b → ArePairs f F (set rows r (a * 4294967296 + b))
-  pairs_more rows r a b within low pairs asc i x y low' some is = elim (cases_eq i r) [
+  -- one pair more takes its slot
+  pub pairs_more : (slots : List ℕ) (r a b : ℕ) → r < length slots → b < 4294967296 → ArePairs f F slots → Ascends f F a b → ArePairs f F (set slots r (a * 4294967296 + b))
+  pairs_more slots r a b within low pairs asc i x y low' some is = elim (cases_eq i r) [
     | inl e ↦
-        let here : slice_index (set rows r (a * 4294967296 + b)) i ≡ a * 4294967296 + b = ap (slice_index (set rows r (a * 4294967296 + b))) e ∙ get_or-set_same rows r (a * 4294967296 + b) 0 within in
+        let here : slice_index (set slots r (a * 4294967296 + b)) i ≡ a * 4294967296 + b = ap (slice_index (set slots r (a * 4294967296 + b))) e ∙ get_or-set_same slots r (a * 4294967296 + b) 0 within in
         let first : a ≡ x = omega (arith, here, is, low, low') in
         let second : b ≡ y = omega (arith, here, is, low, low') in
         subst (λ z. Ascends f F x z) second (subst (λ z. Ascends f F z b) first asc)
     | inr d ↦
-        let there = get_or-set_other rows r i (a * 4294967296 + b) 0 d in
+        let there = get_or-set_other slots r i (a * 4294967296 + b) 0 d in
         pairs i x y low' (rw there at some) (sym there ∙ is)
   ]
 
@@ -122,13 +122,13 @@ module _ (f : List ℕ) (F : Frame) where
 
 module _ (f : List ℕ) (F : Frame) where
   -- keys that are texts by marker and count, and keep rules 14 to 20, are texts
-  pub shapes_texts : IsFrame f F → (head : Head) → ((k : ℕ) → k < head.count → ref f F head k < F.objects) → KeysAreSound f F head → HaveTextShapes f F head → HaveTexts f F head head.count
+  pub shapes_texts : IsFrame f F → (head : Head) → ((k : ℕ) → k < head.count → ref f F head k < F.objects) → KeysAreSound f F head → HaveTextShapes f F head → KeysAreTexts f F head head.count
   shapes_texts framed head inside sound shapes k low =
       let t = shapes k low in
       (t.0, text_there f F (ref f F head k) framed (inside k low) t.0 (shape_announced f F (ref f F head k) t.0 t.1.0) (sound k low (inside k low)) t.1.1)
 
   -- a list of an object without references that starts among the positions is good
-  pub low_list : (heights : List ℕ) (n : ℕ) → IsSeen f F heights n → (keyed : Keyed) → slice_index heights n ≤ 1 → IsWhole keyed n 0 → HasGoodKeys f F (Some keyed) n
+  pub low_list : (heights : List ℕ) (n : ℕ) → KeepsBeforeKeys f F heights n → (keyed : Keyed) → slice_index heights n ≤ 1 → IsWhole keyed n 0 → HasGoodKeys f F (Some keyed) n
   low_list heights n seen keyed least start head has dict =
       let good = good_low f F heights n seen least head has dict in
       (good.0, (omega (arith, start, none_at), λ j l. absurd (none_there j l)))
@@ -140,8 +140,8 @@ module _ (f : List ℕ) (F : Frame) where
       none_at = elim (cases_lt 0 head.count) [ inl some ↦ absurd (none_there 0 some) | inr none ↦ omega (arith, none) ]
 
 -- no pair is kept yet
-pub pairs_none : (f : List ℕ) (F : Frame) (rows : List ℕ) → rows ≡ replicate 4093 0 → ArePairs f F rows
-pairs_none f F rows none i a b low some is = elim (cases_lt i 4093) [
+pub pairs_none : (f : List ℕ) (F : Frame) (slots : List ℕ) → slots ≡ replicate 4093 0 → ArePairs f F slots
+pairs_none f F slots none i a b low some is = elim (cases_lt i 4093) [
   | inl within ↦ absurd (let z = ap (λ xs. slice_index xs i) none ∙ get_or-replicate 4093 i 0 0 within in omega (arith, z, some))
-  | inr past ↦ absurd (let z = get_or_past rows i 0 (omega (arith, past, ap length none ∙ length-replicate {A = ℕ} 4093 0)) in omega (arith, z, some))
+  | inr past ↦ absurd (let z = get_or_past slots i 0 (omega (arith, past, ap length none ∙ length-replicate {A = ℕ} 4093 0)) in omega (arith, z, some))
 ]

@@ -12,13 +12,13 @@ use Rattle.bplist_objects.proofs.References.{each_ref}
 use Rattle.bplist_objects.proofs.HeadTies.{spells_body}
 use Rattle.bplist_cert.specs.Valid.{SpellsText, HasKeys}
 use Rattle.bplist_cert.specs.Heights.{ref}
-use Rattle.bplist_cert.specs.Keys.{HaveTexts, KeysDiffer}
+use Rattle.bplist_cert.specs.KeyKinds.{KeysAreTexts, KeysDiffer}
 use Rattle.bplist_cert.proofs.TextKeys.{key_refs, texts_are, have_texts, distinct, differ}
 
 module _ (f : List ℕ) (F : Frame) where
   -- what holds of the keys of a dictionary with this head
   abbrev pub HaveKeys : Head → Type 0
-  HaveKeys head = HaveTexts f F head head.count × KeysDiffer f F head head.count
+  HaveKeys head = KeysAreTexts f F head head.count × KeysDiffer f F head head.count
 
   -- what holds of all references of a dictionary holds of each key
   pub each_key : (P : ℕ → Type 0) (head : Head) → head.kind ≡ kinds.Dict → AllByRecursion P (refs (content_at f F head)) → (k : ℕ) → k < head.count → P (ref f F head k)

@@ -1,8 +1,8 @@
 pub mod NumberBytes
 pub mod CertificateBytes
 pub mod Blocks
-pub mod Texts
-pub mod PlacedKeys
+pub mod TextObjects
+pub mod KeyOffsets
 pub mod OrderedLists
 pub mod CheckSteps
 pub mod QuickLooks
@@ -13,10 +13,10 @@ pub mod KeyTies
 pub mod AcceptedCertificates
 pub mod UnchangedChecked
 pub mod OneFault
-pub mod KeyClasses
+pub mod KeyRepeats
 pub mod KeyPairs
 pub mod RepeatedKeys
 pub mod DecidedKeys
 pub mod DecidedObjects
-pub mod LowSteps
+pub mod LowBytes
 pub mod SortedKeys

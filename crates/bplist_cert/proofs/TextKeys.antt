@@ -17,7 +17,7 @@ use Rattle.bplist_objects.proofs.References.{length-nums_at, nth-nums_at}
 use Rattle.bplist_objects.proofs.UnitOrder.{compare_units-less_less, compare_units-not_less}
 use Rattle.bplist_cert.specs.Valid.{SpellsText}
 use Rattle.bplist_cert.specs.Heights.{ref}
-use Rattle.bplist_cert.specs.Keys.{IsText, IsKey, HaveTexts, KeysDiffer, AreInOrder}
+use Rattle.bplist_cert.specs.KeyKinds.{IsText, IsKey, KeysAreTexts, KeysDiffer, AreInOrder}
 use Rattle.bplist_cert.proofs.OrderedLists.{text_once}
 use Rattle.bplist_cert.proofs.AllNumbers.{onto}
 
@@ -69,7 +69,7 @@ module _ (f : List ℕ) (F : Frame) (head : Head) where
   key_refs = nums_at f head.body F.ref_size head.count
 
   -- texts by index are texts by the definitions
-  pub texts_are : HaveTexts f F head head.count → (us : List (List ℕ)) × AllZip (SpellsText f F) key_refs us
+  pub texts_are : KeysAreTexts f F head head.count → (us : List (List ℕ)) × AllZip (SpellsText f F) key_refs us
   texts_are texts = texts_list f F head.body F.ref_size head.count (λ k l. let t = texts k l in (units_of f t.0, text_spelled f F (ref f F head k) t.0 t.1))
 
   module _ (us : List (List ℕ)) (zip : AllZip (SpellsText f F) key_refs us) where
@@ -83,7 +83,7 @@ module _ (f : List ℕ) (F : Frame) (head : Head) where
         (zip_at (SpellsText f F) key_refs us k 0 [] zip (omega (arith, l, many)))
 
     -- texts by the definitions are texts by index
-    pub have_texts : ((k : ℕ) → k < head.count → ref f F head k < F.objects) → HaveTexts f F head head.count
+    pub have_texts : ((k : ℕ) → k < head.count → ref f F head k < F.objects) → KeysAreTexts f F head head.count
     have_texts low k l = let t = spelled_text f F (ref f F head k) (slice_index_or us k []) (low k l) (spells_at k l) in (t.0, t.1)
 
     -- the units of a key
@@ -93,7 +93,7 @@ module _ (f : List ℕ) (F : Frame) (head : Head) where
         t.2 ∙ ap (units_of f) (text_once f F (ref f F head k) t.0 key t.1 is)
 
     -- keys that differ by index differ by the definitions
-    pub distinct : HaveTexts f F head head.count → KeysDiffer f F head head.count → AreDistinct us
+    pub distinct : KeysAreTexts f F head head.count → KeysDiffer f F head head.count → AreDistinct us
     distinct texts differ i j d lt below e =
         let high : j < head.count = omega (arith, below, all_units) in
         let low : i < head.count = omega (arith, lt, high) in
@@ -109,7 +109,7 @@ module _ (f : List ℕ) (F : Frame) (head : Head) where
         (units_at_key i a (omega (arith, lt, high)) x ∙ e ∙ sym (units_at_key j b high y))
 
 -- keys that a list has in order differ
-module _ (f : List ℕ) (F : Frame) (head : Head) (list : List ℕ) (texts : HaveTexts f F head head.count) (order : AreInOrder f F head list head.count) where
+module _ (f : List ℕ) (F : Frame) (head : Head) (list : List ℕ) (texts : KeysAreTexts f F head head.count) (order : AreInOrder f F head list head.count) where
   abbrev position : ℕ → ℕ
   position j = slice_index list j
 

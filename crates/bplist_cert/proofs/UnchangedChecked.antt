@@ -24,23 +24,23 @@ keys_same (Some j) (Some k) xs ys e = (
   ap (λ zs. drop 3 zs) e,
 )
 
-beside_same : (old new : CheckedFile) → (meaning_of new).beside ≡ (meaning_of old).beside → (new.source.beside ≡ old.source.beside) × (new.frame ≡ old.frame) × (new.certificate ≡ old.certificate)
-beside_same old new e =
+extra_same : (old new : CheckedFile) → (meaning_of new).extra ≡ (meaning_of old).extra → (new.source.extra ≡ old.source.extra) × (new.frame ≡ old.frame) × (new.certificate ≡ old.certificate)
+extra_same old new e =
     let frame = frame_same new.frame old.frame (ap (λ xs. slice_index_or xs 0 []) e) in
     let heights : new.certificate.heights ≡ old.certificate.heights = ap (λ xs. slice_index_or xs 1 []) e in
-    let rest = keys_same new.certificate.keys old.certificate.keys new.source.beside old.source.beside (ap (λ xs. drop 2 xs) e) in
+    let rest = keys_same new.certificate.keys old.certificate.keys new.source.extra old.source.extra (ap (λ xs. drop 2 xs) e) in
     let keys = rest.0 in
     (rest.1, frame, λ i. record { heights = heights i; keys = keys i })
 
 pub stays : (failed : Bool) (old new : CheckedFile) → OnlyReads failed (meaning_of old) (meaning_of new)
     → OnlyReads failed old.source new.source × (new.frame ≡ old.frame) × (new.certificate ≡ old.certificate)
 stays false old new e =
-    let b = beside_same old new (ap (λ (m : Meaning). m.beside) e) in
+    let b = extra_same old new (ap (λ (m : Meaning). m.extra) e) in
     let octets : new.source.octets ≡ old.source.octets = ap (λ (m : Meaning). m.octets) e in
     let honest : new.source.honest ≡ old.source.honest = ap (λ (m : Meaning). m.honest) e in
     let failures : new.source.failures ≡ old.source.failures = ap (λ (m : Meaning). m.failures) e in
-    let beside = b.0 in
-    (λ i. record { octets = octets i; honest = honest i; failures = failures i; beside = beside i }, b.1, b.2)
+    let extra = b.0 in
+    (λ i. record { octets = octets i; honest = honest i; failures = failures i; extra = extra i }, b.1, b.2)
 stays true old new e =
-    let b = beside_same old new e.beside in
-    (record { octets = e.octets; honest = e.honest; beside = b.0; rises = e.rises; stays_only_at_last = e.stays_only_at_last }, b.1, b.2)
+    let b = extra_same old new e.extra in
+    (record { octets = e.octets; honest = e.honest; extra = b.0; rises = e.rises; stays_only_at_last = e.stays_only_at_last }, b.1, b.2)

@@ -17,7 +17,7 @@ use Rattle.bplist_objects.specs.Claims.{FailsAt}
 use Rattle.bplist_cert.specs.Lists.{Keyed, Lists, IsWhole, list_of}
 use Rattle.bplist_cert.specs.Valid.{IsVouchedBy}
 use Rattle.bplist_cert.specs.Heights.{ref}
-use Rattle.bplist_cert.specs.Keys.{HaveTexts, KeysDiffer, AreInOrder, IsKeylessFault, IsTwiceFault}
+use Rattle.bplist_cert.specs.KeyKinds.{KeysAreTexts, KeysDiffer, AreInOrder, IsKeylessFault, IsTwiceFault}
 
 -- rule 22, or in version 2 rule 32
 abbrev pub last_rule : Option Keyed → Rule
@@ -46,7 +46,7 @@ module _ (f : List ℕ) (F : Frame) (certificate : Lists) (n : ℕ) where
   Asks rules.ChildNotVouched head many = (k : ℕ) → k < many → IsVouchedBy certificate.heights (ref f F head k)
   Asks rules.HeightNotLess head many =
       (k : ℕ) → k < many → slice_index certificate.heights (ref f F head k) < slice_index certificate.heights n
-  Asks rules.KeyKind head many = head.kind ≡ kinds.Dict → HaveTexts f F head (min many head.count)
+  Asks rules.KeyKind head many = head.kind ≡ kinds.Dict → KeysAreTexts f F head (min many head.count)
   Asks rules.KeyTwice head many = head.kind ≡ kinds.Dict → KeysDiffer f F head (min many head.count)
   Asks rule head many = Unit {0}
 
@@ -101,4 +101,4 @@ IsLastFault f F count (Some keyed) n head fault = IsOrderFault f F count keyed n
 abbrev pub IsKeysFault : List ℕ → Frame → ℕ → Option Keyed → ℕ → Head → Fault → Type 0
 IsKeysFault f F count keys n head fault =
     (head.kind ≡ kinds.Dict)
-    × (IsKeylessFault f F n head fault ⊎ (HaveTexts f F head head.count × IsLastFault f F count keys n head fault))
+    × (IsKeylessFault f F n head fault ⊎ (KeysAreTexts f F head head.count × IsLastFault f F count keys n head fault))

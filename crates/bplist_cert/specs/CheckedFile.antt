@@ -28,7 +28,8 @@ key_numbers (Some keyed) = (2 ∷ []) ∷ keyed.starts ∷ keyed.positions ∷ [
 -- as a source: what its source means, with frame and certificate beside it
 abbrev pub meaning_of : CheckedFile → Meaning
 meaning_of checked = record checked.source {
-  beside = frame_numbers checked.frame ∷ checked.certificate.heights ∷ (key_numbers checked.certificate.keys ++ checked.source.beside);
+  extra =
+      frame_numbers checked.frame ∷ checked.certificate.heights ∷ (key_numbers checked.certificate.keys ++ checked.source.extra);
 }
 
 -- P holds of the bytes and the frame, if the source is honest

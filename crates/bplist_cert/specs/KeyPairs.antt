@@ -5,8 +5,8 @@ use Rattle.bplist_objects.specs.declared.frame.Frame.{Frame}
 use Rattle.bplist_objects.specs.declared.head.Head.{Head}
 use Rattle.bplist_objects.specs.Units.{IsTextKind, compare_units}
 use Rattle.bplist_keys.specs.Runs.{AreRuns}
-use Rattle.bplist_keys.specs.Places.{AreNext}
-use Rattle.bplist_keys.specs.declared.place_block.PlaceBlock.{PlaceBlock}
+use Rattle.bplist_keys.specs.Offsets.{AreOffsetsFrom}
+use Rattle.bplist_keys.specs.declared.offset_block.OffsetBlock.{OffsetBlock}
 use Rattle.bplist_cert.specs.declared.key_lists.ReadKey.{ReadKey}
 use Rattle.bplist_cert.specs.declared.key_pairs.OrderedPairs.{OrderedPairs}
 use Rattle.bplist_keys.specs.Texts.{HasTextShape, IsTextHead, text_units}
@@ -28,11 +28,12 @@ module _ (f : List ℕ) (F : Frame) where
 
   -- each of these numbers above 0 says so of two objects
   abbrev pub ArePairs : List ℕ → Type 0
-  ArePairs rows = (i a b : ℕ) → b < 4294967296 → 0 < slice_index rows i → slice_index rows i ≡ a * 4294967296 + b → Ascends a b
+  ArePairs slots =
+      (i a b : ℕ) → b < 4294967296 → 0 < slice_index slots i → slice_index slots i ≡ a * 4294967296 + b → Ascends a b
 
   -- the pairs are such, and the runs those of the file
   abbrev pub AreKnown : OrderedPairs → Type 0
-  AreKnown pairs = ArePairs pairs.rows × AreRuns f pairs.runs.rows
+  AreKnown pairs = ArePairs pairs.slots × AreRuns f pairs.runs.slots
 
   -- key m is a text by marker and count, and comes after the one before, if there is one
   abbrev pub Follows : Option ReadKey → ℕ → Type 0
@@ -48,5 +49,5 @@ module _ (f : List ℕ) (F : Frame) where
   AreFewKeys head numbers = head.count ≤ 32 → (k : ℕ) → k < head.count → slice_index numbers k ≡ ref f F head k
 
   -- the places that are held are those of their objects
-  abbrev pub IsPlaced : PlaceBlock → Type 0
-  IsPlaced places = AreNext f F places.first places.count places.places
+  abbrev pub HoldsOffsets : OffsetBlock → Type 0
+  HoldsOffsets places = AreOffsetsFrom f F places.first places.count places.places

@@ -4,14 +4,14 @@ pub mod Versions
 pub mod Valid
 pub mod Sorted
 pub mod Heights
-pub mod Keys
+pub mod KeyKinds
 pub mod CheckRules
 pub mod Looks
 pub mod PairFault
 pub mod Refusals
 pub mod CheckedFile
-pub mod KeyPlaces
-pub mod KeyClasses
+pub mod KeyOffsets
+pub mod KeyRepeats
 pub mod KeyPairs
 pub mod LowBytes
 pub mod CertifiedFile

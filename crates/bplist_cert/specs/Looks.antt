@@ -16,20 +16,20 @@ use Rattle.bplist_cert.specs.Heights.{ref}
 use Rattle.bplist_cert.specs.CheckRules.{KeepsCheck, IsCheckFault}
 
 -- vouched object n keeps the rules before those of keys
-pub record IsSeen (f : List ℕ) (F : Frame) (heights : List ℕ) (n : ℕ) : Type 0 where
+pub record KeepsBeforeKeys (f : List ℕ) (F : Frame) (heights : List ℕ) (n : ℕ) : Type 0 where
   pub own : KeepsAll (KeepsByObject f F n) object_rules
   pub room : IsOverfull f F (IsVouchedBy heights) n → ⊥
   pub lower : (head : Head) → HasHead f F n head → (k : ℕ) → k < ref_count head.kind head.count
       → IsVouchedBy heights (ref f F head k) × (slice_index heights (ref f F head k) < slice_index heights n)
 
 -- each vouched object below n does
-abbrev pub AreSeen : List ℕ → Frame → List ℕ → ℕ → Type 0
-AreSeen f F heights n = (m : ℕ) → m < n → IsVouchedBy heights m → IsSeen f F heights m
+abbrev pub KeepBeforeKeysBelow : List ℕ → Frame → List ℕ → ℕ → Type 0
+KeepBeforeKeysBelow f F heights n = (m : ℕ) → m < n → IsVouchedBy heights m → KeepsBeforeKeys f F heights m
 
 module _ (f : List ℕ) (F : Frame) (certificate : Lists) where
   -- what a look shows of vouched object n
   abbrev pub IsShown : Look → ℕ → Type 0
-  IsShown Quick n = IsSeen f F certificate.heights n
+  IsShown Quick n = KeepsBeforeKeys f F certificate.heights n
   IsShown Exact n = KeepsCheck f F certificate n
 
   -- a look at vouched object n finds this fault: an exact one the first, a quick one any

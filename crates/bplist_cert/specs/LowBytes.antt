@@ -7,10 +7,10 @@ use Rattle.bplist_cert.specs.declared.low_bytes.Stretch.{Stretch}
 abbrev pub IsLow : List ℕ → ℕ → ℕ → Type 0
 IsLow f from to = (k : ℕ) → from ≤ k → k < to → num_at f k 1 < 128
 
--- the stretch in a row, and an empty one where there is none
+-- the stretch in a slot, and an empty one where there is none
 abbrev pub stretch_at : List Stretch → ℕ → Stretch
-stretch_at rows i = slice_index_or rows i (record { from = 0; to = 0 })
+stretch_at slots i = slice_index_or slots i (record { from = 0; to = 0 })
 
--- each row holds such a stretch of this file
+-- each slot holds such a stretch of this file
 abbrev pub AreLow : List ℕ → List Stretch → Type 0
-AreLow f rows = (i : ℕ) → IsLow f (stretch_at rows i).from (stretch_at rows i).to
+AreLow f slots = (i : ℕ) → IsLow f (stretch_at slots i).from (stretch_at slots i).to

@@ -11,7 +11,7 @@ use Rattle.bplist_cert.specs.Valid.{IsVouchedBy}
 use Rattle.bplist_cert.specs.CheckRules.{KeepsCheck, IsCheckFault}
 use Rattle.bplist_cert.specs.declared.checker.Look.{Look}
 use Rattle.bplist_cert.specs.declared.checker.Look.TheVariants.{Quick, Exact}
-use Rattle.bplist_cert.specs.Looks.{IsShown, AreSeen}
+use Rattle.bplist_cert.specs.Looks.{IsShown, KeepBeforeKeysBelow}
 
 -- the first fault of the least vouched object that has one
 pub record IsVouchedFault (f : List ℕ) (F : Frame) (certificate : Lists) (fault : Fault) : Type 0 where
@@ -21,13 +21,13 @@ pub record IsVouchedFault (f : List ℕ) (F : Frame) (certificate : Lists) (faul
   pub least : (m : ℕ) → m < object → IsVouchedBy certificate.heights m → KeepsCheck f F certificate m
 
 -- a look shows vouched object n as it should be, and with it the vouched objects take t bytes, for which there is room
-pub record IsHeld (f : List ℕ) (F : Frame) (certificate : Lists) (look : Look) (n t : ℕ) : Type 0 where
+pub record IsCheckedObject (f : List ℕ) (F : Frame) (certificate : Lists) (look : Look) (n t : ℕ) : Type 0 where
   pub sums : Sums f F (IsVouchedBy certificate.heights) (suc n) t
   pub room : t + 8 ≤ F.table
   pub kept : IsShown f F certificate look n
 
 -- so far the vouched objects are as they should be, and take t bytes, for which there is room
-pub record Running (f : List ℕ) (F : Frame) (certificate : Lists) (look : Look) (n t : ℕ) : Type 0 where
+pub record AreCheckedBelow (f : List ℕ) (F : Frame) (certificate : Lists) (look : Look) (n t : ℕ) : Type 0 where
   pub sums : Sums f F (IsVouchedBy certificate.heights) n t
   pub room : t + 8 ≤ F.table
   pub kept : (m : ℕ) → m < n → IsVouchedBy certificate.heights m → IsShown f F certificate look m
@@ -37,7 +37,7 @@ pub record IsSeenFault (f : List ℕ) (F : Frame) (certificate : Lists) (fault :
   pub object : ℕ
   pub vouched : IsVouchedBy certificate.heights object
   pub first : IsCheckFault f F certificate object fault
-  pub seen : AreSeen f F certificate.heights object
+  pub seen : KeepBeforeKeysBelow f F certificate.heights object
 
 -- the fault that a walk over the vouched objects ends in, in which keys are not looked at: by exact looks the first, by quick ones any
 abbrev pub IsWalkFault : List ℕ → Frame → Lists → Look → Fault → Type 0
@@ -45,12 +45,12 @@ IsWalkFault f F certificate Quick fault = Unit {0}
 IsWalkFault f F certificate Exact fault = IsSeenFault f F certificate fault
 
 -- the heights are as many as the objects, the top has one, and all vouched objects keep the rules
-pub record IsKept (f : List ℕ) (F : Frame) (certificate : Lists) : Type 0 where
+pub record KeepsPairRules (f : List ℕ) (F : Frame) (certificate : Lists) : Type 0 where
   pub framed : IsFrame f F
   pub count : length certificate.heights ≡ F.objects
   pub top : IsVouchedBy certificate.heights F.top.0
   pub total : ℕ
-  pub running : Running f F certificate Exact F.objects total
+  pub running : AreCheckedBelow f F certificate Exact F.objects total
 
 -- the first broken rule of 26 and 27: there are not as many heights as objects, or the top's is 0
 abbrev pub IsCountFault : Frame → List ℕ → Fault → Type 0

@@ -14,10 +14,10 @@ ghost use Rattle.bplist_keys.specs.Classes.{HasNamedKeys};
 ghost use Rattle.bplist_cert.specs.Lists.{Keyed, lists, HasStarts};
 ghost use Rattle.bplist_cert.specs.Valid.{IsVouchedBy, HoldsOneValue};
 ghost use Rattle.bplist_cert.specs.Heights.{AreLower};
-ghost use Rattle.bplist_cert.specs.Looks.{IsShownFault, AreSeen};
-ghost use Rattle.bplist_cert.specs.KeyClasses.{HasGoodKeys, IsFirstKeysFault};
+ghost use Rattle.bplist_cert.specs.Looks.{IsShownFault, KeepBeforeKeysBelow};
+ghost use Rattle.bplist_cert.specs.KeyRepeats.{HasGoodKeys, IsFirstKeysFault};
 ghost use Rattle.bplist_cert.specs.declared.checker.Look.TheVariants.{Quick as quick, Exact as exact};
-ghost use Rattle.bplist_cert.specs.PairFault.{IsHeld, Running, IsWalkFault, IsSeenFault, IsVouchedFault, IsCountFault, IsKept, IsPairFault};
+ghost use Rattle.bplist_cert.specs.PairFault.{IsCheckedObject, AreCheckedBelow, IsWalkFault, IsSeenFault, IsVouchedFault, IsCountFault, KeepsPairRules, IsPairFault};
 ghost use Rattle.bplist_cert.specs.Refusals.{Judges, GivesRefusal, is_read, refused_read, MayRefuse};
 ghost use Rattle.bplist_cert.specs.Sorted.{IsAccepted};
 ghost use Rattle.bplist_objects.specs.Answers.{Never, read_failed};
@@ -32,8 +32,8 @@ use crate::extents::check_extent;
 use crate::heights::{Wanted, check_heights, check_refs, height_at};
 use crate::key_names::name_wanted;
 use crate::refusal::Refusal;
-use crate::seen::Seen;
-use crate::{key_classes, key_lists};
+use crate::vouched_prefix::VouchedPrefix;
+use crate::{key_lists, key_repeats};
 use bplist_keys::NamedKeys;
 use bplist_objects::{
     Fault, Frame, Framed, Head, ObjectFault, ObjectNo, Plist, Rule, check_body, frame_of, head_in,
@@ -99,7 +99,7 @@ fn look_quickly<P: Framed>(
     ensures memory { IfErr result (MayRefuse walk.now.keys.now) }
     ensures exact { HonestlyIn (P.means src.old) (λ f F. place ≡ off f F n.0
         → IsVouchedBy walk.now.heights.now n.0 → Sums f F (IsVouchedBy walk.now.heights.now) n.0 used
-        → Judges (IsHeld f F (lists walk.now.heights.now walk.now.keys.now) quick n.0)
+        → Judges (IsCheckedObject f F (lists walk.now.heights.now walk.now.keys.now) quick n.0)
         (IsShownFault f F (lists walk.now.heights.now walk.now.keys.now) quick n.0) result) }
 {
     let _frame = src.frame();
@@ -122,7 +122,7 @@ fn look_exactly<P: Framed>(
     ensures memory { IfErr result (MayRefuse walk.now.keys.now) }
     ensures exact { HonestlyIn (P.means src.old) (λ f F. place ≡ off f F n.0
         → IsVouchedBy walk.now.heights.now n.0 → Sums f F (IsVouchedBy walk.now.heights.now) n.0 used
-        → Judges (IsHeld f F (lists walk.now.heights.now walk.now.keys.now) quick n.0)
+        → Judges (IsCheckedObject f F (lists walk.now.heights.now walk.now.keys.now) quick n.0)
         (IsShownFault f F (lists walk.now.heights.now walk.now.keys.now) exact n.0) result) }
 {
     let _frame = src.frame();
@@ -147,7 +147,7 @@ fn check_object<P: Framed>(
     ensures memory { IfErr result (MayRefuse walk.now.keys.now) }
     ensures exact { HonestlyIn (P.means src.old) (λ f F. place ≡ off f F n.0
         → IsVouchedBy walk.now.heights.now n.0 → Sums f F (IsVouchedBy walk.now.heights.now) n.0 used
-        → Judges (IsHeld f F (lists walk.now.heights.now walk.now.keys.now) quick n.0)
+        → Judges (IsCheckedObject f F (lists walk.now.heights.now walk.now.keys.now) quick n.0)
         (IsShownFault f F (lists walk.now.heights.now walk.now.keys.now) walk.now.look n.0) result) }
 {
     match walk.look {
@@ -169,8 +169,8 @@ fn check_step<P: Framed>(
     ensures reads { OnlyReads (refused_read result) (P.means src.old) (P.means src.new) }
     ensures memory { IfErr result (MayRefuse walk.now.keys.now) }
     ensures exact { HonestlyIn (P.means src.old) (λ f F. place ≡ off f F n.0
-        → Running f F (lists walk.now.heights.now walk.now.keys.now) quick n.0 used
-        → Judges (Running f F (lists walk.now.heights.now walk.now.keys.now) quick (suc n.0))
+        → AreCheckedBelow f F (lists walk.now.heights.now walk.now.keys.now) quick n.0 used
+        → Judges (AreCheckedBelow f F (lists walk.now.heights.now walk.now.keys.now) quick (suc n.0))
         (IsWalkFault f F (lists walk.now.heights.now walk.now.keys.now) walk.now.look) result) }
 {
     if height_at(walk.heights, n.0 as u64) == 0 {
@@ -193,8 +193,8 @@ fn check_block<P: Framed>(
     ensures memory { IfErr result (MayRefuse walk.now.keys.now) }
     ensures exact { HonestlyIn (P.means src.old) (λ f F. ((k : ℕ) → k < length places.now
         → slice_index places.now k ≡ off f F (from + k))
-        → Running f F (lists walk.now.heights.now walk.now.keys.now) quick from used
-        → Judges (Running f F (lists walk.now.heights.now walk.now.keys.now) quick (from + length places.now))
+        → AreCheckedBelow f F (lists walk.now.heights.now walk.now.keys.now) quick from used
+        → Judges (AreCheckedBelow f F (lists walk.now.heights.now walk.now.keys.now) quick (from + length places.now))
         (IsWalkFault f F (lists walk.now.heights.now walk.now.keys.now) walk.now.look) result) }
 {
     let _frame = src.frame();
@@ -218,7 +218,7 @@ fn check_all<P: Framed>(
     ensures reads { OnlyReads (refused_read result) (P.means src.old) (P.means src.new) }
     ensures memory { IfErr result (MayRefuse walk.now.keys.now) }
     ensures exact { HonestlyIn (P.means src.old) (λ f F.
-        Judges (Running f F (lists walk.now.heights.now walk.now.keys.now) quick F.objects)
+        Judges (AreCheckedBelow f F (lists walk.now.heights.now walk.now.keys.now) quick F.objects)
         (IsWalkFault f F (lists walk.now.heights.now walk.now.keys.now) walk.now.look) result) }
     ensures named { IfSome named.new (λ keys. length keys.marks.items ≡ (frame_in (P.means src.old)).objects) }
     ensures keys { HonestlyIn (P.means src.old) (λ f F. IfOk result (λ _. IfSome named.new (λ keys. (n : ℕ) → n < F.objects
@@ -241,7 +241,7 @@ fn check_all<P: Framed>(
 
 /// Looks at all vouched objects by the rules before those of keys: quickly, and where that finds a fault again, by the rules
 /// in their order. Keys are named where they are to be. How many bytes they take.
-fn see_objects<P: Framed>(
+fn check_in_passes<P: Framed>(
     src: &mut P,
     heights: &[u32],
     keys: &Option<KeyLists>,
@@ -252,7 +252,7 @@ fn see_objects<P: Framed>(
     ensures reads { OnlyReads (refused_read result) (P.means src.old) (P.means src.new) }
     ensures memory { IfErr result (MayRefuse keys.now) }
     ensures exact { HonestlyIn (P.means src.old) (λ f F.
-        Judges (Running f F (lists heights.now keys.now) quick F.objects)
+        Judges (AreCheckedBelow f F (lists heights.now keys.now) quick F.objects)
         (IsSeenFault f F (lists heights.now keys.now)) result) }
     ensures named { IfSome named.new (λ keys. length keys.marks.items ≡ (frame_in (P.means src.old)).objects) }
     ensures keys { HonestlyIn (P.means src.old) (λ f F. IfOk result (λ _. IfSome named.new (λ keys. (n : ℕ) → n < F.objects
@@ -290,7 +290,7 @@ fn none_named(
 fn check_keys<P: Framed>(
     alloc: Global,
     src: &mut P,
-    seen: &Seen,
+    seen: &VouchedPrefix,
     keys: &Option<KeyLists>,
     named: Option<NamedKeys>,
 ) -> Result<(), Refusal>
@@ -299,15 +299,15 @@ fn check_keys<P: Framed>(
     requires named { IfSome named (λ keys. length keys.marks.items ≡ (frame_in (P.means src.old)).objects) }
     ensures reads { OnlyReads (refused_read result) (P.means src.old) (P.means src.new) }
     ensures memory { IfErr result (MayRefuse keys.now) }
-    ensures exact { HonestlyIn (P.means src.old) (λ f F. AreSeen f F seen.now.heights.now seen.now.bound
+    ensures exact { HonestlyIn (P.means src.old) (λ f F. KeepBeforeKeysBelow f F seen.now.heights.now seen.now.bound
         → IfSome named (λ keys. (n : ℕ) → n < seen.now.bound → IsVouchedBy seen.now.heights.now n
         → HasNamedKeys f F keys.marks.items n)
         → Judges (λ _. (n : ℕ) → n < seen.now.bound → IsVouchedBy seen.now.heights.now n → HasGoodKeys f F keys.now n)
         (IsFirstKeysFault f F (lists seen.now.heights.now keys.now) seen.now.bound) result) }
 {
     match keys {
-        None => key_classes::check_keys(alloc, src, seen, named),
-        Some(keys) => Ok(key_lists::check_keys(src, seen, keys)?),
+        None => key_repeats::check_key_repeats(alloc, src, seen, named),
+        Some(keys) => Ok(key_lists::check_key_orders(src, seen, keys)?),
     }
 }
 
@@ -334,14 +334,14 @@ fn check_objects<P: Framed>(
     ensures reads { OnlyReads (refused_read result) (P.means src.old) (P.means src.new) }
     ensures memory { IfErr result (MayRefuse keys.now) }
     ensures exact { HonestlyIn (P.means src.old) (λ f F.
-        Judges (Running f F (lists heights.now keys.now) exact F.objects)
+        Judges (AreCheckedBelow f F (lists heights.now keys.now) exact F.objects)
         (IsVouchedFault f F (lists heights.now keys.now)) result) }
 {
     let objects = src.frame().objects;
     let mut named = none_named(alloc, objects, keys)?;
-    match see_objects(src, heights, keys, &mut named) {
+    match check_in_passes(src, heights, keys, &mut named) {
         Ok(used) => {
-            let seen = Seen {
+            let seen = VouchedPrefix {
                 heights,
                 bound: objects,
             };
@@ -349,7 +349,7 @@ fn check_objects<P: Framed>(
             Ok(used)
         }
         Err(Refusal::Fault(fault)) => {
-            let seen = Seen {
+            let seen = VouchedPrefix {
                 heights,
                 bound: object_of(&fault).min(objects),
             };
@@ -390,7 +390,7 @@ fn check_lists<S: Source>(alloc: Global, src: &mut S, cert: &Certificate) -> Res
     ensures reads { OnlyReads (refused_read result) (S.means src.old) (S.means src.new) }
     ensures memory { IfErr result (MayRefuse cert.now.keys) }
     ensures exact { Honestly (S.means src.old) (λ f. Judges
-        (λ frame. IsKept f frame cert.now) (IsPairFault f cert.now) result) }
+        (λ frame. KeepsPairRules f frame cert.now) (IsPairFault f cert.now) result) }
     ensures safe { IfOk result (λ frame. IsSafeFrame (length (S.means src.old).octets) frame × (length cert.now.heights ≡ frame.objects)) }
 {
     let frame = frame_of(src)?;

@@ -15,20 +15,20 @@ ghost use Rattle.bplist_keys.specs.Texts.{HasTextShape, IsTextHead};
 ghost use Rattle.bplist_cert.specs.Heights.{ref};
 ghost use Rattle.bplist_cert.specs.Lists.{lists, IsWhole, list_of};
 ghost use Rattle.bplist_cert.specs.CheckRules.{HasOrder, IsKeysFault};
-ghost use Rattle.bplist_cert.specs.Keys.{HaveTexts, AreInOrder};
-ghost use Rattle.bplist_cert.specs.KeyClasses.{KeysAreSound, HasGoodKeys, BreaksKeys, IsFirstKeysFault};
-ghost use Rattle.bplist_cert.specs.KeyPairs.{AreFewKeys, IsPlaced, Ascends, AreKnown, HaveTextShapes, Follows, IsReadKey, IsSafeKey};
+ghost use Rattle.bplist_cert.specs.KeyKinds.{KeysAreTexts, AreInOrder};
+ghost use Rattle.bplist_cert.specs.KeyRepeats.{KeysAreSound, HasGoodKeys, BreaksKeys, IsFirstKeysFault};
+ghost use Rattle.bplist_cert.specs.KeyPairs.{AreFewKeys, HoldsOffsets, Ascends, AreKnown, HaveTextShapes, Follows, IsReadKey, IsSafeKey};
 ghost use Rattle.bplist_cert.specs.LowBytes.{AreLow};
 ghost use Rattle.bplist_cert.specs.Valid.{IsVouchedBy};
-ghost use Rattle.bplist_cert.specs.Looks.{AreSeen};
+ghost use Rattle.bplist_cert.specs.Looks.{KeepBeforeKeysBelow};
 
 use crate::certificate::KeyLists;
+use crate::key_kinds::check_texts;
 use crate::key_order::{check_order, comes_after, part_of, text_of};
 use crate::key_pairs::OrderedPairs;
-use crate::keys::check_texts;
 use crate::low_bytes::LowBytes;
-use crate::seen::Seen;
-use bplist_keys::PlaceBlock;
+use crate::vouched_prefix::VouchedPrefix;
+use bplist_keys::OffsetBlock;
 use bplist_objects::{Framed, Head, Kind, ObjectFault, ObjectNo, read_refs_in, ref_at, shape_at};
 use bplist_octets::ReadFault;
 
@@ -228,7 +228,7 @@ fn key_list(keys: &KeyLists, n: u32, count: u64) -> Option<&[u32]>
 struct ListLook {
     pairs: OrderedPairs,
     low: LowBytes,
-    places: PlaceBlock,
+    places: OffsetBlock,
 }
 
 /// Whether the key list of dictionary `n` has its keys in order, which are texts by marker and count then.
@@ -258,7 +258,7 @@ fn has_good_list<P: Framed>(
 /// and count are texts.
 fn check_list<P: Framed>(
     src: &mut P,
-    seen: &Seen,
+    seen: &VouchedPrefix,
     keys: &KeyLists,
     n: ObjectNo,
     head: &Head,
@@ -271,11 +271,11 @@ fn check_list<P: Framed>(
     requires starts { length keys.now.starts ≡ (frame_in (P.means src.old)).objects }
     ensures reads { OnlyReads (read_failed result) (P.means src.old) (P.means src.new) }
     ensures places { look.new.places ≡ look.old.places }
-    ensures known { HonestlyIn (P.means src.old) (λ f F. AreKnown f F look.old.pairs → AreLow f look.old.low.rows
-        → OnOk result (AreKnown f F look.new.pairs × AreLow f look.new.low.rows)) }
-    ensures exact { HonestlyIn (P.means src.old) (λ f F. AreKnown f F look.old.pairs → AreLow f look.old.low.rows
-        → (seen.now.bound ≡ F.objects → HaveTextShapes f F head.now → HaveTexts f F head.now head.now.count)
-        → Gives (λ _. HaveTexts f F head.now head.now.count × HasOrder f F keys.now n.0 head.now)
+    ensures known { HonestlyIn (P.means src.old) (λ f F. AreKnown f F look.old.pairs → AreLow f look.old.low.slots
+        → OnOk result (AreKnown f F look.new.pairs × AreLow f look.new.low.slots)) }
+    ensures exact { HonestlyIn (P.means src.old) (λ f F. AreKnown f F look.old.pairs → AreLow f look.old.low.slots
+        → (seen.now.bound ≡ F.objects → HaveTextShapes f F head.now → KeysAreTexts f F head.now head.now.count)
+        → Gives (λ _. KeysAreTexts f F head.now head.now.count × HasOrder f F keys.now n.0 head.now)
         (IsKeysFault f F F.objects (Some keys.now) n.0 head.now) result) }
 {
     let good = has_good_list(src, keys, n, head, &mut look.pairs)?;
@@ -290,9 +290,9 @@ fn check_list<P: Framed>(
 }
 
 /// Looks at the keys of vouched object `n`, where it is a dictionary.
-fn check_object<P: Framed>(
+fn check_dict_order<P: Framed>(
     src: &mut P,
-    seen: &Seen,
+    seen: &VouchedPrefix,
     keys: &KeyLists,
     n: u32,
     look: &mut ListLook,
@@ -301,17 +301,17 @@ fn check_object<P: Framed>(
     requires within { n < (frame_in (P.means src.old)).objects }
     requires starts { length keys.now.starts ≡ (frame_in (P.means src.old)).objects }
     ensures reads { OnlyReads (read_failed result) (P.means src.old) (P.means src.new) }
-    ensures known { HonestlyIn (P.means src.old) (λ f F. AreKnown f F look.old.pairs → AreLow f look.old.low.rows
-        → OnOk result (AreKnown f F look.new.pairs × AreLow f look.new.low.rows)) }
-    ensures placed { HonestlyIn (P.means src.old) (λ f F. IsPlaced f F look.old.places → OnOk result (IsPlaced f F look.new.places)) }
-    ensures exact { HonestlyIn (P.means src.old) (λ f F. AreKnown f F look.old.pairs → AreLow f look.old.low.rows
-        → IsPlaced f F look.old.places
+    ensures known { HonestlyIn (P.means src.old) (λ f F. AreKnown f F look.old.pairs → AreLow f look.old.low.slots
+        → OnOk result (AreKnown f F look.new.pairs × AreLow f look.new.low.slots)) }
+    ensures placed { HonestlyIn (P.means src.old) (λ f F. HoldsOffsets f F look.old.places → OnOk result (HoldsOffsets f F look.new.places)) }
+    ensures exact { HonestlyIn (P.means src.old) (λ f F. AreKnown f F look.old.pairs → AreLow f look.old.low.slots
+        → HoldsOffsets f F look.old.places
         → KeepsAll (KeepsByObject f F n) object_rules
         → ((head : head) → HasHead f F n head → head.kind ≡ Dict → seen.now.bound ≡ F.objects → KeysAreSound f F head)
         → Gives (λ _. HasGoodKeys f F (Some keys.now) n) (BreaksKeys f F F.objects (Some keys.now) n) result) }
 {
     let frame = src.frame();
-    let place = look.places.place(src, n)?;
+    let place = look.places.offset(src, n)?;
     let head = shape_at(src, &frame, ObjectNo(n), place)?;
     match head.kind {
         Kind::Dict => check_list(src, seen, keys, ObjectNo(n), &head, look),
@@ -333,26 +333,26 @@ fn may_be_wrong(keys: &KeyLists, n: u32, height: u32) -> bool
 }
 
 /// Looks at the keys of the vouched dictionaries that were seen: they are texts, and the key lists have them in order.
-pub(crate) fn check_keys<P: Framed>(
+pub(crate) fn check_key_orders<P: Framed>(
     src: &mut P,
-    seen: &Seen,
+    seen: &VouchedPrefix,
     keys: &KeyLists,
 ) -> Result<(), ObjectFault>
     requires all { length seen.now.heights.now ≡ (frame_in (P.means src.old)).objects }
     requires starts { length keys.now.starts ≡ (frame_in (P.means src.old)).objects }
     ensures reads { OnlyReads (read_failed result) (P.means src.old) (P.means src.new) }
-    ensures exact { HonestlyIn (P.means src.old) (λ f F. AreSeen f F seen.now.heights.now seen.now.bound
+    ensures exact { HonestlyIn (P.means src.old) (λ f F. KeepBeforeKeysBelow f F seen.now.heights.now seen.now.bound
         → Gives (λ _. (n : ℕ) → n < seen.now.bound → IsVouchedBy seen.now.heights.now n → HasGoodKeys f F (Some keys.now) n)
         (IsFirstKeysFault f F (lists seen.now.heights.now (Some keys.now)) seen.now.bound) result) }
 {
     let mut look = ListLook {
         pairs: OrderedPairs::new(),
         low: LowBytes::new(src.len()),
-        places: PlaceBlock::new(),
+        places: OffsetBlock::new(),
     };
     for n in 0..seen.bound {
         if may_be_wrong(keys, n, seen.heights[n as usize]) {
-            check_object(src, seen, keys, n, &mut look)?;
+            check_dict_order(src, seen, keys, n, &mut look)?;
         }
     }
     Ok(())

@@ -10,11 +10,11 @@ ghost use Rattle.bplist_objects.specs.ObjectRules.{KeepsByObject, object_rules};
 ghost use Rattle.bplist_keys.specs.Classes.{HasNamedKeys};
 ghost use Rattle.bplist_keys.specs.Marks.{IsMarked};
 ghost use Rattle.bplist_cert.specs.Valid.{IsVouchedBy};
-ghost use Rattle.bplist_cert.specs.Looks.{AreSeen};
+ghost use Rattle.bplist_cert.specs.Looks.{KeepBeforeKeysBelow};
 ghost use Rattle.bplist_cert.specs.Refusals.{Judges, refused_read};
 
 use crate::refusal::Refusal;
-use crate::seen::Seen;
+use crate::vouched_prefix::VouchedPrefix;
 use bplist_keys::{NamedKeys, name_keys};
 use bplist_objects::{Framed, Kind, ObjectFault, ObjectNo, read_offsets_in, shape_in};
 use std::alloc::Global;
@@ -62,7 +62,7 @@ fn name_block<P: Framed>(
     ensures all { length named.new.marks.items ≡ (frame_in (P.means src.old)).objects }
     ensures exact { HonestlyIn (P.means src.old) (λ f F. ((k : ℕ) → k < length places.now
         → slice_index places.now k ≡ off f F (from + k))
-        → AreSeen f F heights.now (from + length places.now)
+        → KeepBeforeKeysBelow f F heights.now (from + length places.now)
         → ((m : ℕ) → m < from → IsVouchedBy heights.now m → HasNamedKeys f F named.old.marks.items m)
         → Gives (λ _. (m : ℕ) → m < from + length places.now → IsVouchedBy heights.now m
         → HasNamedKeys f F named.new.marks.items m) Never result) }
@@ -92,7 +92,7 @@ pub(crate) fn name_wanted<P: Framed>(
     ensures all { IfSome named.new (λ keys. length keys.marks.items ≡ (frame_in (P.means src.old)).objects) }
     ensures exact { HonestlyIn (P.means src.old) (λ f F. ((k : ℕ) → k < length places.now
         → slice_index places.now k ≡ off f F (from + k))
-        → AreSeen f F heights.now (from + length places.now)
+        → KeepBeforeKeysBelow f F heights.now (from + length places.now)
         → IfSome named.old (λ keys. (m : ℕ) → m < from → IsVouchedBy heights.now m → HasNamedKeys f F keys.marks.items m)
         → Gives (λ _. IfSome named.new (λ keys. (m : ℕ) → m < from + length places.now → IsVouchedBy heights.now m
         → HasNamedKeys f F keys.marks.items m)) Never result) }
@@ -107,12 +107,12 @@ pub(crate) fn name_wanted<P: Framed>(
 pub(crate) fn seen_keys<P: Framed>(
     alloc: Global,
     src: &mut P,
-    seen: &Seen,
+    seen: &VouchedPrefix,
 ) -> Result<NamedKeys, Refusal>
     requires { length seen.now.heights.now ≡ (frame_in (P.means src.old)).objects }
     ensures reads { OnlyReads (refused_read result) (P.means src.old) (P.means src.new) }
     ensures all { IfOk result (λ named. length named.marks.items ≡ (frame_in (P.means src.old)).objects) }
-    ensures exact { HonestlyIn (P.means src.old) (λ f F. AreSeen f F seen.now.heights.now seen.now.bound
+    ensures exact { HonestlyIn (P.means src.old) (λ f F. KeepBeforeKeysBelow f F seen.now.heights.now seen.now.bound
         → Judges (λ named. (n : ℕ) → n < seen.now.bound → IsVouchedBy seen.now.heights.now n
         → HasNamedKeys f F named.marks.items n) Never result) }
 {
@@ -139,10 +139,10 @@ pub fn vouched_keys<P: Framed>(
     requires { length heights.now ≡ (frame_in (P.means src.old)).objects }
     ensures reads { OnlyReads (refused_read result) (P.means src.old) (P.means src.new) }
     ensures all { IfOk result (λ named. length named.marks.items ≡ (frame_in (P.means src.old)).objects) }
-    ensures exact { HonestlyIn (P.means src.old) (λ f F. AreSeen f F heights.now F.objects
+    ensures exact { HonestlyIn (P.means src.old) (λ f F. KeepBeforeKeysBelow f F heights.now F.objects
         → Judges (λ named. (n : ℕ) → IsVouchedBy heights.now n → HasNamedKeys f F named.marks.items n) Never result) }
 {
-    let seen = Seen {
+    let seen = VouchedPrefix {
         heights,
         bound: src.frame().objects,
     };

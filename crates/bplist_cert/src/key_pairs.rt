@@ -5,14 +5,14 @@ ghost use Rattle.bplist_objects.specs.declared.frame.Frame.{Frame as frame};
 
 use bplist_keys::Runs;
 
-/// How many pairs are kept: a prime, so that pairs with near numbers have rows of their own.
-const ROWS: usize = 4093;
+/// How many pairs are kept: a prime, so that pairs with near numbers have slots of their own.
+const SLOTS: usize = 4093;
 
 /// Pairs of objects that are texts, of which the first comes before the second: as many as fit a table of 32 KiB, in which a
-/// pair takes the row of another. A pair is kept as one number, and 0 is none. Beside them the runs of texts that were compared.
+/// pair takes the slot of another. A pair is kept as one number, and 0 is none. Beside them the runs of texts that were compared.
 #[derive(Drop)]
 pub(crate) struct OrderedPairs {
-    pub rows: [u64; ROWS],
+    pub slots: [u64; SLOTS],
     pub runs: Runs,
 }
 
@@ -23,11 +23,11 @@ fn pair_of(a: u32, b: u32) -> u64
     a as u64 * 4_294_967_296 + b as u64
 }
 
-/// The row of a pair.
-fn row_of(pair: u64) -> usize
+/// The slot of a pair.
+fn slot_of(pair: u64) -> usize
     ensures { result < 4093 }
 {
-    (pair % ROWS as u64) as usize
+    (pair % SLOTS as u64) as usize
 }
 
 impl OrderedPairs {
@@ -38,7 +38,7 @@ impl OrderedPairs {
         ensures { (f : List ℕ) (F : frame) → AreKnown f F result }
     {
         OrderedPairs {
-            rows: [0; ROWS],
+            slots: [0; SLOTS],
             runs: Runs::new(),
         }
     }
@@ -48,7 +48,7 @@ impl OrderedPairs {
         ensures { (f : List ℕ) (F : frame) → AreKnown f F self.now → IsTrue result → Ascends f F a b }
     {
         let pair = pair_of(a, b);
-        if pair == 0 || self.rows[row_of(pair)] != pair {
+        if pair == 0 || self.slots[slot_of(pair)] != pair {
             return false;
         }
         true
@@ -59,6 +59,6 @@ impl OrderedPairs {
         ensures { (f : List ℕ) (F : frame) → AreKnown f F self.old → Ascends f F a b → AreKnown f F self.new }
     {
         let pair = pair_of(a, b);
-        self.rows[row_of(pair)] = pair;
+        self.slots[slot_of(pair)] = pair;
     }
 }

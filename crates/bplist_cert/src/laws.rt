@@ -13,7 +13,7 @@ ghost use Rattle.bplist_cert.specs.Lists.{Lists, IsCertificate};
 ghost use Rattle.bplist_cert.specs.Encoding.{octets_of};
 ghost use Rattle.bplist_cert.specs.Valid.{IsVouchedBy, IsValid, HoldsOneValue, SpellsText};
 ghost use Rattle.bplist_cert.specs.Sorted.{IsSorted, IsAccepted};
-ghost use Rattle.bplist_cert.specs.Keys.{HaveTexts, KeysDiffer, AreInOrder};
+ghost use Rattle.bplist_cert.specs.KeyKinds.{KeysAreTexts, KeysDiffer, AreInOrder};
 ghost use Rattle.bplist_cert.specs.PairFault.{IsPairFault};
 ghost use Rattle.bplist_cert.specs.CheckedFile.{CheckedFile, meaning_of};
 
@@ -48,7 +48,7 @@ pub fn vouched_references()
 
 /// The keys of a key list that has them in order differ.
 pub fn ordered_keys_differ()
-    ensures { (f : List ℕ) (F : frame) (h : head) (list : List ℕ) → HaveTexts f F h h.count → AreInOrder f F h list h.count
+    ensures { (f : List ℕ) (F : frame) (h : head) (list : List ℕ) → KeysAreTexts f F h h.count → AreInOrder f F h list h.count
         → KeysDiffer f F h h.count }
 {}
 

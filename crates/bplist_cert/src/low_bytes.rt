@@ -9,7 +9,7 @@ use bplist_objects::first_high_in;
 use bplist_octets::{ReadFault, Source};
 
 /// How many stretches are kept.
-const ROWS: usize = 256;
+const SLOTS: usize = 256;
 
 /// The bytes from one place up to before another.
 #[derive(Clone, Copy, Debug)]
@@ -21,7 +21,7 @@ pub(crate) struct Stretch {
 /// A stretch for each part of the file: of those that begin in the part the longest, together with what it meets.
 #[derive(Drop)]
 pub(crate) struct LowBytes {
-    pub rows: [Stretch; ROWS],
+    pub slots: [Stretch; SLOTS],
     /// How many bytes a part of the file has, or 0 for one.
     part: u64,
 }
@@ -60,19 +60,19 @@ fn joined(known: Stretch, found: Stretch) -> Stretch
 impl LowBytes {
     /// No stretches yet, for a file of so many bytes.
     pub(crate) fn new(len: u64) -> LowBytes
-        ensures { (f : List ℕ) → AreLow f result.rows }
+        ensures { (f : List ℕ) → AreLow f result.slots }
     {
         LowBytes {
-            rows: [Stretch { from: 0, to: 0 }; ROWS],
-            part: len / ROWS as u64,
+            slots: [Stretch { from: 0, to: 0 }; SLOTS],
+            part: len / SLOTS as u64,
         }
     }
 
-    /// The row of the part that this place lies in.
-    fn row_of(&self, place: u64) -> usize
+    /// The slot of the part that this place lies in.
+    fn slot_of(&self, place: u64) -> usize
         ensures { result < 256 }
     {
-        (place / (self.part.max(1)) % ROWS as u64) as usize
+        (place / (self.part.max(1)) % SLOTS as u64) as usize
     }
 
     /// Whether the bytes from one place up to before another are below 128. Those are read that are not known to be.
@@ -85,19 +85,19 @@ impl LowBytes {
         requires order { from ≤ to }
         requires within { to ≤ length (S.means src.old).octets }
         ensures reads { OnlyReads (is_err result) (S.means src.old) (S.means src.new) }
-        ensures low { IsTrue (S.means src.old).honest → AreLow (S.means src.old).octets self.old.rows
-            → AreLow (S.means src.old).octets self.new.rows }
-        ensures exact { IfOk result (λ low. IsTrue (S.means src.old).honest → AreLow (S.means src.old).octets self.old.rows
+        ensures low { IsTrue (S.means src.old).honest → AreLow (S.means src.old).octets self.old.slots
+            → AreLow (S.means src.old).octets self.new.slots }
+        ensures exact { IfOk result (λ low. IsTrue (S.means src.old).honest → AreLow (S.means src.old).octets self.old.slots
             → IsTrue low ↔ IsLow (S.means src.old).octets from to) }
     {
-        let row = self.row_of(from);
-        let known = self.rows[row];
+        let slot = self.slot_of(from);
+        let known = self.slots[slot];
         let begin = known.from.max(from).min(to);
         let end = known.to.max(begin).min(to);
         if !is_low(src, from, begin)? || !is_low(src, end, to)? {
             return Ok(false);
         }
-        self.rows[row] = joined(known, Stretch { from, to });
+        self.slots[slot] = joined(known, Stretch { from, to });
         Ok(true)
     }
 }

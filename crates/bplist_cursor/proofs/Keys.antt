@@ -16,7 +16,7 @@ use Rattle.bplist_objects.proofs.Parts.{get_or-part}
 use Rattle.bplist_objects.proofs.Fronts.{one_head}
 use Rattle.bplist_objects.proofs.References.{as_many}
 use Rattle.bplist_objects.proofs.UnitOrder.{compare_units-equal_iff, compare_units-self, compare_units-less, compare_units-not_less, compare_units-less_less, compare_units-greater_greater}
-use Rattle.bplist_cursor.specs.Steps.{HaveTexts}
+use Rattle.bplist_cursor.specs.Steps.{SpellTexts}
 use Rattle.bplist_cursor.specs.KeySearch.{IsKeyList, IsCompared}
 use Rattle.bplist_cert.proofs.AllNumbers.{onto}
 
@@ -88,7 +88,7 @@ module _ (f : List ℕ) (F : Frame) where
       }
 
     -- each key has a number in the list
-    pub listed : IsKeyList f F ks list → HaveTexts f F ks → (i : ℕ) → i < length ks → (j : ℕ) × (j < length ks) × (slice_index list j ≡ i)
+    pub listed : IsKeyList f F ks list → SpellTexts f F ks → (i : ℕ) → i < length ks → (j : ℕ) × (j < length ks) × (slice_index list j ≡ i)
     listed is texts i l =
         onto (length ks) (λ j. slice_index list j) is.within
         (λ a b before within e.
@@ -98,7 +98,7 @@ module _ (f : List ℕ) (F : Frame) where
         i l
 
     -- where nothing is left no key has the units
-    pub none_left : IsKeyList f F ks list → HaveTexts f F ks → (low high : ℕ) → Searching low high → high ≤ low
+    pub none_left : IsKeyList f F ks list → SpellTexts f F ks → (low high : ℕ) → Searching low high → high ≤ low
         → (i : ℕ) → i < length ks → Spells f F (slice_index ks i) (leaf (text units)) → ⊥
     none_left is texts low high searching done i l s =
         let p = listed is texts i l in
@@ -115,7 +115,7 @@ module _ (f : List ℕ) (F : Frame) where
     position_below = subst (λ i. i < length ks) (list_at positions start (length ks) middle within) (list.within middle within)
 
     -- what the comparison with the key in the middle said
-    pub compared_text : (units : List ℕ) (found : ℕ × Ordering) → HaveTexts f F ks → IsCompared f F ks (slice_index positions (start + middle)) units found
+    pub compared_text : (units : List ℕ) (found : ℕ × Ordering) → SpellTexts f F ks → IsCompared f F ks (slice_index positions (start + middle)) units found
         → (us : List ℕ) × Spells f F (slice_index ks (slice_index (part positions start (length ks)) middle)) (leaf (text us)) × (found.1 ≡ compare_units us units)
     compared_text units found texts told =
         let x = texts (slice_index (part positions start (length ks)) middle) (list.within middle within) in

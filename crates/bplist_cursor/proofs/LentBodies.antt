@@ -15,7 +15,7 @@ use Rattle.bplist_objects.specs.Heads.{HasShape, Spells, is_proper, content_of, 
 use Rattle.bplist_objects.proofs.Fronts.{one_shape}
 use Rattle.bplist_cert.specs.CheckedFile.{CheckedFile, IsChecked}
 use Rattle.bplist_cert.specs.Valid.{IsVouchedBy}
-use Rattle.bplist_cursor.specs.Lent.{SpellsBytes}
+use Rattle.bplist_cursor.specs.LentBodies.{SpellsBytes}
 
 -- the kinds of data and of texts of one byte a unit
 abbrev IsByteKind : Kind → Type 0

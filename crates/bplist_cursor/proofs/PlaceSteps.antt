@@ -14,7 +14,7 @@ use Rattle.bplist_cursor.specs.KeySearch.{halvings_of, halvings_at}
 use Rattle.bplist_cursor.proofs.BinaryDigits.{digits_2}
 use Rattle.bplist_objects.specs.declared.kind.Kind.{Kind}
 use Rattle.bplist_objects.specs.declared.kind.Kind.TheVariants as kinds
-use Rattle.bplist_cursor.specs.Steps.{HaveTexts, IsKeyPlace, IsPlace}
+use Rattle.bplist_cursor.specs.Steps.{SpellTexts, IsKeyPlace, IsPlace}
 use Rattle.bplist_cursor.specs.declared.found.Why.TheVariants as why
 use Rattle.bplist_cursor.specs.declared.path_step.Place.TheVariants as place
 use Rattle.bplist_cursor.proofs.Counts.{pair_counts}
@@ -32,13 +32,13 @@ module _ (f : List ℕ) (F : Frame) where
 
   -- the keys and values of a dictionary with this head
   pub dict_keys : (h : H.Content) (head : Head) → head.kind ≡ kinds.Dict → h ≡ H.content_at f F head → (n : ℕ) → Spells f F n h → HasTextKeys f F h
-      → (ks ms : List ℕ) × Spells f F n (H.Content.dict ks ms) × (H.Content.dict ks ms ≡ H.content_at f F head) × HaveTexts f F ks
+      → (ks ms : List ℕ) × Spells f F n (H.Content.dict ks ms) × (H.Content.dict ks ms ≡ H.content_at f F head) × SpellTexts f F ks
   dict_keys h head d e n s t =
       let w = dict_is h head d e in
       (keys_at head, values_at head, subst (Spells f F n) (sym w) s, w ∙ e, λ i l. (subst (HasTextKeys f F) (sym w) t i l).1)
 
   abbrev KeyAnswer : Head → ℕ → List ℕ → Option ℕ → Type 0
-  KeyAnswer head n s o = (ks ms : List ℕ) → Spells f F n (H.Content.dict ks ms) → H.Content.dict ks ms ≡ H.content_at f F head → HaveTexts f F ks → IsKeyPlace f F ks s o
+  KeyAnswer head n s o = (ks ms : List ℕ) → Spells f F n (H.Content.dict ks ms) → H.Content.dict ks ms ≡ H.content_at f F head → SpellTexts f F ks → IsKeyPlace f F ks s o
 
   pub dict_place : (h : H.Content) (head : Head) (i : ℕ) (s : List ℕ) → head.kind ≡ kinds.Dict → h ≡ H.content_at f F head → (n : ℕ) → Spells f F n h → HasTextKeys f F h
       → KeyAnswer head n s (Some i) → IsPlace f F h s (place.Of (head.count + i))

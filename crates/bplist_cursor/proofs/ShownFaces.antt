@@ -8,7 +8,7 @@ use Rattle.bplist_objects.specs.declared.head.Head.{Head}
 use Rattle.bplist_objects.specs.declared.kind.Kind.{Kind}
 use Rattle.bplist_objects.specs.declared.kind.Kind.TheVariants as kinds
 use Rattle.bplist_objects.specs.Value.{Value, leaf, array, set, dict, Values, no_values, value}
-use Rattle.bplist_objects.specs.Announced.{unit}
+use Rattle.bplist_objects.specs.Announced.{item_size}
 use Rattle.bplist_objects.specs.Heads.{Content, Spells, content_at, content_of}
 use Rattle.bplist_objects.specs.Holds.{Holds, HoldEach}
 use Rattle.bplist_objects.specs.Units.{IsTextKind, units_of}
@@ -21,7 +21,7 @@ use Rattle.bplist_cursor.specs.Shown.{content_face}
 use Rattle.bplist_cursor.proofs.Counts.{pair_counts}
 
 -- all units of a text are its units
-pub all_units : (f : List ℕ) (head : Head) (n : ℕ) → IsTextKind head.kind → head.body + head.count * unit 1 head.kind ≤ length f → n ≡ head.count
+pub all_units : (f : List ℕ) (head : Head) (n : ℕ) → IsTextKind head.kind → head.body + head.count * item_size 1 head.kind ≤ length f → n ≡ head.count
     → part (units_of f head) 0 n ≡ units_of f head
 all_units f head n t h e = take_all n (units_of f head) (let l = length-units_at f head.kind head.count head.body t h in omega (arith, l, e))
 

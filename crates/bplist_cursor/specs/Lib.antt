@@ -14,7 +14,7 @@ pub mod PathFaults
 pub mod Kept
 pub mod Shown
 pub mod Members
-pub mod Lent
+pub mod LentBodies
 pub mod Sizes
 pub mod ObjectSizes
 pub mod Steps

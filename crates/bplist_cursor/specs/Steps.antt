@@ -24,8 +24,8 @@ IsPlaceBelow count (place.Nowhere _) = ⊤
 
 module _ (f : List ℕ) (F : Frame) where
   -- these are objects that spell texts
-  abbrev pub HaveTexts : List ℕ → Type 0
-  HaveTexts ks = (i : ℕ) → i < length ks → (u : List ℕ) × Spells f F (slice_index ks i) (leaf (text u))
+  abbrev pub SpellTexts : List ℕ → Type 0
+  SpellTexts ks = (i : ℕ) → i < length ks → (u : List ℕ) × Spells f F (slice_index ks i) (leaf (text u))
 
   -- the key at this place spells s, or no key does
   abbrev pub IsKeyPlace : List ℕ → List ℕ → Option ℕ → Type 0
@@ -46,4 +46,4 @@ module _ (f : List ℕ) (F : Frame) where
 abbrev pub HonestlyKeyed : CheckedFile → Head → (List ℕ → Frame → List ℕ → Type 0) → Type 0
 HonestlyKeyed checked head P =
     HonestlyChecked checked (λ f F. (n : ℕ) (ks ms : List ℕ) → Spells f F n (dict ks ms) → dict ks ms ≡ content_at f F head
-    → HaveTexts f F ks → P f F ks)
+    → SpellTexts f F ks → P f F ks)

@@ -3,7 +3,7 @@
 ghost use Rattle.std.specs.Prelude.{◌≡◌, ◌+◌, ◌*◌, ◌≤◌, length};
 ghost use Rattle.bplist_octets.specs.Octets.{part};
 ghost use Rattle.bplist_cert.specs.CheckedFile.{HonestlyChecked};
-ghost use Rattle.bplist_objects.specs.Announced.{unit};
+ghost use Rattle.bplist_objects.specs.Announced.{item_size};
 ghost use Rattle.bplist_objects.specs.Kinds.{IsLeafKind};
 ghost use Rattle.bplist_objects.specs.Safe.{IsSafeBody};
 ghost use Rattle.bplist_objects.specs.Units.{IsTextKind, units_of};
@@ -27,7 +27,7 @@ pub fn body_bytes<S: Source>(
 ) -> Result<(), Unread>
     requires kind { IsLeafKind head.now.kind }
     requires head { IsSafeBody (length checked.old.source.octets) head.now }
-    requires within { from + length into.old ≤ head.now.count * unit 1 head.now.kind }
+    requires within { from + length into.old ≤ head.now.count * item_size 1 head.now.kind }
     ensures reads { Keeps (read_failed result) checked.old checked.new }
     ensures filled { GivesRead (λ _. HonestlyChecked checked.old
         (λ f _. into.new ≡ part f (head.now.body + from) (length into.old))) result }

@@ -2,7 +2,7 @@
 
 ghost use Rattle.std.specs.Prelude.{ℕ, List, IfSome, MatchOption};
 ghost use Rattle.bplist_cert.specs.Valid.{IsVouchedBy};
-ghost use Rattle.bplist_cursor.specs.Lent.{SpellsBytes, StandsAtBody};
+ghost use Rattle.bplist_cursor.specs.LentBodies.{SpellsBytes, StandsAtBody};
 
 use crate::found::Node;
 use bplist_cert::Checked;

@@ -13,7 +13,7 @@ ghost use Rattle.bplist_cert.specs.Lists.{Keyed};
 ghost use Rattle.bplist_cert.specs.Valid.{IsVouchedBy};
 ghost use Rattle.bplist_cursor.specs.Causes.{GivesRead, read_failed};
 ghost use Rattle.bplist_cursor.specs.Kept.{Keeps};
-ghost use Rattle.bplist_cursor.specs.Steps.{HaveTexts, HonestlyKeyed, IsKeyPlace};
+ghost use Rattle.bplist_cursor.specs.Steps.{SpellTexts, HonestlyKeyed, IsKeyPlace};
 ghost use Rattle.bplist_cursor.specs.KeySearch.{IsCompared, IsKeyList, RisesAtMost, ListStarts, IsUnlisted};
 
 use crate::checked_objects::{head_in, reference_in};
@@ -171,7 +171,7 @@ pub(crate) fn key_place<S: Source>(
     requires is_dict { head.now.kind ≡ Dict }
     ensures reads { Keeps (read_failed result) checked.old checked.new }
     ensures exact { HonestlyChecked checked.old (λ f F. IsVouchedBy checked.old.certificate.heights n.0
-        → (ks ms : List ℕ) → Spells f F n.0 (dict ks ms) → dict ks ms ≡ content_at f F head.now → HaveTexts f F ks
+        → (ks ms : List ℕ) → Spells f F n.0 (dict ks ms) → dict ks ms ≡ content_at f F head.now → SpellTexts f F ks
         → GivesRead (IsKeyPlace f F ks units.now) result) }
     ensures inside { IfOk result (λ o. IfSome o (λ i. i < head.now.count)) }
     ensures bound { RisesAtMost checked.old made.old made.new (length (digits_of 2 head.now.count)) }

@@ -4,7 +4,7 @@ ghost use Rattle.std.specs.Prelude.{◌≡◌, ◌≢◌, ℕ, IsTrue, IfOk, IfE
 ghost use Rattle.bplist_octets.specs.Octets.{part};
 ghost use Rattle.bplist_cert.specs.CheckedFile.{HonestlyChecked};
 ghost use Rattle.bplist_objects.specs.Value.{Value};
-ghost use Rattle.bplist_objects.specs.Announced.{unit};
+ghost use Rattle.bplist_objects.specs.Announced.{item_size};
 ghost use Rattle.bplist_objects.specs.Heads.{Content, Spells, content_at};
 ghost use Rattle.bplist_objects.specs.Holds.{Holds};
 ghost use Rattle.bplist_objects.specs.Kinds.{IsLeafKind};
@@ -35,7 +35,7 @@ fn leaf_bytes<S: Source>(
     head: &Head,
 ) -> Result<List<u8>, CursorFault>
     requires kind { IsLeafKind head.now.kind }
-    requires one { unit 1 head.now.kind ≡ 1 }
+    requires one { item_size 1 head.now.kind ≡ 1 }
     requires head { IsSafeBody (length checked.old.source.octets) head.now }
     ensures reads { Keeps (cursor_read result) checked.old checked.new }
     ensures value { GivesCursor (λ bytes. HonestlyChecked checked.old

@@ -16,9 +16,9 @@ pub agree_less : (m n : ℕ) (us vs : List ℕ) → m ≤ n → Agree n us vs �
 agree_less m n us vs l e = sym (take_less m n us l) ∙ ap (take m) e ∙ take_less m n vs l
 
 -- a note that is put
-pub true_put : (text : ℕ → List ℕ) (notes : List Note) (m : ℕ) (note : Note) → m < length notes → AreTrue text notes → Agree note.units (text m) (text note.beside) → AreTrue text (set notes m note)
+pub true_put : (text : ℕ → List ℕ) (notes : List Note) (m : ℕ) (note : Note) → m < length notes → AreTrue text notes → Agree note.units (text m) (text note.other) → AreTrue text (set notes m note)
 true_put text notes m note within old new k = elim (cases_eq k m) [
-  | inl e ↦ subst (λ j. Agree (note_at (set notes m note) j).units (text j) (text (note_at (set notes m note) j).beside)) (sym e)
-      (subst (λ (x : Note). Agree x.units (text m) (text x.beside)) (sym (get_or-set_same notes m note (record { beside = 0; units = 0 }) within)) new)
-  | inr d ↦ subst (λ (x : Note). Agree x.units (text k) (text x.beside)) (sym (get_or-set_other notes m k note (record { beside = 0; units = 0 }) d)) (old k)
+  | inl e ↦ subst (λ j. Agree (note_at (set notes m note) j).units (text j) (text (note_at (set notes m note) j).other)) (sym e)
+      (subst (λ (x : Note). Agree x.units (text m) (text x.other)) (sym (get_or-set_same notes m note (record { other = 0; units = 0 }) within)) new)
+  | inr d ↦ subst (λ (x : Note). Agree x.units (text k) (text x.other)) (sym (get_or-set_other notes m k note (record { other = 0; units = 0 }) d)) (old k)
 ]

@@ -9,5 +9,5 @@ pub mod ListedObjects
 pub mod SortedRanks
 pub mod RankLaws
 pub mod LookUps
-pub mod PlaceSteps
+pub mod OffsetSteps
 pub mod RunSteps

@@ -2,13 +2,13 @@
 use Rattle.std.proofs.Common.{◌≡◌, ◌≢◌, ℕ, ◌+◌, ◌-◌, ◌<◌, ◌≤◌, List, set, slice_index, Option, Some, None, MatchOption, IfSome, sym, ap, ◌∙◌, subst, inl, inr, arith}
 use Rattle.std.proofs.lemmas.Bool.{cases_eq}
 use Rattle.std.proofs.lemmas.List.{get_or-set_same, get_or-set_other}
-use Rattle.bplist_keys.specs.Classes.{IsFound, IsStamped, IsNew, AreApart, AreSeen, HaveClasses}
+use Rattle.bplist_keys.specs.Classes.{IsKeyLookup, IsStamped, IsNew, AreApart, HaveSeenKeys, HaveClasses}
 use Rattle.bplist_objects.specs.Claims.{FailsAt}
-use Rattle.bplist_keys.specs.declared.class_table.Found.{Found}
-use Rattle.bplist_keys.specs.declared.class_table.Found.TheVariants.{NoText, First, Again}
+use Rattle.bplist_keys.specs.declared.class_table.KeyLookup.{KeyLookup}
+use Rattle.bplist_keys.specs.declared.class_table.KeyLookup.TheVariants.{NotText, First, Repeated}
 
 -- none was looked up yet
-pub seen_none : (key : ℕ → ℕ) (classes : List ℕ) (n : ℕ) (seen : List ℕ) → IsNew seen n → AreSeen key classes n seen 0 None
+pub seen_none : (key : ℕ → ℕ) (classes : List ℕ) (n : ℕ) (seen : List ℕ) → IsNew seen n → HaveSeenKeys key classes n seen 0 None
 seen_none key classes n seen new = record {
   texts = λ i l. absurd (omega (arith, l));
   stamped = λ i l. absurd (omega (arith, l));
@@ -16,7 +16,7 @@ seen_none key classes n seen new = record {
   first = λ i j a b. absurd (omega (arith, b));
 }
 
-module _ (key : ℕ → ℕ) (classes : List ℕ) (n k : ℕ) (seen : List ℕ) (again : Option ℕ) (s : AreSeen key classes n seen k again) where
+module _ (key : ℕ → ℕ) (classes : List ℕ) (n k : ℕ) (seen : List ℕ) (again : Option ℕ) (s : HaveSeenKeys key classes n seen k again) where
   more_texts : 0 < slice_index classes (key k) → HaveClasses key classes (k + 1)
   more_texts some i low = elim (cases_eq i k) [
     | inl e ↦ subst (λ j. 0 < slice_index classes (key j)) (sym e) some
@@ -24,8 +24,8 @@ module _ (key : ℕ → ℕ) (classes : List ℕ) (n k : ℕ) (seen : List ℕ) 
   ]
 
   -- a text with new units
-  pub seen_first : (seen' : List ℕ) → IsFound classes n (key k) seen First seen' → AreSeen key classes n seen' (k + 1) again
-  seen_first seen' found = subst (λ xs. AreSeen key classes n xs (k + 1) again) (sym found.3) (record {
+  pub seen_first : (seen' : List ℕ) → IsKeyLookup classes n (key k) seen First seen' → HaveSeenKeys key classes n seen' (k + 1) again
+  seen_first seen' found = subst (λ xs. HaveSeenKeys key classes n xs (k + 1) again) (sym found.3) (record {
     texts = more_texts found.0;
     stamped = λ i low. elim (cases_eq (slice_index classes (key i) - 1) row) [
       | inl e ↦ rw e new
@@ -61,8 +61,8 @@ module _ (key : ℕ → ℕ) (classes : List ℕ) (n k : ℕ) (seen : List ℕ) 
       first_still (Some j) h = (omega (arith, h.0), h.1, h.2)
 
   -- a text with units that were there before
-  pub seen_again : (seen' : List ℕ) (e : ℕ) → IsFound classes n (key k) seen Again seen' → MatchOption again (e ≡ k) (λ j. e ≡ j) → AreSeen key classes n seen' (k + 1) (Some e)
-  seen_again seen' e found which = subst (λ xs. AreSeen key classes n xs (k + 1) (Some e)) (sym found.2) (record {
+  pub seen_again : (seen' : List ℕ) (e : ℕ) → IsKeyLookup classes n (key k) seen Repeated seen' → MatchOption again (e ≡ k) (λ j. e ≡ j) → HaveSeenKeys key classes n seen' (k + 1) (Some e)
+  seen_again seen' e found which = subst (λ xs. HaveSeenKeys key classes n xs (k + 1) (Some e)) (sym found.2) (record {
     texts = more_texts found.0;
     stamped = λ i low. elim (cases_eq i k) [
       | inl same ↦ ap (λ j. slice_index seen (slice_index classes (key j) - 1)) same ∙ found.1
@@ -81,9 +81,9 @@ module _ (key : ℕ → ℕ) (classes : List ℕ) (n k : ℕ) (seen : List ℕ) 
       first_now (Some j) h is = subst (FailsAt (AreApart key classes) (k + 1)) (sym is) (omega (arith, h.0), h.1, h.2)
 
 -- one look at a key of dictionary n stamps with its number alone
-pub stamped_more : (classes : List ℕ) (n m : ℕ) (first seen : List ℕ) → IsStamped n first seen → (found : Found) (seen' : List ℕ) → IsFound classes n m seen found seen' → IsStamped n first seen'
-stamped_more classes n m first seen before NoText seen' is = subst (IsStamped n first) (sym is.1) before
-stamped_more classes n m first seen before Again seen' is = subst (IsStamped n first) (sym is.2) before
+pub stamped_more : (classes : List ℕ) (n m : ℕ) (first seen : List ℕ) → IsStamped n first seen → (found : KeyLookup) (seen' : List ℕ) → IsKeyLookup classes n m seen found seen' → IsStamped n first seen'
+stamped_more classes n m first seen before NotText seen' is = subst (IsStamped n first) (sym is.1) before
+stamped_more classes n m first seen before Repeated seen' is = subst (IsStamped n first) (sym is.2) before
 stamped_more classes n m first seen before First seen' is = subst (IsStamped n first) (sym is.3) (λ x. elim (cases_eq x (slice_index classes m - 1)) [
   | inl same ↦ inl (rw same (get_or-set_same seen (slice_index classes m - 1) (n + 1) 0 is.2))
   | inr d ↦ rw (get_or-set_other seen (slice_index classes m - 1) x (n + 1) 0 d) (before x)

@@ -3,7 +3,7 @@ use Rattle.std.proofs.Common.{◌≡◌, ℕ, ◌+◌, ◌*◌, ◌<◌, ◌≤�
 use Rattle.std.proofs.lemmas.List.{ext_get_or, get_or-take, length-take-le}
 use Rattle.std.proofs.lemmas.List.Elements.{All-replicate}
 use Rattle.bplist_objects.specs.declared.head.Head.{Head}
-use Rattle.bplist_objects.specs.Announced.{unit}
+use Rattle.bplist_objects.specs.Announced.{item_size}
 use Rattle.bplist_objects.specs.Scan.{nth_number}
 use Rattle.bplist_objects.specs.Safe.{IsSafeBody}
 use Rattle.bplist_objects.specs.Units.{IsTextKind, units_of}
@@ -26,14 +26,14 @@ pub runs_none : (f : List ℕ) (n : ℕ) → AreRuns f (replicate n no_run)
 runs_none f n = All-replicate (IsRun f) n no_run (λ k l. absurd (omega (arith, l)))
 
 module _ (f : List ℕ) (a b : Head) (a_kind : IsTextKind a.kind) (b_kind : IsTextKind b.kind) (a_safe : IsSafeBody (length f) a) (b_safe : IsSafeBody (length f) b) where
-  a_room : a.body + a.count * unit 1 a.kind ≤ length f
+  a_room : a.body + a.count * item_size 1 a.kind ≤ length f
   a_room = omega (arith, a_safe.body, a_safe.within)
 
-  b_room : b.body + b.count * unit 1 b.kind ≤ length f
+  b_room : b.body + b.count * item_size 1 b.kind ≤ length f
   b_room = omega (arith, b_safe.body, b_safe.within)
 
   -- texts with the same first units agree in them
-  pub agree_by : (n : ℕ) → n ≤ a.count → n ≤ b.count → ((k : ℕ) → k < n → nth_number f a.body (unit 1 a.kind) k ≡ nth_number f b.body (unit 1 b.kind) k) → Agree n (units_of f a) (units_of f b)
+  pub agree_by : (n : ℕ) → n ≤ a.count → n ≤ b.count → ((k : ℕ) → k < n → nth_number f a.body (item_size 1 a.kind) k ≡ nth_number f b.body (item_size 1 b.kind) k) → Agree n (units_of f a) (units_of f b)
   agree_by n few low same =
       let us = units_of f a in
       let vs = units_of f b in
@@ -48,7 +48,7 @@ module _ (f : List ℕ) (a b : Head) (a_kind : IsTextKind a.kind) (b_kind : IsTe
       ∙ sym (get_or-take n vs k 0 within))
 
   -- texts that agree in their first units have the same
-  pub same_by : (n k : ℕ) → k < n → k < a.count → k < b.count → Agree n (units_of f a) (units_of f b) → nth_number f a.body (unit 1 a.kind) k ≡ nth_number f b.body (unit 1 b.kind) k
+  pub same_by : (n k : ℕ) → k < n → k < a.count → k < b.count → Agree n (units_of f a) (units_of f b) → nth_number f a.body (item_size 1 a.kind) k ≡ nth_number f b.body (item_size 1 b.kind) k
   same_by n k within few low agree =
       let us = units_of f a in
       let vs = units_of f b in
@@ -59,18 +59,18 @@ module _ (f : List ℕ) (a b : Head) (a_kind : IsTextKind a.kind) (b_kind : IsTe
       ∙ nth-units_at f b.kind b.count b.body k b_kind b_room low
 
   -- texts that begin inside a run agree in what is left of it
-  pub run_agrees : (run : Run) → IsRun f run → (passed n : ℕ) → run.size ≡ unit 1 a.kind → run.size ≡ unit 1 b.kind → run.from + passed * run.size ≡ a.body → a.body + run.apart ≡ b.body → n + passed ≤ run.units → n ≤ a.count → n ≤ b.count
+  pub run_agrees : (run : Run) → IsRun f run → (passed n : ℕ) → run.size ≡ item_size 1 a.kind → run.size ≡ item_size 1 b.kind → run.from + passed * run.size ≡ a.body → a.body + run.apart ≡ b.body → n + passed ≤ run.units → n ≤ a.count → n ≤ b.count
       → Agree n (units_of f a) (units_of f b)
   run_agrees run is passed n a_size b_size begins apart left few low = agree_by n few low (λ k l.
-      let here : nth_number f run.from run.size (passed + k) ≡ nth_number f a.body (unit 1 a.kind) k =
+      let here : nth_number f run.from run.size (passed + k) ≡ nth_number f a.body (item_size 1 a.kind) k =
       sym (nth_number-behind f run.from run.size passed k) ∙ ap (λ p. nth_number f p run.size k) begins ∙ ap (λ s. nth_number f a.body s k) a_size in
       let begins_there : run.from + run.apart + passed * run.size ≡ b.body = omega (arith, begins, apart) in
-      let there : nth_number f (run.from + run.apart) run.size (passed + k) ≡ nth_number f b.body (unit 1 b.kind) k =
+      let there : nth_number f (run.from + run.apart) run.size (passed + k) ≡ nth_number f b.body (item_size 1 b.kind) k =
       sym (nth_number-behind f (run.from + run.apart) run.size passed k) ∙ ap (λ p. nth_number f p run.size k) begins_there ∙ ap (λ s. nth_number f b.body s k) b_size in
       sym here ∙ is (passed + k) (omega (arith, l, left)) ∙ there)
 
 -- texts that agree have a run
-pub agree_runs : (f : List ℕ) (a b : Head) → IsTextKind a.kind → IsTextKind b.kind → IsSafeBody (length f) a → IsSafeBody (length f) b → (run : Run) → run.size ≡ unit 1 a.kind → run.size ≡ unit 1 b.kind
+pub agree_runs : (f : List ℕ) (a b : Head) → IsTextKind a.kind → IsTextKind b.kind → IsSafeBody (length f) a → IsSafeBody (length f) b → (run : Run) → run.size ≡ item_size 1 a.kind → run.size ≡ item_size 1 b.kind
     → run.from ≡ a.body → run.from + run.apart ≡ b.body → (n : ℕ) → run.units ≤ n → run.units ≤ a.count → run.units ≤ b.count → Agree n (units_of f a) (units_of f b) → IsRun f run
 agree_runs f a b a_kind b_kind a_safe b_safe run a_size b_size from apart n most few low agree k l =
     ap (λ p. nth_number f p run.size k) from ∙ ap (λ s. nth_number f a.body s k) a_size

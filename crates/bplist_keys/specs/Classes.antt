@@ -8,10 +8,10 @@ use Rattle.bplist_objects.specs.Scan.{nth_number}
 use Rattle.bplist_keys.specs.Marks.{IsMarked}
 use Rattle.bplist_objects.specs.Claims.{FailsAt}
 use Rattle.bplist_keys.specs.Texts.{HasTextShape, text_units}
-use Rattle.bplist_keys.specs.declared.class_table.Found.{Found}
-use Rattle.bplist_keys.specs.declared.class_table.Found.TheVariants as founds
-use Rattle.bplist_keys.specs.declared.class_table.Wrong.{Wrong}
-use Rattle.bplist_keys.specs.declared.class_table.Wrong.TheVariants as wrongs
+use Rattle.bplist_keys.specs.declared.class_table.KeyLookup.{KeyLookup}
+use Rattle.bplist_keys.specs.declared.class_table.KeyLookup.TheVariants as lookups
+use Rattle.bplist_keys.specs.declared.class_table.KeyDefect.{KeyDefect}
+use Rattle.bplist_keys.specs.declared.class_table.KeyDefect.TheVariants as defects
 
 -- key reference i of a dictionary with this head
 abbrev pub key_ref : List ℕ → Frame → Head → ℕ → ℕ
@@ -32,12 +32,12 @@ module _ (f : List ℕ) (F : Frame) where
         → (slice_index classes (key_ref f F head i) ≡ slice_index classes (key_ref f F head j)) ↔ (text_units f F (key_ref f F head i) ≡ text_units f F (key_ref f F head j))
 
 -- what is found of a key m of dictionary n, and what becomes of the numbers of the dictionaries that each class was seen in last
-abbrev pub IsFound : List ℕ → ℕ → ℕ → List ℕ → Found → List ℕ → Type 0
-IsFound classes n m seen founds.NoText seen' = (slice_index classes m ≡ 0) × (seen' ≡ seen)
-IsFound classes n m seen founds.First seen' =
+abbrev pub IsKeyLookup : List ℕ → ℕ → ℕ → List ℕ → KeyLookup → List ℕ → Type 0
+IsKeyLookup classes n m seen lookups.NotText seen' = (slice_index classes m ≡ 0) × (seen' ≡ seen)
+IsKeyLookup classes n m seen lookups.First seen' =
     (0 < slice_index classes m) × (slice_index seen (slice_index classes m - 1) ≢ n + 1)
     × (slice_index classes m - 1 < length seen) × (seen' ≡ set seen (slice_index classes m - 1) (n + 1))
-IsFound classes n m seen founds.Again seen' =
+IsKeyLookup classes n m seen lookups.Repeated seen' =
     (0 < slice_index classes m) × (slice_index seen (slice_index classes m - 1) ≡ n + 1) × (seen' ≡ seen)
 
 -- for each class the dictionary that it was seen in last is the same, or it is n now
@@ -58,18 +58,18 @@ module _ (key : ℕ → ℕ) (classes : List ℕ) where
   HaveClasses count = (i : ℕ) → i < count → 0 < slice_index classes (key i)
 
   -- the first so many keys of dictionary n have been looked at
-  pub record AreSeen (n : ℕ) (seen : List ℕ) (count : ℕ) (again : Option ℕ) : Type 0 where
+  pub record HaveSeenKeys (n : ℕ) (seen : List ℕ) (count : ℕ) (again : Option ℕ) : Type 0 where
     pub texts : HaveClasses count
     pub stamped : (i : ℕ) → i < count → slice_index seen (slice_index classes (key i) - 1) ≡ n + 1
     pub only : (x : ℕ) → slice_index seen x ≡ n + 1 → (i : ℕ) × (i < count) × (slice_index classes (key i) ≡ x + 1)
     pub first : MatchOption again (AreApart count) (FailsAt AreApart count)
 
   -- what is wrong with so many keys first: one has no class, or all have one and one has that of an earlier key
-  abbrev pub IsWrong : ℕ → Wrong → Type 0
-  IsWrong count (wrongs.NoText i) = FailsAt HaveClasses count i
-  IsWrong count (wrongs.Again j) = HaveClasses count × FailsAt AreApart count j
+  abbrev pub IsKeyDefect : ℕ → KeyDefect → Type 0
+  IsKeyDefect count (defects.NotText i) = FailsAt HaveClasses count i
+  IsKeyDefect count (defects.Repeated j) = HaveClasses count × FailsAt AreApart count j
 
 -- the number of the key that is wrong
-abbrev pub wrong_key : Wrong → ℕ
-wrong_key (wrongs.NoText i) = i
-wrong_key (wrongs.Again j) = j
+abbrev pub defect_key : KeyDefect → ℕ
+defect_key (defects.NotText i) = i
+defect_key (defects.Repeated j) = j

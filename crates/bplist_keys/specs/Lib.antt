@@ -2,10 +2,10 @@ pub mod Marks
 pub mod Order
 pub mod Texts
 pub mod Weights
-pub mod Weighted
+pub mod WeightOrder
 pub mod Ranks
 pub mod Failures
 pub mod Classes
-pub mod Places
+pub mod Offsets
 pub mod Notes
 pub mod Runs

@@ -8,7 +8,7 @@ use Rattle.bplist_keys.specs.declared.weight.Weight.{Weight}
 use Rattle.bplist_keys.specs.Marks.{IsMarked}
 use Rattle.bplist_keys.specs.Texts.{HasTextShape, text_units}
 use Rattle.bplist_keys.specs.Weights.{AreWeighed}
-use Rattle.bplist_keys.specs.Weighted.{AreOrdered}
+use Rattle.bplist_keys.specs.WeightOrder.{AreOrdered}
 
 module _ (f : List ℕ) (F : Frame) (named : List Bool) (numbers : List ℕ) where
   -- exactly the named objects with the head of a text have a number above 0

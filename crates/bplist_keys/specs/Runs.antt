@@ -7,6 +7,6 @@ use Rattle.bplist_keys.specs.declared.runs.Run.{Run}
 abbrev pub IsRun : List ℕ → Run → Type 0
 IsRun f run = (k : ℕ) → k < run.units → nth_number f run.from run.size k ≡ nth_number f (run.from + run.apart) run.size k
 
--- each row holds a run of this file
+-- each slot holds a run of this file
 abbrev pub AreRuns : List ℕ → List Run → Type 0
-AreRuns f rows = All (IsRun f) rows
+AreRuns f slots = All (IsRun f) slots

@@ -15,22 +15,22 @@ use std::alloc::{AllocError, Global};
 
 /// What is found of a key of a dictionary.
 #[derive(Clone, Copy, Debug)]
-pub(crate) enum Found {
+pub(crate) enum KeyLookup {
     /// It is no text.
-    NoText,
+    NotText,
     /// It is a text whose units no key before it has.
     First,
     /// It is a text with the units of a key before it.
-    Again,
+    Repeated,
 }
 
 /// What is wrong with the keys of a dictionary first.
 #[derive(Clone, Copy, Debug)]
-pub enum Wrong {
+pub enum KeyDefect {
     /// The key of this number is the first that is no text.
-    NoText(u64),
+    NotText(u64),
     /// All are texts, and the key of this number is the first with the units of an earlier one.
-    Again(u64),
+    Repeated(u64),
 }
 
 /// The classes of keys, and for each the dictionary that it was seen in last: its number and 1, or 0 for none.
@@ -52,8 +52,8 @@ fn earlier(found: Option<u64>, k: u64) -> u64
 }
 
 impl ClassTable {
-    ghost use Rattle.bplist_keys.specs.declared.class_table.Wrong.TheVariants.{NoText};
-    ghost use Rattle.bplist_keys.specs.Classes.{IsFound, IsStamped, IsNew, AreSeen, HaveClasses, AreApart, IsWrong, wrong_key};
+    ghost use Rattle.bplist_keys.specs.declared.class_table.KeyDefect.TheVariants.{NotText};
+    ghost use Rattle.bplist_keys.specs.Classes.{IsKeyLookup, IsStamped, IsNew, HaveSeenKeys, HaveClasses, AreApart, IsKeyDefect, defect_key};
 
     /// None of these classes was seen yet.
     pub fn new(alloc: Global, classes: Ranks) -> Result<ClassTable, AllocError>
@@ -65,24 +65,24 @@ impl ClassTable {
     }
 
     /// Looks up a key of dictionary `n`: object `m`.
-    fn look_up(&mut self, n: u32, m: u64) -> Found
+    fn look_up(&mut self, n: u32, m: u64) -> KeyLookup
         requires { n < 2 ^ 32 - 1 }
         ensures same { self.new.classes.table.items ≡ self.old.classes.table.items }
-        ensures found { IsFound self.old.classes.table.items n m self.old.seen.items result self.new.seen.items }
+        ensures found { IsKeyLookup self.old.classes.table.items n m self.old.seen.items result self.new.seen.items }
     {
         if m >= self.classes.table.len() as u64 {
-            return Found::NoText;
+            return KeyLookup::NotText;
         }
         let class = self.classes.table[m as usize];
         if class == 0 {
-            return Found::NoText;
+            return KeyLookup::NotText;
         }
         let row = class as usize - 1;
         if self.seen[row] == n + 1 {
-            return Found::Again;
+            return KeyLookup::Repeated;
         }
         self.seen[row] = n + 1;
-        Found::First
+        KeyLookup::First
     }
 
     /// Looks up a block of the keys of dictionary `n`, of which the first so many were looked up. The number of the first
@@ -100,17 +100,17 @@ impl ClassTable {
         ensures inside { IfSome result (λ i. i < done + length numbers.now) }
         ensures again { IfSome again.old (λ j. j < done) → IfSome again.new (λ j. j < done + length numbers.now) }
         ensures seen { (key : ℕ → ℕ) → ((k : ℕ) → k < length numbers.now → slice_index numbers.now k ≡ key (done + k))
-            → AreSeen key self.old.classes.table.items n self.old.seen.items done again.old
+            → HaveSeenKeys key self.old.classes.table.items n self.old.seen.items done again.old
             → MatchOption result
-            (AreSeen key self.old.classes.table.items n self.new.seen.items (done + length numbers.now) again.new)
-            (λ i. IsWrong key self.old.classes.table.items (done + length numbers.now) (NoText i)) }
+            (HaveSeenKeys key self.old.classes.table.items n self.new.seen.items (done + length numbers.now) again.new)
+            (λ i. IsKeyDefect key self.old.classes.table.items (done + length numbers.now) (NotText i)) }
         ensures stamped { IsStamped n self.old.seen.items self.new.seen.items }
     {
         for (k, m) in numbers.iter().enumerate() {
             match self.look_up(n, *m) {
-                Found::NoText => return Some(done + k as u64),
-                Found::First => {}
-                Found::Again => *again = Some(earlier(*again, done + k as u64)),
+                KeyLookup::NotText => return Some(done + k as u64),
+                KeyLookup::First => {}
+                KeyLookup::Repeated => *again = Some(earlier(*again, done + k as u64)),
             }
         }
         None
@@ -122,19 +122,19 @@ impl ClassTable {
         src: &mut P,
         n: u32,
         head: &Head,
-    ) -> Result<Option<Wrong>, ReadFault>
+    ) -> Result<Option<KeyDefect>, ReadFault>
         requires head { IsSafeHead (frame_in (P.means src.old)) head.now }
         requires dict { head.now.kind ≡ Dict }
         requires few { n < 2 ^ 32 - 1 }
         ensures reads { OnlyReads (is_err result) (P.means src.old) (P.means src.new) }
         ensures same { self.new.classes.table.items ≡ self.old.classes.table.items }
         ensures stamped { IsStamped n self.old.seen.items self.new.seen.items }
-        ensures inside { IfOk result (λ found. IfSome found (λ wrong. wrong_key wrong < head.now.count)) }
+        ensures inside { IfOk result (λ found. IfSome found (λ wrong. defect_key wrong < head.now.count)) }
         ensures exact { HonestlyIn (P.means src.old) (λ f F. IsNew self.old.seen.items n
             → IfOk result (λ found. MatchOption found
             (HaveClasses (key_ref f F head.now) self.old.classes.table.items head.now.count
             × AreApart (key_ref f F head.now) self.old.classes.table.items head.now.count)
-            (IsWrong (key_ref f F head.now) self.old.classes.table.items head.now.count))) }
+            (IsKeyDefect (key_ref f F head.now) self.old.classes.table.items head.now.count))) }
     {
         let count = head.count;
         let mut buffer = [0u64; BLOCK];
@@ -145,12 +145,12 @@ impl ClassTable {
             let numbers = &mut buffer[..now];
             read_refs_in(src, head, done, numbers)?;
             if let Some(i) = self.look_up_block(n, numbers, done, &mut again) {
-                return Ok(Some(Wrong::NoText(i)));
+                return Ok(Some(KeyDefect::NotText(i)));
             }
             done += now as u64;
         }
         match again {
-            Some(j) => Ok(Some(Wrong::Again(j))),
+            Some(j) => Ok(Some(KeyDefect::Repeated(j))),
             None => Ok(None),
         }
     }

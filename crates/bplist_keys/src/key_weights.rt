@@ -7,7 +7,7 @@ ghost use Rattle.bplist_keys.specs.Weights.{AreWeighed};
 ghost use Rattle.bplist_keys.specs.Failures.{failed_to_read};
 
 use crate::failure::Failure;
-use crate::place_block::PlaceBlock;
+use crate::offset_block::OffsetBlock;
 use crate::weight::{Weight, weigh};
 use bplist_objects::Framed;
 
@@ -54,10 +54,10 @@ pub(crate) fn weigh_keys<P: Framed>(src: &mut P, keys: &mut Weighing) -> Result<
         AreWeighed f F keys.old.by keys.old.weights.items keys.new.weights.items)) }
 {
     let objects = src.frame().objects;
-    let mut places = PlaceBlock::new();
+    let mut places = OffsetBlock::new();
     for m in 0..objects {
         if keys.weights[m as usize] != 0 {
-            let place = places.place(src, m)?;
+            let place = places.offset(src, m)?;
             let weight = weigh(src, m, place, keys.by)?;
             keys.put(m, weight)?;
         }

@@ -3,15 +3,15 @@
 //! ```
 //! let mut named = NamedKeys::new(alloc, frame.objects)?;
 //! named.insert(key);                                       // each object that is named as a key
-//! let places = places_of(alloc, &mut source, &frame)?;
-//! let classes = classes_of(alloc, &mut Table::new(&mut source, frame, &places), named)?;
+//! let places = offsets_of(alloc, &mut source, &frame)?;
+//! let classes = classes_of(alloc, &mut OffsetTable::new(&mut source, frame, &places), named)?;
 //! let same = classes.table[a] == classes.table[b];         // exactly where the units are the same
 //! ```
 //!
 //! | what | calls |
 //! |---|---|
 //! | the objects that are named as keys | [`NamedKeys::new`], `insert` |
-//! | a source with its frame that tells the places of its objects, and what stands there | [`places_of`], [`Table`], [`Placed`], [`placed_shape`] |
+//! | a source with its frame that tells the places of its objects, and what stands there | [`offsets_of`], [`OffsetTable`], [`Offsets`], [`object_shape`] |
 //! | a class for each: equal exactly where the units are equal | [`classes_of`], [`Ranks`] |
 //! | a rank for each: ordered as the units are | [`ranks_of`], [`Ranks`] |
 //! | a failed read or refused memory | [`Failure`] |
@@ -27,20 +27,20 @@ mod merge_sort;
 mod named_keys;
 mod notes;
 mod numbers;
+mod offset_block;
+mod offsets;
 mod ordered;
-mod place_block;
-mod places;
 mod ranks;
 mod runs;
 mod text;
 mod weight;
-mod weighted;
+mod weight_order;
 
-pub use class_table::{ClassTable, Wrong};
+pub use class_table::{ClassTable, KeyDefect};
 pub use failure::Failure;
 pub use named_keys::{NamedKeys, name_keys, numbers_of};
-pub use place_block::PlaceBlock;
-pub use places::{Placed, Table, placed_shape, places_of};
+pub use offset_block::OffsetBlock;
+pub use offsets::{OffsetTable, Offsets, object_shape, offsets_of};
 pub use ranks::{Ranks, classes_of, ranks_of};
 pub use runs::Runs;
 pub use text::{text_head, text_order};

@@ -11,10 +11,10 @@ use crate::runs::Runs;
 use std::alloc::{AllocError, Global};
 use std::cmp::Ordering;
 
-/// That a text agrees with the one `beside` it in so many of its first units.
+/// That a text agrees with the text `other` in so many of its first units.
 #[derive(Clone, Copy, Debug)]
 pub(crate) struct Note {
-    pub beside: u32,
+    pub other: u32,
     pub units: u32,
 }
 
@@ -29,7 +29,7 @@ impl Notes {
     /// Nothing will be noted.
     pub fn none(alloc: Global) -> Notes
         ensures notes { (text : ℕ → List ℕ) → AreTrue text result.notes.items }
-        ensures runs { (f : List ℕ) → AreRuns f result.runs.rows }
+        ensures runs { (f : List ℕ) → AreRuns f result.runs.slots }
     {
         Notes {
             notes: Vec::new(alloc),
@@ -40,12 +40,9 @@ impl Notes {
     /// Of so many objects nothing is noted yet.
     pub fn new(alloc: Global, objects: u32) -> Result<Notes, AllocError>
         ensures notes { IfOk result (λ notes. (text : ℕ → List ℕ) → AreTrue text notes.notes.items) }
-        ensures runs { IfOk result (λ notes. (f : List ℕ) → AreRuns f notes.runs.rows) }
+        ensures runs { IfOk result (λ notes. (f : List ℕ) → AreRuns f notes.runs.slots) }
     {
-        let none = Note {
-            beside: 0,
-            units: 0,
-        };
+        let none = Note { other: 0, units: 0 };
         Ok(Notes {
             notes: vec![in alloc; none; objects as usize]?,
             runs: Runs::new(),
@@ -59,10 +56,7 @@ impl Notes {
         if (m as usize) < self.notes.len() {
             return self.notes[m as usize];
         }
-        Note {
-            beside: 0,
-            units: 0,
-        }
+        Note { other: 0, units: 0 }
     }
 
     /// In how many of their first units two texts are known to agree.
@@ -71,11 +65,11 @@ impl Notes {
     {
         let left = self.of(a);
         let right = self.of(b);
-        if left.beside == right.beside {
+        if left.other == right.other {
             left.units.min(right.units)
-        } else if left.beside == b {
+        } else if left.other == b {
             left.units
-        } else if right.beside == a {
+        } else if right.other == a {
             right.units
         } else {
             0
@@ -83,20 +77,20 @@ impl Notes {
     }
 
     /// Text `m` agrees with the one beside it in so many of its first units.
-    fn put(&mut self, m: u32, beside: u32, units: u64)
-        ensures runs { self.new.runs.rows ≡ self.old.runs.rows }
-        ensures notes { (text : ℕ → List ℕ) → AreTrue text self.old.notes.items → Agree units (text m) (text beside)
+    fn put(&mut self, m: u32, other: u32, units: u64)
+        ensures runs { self.new.runs.slots ≡ self.old.runs.slots }
+        ensures notes { (text : ℕ → List ℕ) → AreTrue text self.old.notes.items → Agree units (text m) (text other)
             → AreTrue text self.new.notes.items }
     {
         if (m as usize) < self.notes.len() {
             let units = units.min(u32::MAX as u64) as u32;
-            self.notes[m as usize] = Note { beside, units };
+            self.notes[m as usize] = Note { other, units };
         }
     }
 
     /// Texts `a` and `b`, which were compared, agree in so many of their first units: the greater one takes the note.
     pub fn add(&mut self, a: u32, b: u32, found: Ordering, units: u64)
-        ensures runs { self.new.runs.rows ≡ self.old.runs.rows }
+        ensures runs { self.new.runs.slots ≡ self.old.runs.slots }
         ensures notes { (text : ℕ → List ℕ) → AreTrue text self.old.notes.items → Agree units (text a) (text b)
             → AreTrue text self.new.notes.items }
     {

@@ -4,13 +4,13 @@
 //! that are as far from each other mostly begin inside that run: what is left of it is not read again.
 
 ghost use Rattle.std.specs.Prelude.{◌≡◌, ◌+◌, ◌*◌, ◌≤◌, ◌<◌, ℕ, List, length, IfSome};
-ghost use Rattle.bplist_objects.specs.Announced.{unit};
+ghost use Rattle.bplist_objects.specs.Announced.{item_size};
 ghost use Rattle.bplist_objects.specs.Units.{IsTextKind};
 
 use bplist_objects::{Head, Kind};
 
-/// How many runs are kept: a prime, so that near distances have rows of their own.
-const ROWS: usize = 127;
+/// How many runs are kept: a prime, so that near distances have slots of their own.
+const SLOTS: usize = 127;
 
 /// That so many units from one place on are the same as those so many bytes further on.
 #[derive(Clone, Copy, Debug)]
@@ -22,16 +22,16 @@ pub struct Run {
     pub units: u64,
 }
 
-/// The last run found at a distance, in a table in which a distance takes the row of another.
+/// The last run found at a distance, in a table in which a distance takes the slot of another.
 #[derive(Drop)]
 pub struct Runs {
-    pub rows: [Run; ROWS],
+    pub slots: [Run; SLOTS],
 }
 
 /// How many bytes a unit of a text of this kind has.
 fn size_of(kind: Kind) -> u64
     requires { IsTextKind kind }
-    ensures unit { result ≡ unit 1 kind }
+    ensures unit { result ≡ item_size 1 kind }
     ensures some { 1 ≤ result }
 {
     match kind {
@@ -40,11 +40,11 @@ fn size_of(kind: Kind) -> u64
     }
 }
 
-/// The row of a distance.
-fn row_of(apart: u64) -> usize
+/// The slot of a distance.
+fn slot_of(apart: u64) -> usize
     ensures { result < 127 }
 {
-    (apart % ROWS as u64) as usize
+    (apart % SLOTS as u64) as usize
 }
 
 /// How many units of `size` bytes lie from `from` to `to`, where it is a whole number of them.
@@ -66,7 +66,7 @@ impl Runs {
 
     /// No runs yet.
     pub fn new() -> Runs
-        ensures { (f : List ℕ) → AreRuns f result.rows }
+        ensures { (f : List ℕ) → AreRuns f result.slots }
     {
         let none = Run {
             size: 0,
@@ -74,7 +74,9 @@ impl Runs {
             from: 0,
             units: 0,
         };
-        Runs { rows: [none; ROWS] }
+        Runs {
+            slots: [none; SLOTS],
+        }
     }
 
     /// In how many of their first units two texts are known to agree, where the first does not stand behind the second.
@@ -83,10 +85,10 @@ impl Runs {
         requires high_kind { IsTextKind high.now.kind }
         requires order { low.now.body ≤ high.now.body }
         ensures { (f : List ℕ) → IsSafeBody (length f) low.now → IsSafeBody (length f) high.now
-            → AreRuns f self.now.rows → Agree result (units_of f low.now) (units_of f high.now) }
+            → AreRuns f self.now.slots → Agree result (units_of f low.now) (units_of f high.now) }
     {
         let apart = high.body - low.body;
-        let run = self.rows[row_of(apart)];
+        let run = self.slots[slot_of(apart)];
         if run.apart != apart || run.size != size_of(low.kind) || run.size != size_of(high.kind) {
             return 0;
         }
@@ -104,7 +106,7 @@ impl Runs {
         requires first_kind { IsTextKind first.now.kind }
         requires second_kind { IsTextKind second.now.kind }
         ensures { (f : List ℕ) → IsSafeBody (length f) first.now → IsSafeBody (length f) second.now
-            → AreRuns f self.now.rows → Agree result (units_of f first.now) (units_of f second.now) }
+            → AreRuns f self.now.slots → Agree result (units_of f first.now) (units_of f second.now) }
     {
         if first.body <= second.body {
             self.ahead(first, second)
@@ -113,13 +115,13 @@ impl Runs {
         }
     }
 
-    /// Two texts that agree in so many of their first units have a run, which takes the row of their distance.
+    /// Two texts that agree in so many of their first units have a run, which takes the slot of their distance.
     pub(crate) fn add(&mut self, first: &Head, second: &Head, units: u64)
         requires first_kind { IsTextKind first.now.kind }
         requires second_kind { IsTextKind second.now.kind }
         ensures { (f : List ℕ) → IsSafeBody (length f) first.now → IsSafeBody (length f) second.now
-            → AreRuns f self.old.rows → Agree units (units_of f first.now) (units_of f second.now)
-            → AreRuns f self.new.rows }
+            → AreRuns f self.old.slots → Agree units (units_of f first.now) (units_of f second.now)
+            → AreRuns f self.new.slots }
     {
         let size = size_of(first.kind);
         if size != size_of(second.kind) {
@@ -128,7 +130,7 @@ impl Runs {
         let from = first.body.min(second.body);
         let apart = first.body.max(second.body) - from;
         let units = units.min(first.count).min(second.count);
-        self.rows[row_of(apart)] = Run {
+        self.slots[slot_of(apart)] = Run {
             size,
             apart,
             from,

@@ -8,11 +8,11 @@ use Rattle.std.proofs.lemmas.List.Elements.{Contains-get_or}
 use Rattle.bplist_objects.proofs.Lists.{Either, all_or_first}
 use Rattle.bplist_keys.specs.Marks.{IsMarked}
 use Rattle.bplist_cert.proofs.AllNumbers.{onto}
-use Rattle.bplist_lint.specs.Graph.{Reaches, Ends, IsNext, IsCircleOf}
+use Rattle.bplist_lint.specs.Graph.{Reaches, Ends, IsFirstUnfoundedIn, IsCircleOf}
 use Rattle.bplist_lint.specs.Graph.Reaches.{start, onward}
 use Rattle.bplist_lint.specs.Graph.Ends.{ends}
 use Rattle.bplist_lint.proofs.FirstWithout.{first_at}
-use Rattle.bplist_lint.proofs.Writes.{at_set, count-set, unwritten}
+use Rattle.bplist_lint.proofs.ListWrites.{at_set, count-set, unwritten}
 
 -- there is one below a bound, or there is none
 pub some_or_none : (Q : ℕ → Type 0) → ((k : ℕ) → Either (Q k)) → (bound : ℕ) → ((i : ℕ) × (i < bound) × Q i) ⊎ ((k : ℕ) → k < bound → Q k → ⊥)
@@ -192,7 +192,7 @@ module _ (graph : ℕ → List ℕ) (size : ℕ) (inside : (n m : ℕ) → Conta
     within : at < size
     off : IsFound at → ⊥
 
-  next_off : (n : OffObject) → (m : OffObject) × IsNext graph n.at m.at
+  next_off : (n : OffObject) → (m : OffObject) × IsFirstUnfoundedIn graph n.at m.at
   next_off n =
       let f = found_or_first n.at n.within n.off in
       let m = get_or (graph n.at) f.0 0 in

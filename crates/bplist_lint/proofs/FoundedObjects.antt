@@ -10,7 +10,7 @@ use Rattle.bplist_objects.proofs.Fronts.{one_head}
 use Rattle.bplist_objects.proofs.Lists.{all_weaker, all_at, all_from}
 use Rattle.bplist_cert.specs.Valid.{IsVouchedBy, IsValid, IsVouched, HasKeys}
 use Rattle.bplist_lint.specs.Graph.{greatest}
-use Rattle.bplist_lint.specs.Least.{StandLeast}
+use Rattle.bplist_lint.specs.LeastHeights.{StandLeast}
 
 -- ---- the greatest of some numbers
 greatest-le : (g : ℕ → ℕ) (b : ℕ) (xs : List ℕ) → AllByRecursion (λ x. g x ≤ b) xs → greatest (map g xs) ≤ b

@@ -14,8 +14,8 @@ use Rattle.bplist_lint.specs.HeightWalks.{state_at, is_new, is_founded, first_st
 use Rattle.bplist_lint.specs.declared.heights.State.{State}
 use Rattle.bplist_lint.specs.declared.heights.State.TheVariants.{New, Open, Founded, Circular}
 use Rattle.bplist_lint.proofs.MarkSteps.{apart_none, apart_push, apart_front, apart_last}
-use Rattle.bplist_lint.proofs.Parts.{take_part}
-use Rattle.bplist_lint.proofs.Writes.{count-set, push_cases, at_set}
+use Rattle.bplist_lint.proofs.ReferenceParts.{take_part}
+use Rattle.bplist_lint.proofs.ListWrites.{count-set, push_cases, at_set}
 
 -- ---- states
 -- an object of which something is known is one of those that have a state
@@ -26,7 +26,7 @@ state_within states n known = elim (cases_lt n (length states)) [
 ]
 
 -- the states and heights before the first look
-pub first_is : (bare : List Bool) (n : ℕ) → (IsMarked bare n × (state_at (map first_state bare) n ≡ Founded) × (get_or (map from_bool bare) n 0 ≡ 1)) ⊎ ((state_at (map first_state bare) n ≡ New) × (get_or (map from_bool bare) n 0 ≡ 0))
+pub first_is : (childless : List Bool) (n : ℕ) → (IsMarked childless n × (state_at (map first_state childless) n ≡ Founded) × (get_or (map from_bool childless) n 0 ≡ 1)) ⊎ ((state_at (map first_state childless) n ≡ New) × (get_or (map from_bool childless) n 0 ≡ 0))
 first_is [] n = inr (refl, refl)
 first_is (true ∷ bs) zero = inl (refl, refl, refl)
 first_is (true ∷ bs) (suc n) = first_is bs n
@@ -39,21 +39,21 @@ counted states n is =
     let within = state_within states n (λ e. absurd (cc (sym is ∙ e))) in
     omega (arith, rw is at (count-set is_founded states n New New within))
 
-pub standing_first : (size : ℕ) (bare : List Bool) → length bare ≡ size → Standing size (map first_state bare) (map from_bool bare) []
-standing_first size bare long = record {
-  all_states = length-map bare first_state ∙ long;
-  all_heights = length-map bare from_bool ∙ long;
+pub standing_first : (size : ℕ) (childless : List Bool) → length childless ≡ size → Standing size (map first_state childless) (map from_bool childless) []
+standing_first size childless long = record {
+  all_states = length-map childless first_state ∙ long;
+  all_heights = length-map childless from_bool ∙ long;
   are_open = λ k h. absurd (omega arith);
   apart = apart_none;
-  on_stack = λ n is. elim (first_is bare n) [
+  on_stack = λ n is. elim (first_is childless n) [
     | inl c ↦ absurd (cc (sym c.1 ∙ is))
     | inr c ↦ absurd (cc (sym c.0 ∙ is))
   ];
-  low = λ n is. elim (first_is bare n) [
-    | inl c ↦ let some = counted (map first_state bare) n c.1 in omega (arith, c.2, some)
+  low = λ n is. elim (first_is childless n) [
+    | inl c ↦ let some = counted (map first_state childless) n c.1 in omega (arith, c.2, some)
     | inr c ↦ absurd (cc (sym c.0 ∙ is))
   ];
-  known = λ n h. elim (first_is bare n) [
+  known = λ n h. elim (first_is childless n) [
     | inl c ↦ inl c.1
     | inr c ↦ absurd (omega (arith, c.1, h))
   ];
@@ -220,20 +220,20 @@ greatest_part heights references block i count best height low part is here =
     rw (take_part references block i count part low, map-append h (take i references) (take count block), is, here) (sym (greatest-append (map h (take i references)) (map h (take count block))))
 
 -- ---- what is known of the references
-pub walking_first : (refs : ℕ → List ℕ) (marks bare : List Bool) → ((n : ℕ) → IsMarked bare n → IsMarked marks n × (refs n ≡ [])) → Walking refs marks (map first_state bare) (map from_bool bare) []
-walking_first refs marks bare are = record {
-  marked = λ n known. elim (first_is bare n) [
+pub walking_first : (refs : ℕ → List ℕ) (marks childless : List Bool) → ((n : ℕ) → IsMarked childless n → IsMarked marks n × (refs n ≡ [])) → Walking refs marks (map first_state childless) (map from_bool childless) []
+walking_first refs marks childless are = record {
+  marked = λ n known. elim (first_is childless n) [
     | inl c ↦ (are n c.0).0
     | inr c ↦ absurd (known c.0)
   ];
   linked = λ k h. absurd (omega arith);
-  measured = λ n is. elim (first_is bare n) [
+  measured = λ n is. elim (first_is childless n) [
     | inl c ↦
         let empty : length (refs n) ≡ 0 = ap length (are n c.0).1 in
         rw c.2 (above n [] (sym empty) (λ i low. absurd (omega (arith, low, empty))))
     | inr c ↦ absurd (cc (sym c.0 ∙ is))
   ];
-  circular = λ n is. elim (first_is bare n) [
+  circular = λ n is. elim (first_is childless n) [
     | inl c ↦ absurd (cc (sym c.1 ∙ is))
     | inr c ↦ absurd (cc (sym c.0 ∙ is))
   ];

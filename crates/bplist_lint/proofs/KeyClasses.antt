@@ -16,15 +16,15 @@ use Rattle.bplist_keys.specs.Ranks.{AreClasses}
 use Rattle.bplist_keys.specs.Marks.{IsMarked}
 use Rattle.bplist_objects.proofs.ClaimLaws.{fails_too}
 use Rattle.bplist_cert.specs.Heights.{ref}
-use Rattle.bplist_cert.specs.Keys.{HaveTexts}
-use Rattle.bplist_cert.specs.KeyClasses.{KeysAreSound}
-use Rattle.bplist_cert.proofs.KeyClasses as keys
+use Rattle.bplist_cert.specs.KeyKinds.{KeysAreTexts}
+use Rattle.bplist_cert.specs.KeyRepeats.{KeysAreSound}
+use Rattle.bplist_cert.proofs.KeyRepeats as keys
 use Rattle.bplist_lint.specs.ReachRules.{KeepReachBelow}
 use Rattle.bplist_lint.specs.KeyRules.{KeepsByKeys, BreaksAtKeys, key_rules}
-use Rattle.bplist_keys.specs.Classes.{HasNamedKeys, AreClassed, HaveClasses, IsWrong}
+use Rattle.bplist_keys.specs.Classes.{HasNamedKeys, AreClassed, HaveClasses, IsKeyDefect}
 use Rattle.bplist_lint.specs.KeyClasses.{AreSound, IsWrongFault}
-use Rattle.bplist_keys.specs.declared.class_table.Wrong.{Wrong}
-use Rattle.bplist_keys.specs.declared.class_table.Wrong.TheVariants as wrongs
+use Rattle.bplist_keys.specs.declared.class_table.KeyDefect.{KeyDefect}
+use Rattle.bplist_keys.specs.declared.class_table.KeyDefect.TheVariants as defects
 use Rattle.bplist_lint.proofs.ReachSteps.{marked_within}
 use Rattle.bplist_cert.proofs.CheckSteps.{first_of_keys}
 use Rattle.bplist_lint.proofs.KeptRules.{own_rules}
@@ -58,11 +58,11 @@ module _ (f : List ℕ) (F : Frame) where
   module _ (framed : IsFrame f F) (head : Head) (classes : List ℕ) (classed : AreClassed f F classes head) (sound : KeysAreSound f F head)
       (inside : (k : ℕ) → k < head.count → ref f F head k < F.objects) where
     -- what is wrong with them is the fault
-    pub wrong_fault : (n : ObjectNo) → HasHead f F n.0 head → head.kind ≡ Dict → (wrong : Wrong) (fault : Fault) → IsWrong (ref f F head) classes head.count wrong → IsWrongFault F n head wrong fault
+    pub wrong_fault : (n : ObjectNo) → HasHead f F n.0 head → head.kind ≡ Dict → (wrong : KeyDefect) (fault : Fault) → IsKeyDefect (ref f F head) classes head.count wrong → IsWrongFault F n head wrong fault
         → IsFirstFault (KeepsByKeys f F n.0) (BreaksAtKeys f F n.0) key_rules fault
-    wrong_fault n has dict (wrongs.NoText i) fault is told =
-        let texts = fails_too (HaveClasses (ref f F head) classes) (HaveTexts f F head) head.count (keys.classed_texts f F head classes classed framed sound inside) (keys.texts_classed f F head classes classed) i is in
+    wrong_fault n has dict (defects.NotText i) fault is told =
+        let texts = fails_too (HaveClasses (ref f F head) classes) (KeysAreTexts f F head) head.count (keys.classed_texts f F head classes classed framed sound inside) (keys.texts_classed f F head classes classed) i is in
         first_of_keys f F [] None n.0 fault (head, has, (dict, inl (told.0, told.1, (i, texts, told.2))))
-    wrong_fault n has dict (wrongs.Again j) fault is told =
+    wrong_fault n has dict (defects.Repeated j) fault is told =
         let texts = keys.classed_texts f F head classes classed framed sound inside head.count (omega arith) is.0 in
         first_of_keys f F [] None n.0 fault (head, has, (dict, inr (texts, (told.0, told.1, (j, keys.again_twice f F head classes classed texts j is.1, told.2)))))

@@ -16,9 +16,9 @@ use Rattle.bplist_objects.proofs.HeadTies.{head_tie}
 use Rattle.bplist_objects.proofs.References.{length-refs}
 use Rattle.bplist_objects.proofs.ReachedObjects.{refs_spelled}
 use Rattle.bplist_keys.specs.Classes.{HasNamedKeys}
-use Rattle.bplist_cert.specs.Keys.{HaveTexts, KeysDiffer}
-use Rattle.bplist_cert.specs.KeyClasses.{HasGoodKeys}
-use Rattle.bplist_cert.proofs.KeyClasses.{good_unnamed}
+use Rattle.bplist_cert.specs.KeyKinds.{KeysAreTexts, KeysDiffer}
+use Rattle.bplist_cert.specs.KeyRepeats.{HasGoodKeys}
+use Rattle.bplist_cert.proofs.KeyRepeats.{good_unnamed}
 use Rattle.bplist_cert.proofs.CheckSteps.{key_count, good_kept}
 use Rattle.bplist_lint.specs.KeyRules.{KeepsByKeys, BreaksAtKeys, key_rules, KeepKeysBelow, IsKeysFault}
 
@@ -29,7 +29,7 @@ module _ (f : List ℕ) (F : Frame) where
 
   pub good_by_kept : (n : ℕ) → KeepsAll (KeepsByKeys f F n) key_rules → HasGoodKeys f F None n
   good_by_kept n k head has dict =
-      (subst (HaveTexts f F head) (key_count head dict) (k.0 head has dict), subst (KeysDiffer f F head) (key_count head dict) (k.1.0 head has dict))
+      (subst (KeysAreTexts f F head) (key_count head dict) (k.0 head has dict), subst (KeysDiffer f F head) (key_count head dict) (k.1.0 head has dict))
 
   -- the first fault of the keys
   pub keys_fault : (n : ℕ) (fault : Fault) → Reach f F n → KeepKeysBelow f F n → IsFirstFault (KeepsByKeys f F n) (BreaksAtKeys f F n) key_rules fault → IsKeysFault f F fault
@@ -53,9 +53,9 @@ pub unnamed_keys : (f : List ℕ) (F : Frame) (named : List Bool) (n : ℕ) → 
 unnamed_keys f F named n none named_keys = kept_by_good f F n (good_unnamed f F named n none named_keys)
 
 -- an object without references that keeps rules 14 to 20 has no keys
-pub bare_keys : (f : List ℕ) (F : Frame) (n : ℕ) → IsFrame f F → n < F.objects → KeepsAll (KeepsByObject f F n) object_rules → refs_at f F n ≡ []
+pub childless_keys : (f : List ℕ) (F : Frame) (n : ℕ) → IsFrame f F → n < F.objects → KeepsAll (KeepsByObject f F n) object_rules → refs_at f F n ≡ []
     → KeepsAll (KeepsByKeys f F n) key_rules
-bare_keys f F n framed within kept none = kept_by_good f F n (λ head has dict. let z = no_keys head has dict in (λ k low. absurd (omega (arith, z, low)), λ i j _ low. absurd (omega (arith, z, low))))
+childless_keys f F n framed within kept none = kept_by_good f F n (λ head has dict. let z = no_keys head has dict in (λ k low. absurd (omega (arith, z, low)), λ i j _ low. absurd (omega (arith, z, low))))
   where
     no_keys : (head : Head) → HasHead f F n head → head.kind ≡ Dict → head.count ≡ 0
     no_keys head has dict =

@@ -1,6 +1,6 @@
 pub mod MarkSteps
 pub mod ReachSteps
-pub mod Writes
+pub mod ListWrites
 pub mod FirstWithout
 pub mod HeightSteps
 pub mod TrailSteps
@@ -8,8 +8,8 @@ pub mod ObjectReferences
 pub mod TallySteps
 pub mod Walks
 pub mod ReachedObjects
-pub mod PlaceSteps
-pub mod PlaceSets
+pub mod OffsetSteps
+pub mod BitSets
 pub mod KeySteps
 pub mod KeyClasses
 pub mod FoundedObjects
@@ -21,7 +21,7 @@ pub mod ValueHeights
 pub mod OneCircle
 pub mod FirstFaults
 pub mod LintAnswers
-pub mod Parts
+pub mod ReferenceParts
 pub mod Passes
 pub mod FiniteGraphs
 pub mod ValueOrFault

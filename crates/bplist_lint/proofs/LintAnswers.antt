@@ -17,7 +17,7 @@ use Rattle.bplist_lint.specs.Graph.{AreLeast}
 use Rattle.bplist_lint.specs.ReachRules.{KeepReachBelow}
 use Rattle.bplist_lint.specs.KeyRules.{KeepKeysBelow}
 use Rattle.bplist_lint.specs.FileFault.{IsFileFault, IsFileCircle}
-use Rattle.bplist_lint.specs.Least.{StandLeast, AreLeastHeights}
+use Rattle.bplist_lint.specs.LeastHeights.{StandLeast, AreLeastHeights}
 use Rattle.bplist_lint.specs.WellFormed.{IsWellFormed}
 use Rattle.bplist_lint.proofs.FoundedObjects.{vouched_founded, least_under, same_least, least_valid}
 use Rattle.bplist_lint.proofs.HeldValues.{holds_formed}

@@ -10,7 +10,7 @@ use Rattle.bplist_objects.specs.declared.kind.Kind.TheVariants as kinds
 use Rattle.bplist_objects.specs.declared.head.Head.{Head}
 use Rattle.bplist_objects.specs.Frame.{off}
 use Rattle.bplist_objects.specs.Heads.{Content, HasShape, Spells, content_of, content_at}
-use Rattle.bplist_objects.specs.Announced.{form_of, HasHead, unit}
+use Rattle.bplist_objects.specs.Announced.{markers_of, HasHead, item_size}
 use Rattle.bplist_objects.specs.Extents.{HaveRoom}
 use Rattle.bplist_objects.specs.Spelled.{spelled_at}
 use Rattle.bplist_objects.proofs.HeadLaws.{head_parts}
@@ -23,7 +23,7 @@ use Rattle.bplist_objects.proofs.SpelledContents.{spells_iff}
 use Rattle.bplist_objects.proofs.References.{length-nums_at}
 use Rattle.bplist_cert.specs.Lists.{Keyed}
 use Rattle.bplist_cert.specs.Valid.{IsVouchedBy, IsValid}
-use Rattle.bplist_cert.specs.Keys.{AreInOrder}
+use Rattle.bplist_cert.specs.KeyKinds.{AreInOrder}
 use Rattle.bplist_lint.specs.KeyLists.{IsListed}
 use Rattle.bplist_cert.proofs.AcceptedCertificates.{accepted, keeps_all}
 use Rattle.bplist_lint.specs.Linted.{is_vouched}
@@ -145,10 +145,10 @@ module _ (f : List ℕ) (F : Frame) (heights : List ℕ) where
         -- how far the bytes of a dictionary go
         pairs_within : head.kind ≡ kinds.Dict → 1 ≤ F.ref_size → head.count ≤ head.«end» - off f F n
         pairs_within dict low =
-            let u : unit F.ref_size head.kind ≡ 2 * F.ref_size = ap (unit F.ref_size) dict in
+            let u : item_size F.ref_size head.kind ≡ 2 * F.ref_size = ap (item_size F.ref_size) dict in
             let parts = head_parts f F n head shape.has in
             let end : head.«end» ≡ head.body + head.count * (2 * F.ref_size) = parts.1 ∙ ap (λ x. head.body + head.count * x) u in
-            let behind = (announced_short f (off f F n) (form_of head.kind) head.count head.body parts.0).0 in
+            let behind = (announced_short f (off f F n) (markers_of head.kind) head.count head.body parts.0).0 in
             count_within head.count F.ref_size head.body head.«end» (off f F n) low end (omega (arith, behind))
           where
             count_within : (count r body last place : ℕ) → 1 ≤ r → last ≡ body + count * (2 * r) → place ≤ body → count ≤ last - place

@@ -5,8 +5,8 @@ use Rattle.std.proofs.lemmas.Bool.{cases_eq, cases_lt, false≢true}
 use Rattle.std.proofs.lemmas.List.{get_or-set_same, get_or-set_other, get_or-take, length-take-le, get_or_default}
 use Rattle.std.proofs.lemmas.List.Elements.{Contains-append_left, Contains-push, Contains-push_cases, Contains-get_or}
 use Rattle.bplist_keys.specs.Marks.{IsMarked}
-use Rattle.bplist_lint.specs.Walks.{AreApart, Noted}
-use Rattle.bplist_lint.proofs.Writes.{seen-set, differ_push, differ_front, differ_last}
+use Rattle.bplist_lint.specs.ReachWalk.{AreApart, Noted}
+use Rattle.bplist_lint.proofs.ListWrites.{seen-set, differ_push, differ_front, differ_last}
 
 -- ---- a stack on which no object stands twice
 pub apart_none : AreApart []

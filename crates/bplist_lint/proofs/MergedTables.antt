@@ -12,7 +12,7 @@ use Rattle.bplist_objects.proofs.FrameTies.{numbered}
 use Rattle.bplist_cert.specs.Valid.{IsVouchedBy, IsValid, IsVouched, HasKeys}
 use Rattle.bplist_lint.specs.Graph.{greatest}
 use Rattle.bplist_lint.specs.WellFormed.{IsWellFormed}
-use Rattle.bplist_lint.proofs.Writes.{unwritten, nothing}
+use Rattle.bplist_lint.proofs.ListWrites.{unwritten, nothing}
 use Rattle.bplist_lint.proofs.FoundedObjects.{StandsLeast, map-same, le-greatest}
 use Rattle.bplist_lint.proofs.HeldValues.{Sound, sound, founded_sound}
 

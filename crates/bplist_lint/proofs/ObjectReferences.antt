@@ -21,7 +21,7 @@ use Rattle.bplist_objects.proofs.ReachedObjects.{refs_spelled}
 use Rattle.bplist_objects.proofs.HeadTies.{shape_announced, spells_body}
 use Rattle.bplist_lint.specs.declared.object_graph.View.{View}
 use Rattle.bplist_lint.specs.Graph.{IsPart}
-use Rattle.bplist_lint.specs.Referring.{refs_announced, hidden, refs_in}
+use Rattle.bplist_lint.specs.ReferenceGraph.{refs_announced, hidden, refs_in}
 
 module _ (f : List ℕ) (F : Frame) (n : ℕ) where
   -- an object that spells nothing refers to nothing

@@ -8,7 +8,7 @@ use Rattle.bplist_objects.proofs.Fronts.{one_head}
 use Rattle.bplist_objects.proofs.Lists.{one_number}
 use Rattle.bplist_objects.proofs.ReachedObjects.{founded_refs}
 use Rattle.bplist_lint.specs.Graph.{IsFirstWithout, IsCircleBy}
-use Rattle.bplist_lint.specs.FileFault.{LeadsOn, IsCircle}
+use Rattle.bplist_lint.specs.FileFault.{IsFirstUnfounded, IsCircle}
 use Rattle.bplist_lint.proofs.FirstWithout.{first_among, first_off, one_first}
 
 -- where each object leads on to one alone
@@ -53,14 +53,14 @@ module _ (next : ℕ → ℕ → Type 0) (one : (n m k : ℕ) → next n m → n
 
 module _ (f : List ℕ) (F : Frame) where
   -- the first reference that is not founded is one
-  leads_one : (n m k : ℕ) → LeadsOn f F n m → LeadsOn f F n k → m ≡ k
+  leads_one : (n m k : ℕ) → IsFirstUnfounded f F n m → IsFirstUnfounded f F n k → m ≡ k
   leads_one n m k a b =
       let e = one_head f F n a.0 b.0 a.1 b.1 in
       one_first (Founded f F) (refs b.0) m k (subst (λ x. IsFirstWithout (Founded f F) (refs x) m) e a.2) b.2
 
   -- a file has one circle
   pub one_circle : (circle other : List ℕ) → IsCircle f F circle → IsCircle f F other → circle ≡ other
-  one_circle = one_circle_by (LeadsOn f F) leads_one F.top.0
+  one_circle = one_circle_by (IsFirstUnfounded f F) leads_one F.top.0
 
   -- where there is one the top is not founded
   pub circle_not_founded : (circle : List ℕ) → IsCircle f F circle → Founded f F F.top.0 → ⊥

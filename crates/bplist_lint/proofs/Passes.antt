@@ -29,13 +29,13 @@ use Rattle.bplist_lint.specs.Graph.{AreLeast, IsCircleOf}
 use Rattle.bplist_lint.specs.ReachRules.{number_below, references_below, is_marked}
 use Rattle.bplist_lint.specs.FileFault.{IsFileFault, IsFileCircle, IsObjectsFault, IsFramedCircle}
 use Rattle.bplist_lint.specs.Refusals.{of_check, Refuses, no_circle}
-use Rattle.bplist_keys.specs.Places.{AreKept}
-use Rattle.bplist_lint.specs.Places.{AreBelowTable, IsPlaceFault}
-use Rattle.bplist_lint.specs.Least.{AreLeastHeights}
+use Rattle.bplist_keys.specs.Offsets.{AreOffsets32}
+use Rattle.bplist_lint.specs.OffsetRule.{AreBelowTable, IsOffsetFault}
+use Rattle.bplist_lint.specs.LeastHeights.{AreLeastHeights}
 use Rattle.bplist_lint.specs.Linted.{is_vouched, IsSifted, IsLintedBy, HasNoHeights}
 use Rattle.bplist_lint.proofs.HeldValues.{formed_holds, holds_formed}
 use Rattle.bplist_lint.proofs.KeptRules.{kept_spells}
-use Rattle.bplist_lint.proofs.PlaceSteps.{kept_low, kept_high}
+use Rattle.bplist_lint.proofs.OffsetSteps.{kept_low, kept_high}
 use Rattle.bplist_lint.proofs.Walks.{sum_alike, same_mark}
 use Rattle.bplist_lint.proofs.ReferenceGraph.{circle_iff}
 use Rattle.bplist_lint.proofs.LintAnswers.{formed_by_valid, least_lowest, lint_yes}
@@ -126,8 +126,8 @@ circle_never f v holds circle h = let w = holds_formed f v holds in circle_not_f
 pub trailer_fault_of_file : (f : List ℕ) (fault : Fault) → IsTrailerFault f fault → IsFileFault f fault
 trailer_fault_of_file f fault h = inl (trailer_fault f fault h)
 
-module _ (f : List ℕ) (F : Frame) (trailed : IsTrailer f F) (places : List ℕ) (kept : AreKept f F F.objects places) where
-  pub place_fault_of_file : (fault : Fault) → IsPlaceFault F places fault → IsFileFault f fault
+module _ (f : List ℕ) (F : Frame) (trailed : IsTrailer f F) (places : List ℕ) (kept : AreOffsets32 f F F.objects places) where
+  pub place_fault_of_file : (fault : Fault) → IsOffsetFault F places fault → IsFileFault f fault
   place_fault_of_file fault h = inl (entry_fault f F fault trailed h.rule (kept_high f F places kept fault trailed h))
 
   pub frame_by_places : AreBelowTable F places → IsFrame f F

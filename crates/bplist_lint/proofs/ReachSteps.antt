@@ -18,9 +18,9 @@ use Rattle.bplist_objects.proofs.Lists.{none_in}
 use Rattle.bplist_objects.proofs.ReachedObjects.{refs_iff}
 use Rattle.bplist_objects.proofs.References.{length-refs, nth-refs}
 use Rattle.bplist_keys.specs.Marks.{IsMarked}
-use Rattle.bplist_lint.specs.Reaching.{HasMarks, row, number_at, set_size, reference_at, AreGood, AreFollowed, Looked, IsSearching}
-use Rattle.bplist_lint.specs.PlaceSets.{IsIn}
-use Rattle.bplist_lint.proofs.Writes.{seen-set, unwritten}
+use Rattle.bplist_lint.specs.ReachSearch.{HasMarks, row_length, place_index, index_count, reference_at, AreGood, AreFollowed, Looked, IsSearching}
+use Rattle.bplist_lint.specs.BitSets.{IsIn}
+use Rattle.bplist_lint.proofs.ListWrites.{seen-set, unwritten}
 
 pub marked_within : (marks : List Bool) (n : ℕ) → IsMarked marks n → n < length marks
 marked_within [] n h = absurd (false≢true h)
@@ -29,21 +29,21 @@ marked_within (x ∷ marks) (suc n) h = let r = marked_within marks n h in omega
 
 -- ---- places by numbers
 -- there are few more numbers than places
-pub size_small : (F : Frame) → set_size F ≤ F.table + F.ref_size
+pub size_small : (F : Frame) → index_count F ≤ F.table + F.ref_size
 size_small F =
     let whole = div-mul-le_self F.table F.ref_size in
     let sum = add-mul (F.table / F.ref_size) 1 F.ref_size in
     omega (arith, whole, sum)
 
-pub number_low : (F : Frame) (place : ℕ) → 1 ≤ F.ref_size → place ≤ F.table → number_at F place < set_size F
+pub number_low : (F : Frame) (place : ℕ) → 1 ≤ F.ref_size → place ≤ F.table → place_index F place < index_count F
 number_low F place some within =
     let part = div-mul-le_self place F.ref_size in
     let low = (le-div_iff_mul-le {k = F.ref_size} {x = place / F.ref_size} {y = F.table} some).1 (omega (arith, part, within)) in
-    let below : place / F.ref_size < row F = omega (arith, low) in
-    mul-add-lt (place % F.ref_size) (row F) (place / F.ref_size) F.ref_size (mod-lt place some) below
+    let below : place / F.ref_size < row_length F = omega (arith, low) in
+    mul-add-lt (place % F.ref_size) (row_length F) (place / F.ref_size) F.ref_size (mod-lt place some) below
 
 module _ (F : Frame) (some : 1 ≤ F.ref_size) (place k : ℕ) (within : place + (k + 1) * F.ref_size ≤ F.table) where
-  column : place / F.ref_size + k < row F
+  column : place / F.ref_size + k < row_length F
   column =
       let part = div-add-mod' place F.ref_size in
       let sum = add-mul (place / F.ref_size) k F.ref_size in
@@ -51,25 +51,25 @@ module _ (F : Frame) (some : 1 ≤ F.ref_size) (place k : ℕ) (within : place +
       let low = (le-div_iff_mul-le {k = F.ref_size} {x = place / F.ref_size + k} {y = F.table} some).1 (omega (arith, part, sum, more, within)) in
       omega (arith, low)
 
-  number_is : number_at F place + k ≡ place % F.ref_size * row F + (place / F.ref_size + k)
+  number_is : place_index F place + k ≡ place % F.ref_size * row_length F + (place / F.ref_size + k)
   number_is = omega arith
 
   -- the numbers of the references of a body follow one another
-  pub place_back : (number_at F place + k) % row F * F.ref_size + (number_at F place + k) / row F ≡ place + k * F.ref_size
+  pub place_back : (place_index F place + k) % row_length F * F.ref_size + (place_index F place + k) / row_length F ≡ place + k * F.ref_size
   place_back =
-      let low = ap (λ x. x % row F) number_is ∙ mod-mul-add (place % F.ref_size) (row F) (place / F.ref_size + k) column in
-      let high = ap (λ x. x / row F) number_is ∙ div-mul-add (place % F.ref_size) (row F) (place / F.ref_size + k) column in
+      let low = ap (λ x. x % row_length F) number_is ∙ mod-mul-add (place % F.ref_size) (row_length F) (place / F.ref_size + k) column in
+      let high = ap (λ x. x / row_length F) number_is ∙ div-mul-add (place % F.ref_size) (row_length F) (place / F.ref_size + k) column in
       let part = div-add-mod' place F.ref_size in
       let sum = add-mul (place / F.ref_size) k F.ref_size in
       ap₂ (λ a b. a * F.ref_size + b) low high ∙ omega (arith, part, sum)
 
-  pub reference_back : (f : List ℕ) → reference_at f F (number_at F place + k) ≡ nth_number f place F.ref_size k
+  pub reference_back : (f : List ℕ) → reference_at f F (place_index F place + k) ≡ nth_number f place F.ref_size k
   reference_back f = ap (λ p. num_at f p F.ref_size) place_back
 
   -- and each is a number of the set
-  pub number_fits : number_at F place + k < set_size F
+  pub number_fits : place_index F place + k < index_count F
   number_fits =
-      let fit = mul-add-lt (place % F.ref_size) (row F) (place / F.ref_size + k) F.ref_size (mod-lt place some) column in
+      let fit = mul-add-lt (place % F.ref_size) (row_length F) (place / F.ref_size + k) F.ref_size (mod-lt place some) column in
       omega (arith, number_is, fit)
 
 -- what was looked at so far
@@ -157,22 +157,22 @@ module _ (f : List ℕ) (F : Frame) where
   -- ---- what follows of a body whose places were all followed
   module _ (head : Head) (some : 1 ≤ F.ref_size) (safe : IsSafeHead F head) where
     -- reference k stands at this number
-    pub reference_at_k : (k : ℕ) → k < ref_count head.kind head.count → reference_at f F (number_at F head.body + k) ≡ nth_number f head.body F.ref_size k
+    pub reference_at_k : (k : ℕ) → k < ref_count head.kind head.count → reference_at f F (place_index F head.body + k) ≡ nth_number f head.body F.ref_size k
     reference_at_k k low = reference_back F some head.body k (place_fits F head safe k low) f
 
-    pub number_at_k : (k : ℕ) → k < ref_count head.kind head.count → number_at F head.body + k < set_size F
-    number_at_k k low = number_fits F some head.body k (place_fits F head safe k low)
+    pub place_index_k : (k : ℕ) → k < ref_count head.kind head.count → place_index F head.body + k < index_count F
+    place_index_k k low = number_fits F some head.body k (place_fits F head safe k low)
 
-    pub numbers_low : number_at F head.body + ref_count head.kind head.count ≤ set_size F
+    pub numbers_low : place_index F head.body + ref_count head.kind head.count ≤ index_count F
     numbers_low = elim (cases_lt 0 (ref_count head.kind head.count)) [
-      | inl has ↦ let last = number_at_k (ref_count head.kind head.count - 1) (omega arith) in omega (arith, last, has)
+      | inl has ↦ let last = place_index_k (ref_count head.kind head.count - 1) (omega arith) in omega (arith, last, has)
       | inr none ↦ let first = number_low F head.body some (omega (arith, safe.body, safe.table)) in omega (arith, first, none)
     ]
 
-    pub all_good : (good : List ℕ) → AreGood f F good → ((k : ℕ) → k < ref_count head.kind head.count → IsIn good (number_at F head.body + k)) → AreBelow f head.body F.ref_size (ref_count head.kind head.count) F.objects
+    pub all_good : (good : List ℕ) → AreGood f F good → ((k : ℕ) → k < ref_count head.kind head.count → IsIn good (place_index F head.body + k)) → AreBelow f head.body F.ref_size (ref_count head.kind head.count) F.objects
     all_good good known all k low = rw (reference_at_k k low) at (known _ (all k low))
 
-    pub all_marked : (followed : List ℕ) (marks : List Bool) → AreFollowed f F followed marks → ((k : ℕ) → k < ref_count head.kind head.count → IsIn followed (number_at F head.body + k)) → HasMarks marks (refs (content_at f F head))
+    pub all_marked : (followed : List ℕ) (marks : List Bool) → AreFollowed f F followed marks → ((k : ℕ) → k < ref_count head.kind head.count → IsIn followed (place_index F head.body + k)) → HasMarks marks (refs (content_at f F head))
     all_marked followed marks known all k low =
         let below : k < ref_count head.kind head.count = omega (arith, low, length-refs f F head.kind head.count head.body) in
         subst (IsMarked marks) (reference_at_k k below ∙ sym (nth-refs f F head.kind head.count head.body k below)) (known _ (all k below))

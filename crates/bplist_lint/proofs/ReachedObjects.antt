@@ -23,7 +23,7 @@ use Rattle.bplist_keys.specs.Classes.{key_ref}
 use Rattle.bplist_keys.specs.Marks.{IsMarked}
 use Rattle.bplist_lint.specs.declared.tally.Tally.{Tally}
 use Rattle.bplist_lint.specs.Tallies.{IsTalliedWith}
-use Rattle.bplist_lint.specs.Walks.{Noted, IsWalkState}
+use Rattle.bplist_lint.specs.ReachWalk.{Noted, IsWalkState}
 use Rattle.bplist_lint.proofs.MarkSteps.{noted_none, fresh-set}
 use Rattle.bplist_lint.proofs.ObjectReferences.{no_refs_leaf}
 use Rattle.bplist_lint.proofs.Walks.{walking_visit}
@@ -57,25 +57,25 @@ module _ (f : List ℕ) (F : Frame) (n : ℕ) (head : Head) (has : HasHead f F n
       let no1 = none_of head.kind head.count some in
       body_kept (λ e. absurd (no1.0 e)) (λ e. absurd (no1.1 e)) below
 
-  module _ (frame : IsFrame f F) (within : n < F.objects) (next : ℕ) (stack : List ℕ) (marks bare keys : List Bool) (tally tally' : Tally) (w : IsWalkState f F next (stack ++ n ∷ []) marks bare keys tally) (t : IsTalliedWith tally (off f F n) head tally') where
+  module _ (frame : IsFrame f F) (within : n < F.objects) (next : ℕ) (stack : List ℕ) (marks childless keys : List Bool) (tally tally' : Tally) (w : IsWalkState f F next (stack ++ n ∷ []) marks childless keys tally) (t : IsTalliedWith tally (off f F n) head tally') where
     -- an object without references was visited
-    pub walking_leaf : ref_count head.kind head.count ≡ 0 → KeepsAll (KeepsByObject f F n) object_rules → IsWalkState f F next stack marks (set bare n true) keys tally'
+    pub walking_leaf : ref_count head.kind head.count ≡ 0 → KeepsAll (KeepsByObject f F n) object_rules → IsWalkState f F next stack marks (set childless n true) keys tally'
     walking_leaf none all =
         let empty : refs_at f F n ≡ [] = no_refs_leaf f F n head ((shape_tie f F n frame within head).0 (has, kept)) none in
         let noted : Noted (refs_at f F n) next (length (refs_at f F n)) marks stack marks stack = rw (ap length empty) (noted_none (refs_at f F n) next marks stack) in
-        walking_visit f F frame next n within stack marks bare keys tally w head has all stack marks (set bare n true) keys tally' noted
-        (λ m h. elim (fresh-set bare n m h) [ inl old ↦ w.bare_known m old | inr e ↦ rw e (w.sound n (w.waiting n (Contains-push stack n)).0, empty) ]) (λ m h. h)
+        walking_visit f F frame next n within stack marks childless keys tally w head has all stack marks (set childless n true) keys tally' noted
+        (λ m h. elim (fresh-set childless n m h) [ inl old ↦ w.childless_known m old | inr e ↦ rw e (w.sound n (w.waiting n (Contains-push stack n)).0, empty) ]) (λ m h. h)
         (λ other h dict k low. let has_none : ref_count other.kind other.count ≡ 0 = subst (λ (x : Head). ref_count x.kind x.count ≡ 0) (HasHead-unique f F n head other has h) none in
         absurd (let zero = rw dict at has_none in omega (arith, zero, low))) t
 
     -- an object whose references are marked was visited
     pub walking_container : 0 < ref_count head.kind head.count → AreBelow f head.body F.ref_size (ref_count head.kind head.count) F.objects → (stack' : List ℕ) (marks' keys' : List Bool)
         → Noted (refs (content_at f F head)) next (ref_count head.kind head.count) marks stack marks' stack'
-        → ((m : ℕ) → IsMarked keys m → IsMarked keys' m) → (head.kind ≡ kinds.Dict → (k : ℕ) → k < head.count → IsMarked keys' (key_ref f F head k)) → IsWalkState f F next stack' marks' bare keys' tally'
+        → ((m : ℕ) → IsMarked keys m → IsMarked keys' m) → (head.kind ≡ kinds.Dict → (k : ℕ) → k < head.count → IsMarked keys' (key_ref f F head k)) → IsWalkState f F next stack' marks' childless keys' tally'
     walking_container some below stack' marks' keys' noted more named =
         let all = container_kept some below in
         let spelled = (head_tie f F n frame within head).0 (has, all) in
         let same : refs_at f F n ≡ refs (content_at f F head) = refs_spelled f F n (content_at f F head) spelled.1 in
-        walking_visit f F frame next n within stack marks bare keys tally w head has all stack' marks' bare keys' tally'
-        (rw (same, length-refs f F head.kind head.count head.body) noted) w.bare_known more
+        walking_visit f F frame next n within stack marks childless keys tally w head has all stack' marks' childless keys' tally'
+        (rw (same, length-refs f F head.kind head.count head.body) noted) w.childless_known more
         (λ other h. subst (λ (x : Head). x.kind ≡ kinds.Dict → (k : ℕ) → k < x.count → IsMarked keys' (key_ref f F x k)) (HasHead-unique f F n head other has h) named) t

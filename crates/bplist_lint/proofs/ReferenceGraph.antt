@@ -7,12 +7,12 @@ use Rattle.bplist_objects.specs.Heads.{Content, Spells, refs}
 use Rattle.bplist_objects.specs.Reach.{Reach, top, next, Founded, founded}
 use Rattle.bplist_objects.specs.Spelled.{refs_at}
 use Rattle.bplist_objects.proofs.ReachedObjects.{refs_spelled, refs_iff, founded_refs}
-use Rattle.bplist_lint.specs.Graph.{Reaches, Ends, Least, greatest, IsFirstWithout, IsNext, IsCircleBy, IsCircleOf, AreLeast}
+use Rattle.bplist_lint.specs.Graph.{Reaches, Ends, Least, greatest, IsFirstWithout, IsFirstUnfoundedIn, IsCircleBy, IsCircleOf, AreLeast}
 use Rattle.bplist_lint.specs.Graph.Reaches.{start, onward}
 use Rattle.bplist_lint.specs.Graph.Ends.{ends}
 use Rattle.bplist_lint.specs.Graph.Least.{above}
-use Rattle.bplist_lint.specs.FileFault.{LeadsOn, IsCircle}
-use Rattle.bplist_lint.specs.Least.{StandLeast, AreLeastHeights}
+use Rattle.bplist_lint.specs.FileFault.{IsFirstUnfounded, IsCircle}
+use Rattle.bplist_lint.specs.LeastHeights.{StandLeast, AreLeastHeights}
 use Rattle.bplist_lint.proofs.FirstWithout.{first_among, first_too}
 use Rattle.bplist_lint.proofs.FoundedObjects.{StandsLeast}
 
@@ -56,13 +56,13 @@ module _ (f : List ℕ) (F : Frame) where
     founded_iff n r = (ends_founded n r, founded_ends n)
 
     -- ---- the first reference that is not founded
-    next_leads : (n m : ℕ) → Reach f F n → IsNext (refs_at f F) n m → LeadsOn f F n m
+    next_leads : (n m : ℕ) → Reach f F n → IsFirstUnfoundedIn (refs_at f F) n m → IsFirstUnfounded f F n m
     next_leads n m r x =
         let s = spelled n r in
         let own = subst (λ ms. IsFirstWithout (Ends (refs_at f F)) ms m) (refs_spelled f F n s.0 s.1) x in
         (s.0, s.1, first_too (Ends (refs_at f F)) (Founded f F) (refs s.0) (λ k c. founded_iff k (next r (s.0, s.1, c))) m own)
 
-    leads_next : (n m : ℕ) → Reach f F n → LeadsOn f F n m → IsNext (refs_at f F) n m
+    leads_next : (n m : ℕ) → Reach f F n → IsFirstUnfounded f F n m → IsFirstUnfoundedIn (refs_at f F) n m
     leads_next n m r x =
         subst (λ ms. IsFirstWithout (Ends (refs_at f F)) ms m) (sym (refs_spelled f F n x.0 x.1))
         (first_too (Founded f F) (Ends (refs_at f F)) (refs x.0) (λ k c. let e = founded_iff k (next r (x.0, x.1, c)) in (e.1, e.0)) m x.2)
@@ -86,16 +86,16 @@ module _ (f : List ℕ) (F : Frame) where
         listed = c.listed;
       }
 
-    next_reached : (n m : ℕ) → Reach f F n → IsNext (refs_at f F) n m → Reach f F m
+    next_reached : (n m : ℕ) → Reach f F n → IsFirstUnfoundedIn (refs_at f F) n m → Reach f F m
     next_reached n m r x = next r ((refs_iff f F n m).1 (first_among (Ends (refs_at f F)) (refs_at f F n) m x))
 
-    leads_reached : (n m : ℕ) → Reach f F n → LeadsOn f F n m → Reach f F m
+    leads_reached : (n m : ℕ) → Reach f F n → IsFirstUnfounded f F n m → Reach f F m
     leads_reached n m r x = next r (x.0, x.1, first_among (Founded f F) (refs x.0) m x.2)
 
     pub circle_iff : (circle : List ℕ) → IsCircleOf (refs_at f F) F.top.0 circle ↔ IsCircle f F circle
     circle_iff circle = (
-      λ c. walked_by (IsNext (refs_at f F)) next_reached circle c (LeadsOn f F) next_leads,
-      λ c. walked_by (LeadsOn f F) leads_reached circle c (IsNext (refs_at f F)) leads_next,
+      λ c. walked_by (IsFirstUnfoundedIn (refs_at f F)) next_reached circle c (IsFirstUnfounded f F) next_leads,
+      λ c. walked_by (IsFirstUnfounded f F) leads_reached circle c (IsFirstUnfoundedIn (refs_at f F)) leads_next,
     )
 
     -- ---- the least heights

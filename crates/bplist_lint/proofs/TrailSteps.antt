@@ -3,13 +3,13 @@ use Rattle.std.proofs.Common.{◌≡◌, ◌≢◌, ℕ, suc, ◌+◌, ◌<◌, 
 use Rattle.std.proofs.lemmas.Bool.{false≢true}
 use Rattle.std.proofs.lemmas.List.{get_or-set_same, length-set, get_or_append_left, get_or_push, length_push, length-replicate, get_or_default, get_or-drop, length-drop}
 use Rattle.std.proofs.lemmas.List.Elements.{Contains-append_left, Contains-push}
-use Rattle.bplist_lint.specs.Graph.{Reaches, Ends, Least, IsFirstWithout, IsNext, IsCircleOf, AreLeast}
+use Rattle.bplist_lint.specs.Graph.{Reaches, Ends, Least, IsFirstWithout, IsFirstUnfoundedIn, IsCircleOf, AreLeast}
 use Rattle.bplist_lint.specs.Graph.Reaches.{start, onward}
 use Rattle.bplist_lint.specs.Graph.Ends.{ends}
 use Rattle.bplist_lint.specs.Graph.Least.{above}
-use Rattle.bplist_lint.specs.Trail.{number, object, AllHave, IsPlaceOf, Placed, Leading}
+use Rattle.bplist_lint.specs.Trail.{number, object, AllHave, IsPlaceOf, IsTrail, Leading}
 use Rattle.bplist_lint.proofs.FirstWithout.{first_among, first_off, first_too}
-use Rattle.bplist_lint.proofs.Writes.{push_cases, at_set, seen-set, unwritten}
+use Rattle.bplist_lint.proofs.ListWrites.{push_cases, at_set, seen-set, unwritten}
 
 pub numbers_named : (xs : List ℕ) → map number (map object xs) ≡ xs
 numbers_named [] = refl
@@ -26,15 +26,15 @@ founded_all refs top heights n a have =
     ends n (λ m c. rw (← c.2, get_or_default (refs n) c.0 m 0 c.1) (Ends-from_least refs _ _ (a.vouched _ (have c.0 c.1)).1))
 
 -- the first reference without a height is the first that is not founded
-pub is_next : (refs : ℕ → List ℕ) (top : ℕ) (heights : List ℕ) (n m : ℕ) → AreLeast refs top heights → Reaches refs top n → IsFirstWithout (λ k. 0 < get_or heights k 0) (refs n) m → Reaches refs top m × IsNext refs n m
+pub is_next : (refs : ℕ → List ℕ) (top : ℕ) (heights : List ℕ) (n m : ℕ) → AreLeast refs top heights → Reaches refs top n → IsFirstWithout (λ k. 0 < get_or heights k 0) (refs n) m → Reaches refs top m × IsFirstUnfoundedIn refs n m
 is_next refs top heights n m a reached f = (
   onward n m reached (first_among (λ k. 0 < get_or heights k 0) (refs n) m f),
   first_too (λ k. 0 < get_or heights k 0) (Ends refs) (refs n) (λ k c. (λ h. Ends-from_least refs _ _ (a.vouched k h).1, λ is. a.all k (onward n k reached c) is)) m f,
 )
 
 -- nothing is met
-pub placed_none : (size : ℕ) → Placed size (replicate size false) []
-placed_none size = record {
+pub trail_none : (size : ℕ) → IsTrail size (replicate size false) []
+trail_none size = record {
   all_met = length-replicate size false;
   on_trail = λ n h. absurd (false≢true (sym (unwritten size n false) ∙ h));
   marked = λ k h. absurd (omega arith);
@@ -42,8 +42,8 @@ placed_none size = record {
 }
 
 -- one object more is met
-pub placed_more : (size : ℕ) (met : List Bool) (trail : List ℕ) (x : ℕ) → Placed size met trail → x < size → get_or met x false ≡ false → Placed size (set met x true) (trail ++ x ∷ [])
-placed_more size met trail x p in' new =
+pub trail_more : (size : ℕ) (met : List Bool) (trail : List ℕ) (x : ℕ) → IsTrail size met trail → x < size → get_or met x false ≡ false → IsTrail size (set met x true) (trail ++ x ∷ [])
+trail_more size met trail x p in' new =
     let within : x < length met = omega (arith, p.all_met) in
     let long = length_push trail x in
     let not_x : (j : ℕ) → j < length trail → get_or trail j 0 ≢ x = λ j h e. absurd (false≢true (sym new ∙ rw e at (p.marked j h))) in
@@ -63,7 +63,7 @@ placed_more size met trail x p in' new =
       ];
     }
 
-pub leading_more : (refs : ℕ → List ℕ) (top : ℕ) (trail : List ℕ) (x m : ℕ) → Leading refs top trail x → Reaches refs top m → IsNext refs x m → Leading refs top (trail ++ x ∷ []) m
+pub leading_more : (refs : ℕ → List ℕ) (top : ℕ) (trail : List ℕ) (x m : ℕ) → Leading refs top trail x → Reaches refs top m → IsFirstUnfoundedIn refs x m → Leading refs top (trail ++ x ∷ []) m
 leading_more refs top trail x m l reached n =
     let walk : List ℕ = trail ++ x ∷ [] in
     let long = length_push trail x in
@@ -88,7 +88,7 @@ leading_start refs top heights a zero_at = record {
 }
 
 -- the trail from the place of x on is the circle
-pub is_circle : (refs : ℕ → List ℕ) (top size : ℕ) (met : List Bool) (trail : List ℕ) (x place : ℕ) → Placed size met trail → Leading refs top trail x → IsPlaceOf trail x place → IsCircleOf refs top (drop place trail)
+pub is_circle : (refs : ℕ → List ℕ) (top size : ℕ) (met : List Bool) (trail : List ℕ) (x place : ℕ) → IsTrail size met trail → Leading refs top trail x → IsPlaceOf trail x place → IsCircleOf refs top (drop place trail)
 is_circle refs top size met trail x place p l at_place =
     let walk : List ℕ = trail ++ x ∷ [] in
     let low = at_place.within in

@@ -17,7 +17,7 @@ use Rattle.bplist_cert.specs.declared.refusal.Refusal.TheVariants as cert_refusa
 use Rattle.bplist_cert.specs.Refusals.{GivesRefusal, refusal_of}
 use Rattle.bplist_lint.specs.declared.upgrade_fault.UpgradeFault.{UpgradeFault}
 use Rattle.bplist_lint.specs.declared.upgrade_fault.UpgradeFault.TheVariants as faults
-use Rattle.bplist_lint.specs.Upgrades.{of_check}
+use Rattle.bplist_lint.specs.UpgradeAnswers.{of_check}
 
 pub object_no_change : (P : Fault → Type 0) (e : ObjectFault) → ((x : Fault) → P x → ⊥) → GivesFault P e → of_check (refusal_of e) ≢ faults.Changed
 object_no_change P (object_faults.Fault fault) never h = absurd (never fault h)

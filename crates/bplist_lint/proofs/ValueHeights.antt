@@ -24,7 +24,7 @@ use Rattle.bplist_lint.specs.Graph.Ends.{ends}
 use Rattle.bplist_lint.specs.Graph.Least.{above}
 use Rattle.bplist_lint.specs.KeyRules.{KeepKeysBelow}
 use Rattle.bplist_lint.specs.ReachRules.{KeepReachBelow}
-use Rattle.bplist_lint.specs.Referring.{key_count, hidden, refs_in, graph_of}
+use Rattle.bplist_lint.specs.ReferenceGraph.{key_count, hidden, refs_in, graph_of}
 use Rattle.bplist_lint.specs.HeightWalks.{AreClosed, AreLeastOf}
 use Rattle.bplist_lint.proofs.KeptRules.{kept_spells}
 use Rattle.bplist_lint.proofs.KeySteps.{good_by_kept}
@@ -58,20 +58,20 @@ module _ (refs : ℕ → List ℕ) (out : ℕ → ℕ) where
   least_some _ _ (above n hs long each) = omega arith
 
   -- where the first ones have no references, and others follow them, the others have the greatest height
-  module _ (top : ℕ) (bare : (n i : ℕ) → Reaches refs top n → i < out n → (refs (slice_index (refs n) i) ≡ []) × (out n < length (refs n))) where
+  module _ (top : ℕ) (childless : (n i : ℕ) → Reaches refs top n → i < out n → (refs (slice_index (refs n) i) ≡ []) × (out n < length (refs n))) where
     pub least_all : (n h : ℕ) → Reaches refs top n → Least others n h → Least refs n h
     least_all _ _ r (above n hs long each) =
         let k = out n in
         let rest = length-drop k (refs n) in
         let ones : List ℕ = replicate k 1 in
         let many : length ones ≡ k = length-replicate k 1 in
-        let more : 0 < k → k < length (refs n) = λ some. (bare n 0 r some).1 in
+        let more : 0 < k → k < length (refs n) = λ some. (childless n 0 r some).1 in
         let high : 0 < k → 0 < greatest hs = λ some.
         let l : 0 < length (others n) = omega (arith, rest, more some) in
         omega (arith, least_some _ _ (each 0 l), greatest_first hs) in
         let all_each : (i : ℕ) → i < length (refs n) → Least refs (slice_index (refs n) i) (slice_index (ones ++ hs) i) = λ i l. elim (cases_lt i k) [
           | inl first ↦
-              let none = ap length (bare n i r first).0 in
+              let none = ap length (childless n i r first).0 in
               rw (get_or_append_left ones hs 0 i (omega (arith, many, first)), get_or-replicate {A = ℕ} k i 1 0 first) (above _ [] (sym none) (λ j low. absurd (omega (arith, low, none))))
           | inr later ↦
               let j = i - k in
@@ -108,8 +108,8 @@ module _ (f : List ℕ) (F : Frame) (frame : IsFrame f F) (kept : KeepReachBelow
       abbrev out : ℕ → ℕ
       out n = hidden views.Values (head_found f F n)
 
-      bare_keys : (n i : ℕ) → Reaches (refs_at f F) F.top.0 n → i < out n → (refs_at f F (slice_index (refs_at f F n) i) ≡ []) × (out n < length (refs_at f F n))
-      bare_keys n i r low =
+      childless_keys : (n i : ℕ) → Reaches (refs_at f F) F.top.0 n → i < out n → (refs_at f F (slice_index (refs_at f F n) i) ≡ []) × (out n < length (refs_at f F n))
+      childless_keys n i r low =
           let reach = (reach_iff f F n).0 r in
           let within = reach_within f F (numbered frame).top n reach in
           let s = kept_spells f F frame kept n reach in
@@ -128,6 +128,6 @@ module _ (f : List ℕ) (F : Frame) (frame : IsFrame f F) (kept : KeepReachBelow
         vouched = λ n h.
             let v = a.vouched n h in
             let r = (reach_iff f F n).1 ((marked n).0 v.0) in
-            (r, least_all (refs_at f F) out F.top.0 bare_keys n _ r v.1);
+            (r, least_all (refs_at f F) out F.top.0 childless_keys n _ r v.1);
         all = λ n r is. a.all n ((marked n).1 ((reach_iff f F n).0 r)) (ends_others (refs_at f F) out n is);
       }

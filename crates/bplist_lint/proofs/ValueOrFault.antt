@@ -32,7 +32,7 @@ use Rattle.bplist_lint.proofs.FiniteGraphs.{reach_decided, founded_or_circle}
 use Rattle.bplist_lint.proofs.HeldValues.{formed_holds}
 use Rattle.bplist_lint.proofs.ReferenceGraph.{reach_iff, founded_iff, circle_iff}
 use Rattle.bplist_cert.proofs.CheckSteps.{first_of_keys}
-use Rattle.bplist_cert.proofs.KeyClasses.{good_at}
+use Rattle.bplist_cert.proofs.KeyRepeats.{good_at}
 use Rattle.bplist_lint.proofs.KeySteps.{kept_by_good}
 use Rattle.bplist_lint.proofs.KeptRules.{kept_spells, kept_formed}
 

@@ -22,14 +22,14 @@ use Rattle.bplist_keys.specs.Classes.{HasNamedKeys}
 use Rattle.bplist_keys.specs.Marks.{IsMarked}
 use Rattle.bplist_lint.specs.declared.tally.Tally.{Tally}
 use Rattle.bplist_lint.specs.declared.walk.Reached.{Reached}
-use Rattle.bplist_lint.specs.Referring.{AreBare}
+use Rattle.bplist_lint.specs.ReferenceGraph.{AreChildless}
 use Rattle.bplist_lint.specs.ReachRules.{sum_below, number_below, references_below, is_marked, Tallied}
 use Rattle.bplist_lint.specs.Tallies.{IsTalliedWith}
-use Rattle.bplist_lint.specs.Walks.{Noted, extent_by, extent, extents_below, IsVisited, IsWalkState, IsWalked, AreNamed}
+use Rattle.bplist_lint.specs.ReachWalk.{Noted, extent_by, extent, extents_below, IsVisited, IsWalkState, IsWalked, AreNamed}
 use Rattle.bplist_lint.proofs.MarkSteps.{apart_none, apart_push, apart_front, apart_last, fresh-set}
 use Rattle.bplist_lint.proofs.ReachSteps.{marked_within}
 use Rattle.bplist_lint.proofs.TallySteps.{tallied_none, tallied_over, tallied_more, next_is}
-use Rattle.bplist_lint.proofs.Writes.{seen-set, unwritten}
+use Rattle.bplist_lint.proofs.ListWrites.{seen-set, unwritten}
 
 -- ---- sums below a number
 sum_of_none : (g : ℕ → ℕ) (n : ℕ) → ((m : ℕ) → g m ≡ 0) → sum_below g n ≡ 0
@@ -107,7 +107,7 @@ module _ (f : List ℕ) (F : Frame) where
         apart = apart_none;
         closed = λ m h. inl (omega arith);
         each = λ m h. absurd (no1 m h);
-        bare_known = λ m h. absurd (no1 m h);
+        childless_known = λ m h. absurd (no1 m h);
         reached = sym (sum (λ m. 1));
         used = sym (sum (extent f F));
         references = sym (sum (λ m. length (refs_at f F m)));
@@ -118,9 +118,9 @@ module _ (f : List ℕ) (F : Frame) where
   visited_more : (marks marks' keys keys' : List Bool) (n : ℕ) → ((m : ℕ) → IsMarked marks m → IsMarked marks' m) → ((m : ℕ) → IsMarked keys m → IsMarked keys' m) → IsVisited f F marks keys n → IsVisited f F marks' keys' n
   visited_more marks marks' keys keys' n keeps more v = record { head = v.head; has = v.has; kept = v.kept; all = λ i low. keeps _ (v.all i low); named = λ head has dict k low. more _ (v.named head has dict k low) }
 
-  module _ (n : ℕ) (marks bare keys : List Bool) (tally : Tally) (w : IsWalkState f F n [] marks bare keys tally) where
+  module _ (n : ℕ) (marks childless keys : List Bool) (tally : Tally) (w : IsWalkState f F n [] marks childless keys tally) where
     -- object n, which is not marked, is passed over
-    pub walking_over : get_or marks n false ≡ false → IsWalkState f F (n + 1) [] marks bare keys tally
+    pub walking_over : get_or marks n false ≡ false → IsWalkState f F (n + 1) [] marks childless keys tally
     walking_over unmarked = record {
       visited = w.visited;
       all_visited = w.all_visited;
@@ -136,14 +136,14 @@ module _ (f : List ℕ) (F : Frame) where
         | inr later ↦ inr later
       ];
       each = λ m h. let v = w.each m h in (v.0, (let l = v.1 in omega arith), v.2);
-      bare_known = w.bare_known;
+      childless_known = w.childless_known;
       reached = w.reached;
       used = w.used;
       references = w.references;
     }
 
     -- object n, which is marked, is about to be visited
-    pub walking_on : IsMarked marks n → IsWalkState f F (n + 1) ([] ++ n ∷ []) marks bare keys tally
+    pub walking_on : IsMarked marks n → IsWalkState f F (n + 1) ([] ++ n ∷ []) marks childless keys tally
     walking_on marked = record {
       visited = w.visited;
       all_visited = w.all_visited;
@@ -162,18 +162,18 @@ module _ (f : List ℕ) (F : Frame) where
         | inr later ↦ elim later [ inl on ↦ absurd (none_in m on) | inr visited ↦ inr (inr visited) ]
       ];
       each = λ m h. let v = w.each m h in (v.0, (let l = v.1 in omega arith), v.2);
-      bare_known = w.bare_known;
+      childless_known = w.childless_known;
       reached = w.reached;
       used = w.used;
       references = w.references;
     }
 
   -- object n of the stack is visited
-  module _ (frame : IsFrame f F) (next0 n : ℕ) (within : n < F.objects) (stack : List ℕ) (marks bare keys : List Bool) (tally : Tally) (w : IsWalkState f F next0 (stack ++ n ∷ []) marks bare keys tally) where
-    pub walking_visit : (head : Head) → HasHead f F n head → KeepsAll (KeepsByObject f F n) object_rules → (stack' : List ℕ) (marks' bare' keys' : List Bool) (tally' : Tally)
+  module _ (frame : IsFrame f F) (next0 n : ℕ) (within : n < F.objects) (stack : List ℕ) (marks childless keys : List Bool) (tally : Tally) (w : IsWalkState f F next0 (stack ++ n ∷ []) marks childless keys tally) where
+    pub walking_visit : (head : Head) → HasHead f F n head → KeepsAll (KeepsByObject f F n) object_rules → (stack' : List ℕ) (marks' childless' keys' : List Bool) (tally' : Tally)
         → Noted (refs_at f F n) next0 (length (refs_at f F n)) marks stack marks' stack'
-        → AreBare f F bare' → ((m : ℕ) → IsMarked keys m → IsMarked keys' m) → HasNamedKeys f F keys' n → IsTalliedWith tally (off f F n) head tally' → IsWalkState f F next0 stack' marks' bare' keys' tally'
-    walking_visit head has kept stack' marks' bare' keys' tally' s known more named t =
+        → AreChildless f F childless' → ((m : ℕ) → IsMarked keys m → IsMarked keys' m) → HasNamedKeys f F keys' n → IsTalliedWith tally (off f F n) head tally' → IsWalkState f F next0 stack' marks' childless' keys' tally'
+    walking_visit head has kept stack' marks' childless' keys' tally' s known more named t =
         let here : n < length w.visited = omega (arith, w.all_visited) in
         let on = w.waiting n (Contains-push stack n) in
         let at_n : Reach f F n = w.sound n on.0 in
@@ -209,14 +209,14 @@ module _ (f : List ℕ) (F : Frame) where
             | inl before ↦ let v = w.each m before in (s.keeps_marks m v.0, v.1, visited_more _ _ _ _ m s.keeps_marks more v.2)
             | inr e ↦ rw e (s.keeps_marks n on.0, on.2, own)
           ];
-          bare_known = known;
+          childless_known = known;
           reached = let sum = sum_marked (λ m. 1) w.visited F.objects n within here on.1 in omega (arith, sum, t.reached, w.reached);
           used = let sum = sum_marked (extent f F) w.visited F.objects n within here on.1 in let one = extent_is n head has in omega (arith, sum, one, t.used, w.used);
           references = let sum = sum_marked (λ m. length (refs_at f F m)) w.visited F.objects n within here on.1 in omega (arith, sum, references, t.references, w.references);
         }
 
   -- ---- the end
-  module _ (frame : IsFrame f F) (reached : Reached) (all_marks : length reached.marks.items ≡ F.objects) (keys : List Bool) (w : IsWalkState f F F.objects [] reached.marks.items reached.bare.items keys reached.tally) (room : reached.tally.used + 8 ≤ F.table) where
+  module _ (frame : IsFrame f F) (reached : Reached) (all_marks : length reached.marks.items ≡ F.objects) (keys : List Bool) (w : IsWalkState f F F.objects [] reached.marks.items reached.childless.items keys reached.tally) (room : reached.tally.used + 8 ≤ F.table) where
     visited_as : (m : ℕ) → IsMarked reached.marks.items m → IsMarked w.visited m
     visited_as m h = elim (w.closed m h) [
       | inl above ↦ absurd (let low = marked_within reached.marks.items m h in omega arith)
@@ -284,7 +284,7 @@ module _ (f : List ℕ) (F : Frame) where
     walked : IsWalked f F reached
     walked = record {
       marked = λ n. (w.sound n, reach_marked n);
-      bare = w.bare_known;
+      childless = w.childless_known;
       tallied = tallied_to F.objects (omega arith) reached.tally (w.reached ∙ same_sum (λ m. 1)) (w.used ∙ same_sum (extent f F)) (w.references ∙ same_sum (λ m. length (refs_at f F m)));
     }
 

@@ -11,12 +11,12 @@ use Rattle.bplist_lint.specs.ReachRules.{KeepReachBelow, IsReachFault}
 use Rattle.bplist_lint.specs.KeyRules.{KeepKeysBelow, IsKeysFault}
 
 -- m is the first reference of object n that is not founded
-abbrev pub LeadsOn : List ℕ → Frame → ℕ → ℕ → Type 0
-LeadsOn f F n m = (c : Content) × Spells f F n c × IsFirstWithout (Founded f F) (refs c) m
+abbrev pub IsFirstUnfounded : List ℕ → Frame → ℕ → ℕ → Type 0
+IsFirstUnfounded f F n m = (c : Content) × Spells f F n c × IsFirstWithout (Founded f F) (refs c) m
 
 -- the circle that these references lead to from the top
 abbrev pub IsCircle : List ℕ → Frame → List ℕ → Type 0
-IsCircle f F circle = IsCircleBy (LeadsOn f F) F.top.0 circle
+IsCircle f F circle = IsCircleBy (IsFirstUnfounded f F) F.top.0 circle
 
 -- the first fault of an object: rules 14 to 20 and 31 of reached objects, then 21 and 22
 abbrev pub IsObjectsFault : List ℕ → Frame → Fault → Type 0

@@ -52,8 +52,8 @@ IsFirstWithout P ns m =
     (i : ℕ) × FailsAt (λ many. (k : ℕ) → k < many → P (slice_index ns k)) (length ns) i × (slice_index ns i ≡ m)
 
 -- m is the first reference of n that is not founded
-abbrev pub IsNext : (ℕ → List ℕ) → ℕ → ℕ → Type 0
-IsNext refs n m = IsFirstWithout (Ends refs) (refs n) m
+abbrev pub IsFirstUnfoundedIn : (ℕ → List ℕ) → ℕ → ℕ → Type 0
+IsFirstUnfoundedIn refs n m = IsFirstWithout (Ends refs) (refs n) m
 
 -- the circle that next leads to from top: from the first object met twice up to its second meeting
 pub record IsCircleBy (next : ℕ → ℕ → Type 0) (top : ℕ) (circle : List ℕ) : Type 0 where
@@ -68,7 +68,7 @@ pub record IsCircleBy (next : ℕ → ℕ → Type 0) (top : ℕ) (circle : List
 
 -- the circle of first references that are not founded
 abbrev pub IsCircleOf : (ℕ → List ℕ) → ℕ → List ℕ → Type 0
-IsCircleOf refs top circle = IsCircleBy (IsNext refs) top circle
+IsCircleOf refs top circle = IsCircleBy (IsFirstUnfoundedIn refs) top circle
 
 -- the least heights of the objects that are reached and founded, 0 of the others
 pub record AreLeast (refs : ℕ → List ℕ) (top : ℕ) (heights : List ℕ) : Type 0 where

@@ -2,8 +2,8 @@
 use Rattle.std.specs.Prelude.{◌≡◌, ◌≢◌, ◌⊎◌, ℕ, suc, ◌+◌, ◌*◌, ◌<◌, ◌≤◌, Bool, true, false, List, length, map, slice_index_or, slice_index, count_by, Contains, ⊤}
 use Rattle.bplist_lint.specs.Graph.{Graph, IsWhole, Ends, Least, greatest}
 use Rattle.bplist_keys.specs.Marks.{IsMarked}
-use Rattle.bplist_lint.specs.Reaching.{HasMarks}
-use Rattle.bplist_lint.specs.Walks.{AreApart}
+use Rattle.bplist_lint.specs.ReachSearch.{HasMarks}
+use Rattle.bplist_lint.specs.ReachWalk.{AreApart}
 use Rattle.bplist_lint.specs.declared.heights.State.{State}
 use Rattle.bplist_lint.specs.declared.heights.State.TheVariants.{New, Open, Founded, Circular}
 use Rattle.bplist_lint.specs.declared.heights.Look.{Look}

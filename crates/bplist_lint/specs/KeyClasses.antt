@@ -9,8 +9,8 @@ use Rattle.bplist_objects.specs.Frame.{IsFrame}
 use Rattle.bplist_objects.specs.Reach.{Refs}
 use Rattle.bplist_objects.specs.Rules.{KeepsAll}
 use Rattle.bplist_objects.specs.ObjectRules.{KeepsByObject, object_rules}
-use Rattle.bplist_keys.specs.declared.class_table.Wrong.{Wrong}
-use Rattle.bplist_keys.specs.declared.class_table.Wrong.TheVariants as wrongs
+use Rattle.bplist_keys.specs.declared.class_table.KeyDefect.{KeyDefect}
+use Rattle.bplist_keys.specs.declared.class_table.KeyDefect.TheVariants as defects
 use Rattle.bplist_keys.specs.Marks.{IsMarked}
 
 module _ (f : List ℕ) (F : Frame) where
@@ -21,6 +21,8 @@ module _ (f : List ℕ) (F : Frame) where
     pub closed : (n m : ℕ) → IsMarked marks n → Refs f F n m → IsMarked marks m
 
 -- the fault of the keys of dictionary n, where this is wrong with them
-abbrev pub IsWrongFault : Frame → ObjectNo → Head → Wrong → Fault → Type 0
-IsWrongFault F n head (wrongs.NoText i) fault = (fault.rule ≡ rules.KeyKind) × (fault.object ≡ Some n) × (fault.place ≡ head.body + i * F.ref_size)
-IsWrongFault F n head (wrongs.Again j) fault = (fault.rule ≡ rules.KeyTwice) × (fault.object ≡ Some n) × (fault.place ≡ head.body + j * F.ref_size)
+abbrev pub IsWrongFault : Frame → ObjectNo → Head → KeyDefect → Fault → Type 0
+IsWrongFault F n head (defects.NotText i) fault =
+    (fault.rule ≡ rules.KeyKind) × (fault.object ≡ Some n) × (fault.place ≡ head.body + i * F.ref_size)
+IsWrongFault F n head (defects.Repeated j) fault =
+    (fault.rule ≡ rules.KeyTwice) × (fault.object ≡ Some n) × (fault.place ≡ head.body + j * F.ref_size)

@@ -11,9 +11,9 @@ use Rattle.bplist_objects.specs.Reach.{Reach}
 use Rattle.bplist_cert.specs.Valid.{IsValid}
 use Rattle.bplist_lint.specs.declared.answer.Lint.{Lint}
 use Rattle.bplist_lint.specs.declared.walk.Reached.{Reached}
-use Rattle.bplist_lint.specs.Least.{AreLeastHeights}
+use Rattle.bplist_lint.specs.LeastHeights.{AreLeastHeights}
 use Rattle.bplist_lint.specs.ReachRules.{references_below}
-use Rattle.bplist_lint.specs.Walks.{IsWalked}
+use Rattle.bplist_lint.specs.ReachWalk.{IsWalked}
 use Rattle.bplist_lint.specs.KeyRules.{KeepKeysBelow}
 
 -- the object has a height

@@ -2,7 +2,7 @@
 use Rattle.std.specs.Prelude.{◌≡◌, ◌≢◌, ℕ, suc, ◌<◌, Bool, List, [], ◌∷◌, ◌++◌, length, slice_index, Contains}
 use Rattle.bplist_objects.specs.declared.frame.ObjectNo.{ObjectNo}
 use Rattle.bplist_keys.specs.Marks.{IsMarked}
-use Rattle.bplist_lint.specs.Graph.{Reaches, Ends, IsNext}
+use Rattle.bplist_lint.specs.Graph.{Reaches, Ends, IsFirstUnfoundedIn}
 
 -- the number of an object
 abbrev pub number : ObjectNo → ℕ
@@ -23,7 +23,7 @@ pub record IsPlaceOf (trail : List ℕ) (x place : ℕ) : Type 0 where
   pub before : (k : ℕ) → k < place → slice_index trail k ≢ x
 
 -- exactly the objects of the trail are marked, and each stands there once
-pub record Placed (size : ℕ) (met : List Bool) (trail : List ℕ) : Type 0 where
+pub record IsTrail (size : ℕ) (met : List Bool) (trail : List ℕ) : Type 0 where
   pub all_met : length met ≡ size
   pub on_trail : (n : ℕ) → IsMarked met n → Contains trail n
   pub marked : (k : ℕ) → k < length trail → IsMarked met (slice_index trail k)
@@ -32,6 +32,7 @@ pub record Placed (size : ℕ) (met : List Bool) (trail : List ℕ) : Type 0 whe
 -- the trail leads from top to x, by first references that are not founded
 pub record Leading (refs : ℕ → List ℕ) (top : ℕ) (trail : List ℕ) (x : ℕ) : Type 0 where
   pub begins : slice_index (trail ++ x ∷ []) 0 ≡ top
-  pub next : (k : ℕ) → k < length trail → IsNext refs (slice_index (trail ++ x ∷ []) k) (slice_index (trail ++ x ∷ []) (suc k))
+  pub next : (k : ℕ) → k < length trail
+      → IsFirstUnfoundedIn refs (slice_index (trail ++ x ∷ []) k) (slice_index (trail ++ x ∷ []) (suc k))
   pub reached : Reaches refs top x
   pub not_founded : Ends refs x → ⊥

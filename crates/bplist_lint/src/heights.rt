@@ -56,28 +56,28 @@ struct HeightWalk {
 }
 
 /// The states that are known before the first look: objects that are known to have no references are founded.
-fn first_states(alloc: Global, bare: &[bool]) -> Result<Vec<State>, AllocError>
-    ensures { IfOk result (λ states. states.items ≡ map first_state bare.now) }
+fn first_states(alloc: Global, childless: &[bool]) -> Result<Vec<State>, AllocError>
+    ensures { IfOk result (λ states. states.items ≡ map first_state childless.now) }
 {
-    let mut states = Vec::with_capacity(alloc, bare.len())?;
-    for known in bare {
+    let mut states = Vec::with_capacity(alloc, childless.len())?;
+    for known in childless {
         states.push(if *known { State::Founded } else { State::New })?;
     }
     Ok(states)
 }
 
 impl HeightWalk {
-    /// Before the first look. Objects with a mark in `bare` have no references, and so height 1 at once, the number of a mark. The
-    /// file has this length.
-    fn new(alloc: Global, bare: &[bool], len: u64) -> Result<HeightWalk, AllocError>
-        ensures states { IfOk result (λ walk. walk.states.items ≡ map first_state bare.now) }
-        ensures heights { IfOk result (λ walk. walk.heights.items ≡ map from_bool bare.now) }
+    /// Before the first look. Objects with a mark in `childless` have no references, and so height 1 at once, the number of a
+    /// mark. The file has this length.
+    fn new(alloc: Global, childless: &[bool], len: u64) -> Result<HeightWalk, AllocError>
+        ensures states { IfOk result (λ walk. walk.states.items ≡ map first_state childless.now) }
+        ensures heights { IfOk result (λ walk. walk.heights.items ≡ map from_bool childless.now) }
         ensures empty { IfOk result (λ walk. vec_len walk.stack ≡ 0) }
     {
-        let containers = bare.iter().filter(|known| !**known).count();
+        let containers = childless.iter().filter(|known| !**known).count();
         Ok(HeightWalk {
-            states: first_states(alloc, bare)?,
-            heights: numbers_of(alloc, bare)?,
+            states: first_states(alloc, childless)?,
+            heights: numbers_of(alloc, childless)?,
             stack: Vec::with_capacity(alloc, containers)?,
             stride: len / u32::MAX as u64 + 1,
         })
@@ -248,7 +248,7 @@ impl HeightWalk {
 }
 
 /// The least height of each founded object among the marked ones, which refer to marked ones alone, and 0 for each other.
-/// Objects with a mark in `bare` have no references, and so their height at once. No object has more references than `len`,
+/// Objects with a mark in `childless` have no references, and so their height at once. No object has more references than `len`,
 /// the file's length.
 ///
 /// A walk begins at each of the others that is not settled, the last first: where each reference leads to a greater number,
@@ -258,20 +258,20 @@ pub fn least_heights<R: References>(
     alloc: Global,
     graph: &mut R,
     marks: &[bool],
-    bare: &[bool],
+    childless: &[bool],
     len: u64,
 ) -> Result<Vec<u32>, Failure>
     requires fits { (R.graph graph.old).size < 2 ^ 32 }
     requires all_marks { length marks.now ≡ (R.graph graph.old).size }
-    requires all_bare { length bare.now ≡ (R.graph graph.old).size }
+    requires all_childless { length childless.now ≡ (R.graph graph.old).size }
     ensures same { R.graph graph.new ≡ R.graph graph.old }
     ensures reads { OnlyReads (failed_to_read result) (R.means graph.old) (R.means graph.new) }
     ensures all_heights { IfOk result (λ heights. vec_len heights ≡ (R.graph graph.old).size) }
     ensures exact { IsTrue (R.means graph.old).honest → AreClosed (R.graph graph.old) marks.now
-        → ((n : ℕ) → IsMarked bare.now n → IsMarked marks.now n × ((R.graph graph.old).refs n ≡ []))
+        → ((n : ℕ) → IsMarked childless.now n → IsMarked marks.now n × ((R.graph graph.old).refs n ≡ []))
         → IfOk result (λ heights. AreLeastOf (R.graph graph.old).refs marks.now heights.items) }
 {
-    let mut walk = HeightWalk::new(alloc, bare, len)?;
+    let mut walk = HeightWalk::new(alloc, childless, len)?;
     let size = marks.len() as u32;
     for n in (0..size).rev() {
         if marks[n as usize] {

@@ -11,7 +11,7 @@ ghost use Rattle.bplist_objects.specs.Reach.{Reach, Founded};
 ghost use Rattle.bplist_objects.specs.Spelled.{refs_at};
 ghost use Rattle.bplist_cert.specs.Valid.{IsValid};
 ghost use Rattle.bplist_lint.specs.Graph.{Reaches, Ends, AreLeast, IsCircleOf};
-ghost use Rattle.bplist_lint.specs.Least.{StandLeast, AreLeastHeights};
+ghost use Rattle.bplist_lint.specs.LeastHeights.{StandLeast, AreLeastHeights};
 ghost use Rattle.bplist_lint.specs.WellFormed.{IsWellFormed};
 ghost use Rattle.bplist_lint.specs.ReachRules.{KeepReachBelow};
 ghost use Rattle.bplist_lint.specs.KeyRules.{KeepKeysBelow};

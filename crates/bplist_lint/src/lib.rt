@@ -21,16 +21,16 @@
 #![tactic(auto)]
 
 mod answer;
+mod bit_set;
 mod circle;
 mod heights;
 mod key_lists;
-mod keys;
+mod key_rules;
 mod laws;
 mod linter;
 mod object_graph;
 mod object_nos;
-mod place_set;
-mod places;
+mod offset_rule;
 mod reach;
 mod reach_rules;
 mod references;

@@ -14,11 +14,11 @@ ghost use Rattle.bplist_objects.specs.declared.head.Head.{Head as head};
 ghost use Rattle.bplist_keys.specs.Failures.{failed_to_read};
 ghost use Rattle.bplist_keys.specs.Marks.{IsMarked};
 ghost use Rattle.bplist_lint.specs.Graph.{AreLeast, IsCircleOf};
-ghost use Rattle.bplist_lint.specs.Referring.{AreBare};
+ghost use Rattle.bplist_lint.specs.ReferenceGraph.{AreChildless};
 ghost use Rattle.bplist_lint.specs.Trail.{number};
 ghost use Rattle.bplist_lint.specs.ReachRules.{IsReachFault, KeepReachBelow};
 ghost use Rattle.bplist_lint.specs.KeyRules.{KeepKeysBelow};
-ghost use Rattle.bplist_lint.specs.Walks.{Fits, IsWalked, AreNamed};
+ghost use Rattle.bplist_lint.specs.ReachWalk.{Fits, IsWalked, AreNamed};
 ghost use Rattle.bplist_lint.specs.FileFault.{IsObjectsFault, IsFileFault, IsFileCircle, IsFramedCircle};
 ghost use Rattle.bplist_lint.specs.Refusals.{Lints, lint_failed, no_circle};
 ghost use Rattle.bplist_lint.specs.Linted.{IsSifted, IsLintedBy, IsLinted, IsLintedWithKind, HasNoHeights};
@@ -26,32 +26,32 @@ ghost use Rattle.bplist_lint.specs.Linted.{IsSifted, IsLintedBy, IsLinted, IsLin
 use crate::answer::Lint;
 use crate::circle::circle;
 use crate::heights::least_heights;
-use crate::keys::check_keys;
+use crate::key_rules::check_keys;
 use crate::object_graph::{Objects, View};
 use crate::object_nos::ObjectNos;
-use crate::places::check_places;
+use crate::offset_rule::check_offsets;
 use crate::reach::{Marked, mark_reached};
 use crate::reach_rules::check_reached;
 use crate::refusal::LintRefusal;
 use crate::walk::{Reached, walk};
 use bplist_cert::Certificate;
-use bplist_keys::{Failure, NamedKeys, Placed, Table, placed_shape, places_of};
+use bplist_keys::{Failure, NamedKeys, OffsetTable, Offsets, object_shape, offsets_of};
 use bplist_objects::{Fault, Framed, Kind, ObjectNo, Plist, Rule, trailer_of};
 use bplist_octets::Source;
 use std::alloc::Global;
 
 /// The least height of each object that is reached and founded, and 0 for each other, where the reached objects keep rules
-/// 14 to 22, `marks` marks exactly them, and `bare` only objects that have no references. Keys are texts then, so the walk
+/// 14 to 22, `marks` marks exactly them, and `childless` only objects that have no references. Keys are texts then, so the walk
 /// looks at the values alone.
-fn find_heights<P: Placed>(
+fn find_heights<P: Offsets>(
     alloc: Global,
     src: &mut P,
     marks: &[bool],
-    bare: &[bool],
+    childless: &[bool],
 ) -> Result<Vec<u32>, Failure>
     requires marks { length marks.now ≡ (frame_in (P.means src.old)).objects }
-    requires all_bare { length bare.now ≡ (frame_in (P.means src.old)).objects }
-    requires bare { HonestlyIn (P.means src.old) (λ f F. AreBare f F bare.now) }
+    requires all_childless { length childless.now ≡ (frame_in (P.means src.old)).objects }
+    requires childless { HonestlyIn (P.means src.old) (λ f F. AreChildless f F childless.now) }
     ensures reads { OnlyReads (failed_to_read result) (P.means src.old) (P.means src.new) }
     ensures all { IfOk result (λ heights. vec_len heights ≡ (frame_in (P.means src.old)).objects) }
     ensures exact { HonestlyIn (P.means src.old) (λ f F. KeepReachBelow f F F.objects → KeepKeysBelow f F F.objects
@@ -61,11 +61,11 @@ fn find_heights<P: Placed>(
     let _frame = src.frame();
     let len = src.len();
     let mut objects = Objects::new(src, View::Values);
-    least_heights(alloc, &mut objects, marks, bare, len)
+    least_heights(alloc, &mut objects, marks, childless, len)
 }
 
 /// The circle that first references without a height lead to from the top, where the reached objects keep rules 14 to 20.
-fn find_circle<P: Placed>(
+fn find_circle<P: Offsets>(
     alloc: Global,
     src: &mut P,
     heights: &[u32],
@@ -86,7 +86,7 @@ fn find_circle<P: Placed>(
 ///
 /// Where the walk meets trouble, passes over the objects in the order of their numbers come to that fault, over an honest
 /// source. As keys all objects are named then.
-fn find_reached<P: Placed>(alloc: Global, src: &mut P) -> Result<(Reached, NamedKeys), LintRefusal>
+fn find_reached<P: Offsets>(alloc: Global, src: &mut P) -> Result<(Reached, NamedKeys), LintRefusal>
     ensures reads { OnlyReads (lint_failed result) (P.means src.old) (P.means src.new) }
     ensures fits { IfOk result (λ known. Fits (frame_in (P.means src.old)) known.0) }
     ensures all_named { IfOk result (λ known. length known.1.marks.items ≡ (frame_in (P.means src.old)).objects) }
@@ -105,14 +105,25 @@ fn find_reached<P: Placed>(alloc: Global, src: &mut P) -> Result<(Reached, Named
             place: len,
         }));
     }
-    let Marked { marks, bare, named } = mark_reached(alloc, src)?;
+    let Marked {
+        marks,
+        childless,
+        named,
+    } = mark_reached(alloc, src)?;
     let tally = check_reached(src, &marks)?;
-    Ok((Reached { marks, bare, tally }, named))
+    Ok((
+        Reached {
+            marks,
+            childless,
+            tally,
+        },
+        named,
+    ))
 }
 
 /// Looks at the reached objects by rules 14 to 20 and 31, and where no more than a third of all objects are named as keys,
 /// at the keys too. The objects that are named where there are more.
-fn sift_few<P: Placed>(
+fn sift_few<P: Offsets>(
     alloc: Global,
     src: &mut P,
     places: &[u32],
@@ -128,12 +139,12 @@ fn sift_few<P: Placed>(
         (IsObjectsFault f F) no_circle result) }
 {
     let frame = src.frame();
-    let mut table = Table::new(src, frame, places);
+    let mut table = OffsetTable::new(src, frame, places);
     let (reached, named) = find_reached(alloc, &mut table)?;
     if named.count() > places.len() / 3 {
         return Ok((reached, Some(named)));
     }
-    check_keys(alloc, &mut table, &reached.marks, &reached.bare, named)?;
+    check_keys(alloc, &mut table, &reached.marks, &reached.childless, named)?;
     Ok((reached, None))
 }
 
@@ -142,7 +153,7 @@ fn sift_few<P: Placed>(
 ///
 /// What many keys take and the places would come to more than 12 bytes an object together. So the places are given up before
 /// many keys are looked at.
-fn sift<P: Placed>(
+fn sift<P: Offsets>(
     alloc: Global,
     src: &mut P,
     places: Vec<u32>,
@@ -161,12 +172,16 @@ fn sift<P: Placed>(
         return Ok((reached, Some(places)));
     };
     drop(places);
-    check_keys(alloc, src, &reached.marks, &reached.bare, named)?;
+    check_keys(alloc, src, &reached.marks, &reached.childless, named)?;
     Ok((reached, None))
 }
 
 /// What the linter says of a file whose reached objects keep rules 14 to 22 and 31.
-fn lint_sifted<P: Placed>(alloc: Global, src: &mut P, reached: Reached) -> Result<Lint, LintRefusal>
+fn lint_sifted<P: Offsets>(
+    alloc: Global,
+    src: &mut P,
+    reached: Reached,
+) -> Result<Lint, LintRefusal>
     requires fits { Fits (frame_in (P.means src.old)) reached }
     requires sifted { HonestlyIn (P.means src.old) (λ f F. IsSifted f F reached) }
     ensures reads { OnlyReads (lint_failed result) (P.means src.old) (P.means src.new) }
@@ -174,9 +189,13 @@ fn lint_sifted<P: Placed>(alloc: Global, src: &mut P, reached: Reached) -> Resul
         Lints (IsLintedBy f F) Never (IsFramedCircle f F) result) }
 {
     let frame = src.frame();
-    let Reached { marks, bare, tally } = reached;
-    let heights = find_heights(alloc, src, &marks, &bare)?;
-    drop((marks, bare));
+    let Reached {
+        marks,
+        childless,
+        tally,
+    } = reached;
+    let heights = find_heights(alloc, src, &marks, &childless)?;
+    drop((marks, childless));
     let height = heights[frame.top.0 as usize];
     if height == 0 {
         let circle = find_circle(alloc, src, &heights)?;
@@ -196,7 +215,7 @@ fn lint_sifted<P: Placed>(alloc: Global, src: &mut P, reached: Reached) -> Resul
 /// What the linter says of a file whose reached objects keep rules 14 to 22 and 31, where the places of all objects may be
 /// given. They are given up where more than a quarter of the objects may wait for others: these and the places would come to
 /// more than 12 bytes an object together.
-fn lint_reached<P: Placed>(
+fn lint_reached<P: Offsets>(
     alloc: Global,
     src: &mut P,
     reached: Reached,
@@ -218,12 +237,12 @@ fn lint_reached<P: Placed>(
         return lint_sifted(alloc, src, reached);
     }
     let frame = src.frame();
-    let mut table = Table::new(src, frame, &places);
+    let mut table = OffsetTable::new(src, frame, &places);
     lint_sifted(alloc, &mut table, reached)
 }
 
 /// What the linter says of a file whose frame and places keep rules 1 to 13, and beside a yes the kind of the top.
-fn lint_objects<P: Placed>(
+fn lint_objects<P: Offsets>(
     alloc: Global,
     src: &mut P,
     places: Vec<u32>,
@@ -238,7 +257,7 @@ fn lint_objects<P: Placed>(
     let (reached, places) = sift(alloc, src, places)?;
     let lint = lint_reached(alloc, src, reached, places)?;
     let frame = src.frame();
-    let head = placed_shape(src, frame.top.0)?;
+    let head = object_shape(src, frame.top.0)?;
     Ok((lint, head.kind))
 }
 
@@ -250,8 +269,8 @@ pub fn lint_with_kind<S: Source>(alloc: Global, src: &mut S) -> Result<(Lint, Ki
         (IsFileFault (S.means src.old).octets) (IsFileCircle (S.means src.old).octets) result }
 {
     let frame = trailer_of(src)?;
-    let places = places_of(alloc, src, &frame)?;
-    check_places(&frame, &places, src.len())?;
+    let places = offsets_of(alloc, src, &frame)?;
+    check_offsets(&frame, &places, src.len())?;
     let mut plist = Plist::new(src, frame);
     let answer = lint_objects(alloc, &mut plist, places)?;
     Ok(answer)

@@ -10,12 +10,12 @@ ghost use Rattle.bplist_objects.specs.Safe.{IsSafeHead, ref_count};
 ghost use Rattle.bplist_objects.specs.Scan.{AreBelow};
 ghost use Rattle.bplist_keys.specs.Failures.{failed_to_read};
 ghost use Rattle.bplist_keys.specs.Marks.{IsMarked};
-ghost use Rattle.bplist_lint.specs.Reaching.{HasMarks, number_at, set_size, IsReady, AreGood, AreFollowed, Looked, Searching};
+ghost use Rattle.bplist_lint.specs.ReachSearch.{HasMarks, place_index, index_count, IsReady, AreGood, AreFollowed, Looked, Searching};
 
+use crate::bit_set::BitSet;
 use crate::object_graph::object_in;
-use crate::place_set::PlaceSet;
-use crate::places::shape_there;
-use bplist_keys::{Failure, NamedKeys, Placed};
+use crate::offset_rule::shape_there;
+use bplist_keys::{Failure, NamedKeys, Offsets};
 use bplist_objects::{Framed, Head, ref_at, refs_of};
 use bplist_octets::ReadFault;
 use std::alloc::{AllocError, Global};
@@ -26,7 +26,7 @@ pub struct Marked {
     /// Exactly the reached objects are marked.
     pub marks: Vec<bool>,
     /// Those of them that are known to have no references: none.
-    pub bare: Vec<bool>,
+    pub childless: Vec<bool>,
     /// All objects: any of them may be named as a key.
     pub named: NamedKeys,
 }
@@ -38,9 +38,9 @@ struct Search {
     /// Marked objects whose references are still to be followed.
     stack: Vec<u32>,
     /// The numbers of places at which references to objects are known to stand.
-    good: PlaceSet,
+    good: BitSet,
     /// The numbers of the places whose references were followed.
-    followed: PlaceSet,
+    followed: BitSet,
 }
 
 impl Search {
@@ -69,23 +69,23 @@ impl Search {
 }
 
 /// The number of a place: those of references that stand one behind the other follow one another.
-fn number_of<P: Framed>(src: &P, place: u64) -> u64
+fn place_index<P: Framed>(src: &P, place: u64) -> u64
     requires small { (frame_in (P.means src.now)).table < 2 ^ 32 }
     requires within { place ≤ (frame_in (P.means src.now)).table }
-    ensures { result ≡ number_at (frame_in (P.means src.now)) place }
+    ensures { result ≡ place_index (frame_in (P.means src.now)) place }
 {
     let frame = src.frame();
     let size = frame.ref_size as u64;
-    let row = frame.table / size + 1;
-    place % size * row + place / size
+    let row_length = frame.table / size + 1;
+    place % size * row_length + place / size
 }
 
 /// Whether each reference of an object with this head is the number of an object. Places at which one stands are put
 /// into the set.
-fn are_good<P: Framed>(src: &mut P, head: &Head, good: &mut PlaceSet) -> Result<bool, ReadFault>
+fn are_good<P: Framed>(src: &mut P, head: &Head, good: &mut BitSet) -> Result<bool, ReadFault>
     requires small { (frame_in (P.means src.old)).table < 2 ^ 32 }
     requires head { IsSafeHead (frame_in (P.means src.old)) head.now }
-    requires size { good.old.size ≡ set_size (frame_in (P.means src.old)) }
+    requires size { good.old.size ≡ index_count (frame_in (P.means src.old)) }
     ensures reads { OnlyReads (is_err result) (P.means src.old) (P.means src.new) }
     ensures size { good.new.size ≡ good.old.size }
     ensures good { HonestlyIn (P.means src.old) (λ f F. AreGood f F good.old.words.items → AreGood f F good.new.words.items) }
@@ -94,7 +94,7 @@ fn are_good<P: Framed>(src: &mut P, head: &Head, good: &mut PlaceSet) -> Result<
         ↔ AreBelow f head.now.body F.ref_size (ref_count head.now.kind head.now.count) F.objects)) }
 {
     let frame = src.frame();
-    let first = number_of(src, head.body);
+    let first = place_index(src, head.body);
     let end = first + refs_of(head);
     let mut number = good.next_outside(first);
     while number < end {
@@ -128,7 +128,7 @@ fn follow<P: Framed>(src: &mut P, head: &Head, search: &mut Search) -> Result<()
         × AreFollowed f F search.new.followed.words.items search.new.marks.items)) }
 {
     let frame = src.frame();
-    let first = number_of(src, head.body);
+    let first = place_index(src, head.body);
     let end = first + refs_of(head);
     let mut number = search.followed.next_outside(first);
     while number < end {
@@ -142,7 +142,7 @@ fn follow<P: Framed>(src: &mut P, head: &Head, search: &mut Search) -> Result<()
 }
 
 /// Marks the references of object `n`.
-fn look_at<P: Placed>(src: &mut P, n: u32, search: &mut Search) -> Result<(), Failure>
+fn look_at<P: Offsets>(src: &mut P, n: u32, search: &mut Search) -> Result<(), Failure>
     requires small { (frame_in (P.means src.old)).table < 2 ^ 32 }
     requires within { n < (frame_in (P.means src.old)).objects }
     requires ready { IsReady (frame_in (P.means src.old)) search.old }
@@ -164,14 +164,14 @@ fn look_at<P: Placed>(src: &mut P, n: u32, search: &mut Search) -> Result<(), Fa
 }
 
 /// Marks exactly the objects that the top reaches.
-pub fn mark_reached<P: Placed>(alloc: Global, src: &mut P) -> Result<Marked, Failure>
+pub fn mark_reached<P: Offsets>(alloc: Global, src: &mut P) -> Result<Marked, Failure>
     requires small { (frame_in (P.means src.old)).table < 2 ^ 32 }
     ensures reads { OnlyReads (failed_to_read result) (P.means src.old) (P.means src.new) }
     ensures all { IfOk result (λ marked. vec_len marked.marks ≡ (frame_in (P.means src.old)).objects) }
-    ensures all_bare { IfOk result (λ marked. vec_len marked.bare ≡ (frame_in (P.means src.old)).objects) }
+    ensures all_childless { IfOk result (λ marked. vec_len marked.childless ≡ (frame_in (P.means src.old)).objects) }
     ensures exact { HonestlyIn (P.means src.old) (λ f F. IfOk result (λ marked.
         (n : ℕ) → IsMarked marked.marks.items n ↔ Reach f F n)) }
-    ensures bare { IfOk result (λ marked. (n : ℕ) → IsMarked marked.bare.items n → ⊥) }
+    ensures childless { IfOk result (λ marked. (n : ℕ) → IsMarked marked.childless.items n → ⊥) }
     ensures named { IfOk result (λ marked. marked.named.marks.items ≡ replicate (frame_in (P.means src.old)).objects true) }
 {
     let frame = src.frame();
@@ -182,8 +182,8 @@ pub fn mark_reached<P: Placed>(alloc: Global, src: &mut P) -> Result<Marked, Fai
     stack.push(frame.top.0)?;
     let size = frame.ref_size as u64;
     let numbers = (frame.table / size + 1) * size;
-    let good = PlaceSet::new(alloc, numbers)?;
-    let followed = PlaceSet::new(alloc, numbers)?;
+    let good = BitSet::new(alloc, numbers)?;
+    let followed = BitSet::new(alloc, numbers)?;
     let mut search = Search {
         marks,
         stack,
@@ -196,7 +196,7 @@ pub fn mark_reached<P: Placed>(alloc: Global, src: &mut P) -> Result<Marked, Fai
     let Search { marks, .. } = search;
     Ok(Marked {
         marks,
-        bare: vec![in alloc; false; objects]?,
+        childless: vec![in alloc; false; objects]?,
         named: NamedKeys {
             marks: vec![in alloc; true; objects]?,
         },

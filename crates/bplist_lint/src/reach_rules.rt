@@ -10,11 +10,11 @@ ghost use Rattle.bplist_lint.specs.ReachRules.{IsReachFault, Tallied};
 ghost use Rattle.bplist_lint.specs.Tallies.{IsRoomy};
 
 use crate::tally::Tally;
-use bplist_keys::Placed;
+use bplist_keys::Offsets;
 use bplist_objects::{Fault, ObjectFault, ObjectNo, Rule, head_in};
 
 /// Looks at reached object `n`, and adds it to the tally of those before it.
-fn check_object<P: Placed>(src: &mut P, n: u32, tally: Tally) -> Result<Tally, ObjectFault>
+fn check_reached_object<P: Offsets>(src: &mut P, n: u32, tally: Tally) -> Result<Tally, ObjectFault>
     requires within { n < (frame_in (P.means src.old)).objects }
     requires roomy { IsRoomy (frame_in (P.means src.old)) tally }
     ensures reads { OnlyReads (read_failed result) (P.means src.old) (P.means src.new) }
@@ -23,7 +23,7 @@ fn check_object<P: Placed>(src: &mut P, n: u32, tally: Tally) -> Result<Tally, O
         → Tallied f F marks n tally → Gives (Tallied f F marks (n + 1)) (IsReachFault f F) result) }
 {
     let frame = src.frame();
-    let place = src.place(n)?;
+    let place = src.offset(n)?;
     let head = head_in(src, ObjectNo(n), place)?;
     match tally.with(&frame, place, &head) {
         Some(now) => Ok(now),
@@ -36,7 +36,7 @@ fn check_object<P: Placed>(src: &mut P, n: u32, tally: Tally) -> Result<Tally, O
 }
 
 /// Looks at each marked object, in the order of their numbers, where exactly the reached objects are marked.
-pub fn check_reached<P: Placed>(src: &mut P, marks: &[bool]) -> Result<Tally, ObjectFault>
+pub fn check_reached<P: Offsets>(src: &mut P, marks: &[bool]) -> Result<Tally, ObjectFault>
     requires { length marks.now ≡ (frame_in (P.means src.old)).objects }
     ensures reads { OnlyReads (read_failed result) (P.means src.old) (P.means src.new) }
     ensures roomy { IfOk result (IsRoomy (frame_in (P.means src.old))) }
@@ -47,7 +47,7 @@ pub fn check_reached<P: Placed>(src: &mut P, marks: &[bool]) -> Result<Tally, Ob
     let mut tally = Tally::new();
     for n in 0..frame.objects {
         if marks[n as usize] {
-            tally = check_object(src, n, tally)?;
+            tally = check_reached_object(src, n, tally)?;
         }
     }
     Ok(tally)

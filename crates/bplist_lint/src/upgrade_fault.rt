@@ -5,7 +5,7 @@ ghost use Rattle.bplist_objects.specs.declared.fault.ObjectFault.{ObjectFault as
 ghost use Rattle.bplist_cert.specs.declared.refusal.Refusal.{Refusal as cert_refusal};
 ghost use Rattle.bplist_cert.specs.Refusals.{refusal_of, refusal_of_keys};
 ghost use Rattle.bplist_lint.specs.declared.upgrade_fault.UpgradeFault.TheVariants.{Memory as is_memory};
-ghost use Rattle.bplist_lint.specs.Upgrades.{of_check};
+ghost use Rattle.bplist_lint.specs.UpgradeAnswers.{of_check};
 
 use bplist_cert::Refusal;
 use bplist_keys::Failure;

@@ -7,19 +7,19 @@ ghost use Rattle.bplist_keys.specs.Ranks.{AreRanks};
 ghost use Rattle.bplist_cert.specs.Valid.{IsVouchedBy, IsValid};
 ghost use Rattle.bplist_keys.specs.Classes.{HasNamedKeys};
 ghost use Rattle.bplist_lint.specs.Upgraded.{Listed, IsUpgraded};
-ghost use Rattle.bplist_lint.specs.Upgrades.{Upgrades, upgrade_failed};
+ghost use Rattle.bplist_lint.specs.UpgradeAnswers.{Upgrades, upgrade_failed};
 
 use crate::key_lists::KeySorting;
 use crate::upgrade_fault::UpgradeFault;
 use bplist_cert::{Certificate, Checked, KeyLists, vouched_keys};
-use bplist_keys::{Placed, Table, placed_shape, places_of, ranks_of};
+use bplist_keys::{OffsetTable, Offsets, object_shape, offsets_of, ranks_of};
 use bplist_objects::{Framed, Kind};
 use bplist_octets::Source;
 use std::alloc::Global;
 
 /// Puts the key list of vouched object `n` behind those before it, where it is a dictionary. The start of the list, 0 for
 /// any other object.
-fn list_object<P: Placed>(src: &mut P, n: u32, lists: &mut KeySorting) -> Result<u32, UpgradeFault>
+fn list_object<P: Offsets>(src: &mut P, n: u32, lists: &mut KeySorting) -> Result<u32, UpgradeFault>
     requires within { n < (frame_in (P.means src.old)).objects }
     requires few { vec_len lists.old.positions ≤ 4294967295 }
     ensures reads { OnlyReads (upgrade_failed result) (P.means src.old) (P.means src.new) }
@@ -31,7 +31,7 @@ fn list_object<P: Placed>(src: &mut P, n: u32, lists: &mut KeySorting) -> Result
         → Listed f F heights n starts lists.old.positions.items
         → Upgrades (λ start. Listed f F heights (n + 1) (set starts n start) lists.new.positions.items) result) }
 {
-    let head = placed_shape(src, n)?;
+    let head = object_shape(src, n)?;
     match head.kind {
         Kind::Dict => {
             let start = lists.positions.len() as u32;
@@ -47,7 +47,7 @@ fn list_object<P: Placed>(src: &mut P, n: u32, lists: &mut KeySorting) -> Result
 
 /// The key lists of the vouched dictionaries, which are those with a height above 0, one behind the other in the order of
 /// the objects.
-fn list_vouched<P: Placed>(
+fn list_vouched<P: Offsets>(
     alloc: Global,
     src: &mut P,
     heights: &[u32],
@@ -92,8 +92,12 @@ pub fn upgrade<S: Source>(
 {
     let frame = checked.frame();
     let heights = checked.certificate().heights.to_vec(alloc)?;
-    let places = places_of(alloc, checked, &frame)?;
-    let keys = list_vouched(alloc, &mut Table::new(checked, frame, &places), &heights)?;
+    let places = offsets_of(alloc, checked, &frame)?;
+    let keys = list_vouched(
+        alloc,
+        &mut OffsetTable::new(checked, frame, &places),
+        &heights,
+    )?;
     Ok(Certificate {
         heights,
         keys: Some(keys),

@@ -12,11 +12,11 @@ ghost use Rattle.bplist_keys.specs.Classes.{key_ref};
 ghost use Rattle.bplist_keys.specs.Failures.{failed_to_read};
 ghost use Rattle.bplist_keys.specs.Marks.{IsMarked};
 ghost use Rattle.bplist_lint.specs.Tallies.{IsRoomy};
-ghost use Rattle.bplist_lint.specs.Walks.{IsSteady, IsSteadyWalk, Noted, Walking, Fits, IsWalked, AreNamed, of_object, stop_failed};
+ghost use Rattle.bplist_lint.specs.ReachWalk.{IsSteady, IsSteadyWalk, Noted, Walking, Fits, IsWalked, AreNamed, of_object, stop_failed};
 ghost use Rattle.bplist_lint.specs.declared.walk.Stop.TheVariants.{Read as is_read, Memory as is_memory};
 
 use crate::tally::Tally;
-use bplist_keys::{Failure, NamedKeys, Placed};
+use bplist_keys::{Failure, NamedKeys, Offsets};
 use bplist_objects::{
     Framed, Head, Kind, ObjectFault, ObjectNo, check_body, read_refs_in, refs_of, shape_in,
 };
@@ -85,7 +85,7 @@ pub struct Worklist {
 struct Progress {
     worklist: Worklist,
     /// Visited objects that have no references.
-    bare: Vec<bool>,
+    childless: Vec<bool>,
     /// What visited dictionaries name as keys.
     named: NamedKeys,
     /// What the visited objects come to.
@@ -98,7 +98,7 @@ pub struct Reached {
     /// Exactly the reached objects are marked.
     pub marks: Vec<bool>,
     /// Marked objects have no references.
-    pub bare: Vec<bool>,
+    pub childless: Vec<bool>,
     /// What the reached objects come to.
     pub tally: Tally,
 }
@@ -106,9 +106,12 @@ pub struct Reached {
 impl Reached {
     /// How many objects may have references: those of which it is not known that they have none.
     pub fn containers(&self) -> usize
-        ensures { result ≡ count_by not self.now.bare.items }
+        ensures { result ≡ count_by not self.now.childless.items }
     {
-        self.bare.iter().filter(|bare| !**bare).count()
+        self.childless
+            .iter()
+            .filter(|childless| !**childless)
+            .count()
     }
 }
 
@@ -195,7 +198,7 @@ fn mark_body<P: Framed>(
 
 /// Looks at reached object `n`, marks its references and names its keys.
 #[inline(always)]
-fn visit<P: Placed>(src: &mut P, n: u32, progress: &mut Progress) -> Result<(), Stop>
+fn visit<P: Offsets>(src: &mut P, n: u32, progress: &mut Progress) -> Result<(), Stop>
     requires within { n < (frame_in (P.means src.old)).objects }
     requires steady { IsSteadyWalk (frame_in (P.means src.old)) progress.old }
     ensures reads { OnlyReads (stop_failed result) (P.means src.old) (P.means src.new) }
@@ -208,14 +211,14 @@ fn visit<P: Placed>(src: &mut P, n: u32, progress: &mut Progress) -> Result<(), 
         → Walking f F (progress.old.worklist.current + 1) progress.new.worklist.stack.items progress.new)) }
 {
     let frame = src.frame();
-    let place = src.place(n)?;
+    let place = src.offset(n)?;
     let head = shape_in(src, ObjectNo(n), place)?;
     let Some(tally) = progress.tally.with(&frame, place, &head) else {
         return Err(Stop::Trouble);
     };
     progress.tally = tally;
     if refs_of(&head) == 0 {
-        progress.bare[n as usize] = true;
+        progress.childless[n as usize] = true;
         check_body(src, &frame, ObjectNo(n), place, &head)?;
         Ok(())
     } else {
@@ -224,7 +227,7 @@ fn visit<P: Placed>(src: &mut P, n: u32, progress: &mut Progress) -> Result<(), 
 }
 
 /// Visits marked object `n` and all that it leads to by references to objects that are not above it.
-fn visit_from<P: Placed>(src: &mut P, n: u32, progress: &mut Progress) -> Result<(), Stop>
+fn visit_from<P: Offsets>(src: &mut P, n: u32, progress: &mut Progress) -> Result<(), Stop>
     requires within { n < (frame_in (P.means src.old)).objects }
     requires steady { IsSteadyWalk (frame_in (P.means src.old)) progress.old }
     requires empty { vec_len progress.old.worklist.stack ≡ 0 }
@@ -243,7 +246,7 @@ fn visit_from<P: Placed>(src: &mut P, n: u32, progress: &mut Progress) -> Result
 }
 
 /// Visits all reached objects: the top is marked first, and those that are marked are visited in the order of their numbers.
-fn visit_all<P: Placed>(alloc: Global, src: &mut P) -> Result<Progress, Stop>
+fn visit_all<P: Offsets>(alloc: Global, src: &mut P) -> Result<Progress, Stop>
     ensures reads { OnlyReads (stop_failed result) (P.means src.old) (P.means src.new) }
     ensures steady { IfOk result (IsSteadyWalk (frame_in (P.means src.old))) }
     ensures walking { HonestlyIn (P.means src.old) (λ f F. IfOk result (Walking f F F.objects [])) }
@@ -251,7 +254,7 @@ fn visit_all<P: Placed>(alloc: Global, src: &mut P) -> Result<Progress, Stop>
     let frame = src.frame();
     let mut marks = vec![in alloc; false; frame.objects as usize]?;
     marks[frame.top.0 as usize] = true;
-    let bare = vec![in alloc; false; frame.objects as usize]?;
+    let childless = vec![in alloc; false; frame.objects as usize]?;
     let mut progress = Progress {
         worklist: Worklist {
             marks,
@@ -259,7 +262,7 @@ fn visit_all<P: Placed>(alloc: Global, src: &mut P) -> Result<Progress, Stop>
             stack: Vec::with_capacity(alloc, frame.objects as usize)?,
             current: 0,
         },
-        bare,
+        childless,
         named: NamedKeys::new(alloc, frame.objects)?,
         tally: Tally::new(),
     };
@@ -273,7 +276,7 @@ fn visit_all<P: Placed>(alloc: Global, src: &mut P) -> Result<Progress, Stop>
 
 /// Visits each reached object once, and says what is known of them: all keep rules 14 to 20 and 31. Beside that the objects
 /// that they name as keys. Where one of them breaks a rule there is no answer, and nothing is said of the others.
-pub fn walk<P: Placed>(alloc: Global, src: &mut P) -> Result<Option<(Reached, NamedKeys)>, Failure>
+pub fn walk<P: Offsets>(alloc: Global, src: &mut P) -> Result<Option<(Reached, NamedKeys)>, Failure>
     ensures reads { OnlyReads (failed_to_read result) (P.means src.old) (P.means src.new) }
     ensures fits { IfOk result (λ found. IfSome found (λ known. Fits (frame_in (P.means src.old)) known.0)) }
     ensures all_named { IfOk result (λ found. IfSome found (λ known. length known.1.marks.items ≡ (frame_in (P.means src.old)).objects)) }
@@ -285,12 +288,19 @@ pub fn walk<P: Placed>(alloc: Global, src: &mut P) -> Result<Option<(Reached, Na
         Ok(progress) => {
             let Progress {
                 worklist,
-                bare,
+                childless,
                 named,
                 tally,
             } = progress;
             let marks = worklist.marks;
-            Ok(Some((Reached { marks, bare, tally }, named)))
+            Ok(Some((
+                Reached {
+                    marks,
+                    childless,
+                    tally,
+                },
+                named,
+            )))
         }
         Err(Stop::Trouble) => Ok(None),
         Err(Stop::Read(error)) => Err(Failure::Read(error)),

@@ -11,13 +11,13 @@ use Rattle.bplist_objects.specs.declared.kind.Kind.TheVariants as kinds
 use Rattle.bplist_objects.specs.Rules.{KeepsAll}
 use Rattle.bplist_objects.specs.Answers.{GivesFault}
 use Rattle.bplist_objects.specs.Safe.{IsSafe, IsSafeHead, ref_count}
-use Rattle.bplist_objects.specs.Announced.{HasHead, unit}
+use Rattle.bplist_objects.specs.Announced.{HasHead, item_size}
 use Rattle.bplist_objects.specs.ObjectRules.{KeepsByObject, BreaksAt, IsObjectFault, shape_rules, body_rules, object_rules}
 use Rattle.bplist_objects.proofs.RuleLaws.{first_fault_after}
 use Rattle.bplist_objects.proofs.ScanLaws.{block_within}
 
 -- references lie in the body
-pub refs_fit : (ref_size count : ℕ) (kind : Kind) → 1 ≤ ref_size → (ref_count kind count * ref_size ≤ count * unit ref_size kind) × (ref_count kind count ≤ count * unit ref_size kind)
+pub refs_fit : (ref_size count : ℕ) (kind : Kind) → 1 ≤ ref_size → (ref_count kind count * ref_size ≤ count * item_size ref_size kind) × (ref_count kind count ≤ count * item_size ref_size kind)
 refs_fit r c kinds.Array h = let one : c * 1 ≤ c * r = mul-le-mul_left c h in (omega arith, omega arith)
 refs_fit r c kinds.Set h = let one : c * 1 ≤ c * r = mul-le-mul_left c h in (omega arith, omega arith)
 refs_fit r c kinds.Dict h =

@@ -6,13 +6,13 @@ use Rattle.bplist_objects.specs.declared.kind.Kind.{Kind}
 use Rattle.bplist_objects.specs.declared.kind.Kind.TheVariants as kinds
 use Rattle.bplist_objects.specs.declared.head.Head.{Head}
 use Rattle.bplist_objects.specs.Frame.{off, IsFrame}
-use Rattle.bplist_objects.specs.Announced.{Form, plain, counted, form_of, AnnouncesAs, unit}
+use Rattle.bplist_objects.specs.Announced.{Markers, plain, counted, markers_of, AnnouncesAs, item_size}
 use Rattle.bplist_objects.specs.Heads.{HasShape}
-use Rattle.bplist_objects.specs.Safe.{IsSaid, ref_count, IsSafe, IsSafeFrame, IsSafeHead}
+use Rattle.bplist_objects.specs.Safe.{MarkersCount, ref_count, IsSafe, IsSafeFrame, IsSafeHead}
 use Rattle.bplist_objects.proofs.BodyLaws.{refs_fit}
 use Rattle.bplist_objects.proofs.FrameTies.{numbered}
 use Rattle.bplist_objects.proofs.HeadLaws.{head_parts}
-use Rattle.bplist_objects.proofs.ShapeLaws.{unit-pos}
+use Rattle.bplist_objects.proofs.ShapeLaws.{item_size-pos}
 
 -- a frame is safe
 pub frame_safe : (f : List ℕ) (F : Frame) → IsFrame f F → IsSafeFrame (length f) F
@@ -31,7 +31,7 @@ frame_safe f F frame =
     }
 
 -- the count that is announced is one that its form may say
-announced_said : (f : List ℕ) (p : ℕ) (form : Form) (count body : ℕ) → AnnouncesAs f p form count body → IsSaid form count
+announced_said : (f : List ℕ) (p : ℕ) (form : Markers) (count body : ℕ) → AnnouncesAs f p form count body → MarkersCount form count
 announced_said f p (plain low high says) count body a = (slice_index f p, a.0, a.1, a.2)
 announced_said f p (counted high) count body a = tt
 
@@ -39,13 +39,13 @@ announced_said f p (counted high) count body a = tt
 pub shape_safe : (f : List ℕ) (F : Frame) (n : ℕ) (head : Head) → HasShape f F n head → IsSafeHead F head
 shape_safe f F n head h =
     let parts = head_parts f F n head h.has in
-    record { may = announced_said f (off f F n) (form_of head.kind) head.count head.body parts.0; body = omega (arith, parts.1); table = h.inside }
+    record { may = announced_said f (off f F n) (markers_of head.kind) head.count head.body parts.0; body = omega (arith, parts.1); table = h.inside }
 
 module _ (F : Frame) (head : Head) (safe : IsSafeHead F head) (low : 1 ≤ F.ref_size) where
   -- a body has no more items than bytes before the table
   pub count_fits : head.body + head.count ≤ F.table
   count_fits =
-      let one : head.count * 1 ≤ head.count * unit F.ref_size head.kind = mul-le-mul_left head.count (unit-pos F.ref_size head.kind low) in
+      let one : head.count * 1 ≤ head.count * item_size F.ref_size head.kind = mul-le-mul_left head.count (item_size-pos F.ref_size head.kind low) in
       omega (arith, one, safe.body, safe.table)
 
   -- nor more references
@@ -53,7 +53,7 @@ module _ (F : Frame) (head : Head) (safe : IsSafeHead F head) (low : 1 ≤ F.ref
   refs_below = omega (arith, (refs_fit F.ref_size head.count head.kind low).1, safe.body, safe.table)
 
 -- references lie in the body
-refs_inside : (r count : ℕ) (kind : Kind) → ref_count kind count * r ≤ count * unit r kind
+refs_inside : (r count : ℕ) (kind : Kind) → ref_count kind count * r ≤ count * item_size r kind
 refs_inside r c kinds.Array = omega arith
 refs_inside r c kinds.Set = omega arith
 refs_inside r c kinds.Dict = let turned : (2 * c) * r ≡ c * (2 * r) = ap (λ x. x * r) (mul_comm 2 c) ∙ mul_assoc c 2 r in omega (arith, turned)

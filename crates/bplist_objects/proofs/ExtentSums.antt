@@ -8,7 +8,7 @@ use Rattle.bplist_objects.specs.Frame.{off}
 use Rattle.bplist_objects.specs.Heads.{HasShape}
 use Rattle.bplist_objects.specs.Holds.{AreDistinct}
 use Rattle.bplist_objects.specs.Extents.{HasExtent, TakeOctets, AtMost, Sums, HaveRoom, IsOverfull}
-use Rattle.bplist_objects.specs.Announced.{form_of}
+use Rattle.bplist_objects.specs.Announced.{markers_of}
 use Rattle.bplist_objects.proofs.AnnouncedHeads.{announced_short}
 use Rattle.bplist_objects.proofs.HeadLaws.{head_parts}
 use Rattle.bplist_objects.proofs.Fronts.{one_shape}
@@ -25,7 +25,7 @@ module _ (f : List ℕ) (F : Frame) where
   pub shape_extent : (n : ℕ) (head : Head) → HasShape f F n head → HasExtent f F n (head.«end» - off f F n)
   shape_extent n head h =
       let parts = head_parts f F n head h.has in
-      (head, h, omega (arith, (announced_short f (off f F n) (form_of head.kind) head.count head.body parts.0).0, parts.1))
+      (head, h, omega (arith, (announced_short f (off f F n) (markers_of head.kind) head.count head.body parts.0).0, parts.1))
 
   -- fewer objects have room too
   pub room_weaker : (S T : ℕ → Type 0) → ((n : ℕ) → T n → S n) → HaveRoom f F S → HaveRoom f F T

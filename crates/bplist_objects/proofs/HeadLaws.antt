@@ -10,7 +10,7 @@ use Rattle.bplist_objects.specs.declared.kind.Kind.{Kind}
 use Rattle.bplist_objects.specs.declared.kind.Kind.TheVariants as kinds
 use Rattle.bplist_objects.specs.Numbers.{num_at}
 use Rattle.bplist_objects.specs.Frame.{off}
-use Rattle.bplist_objects.specs.Announced.{Form, plain, counted, form_of, least, greatest, is_of, all_kinds, Marks, IsLong, IsLongOf, HasLongCount, AnnouncesAs, Announces, HasHead, kind_at, long_found, count_found, head_with, head_found, unit}
+use Rattle.bplist_objects.specs.Announced.{Markers, plain, counted, markers_of, least_marker, greatest_marker, is_marker_of, all_kinds, Marks, IsLong, IsLongOf, HasLongCount, AnnouncesAs, Announces, HasHead, kind_at, long_found, count_found, head_with, head_found, item_size}
 
 -- what is found under a test
 pub if_some : {X : Type 0} (t : Bool) (x y : X) → (if t then Some x else None) ≡ Some y → (t ≡ true) × (x ≡ y)
@@ -28,9 +28,9 @@ find_passes test (y ∷ ys) x e = go (test y) refl e (find_passes test ys x)
     go false s r more = more r
 
 -- what a test of a form says
-of_form : (form : Form) (m : ℕ) → is_of form m ≡ true → (least form ≤ m) × (m ≤ greatest form)
-of_form (plain low high says) m t = grind (arith, nat_tests)
-of_form (counted high) m t = grind (arith, nat_tests)
+of_markers : (form : Markers) (m : ℕ) → is_marker_of form m ≡ true → (least_marker form ≤ m) × (m ≤ greatest_marker form)
+of_markers (plain low high says) m t = grind (arith, nat_tests)
+of_markers (counted high) m t = grind (arith, nat_tests)
 
 -- a marker is of the kind that is found
 pub kind_marked : (m : ℕ) (kind : Kind) → Marks m kind → kind_at m ≡ Some kind
@@ -51,7 +51,7 @@ kind_marked m kinds.Dict h = grind (arith, nat_tests)
 
 pub marked_kind : (m : ℕ) (kind : Kind) → kind_at m ≡ Some kind → Marks m kind
 unfolding kind_at
-marked_kind m kind e = of_form (form_of kind) m (find_passes (λ k. is_of (form_of k) m) all_kinds kind e)
+marked_kind m kind e = of_markers (markers_of kind) m (find_passes (λ k. is_marker_of (markers_of k) m) all_kinds kind e)
 
 -- a byte is a marker exactly where it is one of a kind
 pub marker_marks : (m : ℕ) → IsSome (kind_at m) → (kind : Kind) × Marks m kind
@@ -65,7 +65,7 @@ pub marks_marker : (m : ℕ) (kind : Kind) → Marks m kind → IsSome (kind_at 
 marks_marker m kind h = subst IsSome (sym (kind_marked m kind h)) refl
 
 -- a marker that says that its count follows is one
-pub long_marks : (m : ℕ) (form : Form) → IsLongOf form m → (least form ≤ m) × (m ≤ greatest form)
+pub long_marks : (m : ℕ) (form : Markers) → IsLongOf form m → (least_marker form ≤ m) × (m ≤ greatest_marker form)
 long_marks m (plain low high says) l = absurd l
 long_marks m (counted high) l = (omega arith, omega arith)
 
@@ -77,7 +77,7 @@ module _ (f : List ℕ) (p : ℕ) where
   next = slice_index f (p + 1)
 
   -- what a marker announces is of the marker's form
-  pub announced_marks : (form : Form) (count body : ℕ) → AnnouncesAs f p form count body → (least form ≤ m) × (m ≤ greatest form)
+  pub announced_marks : (form : Markers) (count body : ℕ) → AnnouncesAs f p form count body → (least_marker form ≤ m) × (m ≤ greatest_marker form)
   announced_marks (plain low high says) count body a = (a.0, a.1)
   announced_marks (counted high) count body (inl a) = (omega arith, omega arith)
   announced_marks (counted high) count body (inr a) = (omega arith, omega arith)
@@ -85,10 +85,10 @@ module _ (f : List ℕ) (p : ℕ) where
   -- what a long marker announces has its count behind the marker
   pub long-Announces : (kind : Kind) (count body : ℕ) → IsLong m → Announces f p kind count body → HasLongCount f p count body
   long-Announces kind count body (other, l) a =
-      let same : other ≡ kind = same_Some other kind (sym (kind_marked m other (long_marks m (form_of other) l)) ∙ kind_marked m kind (announced_marks (form_of kind) count body a)) in
-      go (form_of kind) (subst (λ k. IsLongOf (form_of k) m) same l) a
+      let same : other ≡ kind = same_Some other kind (sym (kind_marked m other (long_marks m (markers_of other) l)) ∙ kind_marked m kind (announced_marks (markers_of kind) count body a)) in
+      go (markers_of kind) (subst (λ k. IsLongOf (markers_of k) m) same l) a
     where
-      go : (form : Form) → IsLongOf form m → AnnouncesAs f p form count body → HasLongCount f p count body
+      go : (form : Markers) → IsLongOf form m → AnnouncesAs f p form count body → HasLongCount f p count body
       go (plain low high says) l a = absurd l
       go (counted high) l (inl a) = absurd (omega arith)
       go (counted high) l (inr a) = a.1
@@ -108,7 +108,7 @@ module _ (f : List ℕ) (p : ℕ) where
       if_true _ t (ap₂ (λ x y. Some (x, y)) (ap (λ x. num_at f (p + 2) (2 ^ x)) same ∙ sym c) (ap (λ x. p + 2 + 2 ^ x) same ∙ sym b))
 
   -- what is announced is found
-  announced_found : (form : Form) (count body : ℕ) → AnnouncesAs f p form count body → count_found f p form ≡ Some (count, body)
+  announced_found : (form : Markers) (count body : ℕ) → AnnouncesAs f p form count body → count_found f p form ≡ Some (count, body)
   announced_found (plain low high says) count body (l, h, c, b) = ap₂ (λ x y. Some (x, y)) (sym c) (sym b)
   announced_found (counted high) count body (inl (low, at, b)) =
       let u : nat_eq m (16 * high + 15) ≡ false = grind (arith, nat_tests) in
@@ -118,7 +118,7 @@ module _ (f : List ℕ) (p : ℕ) where
       if_true _ u (long_is_found count body long)
 
   -- what is found is announced
-  found_announced : (form : Form) → (least form ≤ m) × (m ≤ greatest form) → (x : ℕ × ℕ) → count_found f p form ≡ Some x → AnnouncesAs f p form x.0 x.1
+  found_announced : (form : Markers) → (least_marker form ≤ m) × (m ≤ greatest_marker form) → (x : ℕ × ℕ) → count_found f p form ≡ Some x → AnnouncesAs f p form x.0 x.1
   found_announced (plain low high says) marks x e =
       let r = same_Some (says m, p + 1) x e in
       (marks.0, marks.1, sym (ap (λ y. y.0) r), sym (ap (λ y. y.1) r))
@@ -144,26 +144,26 @@ module _ (f : List ℕ) (F : Frame) (n : ℕ) where
 
   -- marker and count announce the parts of this head
   abbrev pub HasParts : Head → Type 0
-  HasParts head = Announces f o head.kind head.count head.body × (head.«end» ≡ head.body + head.count * unit F.ref_size head.kind)
+  HasParts head = Announces f o head.kind head.count head.body × (head.«end» ≡ head.body + head.count * item_size F.ref_size head.kind)
 
   -- those of a head that is there
   pub head_parts : (head : Head) → HasHead f F n head → HasParts head
   unfolding head_found
   head_parts head e = go (kind_at (slice_index f o)) refl e
     where
-      of_kind : (kind : Kind) → Marks (slice_index f o) kind → (found : Option (ℕ × ℕ)) → count_found f o (form_of kind) ≡ found → option_map (head_with f F kind) found ≡ Some head → HasParts head
+      of_kind : (kind : Kind) → Marks (slice_index f o) kind → (found : Option (ℕ × ℕ)) → count_found f o (markers_of kind) ≡ found → option_map (head_with f F kind) found ≡ Some head → HasParts head
       of_kind kind marks None s r = absurd (cc r)
-      of_kind kind marks (Some x) s r = subst HasParts (same_Some _ head r) (found_announced f o (form_of kind) marks x s, refl)
+      of_kind kind marks (Some x) s r = subst HasParts (same_Some _ head r) (found_announced f o (markers_of kind) marks x s, refl)
 
-      go : (found : Option Kind) → kind_at (slice_index f o) ≡ found → option_and_then (λ kind. option_map (head_with f F kind) (count_found f o (form_of kind))) found ≡ Some head → HasParts head
+      go : (found : Option Kind) → kind_at (slice_index f o) ≡ found → option_and_then (λ kind. option_map (head_with f F kind) (count_found f o (markers_of kind))) found ≡ Some head → HasParts head
       go None s r = absurd (cc r)
-      go (Some kind) s r = of_kind kind (marked_kind (slice_index f o) kind s) (count_found f o (form_of kind)) refl r
+      go (Some kind) s r = of_kind kind (marked_kind (slice_index f o) kind s) (count_found f o (markers_of kind)) refl r
 
   -- where they are announced the head is there
   pub head_announced : (head : Head) → HasParts head → HasHead f F n head
   unfolding head_found
   head_announced head h =
-      let kind = kind_marked (slice_index f o) head.kind (announced_marks f o (form_of head.kind) head.count head.body h.0) in
-      ap (option_and_then (λ kind. option_map (head_with f F kind) (count_found f o (form_of kind)))) kind
-      ∙ ap (option_map (head_with f F head.kind)) (announced_found f o (form_of head.kind) head.count head.body h.0)
+      let kind = kind_marked (slice_index f o) head.kind (announced_marks f o (markers_of head.kind) head.count head.body h.0) in
+      ap (option_and_then (λ kind. option_map (head_with f F kind) (count_found f o (markers_of kind)))) kind
+      ∙ ap (option_map (head_with f F head.kind)) (announced_found f o (markers_of head.kind) head.count head.body h.0)
       ∙ ap (λ x. Some (record { kind = head.kind; count = head.count; body = head.body; «end» = x })) (sym h.1)

@@ -13,7 +13,7 @@ use Rattle.bplist_objects.specs.Frame.{off, IsFrame}
 use Rattle.bplist_objects.specs.Heads.{Content, refs, HasShape, content_at, is_proper, Spells, IsHeadOf}
 use Rattle.bplist_objects.specs.Rules.{KeepsAll}
 use Rattle.bplist_objects.specs.Scan.{AreBelow, nth_number}
-use Rattle.bplist_objects.specs.Announced.{form_of, HasHead, unit}
+use Rattle.bplist_objects.specs.Announced.{markers_of, HasHead, item_size}
 use Rattle.bplist_objects.specs.ObjectRules.{KeepsByObject, shape_rules, body_rules, object_rules}
 use Rattle.bplist_objects.proofs.BodyLaws.{HasHead-unique}
 use Rattle.bplist_objects.proofs.Fronts.{one_shape}
@@ -70,7 +70,7 @@ module _ (f : List ℕ) (F : Frame) (n : ℕ) where
     -- a head that is announced, and whose rules 14 to 17 are kept, is a shape
     pub announced_shape : (head : Head) → HasHead f F n head → KeepsAll (KeepsByObject f F n) shape_rules → HasShape f F n head
     announced_shape head h kept =
-        let short = (announced_short f (off f F n) (form_of head.kind) head.count head.body (head_parts f F n head h).0).1 in
+        let short = (announced_short f (off f F n) (markers_of head.kind) head.count head.body (head_parts f F n head h).0).1 in
         let early = kept.1.1.1.0 kept.1.0 (kept.1.1.0 kept.1.0) in
         let inside : head.«end» ≤ F.table = subst (λ (x : Head). x.«end» ≤ F.table) (HasHead-unique f F n early.0 head early.1 h) early.2 in
         record { low = kept.0; has = h; within = omega (arith, place_room, short); inside = inside }
@@ -82,7 +82,7 @@ module _ (f : List ℕ) (F : Frame) (n : ℕ) where
     -- the bytes of a text of ASCII lie in the file
     ascii_room : (head : Head) → HasShape f F n head → head.kind ≡ kinds.Ascii → head.body + head.count ≤ length f
     ascii_room head h e =
-        let u : unit F.ref_size head.kind ≡ 1 = ap (unit F.ref_size) e in
+        let u : item_size F.ref_size head.kind ≡ 1 = ap (item_size F.ref_size) e in
         let last : head.«end» ≡ head.body + head.count * 1 = (head_parts f F n head h.has).1 ∙ ap (λ x. head.body + head.count * x) u in
         omega (arith, last, h.inside, (numbered frame).table_late)
 

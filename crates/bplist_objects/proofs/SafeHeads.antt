@@ -5,17 +5,17 @@ use Rattle.bplist_objects.specs.declared.frame.Frame.{Frame}
 use Rattle.bplist_objects.specs.declared.head.Head.{Head}
 use Rattle.bplist_objects.specs.declared.kind.Kind.{Kind}
 use Rattle.bplist_objects.specs.declared.kind.Kind.TheVariants as kinds
-use Rattle.bplist_objects.specs.Announced.{unit}
+use Rattle.bplist_objects.specs.Announced.{item_size}
 use Rattle.bplist_objects.specs.Safe.{IsSafe, IsSafeHead, IsSafeBody}
 
 -- a wider reference takes no less
-unit-grows : (r : ℕ) (kind : Kind) → 1 ≤ r → unit 1 kind ≤ unit r kind
-unit-grows r kinds.Array h = h
-unit-grows r kinds.Set h = h
-unit-grows r kinds.Dict h = omega arith
-unit-grows r _ h = omega arith
+item_size-grows : (r : ℕ) (kind : Kind) → 1 ≤ r → item_size 1 kind ≤ item_size r kind
+item_size-grows r kinds.Array h = h
+item_size-grows r kinds.Set h = h
+item_size-grows r kinds.Dict h = omega arith
+item_size-grows r _ h = omega arith
 
 pub safe_body : (len : ℕ) (frame : Frame) (head : Head) → IsSafe len frame → IsSafeHead frame head → IsSafeBody len head
 safe_body len frame head safe h =
-    let narrow = mul-le-mul_left head.count (unit-grows frame.ref_size head.kind safe.ref_low) in
+    let narrow = mul-le-mul_left head.count (item_size-grows frame.ref_size head.kind safe.ref_low) in
     record { may = h.may; body = omega (arith, narrow); within = omega arith }

@@ -10,10 +10,10 @@ use Rattle.bplist_objects.specs.declared.kind.Kind.{Kind}
 use Rattle.bplist_objects.specs.declared.kind.Kind.TheVariants as kinds
 use Rattle.bplist_objects.specs.Rules.{KeepsAll}
 use Rattle.bplist_objects.specs.Frame.{off}
-use Rattle.bplist_objects.specs.Safe.{IsSaid, MayCount}
-use Rattle.bplist_objects.specs.Announced.{kind_at, head_found, Form, plain, counted, form_of, is_counted, Marks, IsLongOf, IsCountForm, HasLongCount, AnnouncesAs, HasHead, unit}
+use Rattle.bplist_objects.specs.Safe.{MarkersCount, MayCount}
+use Rattle.bplist_objects.specs.Announced.{kind_at, head_found, Markers, plain, counted, markers_of, is_counted, Marks, IsLongOf, IsIntMarker, HasLongCount, AnnouncesAs, HasHead, item_size}
 use Rattle.bplist_objects.specs.ObjectRules.{KeepsByObject, IsObjectFault, shape_rules}
-use Rattle.bplist_objects.specs.Counts.{IsLongCountFault}
+use Rattle.bplist_objects.specs.CountFaults.{IsLongCountFault}
 use Rattle.bplist_objects.specs.Answers.{GivesFault}
 use Rattle.bplist_objects.specs.declared.fault.ObjectFault.{ObjectFault}
 use Rattle.bplist_objects.specs.declared.fault.ObjectFault.TheVariants as errors
@@ -21,25 +21,25 @@ use Rattle.bplist_objects.proofs.HeadLaws.{long_marks, long-Announces, announced
 use Rattle.bplist_objects.proofs.BodyLaws.{HasHead-unique}
 
 -- a count behind a long marker is announced
-pub announced_behind : (f : List ℕ) (place : ℕ) (form : Form) (count body : ℕ) → IsLongOf form (slice_index f place) → HasLongCount f place count body → AnnouncesAs f place form count body
+pub announced_behind : (f : List ℕ) (place : ℕ) (form : Markers) (count body : ℕ) → IsLongOf form (slice_index f place) → HasLongCount f place count body → AnnouncesAs f place form count body
 announced_behind f place (plain low high says) count body l h = absurd l
 announced_behind f place (counted high) count body l h = inr (l, h)
 
 -- behind a long marker whose count is announced stands an integer's marker
-form-HasLongCount : (f : List ℕ) (place count body : ℕ) → HasLongCount f place count body → IsCountForm (slice_index f (place + 1))
-form-HasLongCount f place count body (w, h, form, c, b) = (omega arith, omega arith)
+marker-HasLongCount : (f : List ℕ) (place count body : ℕ) → HasLongCount f place count body → IsIntMarker (slice_index f (place + 1))
+marker-HasLongCount f place count body (w, h, form, c, b) = (omega arith, omega arith)
 
 -- each kind takes at least a byte for what it counts
-pub unit-pos : (ref_size : ℕ) (kind : Kind) → 1 ≤ ref_size → 1 ≤ unit ref_size kind
-unit-pos r kinds.Array h = omega arith
-unit-pos r kinds.Set h = omega arith
-unit-pos r kinds.Dict h = omega arith
-unit-pos r _ h = omega arith
+pub item_size-pos : (ref_size : ℕ) (kind : Kind) → 1 ≤ ref_size → 1 ≤ item_size ref_size kind
+item_size-pos r kinds.Array h = omega arith
+item_size-pos r kinds.Set h = omega arith
+item_size-pos r kinds.Dict h = omega arith
+item_size-pos r _ h = omega arith
 
 -- where the count alone has no room the body has none
-pub no_room : (table body count unit : ℕ) → 1 ≤ unit → table < body + count → table < body + count * unit
-no_room table body count unit one l =
-    let more : count * 1 ≤ count * unit = mul-le-mul_left count one in omega arith
+pub no_room : (table body count item_size : ℕ) → 1 ≤ item_size → table < body + count → table < body + count * item_size
+no_room table body count item_size one l =
+    let more : count * 1 ≤ count * item_size = mul-le-mul_left count one in omega arith
 
 module _ (f : List ℕ) (F : Frame) (n : ℕ) (far : 8 ≤ off f F n) where
   abbrev o : ℕ
@@ -47,7 +47,7 @@ module _ (f : List ℕ) (F : Frame) (n : ℕ) (far : 8 ≤ off f F n) where
 
   module _ (head : Head) (h : HasHead f F n head) where
     marker_kept : IsSome (kind_at (slice_index f o))
-    marker_kept = marks_marker (slice_index f o) head.kind (announced_marks f o (form_of head.kind) head.count head.body (head_parts f F n head h).0)
+    marker_kept = marks_marker (slice_index f o) head.kind (announced_marks f o (markers_of head.kind) head.count head.body (head_parts f F n head h).0)
 
     head_there : IsSome (head_found f F n)
     head_there = subst IsSome (sym h) refl
@@ -67,17 +67,17 @@ module _ (f : List ℕ) (F : Frame) (n : ℕ) (far : 8 ≤ off f F n) where
             omega (arith, l, before)
 
   -- a head behind a long marker has its count there
-  long_count : (kind : Kind) → IsLongOf (form_of kind) (slice_index f o) → (head : Head) → HasHead f F n head → HasLongCount f o head.count head.body
+  long_count : (kind : Kind) → IsLongOf (markers_of kind) (slice_index f o) → (head : Head) → HasHead f F n head → HasLongCount f o head.count head.body
   long_count kind l head h = long-Announces f o head.kind head.count head.body (kind, l) (head_parts f F n head h).0
 
   -- what is wrong with a long count is the first that is wrong with the object
-  pub shape_long : 1 ≤ F.ref_size → (kind : Kind) → Marks (slice_index f o) kind → IsLongOf (form_of kind) (slice_index f o) → (fault : Fault) → IsLongCountFault f F.table o n fault → IsObjectFault f F n shape_rules fault
+  pub shape_long : 1 ≤ F.ref_size → (kind : Kind) → Marks (slice_index f o) kind → IsLongOf (markers_of kind) (slice_index f o) → (fault : Fault) → IsLongCountFault f F.table o n fault → IsObjectFault f F n shape_rules fault
   shape_long low kind marks long fault (object, inl (rule, inside, wrong, place)) =
       inr (far, inr (marks_marker (slice_index f o) kind marks, inl (rule, (object, ((λ k. never (head_found f F n) refl (k (marks_marker (slice_index f o) kind marks) inside)), place)))))
     where
       never : (found : Option Head) → head_found f F n ≡ found → IsSome found → ⊥
       never None e h = false≢true h
-      never (Some head) e h = wrong (form-HasLongCount f o head.count head.body (long_count kind long head e))
+      never (Some head) e h = wrong (marker-HasLongCount f o head.count head.body (long_count kind long head e))
   shape_long low kind marks long fault (object, inr (rule, place, inl late)) =
       inr (far, inr (marks_marker (slice_index f o) kind marks, inr (λ m l. absurd (omega arith), inl (rule, (object, (early, place))))))
     where
@@ -87,20 +87,20 @@ module _ (f : List ℕ) (F : Frame) (n : ℕ) (far : 8 ≤ off f F n) where
           let count = long_count kind long e.0 e.1 in
           omega (arith, late, e.2, (head_parts f F n e.0 e.1).1, count)
   shape_long low kind marks long fault (object, inr (rule, place, inr (count, body, has, late))) =
-      let head : Head = record { kind = kind; count = count; body = body; «end» = body + count * unit F.ref_size kind } in
-      shape_extent head (head_announced f F n head (announced_behind f o (form_of kind) count body long has, refl)) (no_room F.table body count (unit F.ref_size kind) (unit-pos F.ref_size kind low) late) fault rule object place
+      let head : Head = record { kind = kind; count = count; body = body; «end» = body + count * item_size F.ref_size kind } in
+      shape_extent head (head_announced f F n head (announced_behind f o (markers_of kind) count body long has, refl)) (no_room F.table body count (item_size F.ref_size kind) (item_size-pos F.ref_size kind low) late) fault rule object place
 
 -- a kind whose count may stand behind the marker may have any
-pub counted_may : (kind : Kind) (count : ℕ) → is_counted (form_of kind) ≡ true → MayCount kind count
-counted_may kind count h = go (form_of kind) h
+pub counted_may : (kind : Kind) (count : ℕ) → is_counted (markers_of kind) ≡ true → MayCount kind count
+counted_may kind count h = go (markers_of kind) h
   where
-    go : (form : Form) → is_counted form ≡ true → IsSaid form count
+    go : (form : Markers) → is_counted form ≡ true → MarkersCount form count
     go (plain low high says) e = absurd (false≢true e)
     go (counted high) e = tt
 
 -- the same of what a call answers
-pub shape_count : (f : List ℕ) (F : Frame) (n place : ℕ) (kind : Kind) (e : ObjectFault) → 1 ≤ F.ref_size → place ≡ off f F n → 8 ≤ place → IsLongOf (form_of kind) (slice_index f place) → GivesFault (IsLongCountFault f F.table place n) e → GivesFault (IsObjectFault f F n shape_rules) e
+pub shape_count : (f : List ℕ) (F : Frame) (n place : ℕ) (kind : Kind) (e : ObjectFault) → 1 ≤ F.ref_size → place ≡ off f F n → 8 ≤ place → IsLongOf (markers_of kind) (slice_index f place) → GivesFault (IsLongCountFault f F.table place n) e → GivesFault (IsObjectFault f F n shape_rules) e
 shape_count f F n place kind (errors.Read _) low at far long h = tt
 shape_count f F n place kind (errors.Fault fault) low at far long h =
-    let here = subst (λ p. IsLongOf (form_of kind) (slice_index f p)) at long in
-    shape_long f F n (subst (λ p. 8 ≤ p) at far) low kind (long_marks (slice_index f (off f F n)) (form_of kind) here) here fault (subst (λ p. IsLongCountFault f F.table p n fault) at h)
+    let here = subst (λ p. IsLongOf (markers_of kind) (slice_index f p)) at long in
+    shape_long f F n (subst (λ p. 8 ≤ p) at far) low kind (long_marks (slice_index f (off f F n)) (markers_of kind) here) here fault (subst (λ p. IsLongCountFault f F.table p n fault) at h)

@@ -11,7 +11,7 @@ use Rattle.bplist_objects.specs.Heads.{Content, Spells}
 use Rattle.bplist_objects.specs.Reach.{Reach}
 use Rattle.bplist_objects.specs.Extents.{HaveRoom, AtMost}
 use Rattle.bplist_objects.specs.File.{FileHolds}
-use Rattle.bplist_objects.specs.Rows.{row}
+use Rattle.bplist_objects.specs.SmallFiles.{small_file}
 use Rattle.bplist_objects.proofs.Lists.{all_weaker}
 use Rattle.bplist_objects.proofs.FrameTies.{Numbered, trailer_is_frame}
 use Rattle.bplist_objects.proofs.ExtentSums.{most_none, most_more, shape_extent}
@@ -19,15 +19,15 @@ use Rattle.bplist_objects.proofs.ReachedObjects.{reach_within}
 
 -- true
 abbrev row_true : List ℕ
-row_true = row (9 ∷ []) (8 ∷ [])
+row_true = small_file (9 ∷ []) (8 ∷ [])
 
 -- an array of the same object true twice
 abbrev row_array : List ℕ
-row_array = row (162 ∷ 1 ∷ 1 ∷ 9 ∷ []) (8 ∷ 11 ∷ [])
+row_array = small_file (162 ∷ 1 ∷ 1 ∷ 9 ∷ []) (8 ∷ 11 ∷ [])
 
 -- a dictionary from `a` to true
 abbrev row_dict : List ℕ
-row_dict = row (209 ∷ 1 ∷ 2 ∷ 81 ∷ 97 ∷ 9 ∷ []) (8 ∷ 11 ∷ 13 ∷ [])
+row_dict = small_file (209 ∷ 1 ∷ 2 ∷ 81 ∷ 97 ∷ 9 ∷ []) (8 ∷ 11 ∷ 13 ∷ [])
 
 -- a file that begins with the header has the frame of its numbers
 small_frame : (f : List ℕ) → take 8 f ≡ header → Numbered f (trailer f) → Keeps f RefNarrow → Keeps f OffsetNarrow → IsFrame f (trailer f)

@@ -7,7 +7,7 @@ use Rattle.bplist_objects.specs.declared.kind.Kind.{Kind}
 use Rattle.bplist_objects.specs.declared.kind.Kind.TheVariants as kinds
 use Rattle.bplist_objects.specs.Numbers.{num_at}
 use Rattle.bplist_objects.specs.Scan.{nth_number, AreNumbers}
-use Rattle.bplist_objects.specs.Announced.{unit}
+use Rattle.bplist_objects.specs.Announced.{item_size}
 use Rattle.bplist_objects.specs.Units.{IsTextKind, units_at}
 use Rattle.bplist_objects.proofs.Parts.{num-part_one, get_or-part}
 use Rattle.bplist_objects.proofs.ScanLaws.{nth_number-behind}
@@ -33,12 +33,12 @@ part_fits xs place n h k =
     ]
 
 module _ (f : List ℕ) where
-  pub length-units_at : (kind : Kind) (count at : ℕ) → IsTextKind kind → at + count * unit 1 kind ≤ length f → length (units_at f kind count at) ≡ count
+  pub length-units_at : (kind : Kind) (count at : ℕ) → IsTextKind kind → at + count * item_size 1 kind ≤ length f → length (units_at f kind count at) ≡ count
   length-units_at kinds.Ascii count at t h = length-part f at count (omega arith)
   length-units_at kinds.Wide count at t h = length-nums_at f at 2 count
   length-units_at _ count at t h = absurd t
 
-  pub nth-units_at : (kind : Kind) (count at k : ℕ) → IsTextKind kind → at + count * unit 1 kind ≤ length f → k < count → slice_index (units_at f kind count at) k ≡ nth_number f at (unit 1 kind) k
+  pub nth-units_at : (kind : Kind) (count at k : ℕ) → IsTextKind kind → at + count * item_size 1 kind ≤ length f → k < count → slice_index (units_at f kind count at) k ≡ nth_number f at (item_size 1 kind) k
   nth-units_at kinds.Ascii count at k t h l =
       let e : at + k ≡ at + k * 1 = omega arith in
       get_or-part f at count k 0 l ∙ sym (num-part_one f (at + k) (omega arith)) ∙ ap (λ p. num_at f p 1) e
@@ -46,13 +46,13 @@ module _ (f : List ℕ) where
   nth-units_at _ count at k t h l = absurd t
 
   -- the numbers that stand where a part of the units does are that part
-  pub units_part : (kind : Kind) (count at from n : ℕ) (us : List ℕ) → IsTextKind kind → at + count * unit 1 kind ≤ length f → from + n ≤ count → length us ≡ n
-      → AreNumbers f (at + from * unit 1 kind) (unit 1 kind) us → us ≡ part (units_at f kind count at) from n
+  pub units_part : (kind : Kind) (count at from n : ℕ) (us : List ℕ) → IsTextKind kind → at + count * item_size 1 kind ≤ length f → from + n ≤ count → length us ≡ n
+      → AreNumbers f (at + from * item_size 1 kind) (item_size 1 kind) us → us ≡ part (units_at f kind count at) from n
   units_part kind count at from n us t h w e numbers =
       let all = length-units_at kind count at t h in
       let len = length-part (units_at f kind count at) from n (omega (arith, all)) in
       ext_get_or 0 us (part (units_at f kind count at) from n) (e ∙ sym len) (λ k l.
       numbers k l
-      ∙ nth_number-behind f at (unit 1 kind) from k
+      ∙ nth_number-behind f at (item_size 1 kind) from k
       ∙ sym (nth-units_at kind count at (from + k) t h (omega arith))
       ∙ sym (get_or-part (units_at f kind count at) from n k 0 (omega (arith, l, e))))

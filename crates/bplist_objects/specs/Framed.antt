@@ -16,11 +16,11 @@ frame_by _ = record { offset_size = 0; ref_size = 0; objects = 0; top = record {
 
 -- the frame that a source holds
 abbrev pub frame_in : Meaning → Frame
-frame_in m = frame_by (get_or m.beside 0 [])
+frame_in m = frame_by (get_or m.extra 0 [])
 
 -- the meaning of a source that also holds this frame
 abbrev pub with_frame : Frame → Meaning → Meaning
-with_frame F m = record m { beside = frame_numbers F ∷ m.beside }
+with_frame F m = record m { extra = frame_numbers F ∷ m.extra }
 
 -- the source can be read with its frame, which is the bytes' own if it is honest
 pub record IsFramed (m : Meaning) : Type 0 where

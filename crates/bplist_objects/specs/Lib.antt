@@ -15,11 +15,11 @@ pub mod FrameRules
 pub mod Trailer
 pub mod Safe
 pub mod ObjectRules
-pub mod Counts
-pub mod Bodies
+pub mod CountFaults
+pub mod BodyFaults
 pub mod Kinds
 pub mod Units
 pub mod Words
 pub mod Spelled
-pub mod Rows
+pub mod SmallFiles
 pub mod Framed

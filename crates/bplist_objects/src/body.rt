@@ -12,17 +12,17 @@ ghost use Rattle.bplist_objects.specs.Scan.{AreBelow};
 ghost use Rattle.bplist_objects.specs.Announced.{HasHead};
 ghost use Rattle.bplist_objects.specs.Heads.{Content, content_at, Spells, IsHeadOf};
 ghost use Rattle.bplist_objects.specs.ObjectRules.{KeepsByObject, IsObjectFault, body_rules, object_rules};
-ghost use Rattle.bplist_objects.specs.Bodies.{IsAsciiFault, IsUidFault, IsRefFault};
+ghost use Rattle.bplist_objects.specs.BodyFaults.{IsAsciiFault, IsUidFault, IsRefFault};
 
 use crate::fault::{ObjectFault, broken};
 use crate::frame::{Frame, ObjectNo};
 use crate::head::{Head, shape_at};
 use crate::kind::Kind;
 use crate::numbers::wide_in;
+use crate::offset_table::offset_of;
 use crate::refs::refs_of;
 use crate::rule::Rule;
 use crate::scan::{first_high_in, first_not_below};
-use crate::table::offset_of;
 use bplist_octets::Source;
 
 /// Looks for a byte of 128 or more in a text of one byte a unit. The head is handed on as a copy, so that the caller's stays in

@@ -3,10 +3,10 @@
 ghost use Rattle.std.specs.Prelude.{◌≡◌, ℕ, ◌+◌, ◌^◌, ◌≤◌, ◌<◌, List, false, true, IfOk, IfSome, MatchOption, length, slice_index};
 ghost use Rattle.bplist_octets.specs.Meaning.{OnlyReads, Honestly};
 ghost use Rattle.bplist_objects.specs.Answers.{Gives, read_failed};
-ghost use Rattle.bplist_objects.specs.Announced.{Marks, form_of, is_counted, IsLongOf, HasLongCount, Announces};
+ghost use Rattle.bplist_objects.specs.Announced.{Marks, markers_of, is_counted, IsLongOf, HasLongCount, Announces};
 ghost use Rattle.bplist_objects.specs.Numbers.{num_at};
 ghost use Rattle.bplist_objects.specs.Safe.{MayCount};
-ghost use Rattle.bplist_objects.specs.Counts.{IsLongCountFault};
+ghost use Rattle.bplist_objects.specs.CountFaults.{IsLongCountFault};
 
 use crate::fault::{ObjectFault, broken};
 use crate::frame::ObjectNo;
@@ -95,7 +95,7 @@ pub(crate) fn long_count<S: Source>(
 #[inline(always)]
 fn fixed_count(kind: Kind, marker: u8) -> u8
     requires marks { Marks marker kind }
-    requires fixed { is_counted (form_of kind) ≡ false }
+    requires fixed { is_counted (markers_of kind) ≡ false }
     ensures announces { (f : List ℕ) (place : ℕ) → slice_index f place ≡ marker → Announces f place kind result (place + 1) }
     ensures may { MayCount kind result }
     ensures few { result ≤ 16 }
@@ -114,7 +114,7 @@ fn fixed_count(kind: Kind, marker: u8) -> u8
 pub(crate) fn short_count(kind: Kind, marker: u8) -> Option<u8>
     requires marks { Marks marker kind }
     ensures found { MatchOption result
-        (IsLongOf (form_of kind) marker × (is_counted (form_of kind) ≡ true))
+        (IsLongOf (markers_of kind) marker × (is_counted (markers_of kind) ≡ true))
         (λ count. (f : List ℕ) (place : ℕ) → slice_index f place ≡ marker → Announces f place kind count (place + 1)) }
     ensures may { IfSome result (MayCount kind) }
     ensures few { IfSome result (λ count. count ≤ 16) }

@@ -13,8 +13,8 @@ ghost use Rattle.bplist_objects.specs.declared.frame.Frame.{Frame as frame};
 ghost use Rattle.bplist_objects.specs.Answers.{Gives, Never, read_failed};
 
 use crate::fault::{Fault, ObjectFault};
+use crate::offset_table::check_entries;
 use crate::rule::Rule;
-use crate::table::check_entries;
 use bplist_octets::{Source, sized};
 
 /// The number of an object, from 0: the number of its entry in the offset table.

@@ -7,7 +7,7 @@ ghost use Rattle.bplist_objects.specs.Frame.{off};
 ghost use Rattle.bplist_objects.specs.Safe.{IsSafe, IsSafeHead};
 ghost use Rattle.bplist_objects.specs.Answers.{Gives, Never, read_failed};
 ghost use Rattle.bplist_objects.specs.Rules.{KeepsAll};
-ghost use Rattle.bplist_objects.specs.Announced.{form_of, is_counted, IsLongOf, HasHead};
+ghost use Rattle.bplist_objects.specs.Announced.{markers_of, is_counted, IsLongOf, HasHead};
 ghost use Rattle.bplist_objects.specs.Heads.{HasShape};
 ghost use Rattle.bplist_objects.specs.declared.head.Head.{Head as head};
 ghost use Rattle.bplist_objects.specs.ObjectRules.{KeepsByObject, IsObjectFault, shape_rules};
@@ -15,10 +15,10 @@ ghost use Rattle.bplist_objects.specs.ObjectRules.{KeepsByObject, IsObjectFault,
 use crate::count::{long_count, short_count};
 use crate::fault::{ObjectFault, broken};
 use crate::frame::{Frame, ObjectNo};
-use crate::kind::{Kind, kind_of, unit_of};
+use crate::kind::{Kind, item_size, kind_of};
 use crate::numbers::octet_in;
+use crate::offset_table::{entry_place, high_entry, offset_of};
 use crate::rule::Rule;
-use crate::table::{entry_place, high_entry, offset_of};
 use bplist_octets::Source;
 
 /// What the marker and the count of an object say.
@@ -45,19 +45,19 @@ fn long_shape<S: Source>(
     kind: Kind,
 ) -> Result<Head, ObjectFault>
     requires safe { IsSafe (length (S.means src.old).octets) frame.now }
-    requires counted { is_counted (form_of kind) ≡ true }
+    requires counted { is_counted (markers_of kind) ≡ true }
     requires low { 8 ≤ place }
     requires inside { place < frame.now.table }
     ensures reads { OnlyReads (read_failed result) (S.means src.old) (S.means src.new) }
     ensures rules { HonestlyBy (S.means src.old) frame.now (λ f F. place ≡ off f F n.0
-        → IsLongOf (form_of kind) (slice_index f place)
+        → IsLongOf (markers_of kind) (slice_index f place)
         → Gives (λ head. HasHead f F n.0 head × KeepsAll (KeepsByObject f F n.0) shape_rules)
         (IsObjectFault f F n.0 shape_rules) result) }
     ensures safe { IfOk result (IsSafeHead frame.now) }
     ensures behind { IfOk result (λ head. place < head.body) }
 {
     let (count, body) = long_count(src, frame.table, place, n)?;
-    let unit = unit_of(kind, frame.ref_size);
+    let unit = item_size(kind, frame.ref_size);
     if count as u128 * unit as u128 > (frame.table - body) as u128 {
         return Err(broken(Rule::Extent, n, place));
     }
@@ -101,7 +101,7 @@ fn shape_by_rules<S: Source>(
         return long_shape(src, frame, n, place, kind);
     };
     let body = place + 1;
-    let size = count as u64 * unit_of(kind, frame.ref_size) as u64;
+    let size = count as u64 * item_size(kind, frame.ref_size) as u64;
     if size > frame.table - body {
         return Err(broken(Rule::Extent, n, place));
     }

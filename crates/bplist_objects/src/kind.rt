@@ -1,7 +1,7 @@
 //! The kinds of objects and their markers.
 
 ghost use Rattle.std.specs.Prelude.{◌≡◌, ◌≤◌, MatchOption, IsSome};
-ghost use Rattle.bplist_objects.specs.Announced.{Marks, kind_at, unit};
+ghost use Rattle.bplist_objects.specs.Announced.{Marks, kind_at, item_size};
 
 /// The kind of an object.
 #[derive(Clone, Copy, Debug, PartialEq, Eq, Drop)]
@@ -63,9 +63,9 @@ pub(crate) fn kind_of(marker: u8) -> Option<Kind>
 
 /// How many bytes of the body one of the count takes.
 #[inline(always)]
-pub(crate) fn unit_of(kind: Kind, ref_size: u8) -> u8
+pub(crate) fn item_size(kind: Kind, ref_size: u8) -> u8
     requires { ref_size ≤ 8 }
-    ensures { result ≡ unit ref_size kind }
+    ensures { result ≡ item_size ref_size kind }
 {
     match kind {
         Kind::Wide => 2,

@@ -19,7 +19,7 @@ ghost use Rattle.bplist_objects.specs.ObjectRules.{KeepsByObject, BreaksByObject
 ghost use Rattle.bplist_objects.specs.Safe.{ref_count, IsSafe, IsSafeFrame, IsSafeHead};
 ghost use Rattle.bplist_objects.specs.Spelled.{spelled_at, refs_at};
 ghost use Rattle.bplist_objects.specs.Reach.{Refs, Chain, Founded};
-ghost use Rattle.bplist_objects.specs.Rows.{row};
+ghost use Rattle.bplist_objects.specs.SmallFiles.{small_file};
 
 /// At one place marker and count say at most one head.
 pub fn one_shape()
@@ -123,9 +123,9 @@ pub fn founded_has_no_circle()
 
 /// Three small files hold their values: true, an array that has one object twice, and a dictionary from `a` to true.
 pub fn rows_hold()
-    ensures true_row { FileHolds (row (9 ∷ []) (8 ∷ [])) (leaf (boolean true)) }
-    ensures array_row { FileHolds (row (162 ∷ 1 ∷ 1 ∷ 9 ∷ []) (8 ∷ 11 ∷ []))
+    ensures true_row { FileHolds (small_file (9 ∷ []) (8 ∷ [])) (leaf (boolean true)) }
+    ensures array_row { FileHolds (small_file (162 ∷ 1 ∷ 1 ∷ 9 ∷ []) (8 ∷ 11 ∷ []))
         (array (value (leaf (boolean true)) (value (leaf (boolean true)) no_values))) }
-    ensures dict_row { FileHolds (row (209 ∷ 1 ∷ 2 ∷ 81 ∷ 97 ∷ 9 ∷ []) (8 ∷ 11 ∷ 13 ∷ []))
+    ensures dict_row { FileHolds (small_file (209 ∷ 1 ∷ 2 ∷ 81 ∷ 97 ∷ 9 ∷ []) (8 ∷ 11 ∷ 13 ∷ []))
         (dict (pair (97 ∷ []) (leaf (boolean true)) no_pairs)) }
 {}

@@ -4,7 +4,7 @@ ghost use Rattle.std.specs.Prelude.{◌≡◌, ◌⊎◌, ◌+◌, ◌*◌, ◌^
 ghost use Rattle.bplist_octets.specs.Octets.{part};
 ghost use Rattle.bplist_octets.specs.Meaning.{OnlyReads, Honestly};
 ghost use Rattle.bplist_objects.specs.Numbers.{integer, num_at};
-ghost use Rattle.bplist_objects.specs.Announced.{unit};
+ghost use Rattle.bplist_objects.specs.Announced.{item_size};
 ghost use Rattle.bplist_objects.specs.Kinds.{IsLeafKind};
 ghost use Rattle.bplist_objects.specs.Safe.{IsSafeBody};
 ghost use Rattle.bplist_objects.specs.declared.kind.Kind.TheVariants.{Int, Uid};
@@ -72,7 +72,7 @@ pub fn octets_at<S: Source>(
 ) -> Result<(), ReadFault>
     requires kind { IsLeafKind head.now.kind }
     requires head { IsSafeBody (length (S.means src.old).octets) head.now }
-    requires within { i + length into.old ≤ head.now.count * unit 1 head.now.kind }
+    requires within { i + length into.old ≤ head.now.count * item_size 1 head.now.kind }
     ensures reads { OnlyReads (is_err result) (S.means src.old) (S.means src.new) }
     ensures filled { OnOk result (Honestly (S.means src.old)
         (λ f. into.new ≡ part f (head.now.body + i) (length into.old))) }

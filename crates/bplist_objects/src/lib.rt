@@ -36,11 +36,11 @@ mod laws;
 mod leaf;
 mod leaf_laws;
 mod numbers;
+mod offset_table;
 mod plist;
 mod refs;
 mod rule;
 mod scan;
-mod table;
 mod text;
 
 pub use body::{check_body, head_at, head_of};
@@ -56,9 +56,9 @@ pub use laws::{
 };
 pub use leaf::{int_of, octets_at, uid_of};
 pub use leaf_laws::{leaves_by_parts, units_are_ordered};
+pub use offset_table::{high_entry, offset_of, read_offsets};
 pub use plist::{head_in, offset_in, read_offsets_in, read_refs_in, ref_place, shape_in};
 pub use refs::{read_refs, ref_at, refs_of};
 pub use rule::{Rule, rule_name, rule_number, rule_of_number};
 pub use scan::first_high_in;
-pub use table::{high_entry, offset_of, read_offsets};
 pub use text::{key_cmp, read_units, unit_at};

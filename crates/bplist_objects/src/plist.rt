@@ -17,8 +17,8 @@ use crate::fault::ObjectFault;
 use crate::frame::ObjectNo;
 use crate::framed::Framed;
 use crate::head::{Head, shape_at};
+use crate::offset_table::{offset_of, read_offsets};
 use crate::refs::read_refs;
-use crate::table::{offset_of, read_offsets};
 use bplist_octets::ReadFault;
 
 /// The place of object `n`, as `offset_of` answers it.

@@ -8,7 +8,7 @@ ghost use Rattle.bplist_objects.specs.Safe.{IsSafeBody};
 ghost use Rattle.bplist_objects.specs.Units.{IsTextKind, units_of, compare_units};
 
 use crate::head::Head;
-use crate::kind::unit_of;
+use crate::kind::item_size;
 use crate::numbers::part_of;
 use bplist_octets::{ReadFault, Source, sized};
 use std::cmp::Ordering;
@@ -90,7 +90,7 @@ pub fn read_units<S: Source>(
     ensures units { OnOk result (Honestly (S.means src.old)
         (λ f. into.new ≡ part (units_of f head.now) from (length into.old))) }
 {
-    let size = unit_of(head.kind, 1);
+    let size = item_size(head.kind, 1);
     units_in(src, head.body + from * size as u64, size, into)
 }
 

@@ -6,7 +6,7 @@ pub record Meaning : Type 0 where
   pub octets : List ℕ
   pub honest : Bool
   pub failures : ℕ
-  pub beside : List (List ℕ)
+  pub extra : List (List ℕ)
 
 -- the count of failures never exceeds this
 abbrev pub last_count : ℕ
@@ -16,7 +16,7 @@ last_count = 2 ^ 64 - 1
 pub record ReadFailed (old new : Meaning) : Type 0 where
   pub octets : new.octets ≡ old.octets
   pub honest : new.honest ≡ old.honest
-  pub beside : new.beside ≡ old.beside
+  pub extra : new.extra ≡ old.extra
   pub rises : old.failures ≤ new.failures
   pub stays_only_at_last : new.failures ≡ old.failures → old.failures ≡ last_count
 

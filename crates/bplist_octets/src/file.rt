@@ -85,7 +85,7 @@ impl FileSource {
 
 impl Source for FileSource {
     // Any list of this length would do, since no read is promised to give its bytes.
-    ghost means = { λ s. record { octets = replicate s.length 0; honest = false; failures = s.failures; beside = [] } };
+    ghost means = { λ s. record { octets = replicate s.length 0; honest = false; failures = s.failures; extra = [] } };
 
     fn len(&self) -> u64 {
         self.length

@@ -23,21 +23,21 @@
 //! over an honest source is exact; over any other it still returns and reads inside the length.
 #![tactic(auto)]
 
-mod faulty;
+mod faulty_source;
 mod file;
 mod lanes;
 mod numbers;
-mod shifting;
+mod shifting_source;
 mod slice;
 mod source;
 mod window;
 mod windows;
 
-pub use faulty::FaultySource;
+pub use faulty_source::FaultySource;
 pub use file::{FileSource, OpenFault, fill_from};
 pub use lanes::first_high;
 pub use numbers::{sized, wide};
-pub use shifting::ShiftingSource;
+pub use shifting_source::ShiftingSource;
 pub use slice::SliceSource;
 pub use source::{ReadFault, Source};
 pub use window::Window;

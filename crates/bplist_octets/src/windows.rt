@@ -137,8 +137,8 @@ fn empty_all(panes: &mut [Pane])
 /// of failures of that source.
 ///
 /// A read of bytes that lie in one pane asks the source for nothing. Any other read moves the pane that was used longest ago: it
-/// takes 16,384 bytes where a pane ends at the place that the read goes on from, else 8,192. A request of more than 8,192 bytes goes
-/// straight to the source. After a failed read that pane is empty.
+/// takes 16,384 bytes where a pane ends at the place that the read goes on from, else 8,192. A request of more than 8,192 bytes
+/// goes straight to the source. After a failed read that pane is empty.
 #[derive(Drop)]
 pub struct Windows<'a, S: Source> {
     /// The source that is read.

@@ -1,10 +1,10 @@
 use Rattle.std.proofs.Common.{codes, inr}
-use Rattle.bplint_map.specs.Layout.{IsBare, parts}
+use Rattle.bplint_map.specs.Layout.{IsRegion, parts}
 use Rattle.bplint_map.proofs.Layouts.{among_of, any_of, overlaps_all, overlaps_alone, twice}
 use Rattle.bplint_map.proofs.laws.overlaps_are_all.Goals as goal
 
 pub returns : goal.returns
 returns c = λ table rows order x. (
-  λ h. any_of (IsBare (codes "overlap") x) (parts table 8 rows) (overlaps_all table x 8 rows (inr h)),
-  λ h. twice x rows order (overlaps_alone table x 8 rows order (among_of (IsBare (codes "overlap") x) (parts table 8 rows) h)),
+  λ h. any_of (IsRegion (codes "overlap") x) (parts table 8 rows) (overlaps_all table x 8 rows (inr h)),
+  λ h. twice x rows order (overlaps_alone table x 8 rows order (among_of (IsRegion (codes "overlap") x) (parts table 8 rows) h)),
 )

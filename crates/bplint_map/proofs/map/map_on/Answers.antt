@@ -3,7 +3,7 @@ use Rattle.std.proofs.lemmas.Result.{err_from_is_err_and}
 use Rattle.bplist_octets.specs.Meaning.{Meaning}
 use Rattle.bplist_objects.specs.Framed.{frame_in}
 use Rattle.bplint_map.proofs.Findings.{findings_of}
-use Rattle.bplint_map.proofs.Texts.{all_out, end_cut, excused_out, fault_out, map_cut}
+use Rattle.bplint_map.proofs.MapText.{all_out, end_cut, excused_out, fault_out, map_cut}
 use Rattle.bplint_lines.specs.declared.fault.RunFault.TheVariants as faults
 use Rattle.bplint_map.proofs.map.map_on.Goals as goal
 

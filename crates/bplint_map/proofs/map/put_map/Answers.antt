@@ -5,20 +5,20 @@ use Rattle.bplist_objects.specs.declared.frame.Frame.{Frame}
 use Rattle.bplist_ascii.proofs.SinkSteps.{some_of_takes, takes_more, takes_nothing}
 use Rattle.bplint_lines.specs.declared.fault.RunFault.TheVariants as faults
 use Rattle.bplint_map.specs.Layout.{parts}
-use Rattle.bplint_map.specs.Lines.{bare_line, part_lines}
+use Rattle.bplint_map.specs.Lines.{region_line, part_lines}
 use Rattle.bplint_map.specs.Map.{map_text}
 use Rattle.bplint_map.specs.Rows.{rows}
-use Rattle.bplint_map.proofs.Texts.{some_of_more, then_some}
+use Rattle.bplint_map.proofs.MapText.{some_of_more, then_some}
 use Rattle.bplint_map.proofs.map.put_map.Goals as goal
 
 -- the lines before those of the objects
 abbrev front_text : List ℕ
-front_text = codes "place\tend\tobject\tkind\tcount\theight\n" ++ bare_line 0 8 (codes "header")
+front_text = codes "place\tend\tobject\tkind\tcount\theight\n" ++ region_line 0 8 (codes "header")
 
 -- the lines behind those of the objects, in a file of so many bytes
 abbrev back_text : Frame → ℕ → List ℕ
 back_text F length =
-    let end = F.table + F.objects * F.offset_size in bare_line F.table end (codes "table") ++ bare_line end length (codes "trailer")
+    let end = F.table + F.objects * F.offset_size in region_line F.table end (codes "table") ++ region_line end length (codes "trailer")
 
 pub returns-in_err-front-clause-exact : goal.returns-in_err-front-clause-exact
 returns-in_err-front-clause-exact g c = λ honest order all findings are.

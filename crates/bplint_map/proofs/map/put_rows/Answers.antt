@@ -5,9 +5,9 @@ use Rattle.bplist_objects.specs.declared.frame.Frame.{Frame}
 use Rattle.bplist_ascii.proofs.SinkSteps.{some_of_takes, takes_more}
 use Rattle.bplint_lines.specs.declared.fault.RunFault.TheVariants as faults
 use Rattle.bplint_map.specs.Layout.{before, object, parts, row_end}
-use Rattle.bplint_map.specs.Lines.{bare_lines, part_lines}
+use Rattle.bplint_map.specs.Lines.{region_lines, part_lines}
 use Rattle.bplint_map.specs.Rows.{rows}
-use Rattle.bplint_map.proofs.Texts.{no_more_lines, some_of_more, stepped, then_some}
+use Rattle.bplint_map.proofs.MapText.{no_more_lines, some_of_more, stepped, then_some}
 use Rattle.bplint_map.proofs.map.put_rows.Goals as goal
 
 pub returns-in_err-row-clause-exact : goal.returns-in_err-row-clause-exact
@@ -68,8 +68,8 @@ returns-in_err-put-2-clause-exact g c = λ honest order all findings are.
     let w = c.loop-object.invariant.written honest order all findings are in
     let means = g.P.Source.means c.args.src.now in
     let verdict = c.args.map.now.verdict in
-    let lines = bare_lines c.loop-object.reached (frame_in (g.P.Source.means c.args.src.now)).table (codes "gap") in
-    let line : c.as_bytes-2.result.now ≡ lines = c.as_bytes-2.ensures.value ∙ c.in_ok-add_any.ensures ∙ ap (λ l. l ++ bare_lines c.loop-object.reached c.frame-frame.result.table (codes "gap")) c.clear-2.ensures.bytes ∙ ap (λ (G : Frame). bare_lines c.loop-object.reached G.table (codes "gap")) c.frame-frame.ensures.frame in
+    let lines = region_lines c.loop-object.reached (frame_in (g.P.Source.means c.args.src.now)).table (codes "gap") in
+    let line : c.as_bytes-2.result.now ≡ lines = c.as_bytes-2.ensures.value ∙ c.in_ok-add_any.ensures ∙ ap (λ l. l ++ region_lines c.loop-object.reached c.frame-frame.result.table (codes "gap")) c.clear-2.ensures.bytes ∙ ap (λ (G : Frame). region_lines c.loop-object.reached G.table (codes "gap")) c.frame-frame.ensures.frame in
     let last = no_more_lines verdict (frame_in (g.P.Source.means c.args.src.now)).table means.octets (frame_in (g.P.Source.means c.args.src.now)) findings c.loop-object.reached c.loop-object.left c.loop-object.object-index order
     c.deref-object-items.result.now (c.deref-object-items.ensures.value ∙ all) (omega arith) in
     let part = rw line at c.in_err-put-2.ensures.part in
@@ -80,8 +80,8 @@ returns-clause-exact g c = λ honest order all findings are.
     let w = c.loop-object.invariant.written honest order all findings are in
     let means = g.P.Source.means c.args.src.now in
     let verdict = c.args.map.now.verdict in
-    let lines = bare_lines c.loop-object.reached (frame_in (g.P.Source.means c.args.src.now)).table (codes "gap") in
-    let line : c.as_bytes-2.result.now ≡ lines = c.as_bytes-2.ensures.value ∙ c.in_ok-add_any.ensures ∙ ap (λ l. l ++ bare_lines c.loop-object.reached c.frame-frame.result.table (codes "gap")) c.clear-2.ensures.bytes ∙ ap (λ (G : Frame). bare_lines c.loop-object.reached G.table (codes "gap")) c.frame-frame.ensures.frame in
+    let lines = region_lines c.loop-object.reached (frame_in (g.P.Source.means c.args.src.now)).table (codes "gap") in
+    let line : c.as_bytes-2.result.now ≡ lines = c.as_bytes-2.ensures.value ∙ c.in_ok-add_any.ensures ∙ ap (λ l. l ++ region_lines c.loop-object.reached c.frame-frame.result.table (codes "gap")) c.clear-2.ensures.bytes ∙ ap (λ (G : Frame). region_lines c.loop-object.reached G.table (codes "gap")) c.frame-frame.ensures.frame in
     let last = no_more_lines verdict (frame_in (g.P.Source.means c.args.src.now)).table means.octets (frame_in (g.P.Source.means c.args.src.now)) findings c.loop-object.reached c.loop-object.left c.loop-object.object-index order
     c.deref-object-items.result.now (c.deref-object-items.ensures.value ∙ all) (omega arith) in
     let taken = rw line at c.in_ok-put-2.ensures.taken in

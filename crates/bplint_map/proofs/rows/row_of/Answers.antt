@@ -1,7 +1,7 @@
 use Rattle.std.proofs.Common.{◌≡◌, ap, arith}
 use Rattle.bplist_objects.specs.Framed.{frame_in}
 use Rattle.bplist_objects.specs.Frame.{off}
-use Rattle.bplint_map.specs.declared.placed.Placed.{Placed}
+use Rattle.bplint_map.specs.declared.object_order.ObjectOffset.{ObjectOffset}
 use Rattle.bplint_map.proofs.Findings.{looked, lost, passed, row_is}
 use Rattle.bplint_map.proofs.rows.row_of.Goals as goal
 
@@ -11,7 +11,7 @@ returns-in_ok-finding-in-Ok-clause-exact g c = λ honest is findings are.
     let F = frame_in (g.P.Source.means c.args.src.now) in
     let n = c.args.object.number in
     let left = c.args.left.now in
-    let at : c.args.object.place ≡ off f F n = ap (λ (p : Placed). p.place) is in
+    let at : c.args.object.place ≡ off f F n = ap (λ (p : ObjectOffset). p.place) is in
     let has = c.in-Ok.ensures.exact honest at in
     let checks = rw c.in-Ok.ensures.reads at c.in_ok-finding-in-Ok.ensures.exact in
     let r = looked f F n left c.args.object.place _ (findings n) _ has (are n c.requires) (checks honest at has) (omega arith) in
@@ -23,7 +23,7 @@ returns-else-taken-left-clause-exact g c = λ honest is findings are.
     let F = frame_in (g.P.Source.means c.args.src.now) in
     let n = c.args.object.number in
     let left = c.args.left.now in
-    let at : c.args.object.place ≡ off f F n = ap (λ (p : Placed). p.place) is in
+    let at : c.args.object.place ≡ off f F n = ap (λ (p : ObjectOffset). p.place) is in
     let has = c.in-Ok.ensures.exact honest at in
     let r = passed f F n left c.args.object.place _ (findings n) has (are n c.requires) (omega arith) in
     (row_is f F findings left n _ _ at r.0, r.1)
@@ -34,7 +34,7 @@ returns-in-Err-Fault-clause-exact g c = λ honest is findings are.
     let F = frame_in (g.P.Source.means c.args.src.now) in
     let n = c.args.object.number in
     let left = c.args.left.now in
-    let at : c.args.object.place ≡ off f F n = ap (λ (p : Placed). p.place) is in
+    let at : c.args.object.place ≡ off f F n = ap (λ (p : ObjectOffset). p.place) is in
     let broken = rw c.in-Err-Fault.field-0-is at (c.in-Err-Fault.ensures.exact honest at) in
     let r = lost f F n left c.args.object.place _ (findings n) broken (are n c.requires) in
     (row_is f F findings left n _ _ at r.0, r.1)

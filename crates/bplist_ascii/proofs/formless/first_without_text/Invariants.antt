@@ -3,7 +3,7 @@ use Rattle.bplist_objects.specs.Value.{Value}
 use Rattle.bplist_objects.specs.Heads.{Content, Spells, content_at}
 use Rattle.bplist_objects.specs.Safe.{ref_count}
 use Rattle.bplist_cursor.specs.Found.{IsHeld}
-use Rattle.bplist_ascii.specs.Searching.{HaveTexts}
+use Rattle.bplist_ascii.specs.FormlessSearch.{HaveForms}
 use Rattle.bplist_ascii.proofs.SearchSteps.{Passes}
 use Rattle.bplist_ascii.proofs.formless.first_without_text.Given as goal
 
@@ -15,7 +15,7 @@ invariant-loop-node g l = record {
   near : l.i ≤ ref_count l.head.kind l.head.count + 1;
   so_far : IsTrue l.fn.checked.source.honest → (n : ℕ) (v : Value) → IsHeld l.fn.checked n v
       → ((c : Content) → Spells l.fn.checked.source.octets l.fn.checked.frame n c → c ≡ content_at l.fn.checked.source.octets l.fn.checked.frame l.head)
-      → HaveTexts v l.i;
+      → HaveForms v l.i;
 }
 
 abbrev pub decreases-loop-node : goal.decreases-loop-node

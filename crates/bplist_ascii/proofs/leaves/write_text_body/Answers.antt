@@ -5,8 +5,8 @@ use Rattle.std.specs.List.{flat_map}
 use Rattle.bplist_octets.specs.Octets.{part}
 use Rattle.bplist_objects.specs.Units.{units_of}
 use Rattle.bplist_objects.proofs.Units.{length-units_at}
-use Rattle.bplist_ascii.specs.Writing.{styled, fits}
-use Rattle.bplist_ascii.proofs.WriteSteps.{on_err, read_fails, adds_fit, adds_within, adds_fail, text_more, text_adds, flat_part, flat_parts, all_in_part, length-bare, text_under}
+use Rattle.bplist_ascii.specs.BoundedWrites.{styled, fits}
+use Rattle.bplist_ascii.proofs.WriteSteps.{on_err, read_fails, adds_fit, adds_within, adds_fail, text_more, text_adds, flat_part, flat_parts, all_in_part, length-unquoted, text_under}
 use Rattle.bplist_ascii.proofs.leaves.write_text_body.Goals as goal
 
 pub returns-in_err-body_units-clause-fails : goal.returns-in_err-body_units-clause-fails
@@ -48,11 +48,11 @@ loop-done-preserved g c =
           ap (λ x. flat_map (styled c.args.text.now.style) (take c.loop-done.done us) ++ flat_map (styled c.args.text.now.style) x)
           ((rw c.loop-done.invariant.same at c.in_ok-body_units.ensures.units) honest ∙ ap (part us c.loop-done.done) len)
           ∙ flat_part (styled c.args.text.now.style) us c.loop-done.done c.min-now.result);
-      falls = λ bare.
-          let counted = (rw bare at c.in_ok-write_units.ensures.adds).counted in
-          let before = c.loop-done.invariant.falls bare in
+      falls = λ unquoted.
+          let counted = (rw unquoted at c.in_ok-write_units.ensures.adds).counted in
+          let before = c.loop-done.invariant.falls unquoted in
           let long : length c.body_units.new.into ≡ c.min-now.result = c.body_units.auto.into ∙ len in
-          omega (arith, counted, before, long, length-bare c.body_units.new.into);
+          omega (arith, counted, before, long, length-unquoted c.body_units.new.into);
     }
 
 pub returns-clause-adds : goal.returns-clause-adds

@@ -1,8 +1,8 @@
 use Rattle.std.proofs.Common.{◌≡◌, ◌≤◌, ◌+◌, ◌-◌, take, IsTrue}
 use Rattle.std.specs.List.{flat_map}
 use Rattle.bplist_objects.specs.Units.{units_of}
-use Rattle.bplist_ascii.specs.Writing.{AddsText, styled}
-use Rattle.bplist_ascii.specs.declared.style.Style.TheVariants.{Bare}
+use Rattle.bplist_ascii.specs.BoundedWrites.{AddsText, styled}
+use Rattle.bplist_ascii.specs.declared.style.Style.TheVariants.{Unquoted}
 use Rattle.bplist_ascii.proofs.leaves.write_text_body.Given as goal
 
 -- the file is as it was, and the units so far were put in
@@ -14,7 +14,7 @@ invariant-loop-done g l =
       reached : l.done ≤ l.text.head.count;
       so_far : AddsText (g.W.Write.contents l.fn.out) (g.W.Write.contents l.out) l.fn.sink l.sink l.fn.room l.room
           (IsTrue file.source.honest) (flat_map (styled l.text.style) (take l.done (units_of file.source.octets l.text.head)));
-      falls : l.text.style ≡ Bare → l.room + l.done ≤ l.fn.room;
+      falls : l.text.style ≡ Unquoted → l.room + l.done ≤ l.fn.room;
     }
 
 abbrev pub decreases-loop-done : goal.decreases-loop-done

@@ -1,7 +1,7 @@
 use Rattle.std.proofs.Common.{take}
 use Rattle.std.specs.List.{flat_map}
 use Rattle.bplist_cursor.specs.Texts.{hex_digits}
-use Rattle.bplist_ascii.specs.Writing.{Adds}
+use Rattle.bplist_ascii.specs.BoundedWrites.{Adds}
 use Rattle.bplist_ascii.proofs.output.write_digits.Given as goal
 
 abbrev pub invariant-loop-byte : goal.invariant-loop-byte

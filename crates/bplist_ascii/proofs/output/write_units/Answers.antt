@@ -1,6 +1,6 @@
 use Rattle.std.proofs.Common.{rules, ◌≡◌, ◌<◌, Err, length, drop, subst, slice_index}
 use Rattle.std.specs.List.{flat_map}
-use Rattle.bplist_ascii.specs.Writing.{Adds, styled, fits}
+use Rattle.bplist_ascii.specs.BoundedWrites.{Adds, styled, fits}
 use Rattle.bplist_ascii.proofs.WriteSteps.{adds_more, adds_within, adds_fail, flat_next, flat_at, passes_at}
 use Rattle.bplist_ascii.proofs.output.write_units.Goals as goal
 

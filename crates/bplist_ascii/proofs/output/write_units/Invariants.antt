@@ -1,6 +1,6 @@
 use Rattle.std.proofs.Common.{take}
 use Rattle.std.specs.List.{flat_map}
-use Rattle.bplist_ascii.specs.Writing.{Adds, styled}
+use Rattle.bplist_ascii.specs.BoundedWrites.{Adds, styled}
 use Rattle.bplist_ascii.proofs.output.write_units.Given as goal
 
 abbrev pub invariant-loop-unit : goal.invariant-loop-unit

@@ -3,7 +3,7 @@ use Rattle.std.proofs.lemmas.Result.{IfErr-weaker, on_ok_weaker, on_err_weaker, 
 use Rattle.bplist_objects.proofs.Bounds.{refs_within}
 use Rattle.bplist_cursor.specs.OldStyle.{plain}
 use Rattle.bplist_cursor.proofs.StepReferences.{content_of_value}
-use Rattle.bplist_ascii.specs.Walks.{mark_of, closing_of}
+use Rattle.bplist_ascii.specs.Walks.{separator_of, closing_of}
 use Rattle.bplist_ascii.proofs.WriteSteps.{on_err, adds_some, read_fails, adds_more, adds_fit, adds_within, adds_fail, adds_nothing}
 use Rattle.bplist_ascii.proofs.WalkSteps.{IsMember, none_from, stack_pop, goes_on, ends, safe_push, adds_goes_on}
 use Rattle.bplist_ascii.specs.declared.print_fault.PrintFault.TheVariants.{Memory}
@@ -52,7 +52,7 @@ returns-in_err-write-clause-fails g c =
     let o = c.args.opened in
     rw is (λ honest left stands low.
     let q = goes_on file _ _ c.in-Some.node left stands (subst (IsMember file o.head o.next) c.in-Some.is (c.in_ok-node.ensures.reference honest)) in
-    adds_fail _ _ _ (mark_of o.head.kind o.next) (plain q.value ++ q.rest) left _ (adds_nothing _ _ _) (rw c.mark.ensures at c.in_err-write.ensures.fails) q.is low)
+    adds_fail _ _ _ (separator_of o.head.kind o.next) (plain q.value ++ q.rest) left _ (adds_nothing _ _ _) (rw c.separator.ensures at c.in_err-write.ensures.fails) q.is low)
 
 pub overflow_add-opened : goal.overflow_add-opened
 overflow_add-opened g c =
@@ -67,7 +67,7 @@ returns-in_err-push-clause-fails g c =
     let o = c.args.opened in
     rw is (λ honest left stands low.
     let q = goes_on file _ _ c.in-Some.node left stands (subst (IsMember file o.head o.next) c.in-Some.is (c.in_ok-node.ensures.reference honest)) in
-    adds_some (plain q.value ++ q.rest) (rw c.mark.ensures at c.in_ok-write.ensures.adds) q.is)
+    adds_some (plain q.value ++ q.rest) (rw c.separator.ensures at c.in_ok-write.ensures.adds) q.is)
 
 pub returns-in_err-push-clause-bounded : goal.returns-in_err-push-clause-bounded
 returns-in_err-push-clause-bounded g c = on_err c.from_residual-in_err-push.result (adds_fit c.in_ok-write.ensures.adds)
@@ -82,7 +82,7 @@ returns-clause-exact g c =
     on_ok_weaker c.begin.result
     (λ on honest left stands.
     let q = goes_on file _ _ c.in-Some.node left stands (subst (IsMember file o.head o.next) c.in-Some.is (c.in_ok-node.ensures.reference honest)) in
-    adds_goes_on file (rw c.mark.ensures at c.in_ok-write.ensures.adds)
+    adds_goes_on file (rw c.separator.ensures at c.in_ok-write.ensures.adds)
     (on honest q.value (rw c.in-Some.is at c.in_ok-node.ensures.vouched, q.holds) q.formed q.rest (rw c.in_ok-push.ensures.items (q.pushed (o.next + 1) (omega arith)))) q.is)
     (rw c.in_ok-node.ensures.reads at c.begin.ensures.exact)
 
@@ -93,7 +93,7 @@ returns-clause-fails g c =
     IfErr-weaker c.begin.result _ _
     (λ e fails honest left stands low.
     let q = goes_on file _ _ c.in-Some.node left stands (subst (IsMember file o.head o.next) c.in-Some.is (c.in_ok-node.ensures.reference honest)) in
-    adds_fail _ _ _ (plain q.value) q.rest left e (rw c.mark.ensures at c.in_ok-write.ensures.adds)
+    adds_fail _ _ _ (plain q.value) q.rest left e (rw c.separator.ensures at c.in_ok-write.ensures.adds)
     (fails honest q.value (rw c.in-Some.is at c.in_ok-node.ensures.vouched, q.holds) q.formed) q.is low)
     (rw c.in_ok-node.ensures.reads at c.begin.ensures.fails)
 

@@ -2,7 +2,7 @@ use Rattle.std.proofs.Common.{◌≡◌, IsTrue}
 use Rattle.bplist_objects.specs.Value.{Value}
 use Rattle.bplist_cursor.specs.Found.{IsHeld}
 use Rattle.bplist_cursor.specs.OldStyle.{IsFormed, plain}
-use Rattle.bplist_ascii.specs.Writing.{AddsSome}
+use Rattle.bplist_ascii.specs.BoundedWrites.{AddsSome}
 use Rattle.bplist_ascii.specs.Walks.{AreSafe, GoesOn}
 use Rattle.bplist_ascii.proofs.walk.write_value.Given as goal
 

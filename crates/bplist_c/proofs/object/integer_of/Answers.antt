@@ -6,7 +6,7 @@ use Rattle.bplist_octets.specs.Octets.{part}
 use Rattle.bplist_objects.specs.Value.{int}
 use Rattle.bplist_objects.specs.Heads.{leaf}
 use Rattle.bplist_objects.specs.Numbers.{integer}
-use Rattle.bplist_c.specs.Reading.{int_answer}
+use Rattle.bplist_c.specs.Objects.{int_answer}
 use Rattle.bplist_c.proofs.Contents.{is_int, other_int}
 use Rattle.bplist_c.proofs.HeadSteps.{by_content}
 use Rattle.bplist_c.proofs.object.integer_of.Goals as goal

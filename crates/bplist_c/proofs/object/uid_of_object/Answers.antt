@@ -1,6 +1,6 @@
 use Rattle.std.proofs.Common.{◌≡◌, ◌%◌, ◌^◌, ◌∙◌, Ok, ap, sym}
 use Rattle.bplist_objects.specs.Numbers.{num_at}
-use Rattle.bplist_c.specs.Reading.{uid_answer}
+use Rattle.bplist_c.specs.Objects.{uid_answer}
 use Rattle.bplist_c.proofs.Contents.{is_uid, other_uid}
 use Rattle.bplist_c.proofs.HeadSteps.{by_content}
 use Rattle.bplist_c.proofs.object.uid_of_object.Goals as goal

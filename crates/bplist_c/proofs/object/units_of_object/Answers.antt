@@ -4,7 +4,7 @@ use Rattle.std.proofs.lemmas.List.{length-take-le}
 use Rattle.bplist_octets.specs.Octets.{part}
 use Rattle.bplist_objects.specs.declared.head.Head.{Head}
 use Rattle.bplist_objects.specs.Units.{units_of}
-use Rattle.bplist_c.specs.Reading.{UnitsSay}
+use Rattle.bplist_c.specs.Objects.{UnitsSay}
 use Rattle.bplist_c.proofs.object.units_of_object.Goals as goal
 
 -- parts from one place, or of no units, are the same

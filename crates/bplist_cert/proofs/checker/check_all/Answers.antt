@@ -7,7 +7,7 @@ use Rattle.bplist_keys.specs.Classes.{HasNamedKeys}
 use Rattle.bplist_cert.specs.declared.checker.Look.TheVariants.{Quick}
 use Rattle.bplist_cert.specs.Lists.{lists}
 use Rattle.bplist_cert.specs.Valid.{IsVouchedBy}
-use Rattle.bplist_cert.specs.PairFault.{Running, IsWalkFault}
+use Rattle.bplist_cert.specs.PairFault.{AreCheckedBelow, IsWalkFault}
 use Rattle.bplist_cert.proofs.CheckSteps.{start, never_refused}
 use Rattle.bplist_cert.proofs.checker.check_all.Goals as goal
 
@@ -62,7 +62,7 @@ loop-done-preserved g c =
       running = λ honest.
           let places = (rw v.same at c.in_ok-read_offsets_in.ensures.offsets) honest in
           let exact = (rw (c.in_ok-read_offsets_in.ensures.reads, v.same) at c.in_ok-used.ensures.exact) honest in
-          subst (λ k. Running m.octets (frame_in m) (lists c.args.walk.now.heights.now c.args.walk.now.keys.now) Quick (c.loop-done.done + k) c.in_ok-used.used) all
+          subst (λ k. AreCheckedBelow m.octets (frame_in m) (lists c.args.walk.now.heights.now c.args.walk.now.keys.now) Quick (c.loop-done.done + k) c.in_ok-used.used) all
           (exact places (v.running honest));
     }
 
@@ -71,7 +71,7 @@ returns-clause-exact g c = λ honest.
     let m = g.P.Source.means c.args.src.now in
     let objects : c.frame-objects.result.objects ≡ (frame_in m).objects = ap (λ (x : Frame). x.objects) c.frame-objects.ensures.frame in
     let e : c.loop-done.done ≡ (frame_in m).objects = omega (arith, objects, c.loop-done.invariant.reached, c.loop-done-test.false) in
-    subst (λ k. Running m.octets (frame_in m) (lists c.args.walk.now.heights.now c.args.walk.now.keys.now) Quick k c.loop-done.used) e
+    subst (λ k. AreCheckedBelow m.octets (frame_in m) (lists c.args.walk.now.heights.now c.args.walk.now.keys.now) Quick k c.loop-done.used) e
     (c.loop-done.invariant.running honest)
 
 pub returns-clause-keys : goal.returns-clause-keys

@@ -4,7 +4,7 @@ use Rattle.bplist_cert.specs.declared.checker.Look.TheVariants.{Quick}
 use Rattle.bplist_keys.specs.Classes.{HasNamedKeys}
 use Rattle.bplist_cert.specs.Lists.{lists}
 use Rattle.bplist_cert.specs.Valid.{IsVouchedBy}
-use Rattle.bplist_cert.specs.PairFault.{Running}
+use Rattle.bplist_cert.specs.PairFault.{AreCheckedBelow}
 use Rattle.bplist_cert.proofs.checker.check_all.Given as goal
 
 -- the source is as it was, the vouched objects so far keep the rules, and the keys of the dictionaries among them are named
@@ -16,7 +16,7 @@ invariant-loop-done g l =
       reached : l.done ≤ (frame_in (means l.fn.src)).objects;
       named : IfSome l.named (λ keys. length keys.marks.items ≡ (frame_in (means l.fn.src)).objects);
       keys : HonestlyIn (means l.fn.src) (λ f F. IfSome l.named (λ keys. (n : ℕ) → n < l.done → IsVouchedBy l.walk.heights.now n → HasNamedKeys f F keys.marks.items n));
-      running : HonestlyIn (means l.fn.src) (λ f F. Running f F (lists l.walk.heights.now l.walk.keys.now) Quick l.done l.used);
+      running : HonestlyIn (means l.fn.src) (λ f F. AreCheckedBelow f F (lists l.walk.heights.now l.walk.keys.now) Quick l.done l.used);
     }
 
 abbrev pub decreases-loop-done : goal.decreases-loop-done

@@ -3,7 +3,7 @@ use Rattle.bplist_objects.specs.Frame.{off}
 use Rattle.bplist_objects.specs.Framed.{HonestlyIn}
 use Rattle.bplist_cert.specs.declared.checker.Look.TheVariants.{Quick}
 use Rattle.bplist_cert.specs.Lists.{lists}
-use Rattle.bplist_cert.specs.PairFault.{Running}
+use Rattle.bplist_cert.specs.PairFault.{AreCheckedBelow}
 use Rattle.bplist_cert.proofs.checker.check_block.Given as goal
 
 -- the source is as it was, and the vouched objects so far keep the rules
@@ -13,6 +13,6 @@ invariant-loop-i g l =
     record {
       same : means l.src ≡ means l.fn.src;
       running : HonestlyIn (means l.fn.src) (λ f F. ((k : ℕ) → k < length l.places → slice_index l.places k ≡ off f F (l.from + k))
-          → Running f F (lists l.walk.heights.now l.walk.keys.now) Quick l.from l.fn.used
-          → Running f F (lists l.walk.heights.now l.walk.keys.now) Quick (l.from + l.i) l.used);
+          → AreCheckedBelow f F (lists l.walk.heights.now l.walk.keys.now) Quick l.from l.fn.used
+          → AreCheckedBelow f F (lists l.walk.heights.now l.walk.keys.now) Quick (l.from + l.i) l.used);
     }

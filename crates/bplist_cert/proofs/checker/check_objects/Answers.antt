@@ -2,7 +2,7 @@ use Rattle.std.proofs.Common.{◌≡◌, ap, sym, subst, arith}
 use Rattle.std.proofs.lemmas.Result.{err_from_is_err_and}
 use Rattle.bplist_objects.specs.declared.frame.Frame.{Frame}
 use Rattle.bplist_objects.specs.Framed.{frame_in}
-use Rattle.bplist_cert.specs.Looks.{AreSeen}
+use Rattle.bplist_cert.specs.Looks.{KeepBeforeKeysBelow}
 use Rattle.bplist_cert.proofs.CheckSteps.{all_good, seen_first, seen_object, vouched_inside, keys_first, refused_weaker}
 use Rattle.bplist_cert.proofs.checker.check_objects.Goals as goal
 
@@ -28,7 +28,7 @@ returns-in_err-check_keys-in-Err-Fault-clause-exact g c = λ honest.
     let inside = vouched_inside heights F.objects s.object c.requires.all s.vouched in
     let objects : c.frame-objects.result.objects ≡ F.objects = ap (λ (x : Frame). x.objects) c.frame-objects.ensures.frame in
     let bound : c.min.result ≡ s.object = omega (arith, c.min.ensures, named, inside, objects) in
-    let seen = subst (AreSeen f F heights) (sym bound) s.seen in
+    let seen = subst (KeepBeforeKeysBelow f F heights) (sym bound) s.seen in
     let reads = rw c.in-Err-Fault.field-0-is at c.in-Err-Fault.ensures.reads in
     let keyed = rw reads at c.in_err-check_keys-in-Err-Fault.ensures.exact in
     let p = err_from_is_err_and c.from_residual-in_err-check_keys-in-Err-Fault.result c.from_residual-in_err-check_keys-in-Err-Fault.ensures.1 in
@@ -55,7 +55,7 @@ returns-in_ok-check_keys-in-Err-Fault-clause-exact g c = λ honest.
     let inside = vouched_inside heights F.objects s.object c.requires.all s.vouched in
     let objects : c.frame-objects.result.objects ≡ F.objects = ap (λ (x : Frame). x.objects) c.frame-objects.ensures.frame in
     let bound : c.min.result ≡ s.object = omega (arith, c.min.ensures, named, inside, objects) in
-    let seen = subst (AreSeen f F heights) (sym bound) s.seen in
+    let seen = subst (KeepBeforeKeysBelow f F heights) (sym bound) s.seen in
     let reads = rw c.in-Err-Fault.field-0-is at c.in-Err-Fault.ensures.reads in
     let keyed = rw reads at c.in_ok-check_keys-in-Err-Fault.ensures.exact in
     let good = keyed honest seen tt in

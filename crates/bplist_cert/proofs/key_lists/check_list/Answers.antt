@@ -2,7 +2,7 @@ use Rattle.std.proofs.Common.{◌∙◌, inl}
 use Rattle.std.proofs.lemmas.Result.{err_from_is_err_and}
 use Rattle.bplist_objects.specs.Framed.{frame_in}
 use Rattle.bplist_cert.proofs.CheckSteps.{given_weaker}
-use Rattle.bplist_cert.proofs.KeyClasses.{on_ok_always, order_given}
+use Rattle.bplist_cert.proofs.KeyRepeats.{on_ok_always, order_given}
 use Rattle.bplist_cert.proofs.key_lists.check_list.Goals as goal
 
 pub returns-then-is_whole-clause-known : goal.returns-then-is_whole-clause-known

@@ -1,5 +1,5 @@
 use Rattle.std.proofs.Common.{arith}
-use Rattle.bplist_cert.proofs.PlacedKeys.{found_some}
+use Rattle.bplist_cert.proofs.KeyOffsets.{found_some}
 use Rattle.bplist_cert.proofs.key_lists.may_be_wrong.Goals as goal
 
 pub returns-clause-none : goal.returns-clause-none

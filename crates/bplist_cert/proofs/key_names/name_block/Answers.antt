@@ -5,7 +5,7 @@ use Rattle.bplist_objects.specs.declared.frame.Frame.{Frame}
 use Rattle.bplist_objects.specs.Framed.{frame_in}
 use Rattle.bplist_keys.specs.Classes.{HasNamedKeys}
 use Rattle.bplist_cert.specs.Valid.{IsVouchedBy}
-use Rattle.bplist_cert.proofs.KeyClasses.{named_low}
+use Rattle.bplist_cert.proofs.KeyRepeats.{named_low}
 use Rattle.bplist_cert.proofs.key_names.name_block.Goals as goal
 use Rattle.bplist_cert.proofs.key_names.name_block.Goals.{then-heights-n-gt1+in_ok-name_object, else-heights-n-gt1}
 

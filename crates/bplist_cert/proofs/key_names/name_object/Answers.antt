@@ -6,9 +6,9 @@ use Rattle.bplist_objects.specs.Framed.{frame_in}
 use Rattle.bplist_objects.proofs.BodyLaws.{HasHead-unique}
 use Rattle.bplist_keys.specs.Classes.{key_ref}
 use Rattle.bplist_keys.specs.Marks.{IsMarked}
-use Rattle.bplist_cert.proofs.Texts.{shape_kept}
+use Rattle.bplist_cert.proofs.TextObjects.{shape_kept}
 use Rattle.bplist_cert.proofs.CheckSteps.{given_weaker}
-use Rattle.bplist_cert.proofs.KeyClasses.{keys_inside}
+use Rattle.bplist_cert.proofs.KeyRepeats.{keys_inside}
 use Rattle.bplist_cert.proofs.key_names.name_object.Goals as goal
 
 pub returns-in_err-head-clause-exact : goal.returns-in_err-head-clause-exact

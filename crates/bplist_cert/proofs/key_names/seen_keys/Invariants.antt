@@ -2,7 +2,7 @@ use Rattle.std.proofs.Common.{◌≡◌, ◌≤◌, ◌-◌, ℕ, ◌<◌, lengt
 use Rattle.bplist_objects.specs.Framed.{frame_in, HonestlyIn}
 use Rattle.bplist_keys.specs.Classes.{HasNamedKeys}
 use Rattle.bplist_cert.specs.Valid.{IsVouchedBy}
-use Rattle.bplist_cert.specs.Looks.{AreSeen}
+use Rattle.bplist_cert.specs.Looks.{KeepBeforeKeysBelow}
 use Rattle.bplist_cert.proofs.key_names.seen_keys.Given as goal
 
 -- the keys of the vouched dictionaries so far are named
@@ -13,7 +13,7 @@ invariant-loop-done g l =
       same : means l.src ≡ means l.fn.src;
       reached : l.done ≤ l.seen.bound;
       all : length l.named.marks.items ≡ (frame_in (means l.fn.src)).objects;
-      named : HonestlyIn (means l.fn.src) (λ f F. AreSeen f F l.seen.heights.now l.seen.bound
+      named : HonestlyIn (means l.fn.src) (λ f F. KeepBeforeKeysBelow f F l.seen.heights.now l.seen.bound
           → (m : ℕ) → m < l.done → IsVouchedBy l.seen.heights.now m → HasNamedKeys f F l.named.marks.items m);
     }
 

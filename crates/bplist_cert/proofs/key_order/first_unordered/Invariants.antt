@@ -3,7 +3,7 @@ use Rattle.bplist_objects.specs.Framed.{HonestlyIn}
 use Rattle.bplist_objects.specs.Safe.{IsSafeBody}
 use Rattle.bplist_objects.specs.Units.{IsTextKind}
 use Rattle.bplist_keys.specs.Runs.{AreRuns}
-use Rattle.bplist_cert.specs.Keys.{HaveTexts, AreInOrder}
+use Rattle.bplist_cert.specs.KeyKinds.{KeysAreTexts, AreInOrder}
 use Rattle.bplist_cert.proofs.OrderedLists.{IsBefore}
 use Rattle.bplist_cert.proofs.key_order.first_unordered.Given as goal
 
@@ -13,8 +13,8 @@ invariant-loop-j g l =
     let means = g.P.Source.means in
     record {
       same : means l.src ≡ means l.fn.src;
-      runs : IsTrue (means l.fn.src).honest → AreRuns (means l.fn.src).octets l.fn.runs.rows → AreRuns (means l.fn.src).octets l.runs.rows;
-      ordered : HonestlyIn (means l.fn.src) (λ f F. AreRuns f l.fn.runs.rows → HaveTexts f F l.head l.head.count → AreInOrder f F l.head l.list l.j);
-      last : HonestlyIn (means l.fn.src) (λ f F. HaveTexts f F l.head l.head.count → IsBefore f F l.head l.list l.j l.before);
+      runs : IsTrue (means l.fn.src).honest → AreRuns (means l.fn.src).octets l.fn.runs.slots → AreRuns (means l.fn.src).octets l.runs.slots;
+      ordered : HonestlyIn (means l.fn.src) (λ f F. AreRuns f l.fn.runs.slots → KeysAreTexts f F l.head l.head.count → AreInOrder f F l.head l.list l.j);
+      last : HonestlyIn (means l.fn.src) (λ f F. KeysAreTexts f F l.head l.head.count → IsBefore f F l.head l.list l.j l.before);
       safe : IfSome l.before (λ key. IsTextKind key.kind × IsSafeBody (length (means l.fn.src).octets) key);
     }

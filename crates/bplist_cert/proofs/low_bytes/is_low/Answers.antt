@@ -1,6 +1,6 @@
 use Rattle.std.proofs.Common.{refl}
 use Rattle.std.proofs.lemmas.Bool.{false≢true}
-use Rattle.bplist_cert.proofs.LowSteps.{below_low, not_low}
+use Rattle.bplist_cert.proofs.LowBytes.{below_low, not_low}
 use Rattle.bplist_cert.proofs.low_bytes.is_low.Goals as goal
 
 pub returns-in-None-clause-exact : goal.returns-in-None-clause-exact

@@ -41,7 +41,7 @@ returns-in-Bytes-clause-place c =
     let octets : c.new-source.result.octets.now ≡ c.args.checked.now.source.octets = c.new-source.ensures.octets ∙ c.octets.ensures.octets in
     let has = (rw (c.frame-frame.ensures.frame, octets) at c.in-Ok.ensures.exact) refl is in
     let body = c.in-Ok.head.body in
-    let base = address_in c.args.checked.now.source.beside in
-    let whole = ap (λ (m : Meaning). address_in m.beside) c.in-Ok.ensures.reads ∙ ap (λ (m : Meaning). address_in m.beside) c.new-source.ensures.means ∙ c.octets.ensures.place in
+    let base = address_in c.args.checked.now.source.extra in
+    let whole = ap (λ (m : Meaning). address_in m.extra) c.in-Ok.ensures.reads ∙ ap (λ (m : Meaning). address_in m.extra) c.new-source.ensures.means ∙ c.octets.ensures.place in
     let first : base.1 + 0 ≡ base.1 = omega arith in
     (c.in-Ok.head, has, c.borrow.ensures.place ∙ ap (λ (p : ℕ × ℕ). (p.0, p.1 + body)) whole ∙ ap (λ k. (base.0, k + body)) first)

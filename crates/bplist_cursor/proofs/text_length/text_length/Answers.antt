@@ -5,7 +5,7 @@ use Rattle.bplist_cursor.specs.Nodes.{cap}
 use Rattle.bplist_cursor.specs.Texts.{is_plain, quoted_unit}
 use Rattle.bplist_octets.specs.Octets.{part}
 use Rattle.bplist_objects.specs.Units.{units_of}
-use Rattle.bplist_objects.specs.Announced.{unit}
+use Rattle.bplist_objects.specs.Announced.{item_size}
 use Rattle.bplist_objects.proofs.Units.{length-units_at}
 use Rattle.bplist_cursor.proofs.LengthSteps.{plain_more, quoted_more, plain_length, quoted_text_length}
 use Rattle.bplist_cursor.proofs.text_length.text_length.Goals.{else-plain-via-then-plain+else-head-gt0, else-plain-via-else-plain}
@@ -31,7 +31,7 @@ pub returns-then-head-gt0-clause-exact : goal.returns-then-head-gt0-clause-exact
 returns-then-head-gt0-clause-exact g c = λ honest.
     let f = c.args.checked.now.source.octets in
     let us = units_of f c.args.head.now in
-    let within : c.args.head.now.body + c.args.head.now.count * unit 1 c.args.head.now.kind ≤ length f = omega arith in
+    let within : c.args.head.now.body + c.args.head.now.count * item_size 1 c.args.head.now.kind ≤ length f = omega arith in
     let len = length-units_at f c.args.head.now.kind c.args.head.now.count c.args.head.now.body c.requires.kind within in
     let all : c.loop-done.done ≡ c.args.head.now.count = omega arith in
     plain_length us c.args.head.now.count len (sym c.if-plain.true ∙ c.loop-done.invariant.plain honest ∙ ap (λ n. list_all is_plain (take n us)) all) c.if-head-gt0.true (omega arith)
@@ -40,7 +40,7 @@ pub returns-else-plain-clause-exact : goal.returns-else-plain-clause-exact
 returns-else-plain-clause-exact g c = λ honest.
     let f = c.args.checked.now.source.octets in
     let us = units_of f c.args.head.now in
-    let within : c.args.head.now.body + c.args.head.now.count * unit 1 c.args.head.now.kind ≤ length f = omega arith in
+    let within : c.args.head.now.body + c.args.head.now.count * item_size 1 c.args.head.now.kind ≤ length f = omega arith in
     let len = length-units_at f c.args.head.now.kind c.args.head.now.count c.args.head.now.body c.requires.kind within in
     let all : c.loop-done.done ≡ c.args.head.now.count = omega arith in
     let q = c.loop-done.invariant.quoted honest ∙ ap (λ n. cap (2 + length (flat_map quoted_unit (take n us)))) all in

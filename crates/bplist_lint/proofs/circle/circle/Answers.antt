@@ -1,6 +1,6 @@
 use Rattle.std.proofs.Common.{◌≡◌, arith, rules, length, replicate, false, sym, ◌∙◌}
 use Rattle.std.proofs.lemmas.List.{get_or_read}
-use Rattle.bplist_lint.proofs.TrailSteps.{numbers_named, placed_none, placed_more, leading_more, leading_start, is_circle, is_next, founded_all}
+use Rattle.bplist_lint.proofs.TrailSteps.{numbers_named, trail_none, trail_more, leading_more, leading_start, is_circle, is_next, founded_all}
 use Rattle.bplist_lint.proofs.circle.circle.Goals as goal
 use Rattle.bplist_lint.proofs.circle.circle.Goals.{else-walk-test, then-walk-test+in_ok-push+in_ok-m+in-None}
 
@@ -11,7 +11,7 @@ walk-init g c =
       same = cc;
       reads = cc;
       inside = c.requires.top;
-      placed = rw (all_new, c.in_ok-trail.ensures.items, ← c.requires.all_heights) (placed_none _);
+      placed = rw (all_new, c.in_ok-trail.ensures.items, ← c.requires.all_heights) (trail_none _);
       leading = λ honest whole. rw c.in_ok-trail.ensures.items (leading_start _ _ _ (c.requires.heights honest) c.requires.circular);
     }
 
@@ -25,7 +25,7 @@ walk-preserved g c =
       same = c.in_ok-m.ensures.same ∙ c.walk.invariant.same;
       reads = c.in_ok-m.ensures.reads ∙ c.walk.invariant.reads;
       inside = inside;
-      placed = rw c.in_ok-push.ensures.items (placed_more _ _ _ _ p c.walk.invariant.inside new);
+      placed = rw c.in_ok-push.ensures.items (trail_more _ _ _ _ p c.walk.invariant.inside new);
       leading = λ honest whole.
           let l = c.walk.invariant.leading honest whole in
           let n = is_next _ _ _ _ _ (c.requires.heights honest) l.reached (first honest (whole _ l.reached)) in

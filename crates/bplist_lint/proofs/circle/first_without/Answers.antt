@@ -1,7 +1,7 @@
 use Rattle.std.proofs.Common.{◌≡◌, ◌≢◌, ◌<◌, arith, length, slice_index, ◌∙◌}
 use Rattle.std.proofs.lemmas.Bool.{eqb-false}
 use Rattle.std.proofs.lemmas.Grind.{common_steps}
-use Rattle.bplist_lint.proofs.Parts.{part_all, first_in_part}
+use Rattle.bplist_lint.proofs.ReferenceParts.{part_all, first_in_part}
 use Rattle.bplist_lint.proofs.circle.first_without.Goals as goal
 
 pub loop-more-preserved : goal.loop-more-preserved

@@ -4,5 +4,5 @@ use Rattle.bplist_lint.proofs.heights.first_states.Given as goal
 
 abbrev pub invariant-loop-known : goal.invariant-loop-known
 invariant-loop-known l = record {
-  items : l.states.items ≡ map first_state (take l.known-index l.bare);
+  items : l.states.items ≡ map first_state (take l.known-index l.childless);
 }

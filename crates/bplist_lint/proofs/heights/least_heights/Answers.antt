@@ -10,7 +10,7 @@ loop-n-init g c = record {
   same = cc;
   reads = cc;
   empty = c.in_ok-walk.ensures.empty;
-  standing = rw (c.in_ok-walk.ensures.states, c.in_ok-walk.ensures.heights) (standing_first _ _ c.requires.all_bare);
+  standing = rw (c.in_ok-walk.ensures.states, c.in_ok-walk.ensures.heights) (standing_first _ _ c.requires.all_childless);
   sees = λ m h is. absurd (let low = marked_within c.args.marks.now m is in grind (arith, common_steps));
   walking = λ honest closed known. rw (c.in_ok-walk.ensures.states, c.in_ok-walk.ensures.heights) (walking_first _ _ _ known);
 }

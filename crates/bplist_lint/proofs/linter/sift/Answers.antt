@@ -12,11 +12,11 @@ returns-in_err-check_keys-clause-exact g c = λ honest.
     let p = err_from_is_err_and c.from_residual-in_err-check_keys.result c.from_residual-in_err-check_keys.ensures.1 in
     let known = c.in_ok-reached.ensures.exact honest in
     let w = known.0 in
-    let keys = (rw (c.deref-2.ensures.value, c.deref-3.ensures.value, c.in_ok-reached.ensures.reads) at c.in_err-check_keys.ensures.exact) honest w.marked w.tallied.kept w.bare (rw c.in-Some.is at known.1) in
+    let keys = (rw (c.deref-2.ensures.value, c.deref-3.ensures.value, c.in_ok-reached.ensures.reads) at c.in_err-check_keys.ensures.exact) honest w.marked w.tallied.kept w.childless (rw c.in-Some.is at known.1) in
     rw (p.1, p.2) (check_means _ _ no_circle c.in_err-check_keys.field-0.0 (λ fault h. inr (w.tallied.kept, h)) keys)
 
 pub returns-clause-exact : goal.returns-clause-exact
 returns-clause-exact g c = λ honest.
     let known = c.in_ok-reached.ensures.exact honest in
     let w = known.0 in
-    record { walked = w; keys = (rw (c.deref-2.ensures.value, c.deref-3.ensures.value, c.in_ok-reached.ensures.reads) at c.in_ok-check_keys.ensures.exact) honest w.marked w.tallied.kept w.bare (rw c.in-Some.is at known.1) }
+    record { walked = w; keys = (rw (c.deref-2.ensures.value, c.deref-3.ensures.value, c.in_ok-reached.ensures.reads) at c.in_ok-check_keys.ensures.exact) honest w.marked w.tallied.kept w.childless (rw c.in-Some.is at known.1) }

@@ -5,7 +5,7 @@ use Rattle.bplist_objects.specs.Framed.{frame_in}
 use Rattle.bplist_objects.specs.Safe.{ref_count}
 use Rattle.bplist_objects.specs.Scan.{nth_number}
 use Rattle.bplist_objects.proofs.BodyLaws.{refs_fit}
-use Rattle.bplist_lint.specs.Reaching.{number_at, reference_at}
+use Rattle.bplist_lint.specs.ReachSearch.{place_index, reference_at}
 use Rattle.bplist_lint.proofs.ReachSteps.{size_small, numbers_low, reference_at_k, all_good}
 use Rattle.bplist_lint.proofs.reach.are_good.Goals as goal
 
@@ -23,7 +23,7 @@ overflow_add-end g c =
     let h = c.args.head.now in
     let low = numbers_low f F h c.frame-frame.ensures.framed.safe.safe.ref_low c.requires.head in
     let few = size_small F in
-    omega (arith, low, few, c.requires.small, c.number_of-first.ensures, c.refs_of.ensures, c.frame-frame.ensures.framed.safe.safe.ref_high)
+    omega (arith, low, few, c.requires.small, c.place_index-first.ensures, c.refs_of.ensures, c.frame-frame.ensures.framed.safe.safe.ref_high)
 
 pub next_outside-number-requires : goal.next_outside-number-requires
 next_outside-number-requires g c =
@@ -31,7 +31,7 @@ next_outside-number-requires g c =
     let F : Frame = frame_in (g.P.Source.means c.args.src.now) in
     let h = c.args.head.now in
     let low = numbers_low f F h c.frame-frame.ensures.framed.safe.safe.ref_low c.requires.head in
-    omega (arith, low, c.number_of-first.ensures, c.requires.size)
+    omega (arith, low, c.place_index-first.ensures, c.requires.size)
 
 pub insert-requires : goal.insert-requires
 insert-requires g c =
@@ -39,7 +39,7 @@ insert-requires g c =
     let F : Frame = frame_in (g.P.Source.means c.args.src.now) in
     let h = c.args.head.now in
     let low = numbers_low f F h c.frame-frame.ensures.framed.safe.safe.ref_low c.requires.head in
-    omega (arith, low, c.loop-number-test.true, c.number_of-first.ensures, c.refs_of.ensures, c.loop-number.invariant.size, c.requires.size)
+    omega (arith, low, c.loop-number-test.true, c.place_index-first.ensures, c.refs_of.ensures, c.loop-number.invariant.size, c.requires.size)
 
 pub next_outside-number-requires-in-loop-number : goal.next_outside-number-requires-in-loop-number
 next_outside-number-requires-in-loop-number g c =
@@ -47,7 +47,7 @@ next_outside-number-requires-in-loop-number g c =
     let F : Frame = frame_in (g.P.Source.means c.args.src.now) in
     let h = c.args.head.now in
     let low = numbers_low f F h c.frame-frame.ensures.framed.safe.safe.ref_low c.requires.head in
-    omega (arith, low, c.loop-number-test.true, c.number_of-first.ensures, c.refs_of.ensures, c.insert.ensures.size, c.loop-number.invariant.size, c.requires.size)
+    omega (arith, low, c.loop-number-test.true, c.place_index-first.ensures, c.refs_of.ensures, c.insert.ensures.size, c.loop-number.invariant.size, c.requires.size)
 
 pub loop-number-preserved : goal.loop-number-preserved
 loop-number-preserved g c =
@@ -56,9 +56,9 @@ loop-number-preserved g c =
     let h = c.args.head.now in
     let i = c.loop-number.invariant in
     let j = c.loop-number.number in
-    let k = j - c.number_of-first.result in
+    let k = j - c.place_index-first.result in
     let below : k < ref_count h.kind h.count = omega (arith, c.loop-number-test.true, c.refs_of.ensures, i.from) in
-    let back : number_at F h.body + k ≡ j = omega (arith, c.number_of-first.ensures, i.from) in
+    let back : place_index F h.body + k ≡ j = omega (arith, c.place_index-first.ensures, i.from) in
     let at_j : reference_at f F j ≡ nth_number f h.body F.ref_size k = ap (reference_at f F) (sym back) ∙ reference_at_k f F h c.frame-frame.ensures.framed.safe.safe.ref_low c.requires.head k below in
     let next = c.next_outside-number-in-loop-number.ensures in
     let same = ap (λ v. v.items) next.words in
@@ -88,6 +88,6 @@ returns-clause-exact g c = λ honest known.
     let F : Frame = frame_in (g.P.Source.means c.args.src.now) in
     let h = c.args.head.now in
     let i = c.loop-number.invariant in (
-      (λ _. all_good f F h c.frame-frame.ensures.framed.safe.safe.ref_low c.requires.head c.loop-number.good.words.items (i.good honest known) (λ k low. i.known _ (omega (arith, c.number_of-first.ensures)) (omega (arith, low, c.loop-number-test.false, c.number_of-first.ensures, c.refs_of.ensures)))),
+      (λ _. all_good f F h c.frame-frame.ensures.framed.safe.safe.ref_low c.requires.head c.loop-number.good.words.items (i.good honest known) (λ k low. i.known _ (omega (arith, c.place_index-first.ensures)) (omega (arith, low, c.loop-number-test.false, c.place_index-first.ensures, c.refs_of.ensures)))),
       (λ _. search rules),
     )

@@ -1,7 +1,7 @@
 use Rattle.std.proofs.Common.{◌≡◌, ℕ, ◌-◌, ◌<◌, ◌≤◌}
 use Rattle.bplist_objects.specs.Framed.{HonestlyIn}
-use Rattle.bplist_lint.specs.PlaceSets.{IsIn}
-use Rattle.bplist_lint.specs.Reaching.{AreGood}
+use Rattle.bplist_lint.specs.BitSets.{IsIn}
+use Rattle.bplist_lint.specs.ReachSearch.{AreGood}
 use Rattle.bplist_lint.proofs.reach.are_good.Given as goal
 
 abbrev pub invariant-loop-number : goal.invariant-loop-number

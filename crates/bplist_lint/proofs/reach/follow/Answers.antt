@@ -8,8 +8,8 @@ use Rattle.bplist_objects.specs.Scan.{nth_number}
 use Rattle.bplist_objects.proofs.BodyLaws.{refs_fit}
 use Rattle.bplist_objects.proofs.References.{length-refs, nth-refs}
 use Rattle.bplist_keys.specs.Marks.{IsMarked}
-use Rattle.bplist_lint.specs.Reaching.{number_at, reference_at}
-use Rattle.bplist_lint.specs.declared.place_set.PlaceSet.{PlaceSet}
+use Rattle.bplist_lint.specs.ReachSearch.{place_index, reference_at}
+use Rattle.bplist_lint.specs.declared.bit_set.BitSet.{BitSet}
 use Rattle.bplist_lint.proofs.ReachSteps.{size_small, numbers_low, reference_at_k, all_marked}
 use Rattle.bplist_lint.proofs.HeightSteps.{among_at}
 use Rattle.bplist_lint.proofs.reach.follow.Goals as goal
@@ -28,7 +28,7 @@ overflow_add-end g c =
     let h = c.args.head.now in
     let low = numbers_low f F h c.frame-frame.ensures.framed.safe.safe.ref_low c.requires.head in
     let few = size_small F in
-    omega (arith, low, few, c.requires.small, c.number_of-first.ensures, c.refs_of.ensures, c.frame-frame.ensures.framed.safe.safe.ref_high)
+    omega (arith, low, few, c.requires.small, c.place_index-first.ensures, c.refs_of.ensures, c.frame-frame.ensures.framed.safe.safe.ref_high)
 
 pub next_outside-number-requires : goal.next_outside-number-requires
 next_outside-number-requires g c =
@@ -36,7 +36,7 @@ next_outside-number-requires g c =
     let F : Frame = frame_in (g.P.Source.means c.args.src.now) in
     let h = c.args.head.now in
     let low = numbers_low f F h c.frame-frame.ensures.framed.safe.safe.ref_low c.requires.head in
-    omega (arith, low, c.number_of-first.ensures, c.requires.ready.followed_size)
+    omega (arith, low, c.place_index-first.ensures, c.requires.ready.followed_size)
 
 pub insert-requires : goal.insert-requires
 insert-requires g c =
@@ -44,7 +44,7 @@ insert-requires g c =
     let F : Frame = frame_in (g.P.Source.means c.args.src.now) in
     let h = c.args.head.now in
     let low = numbers_low f F h c.frame-frame.ensures.framed.safe.safe.ref_low c.requires.head in
-    omega (arith, low, c.loop-number-test.true, c.number_of-first.ensures, c.refs_of.ensures, c.loop-number.invariant.ready.followed_size)
+    omega (arith, low, c.loop-number-test.true, c.place_index-first.ensures, c.refs_of.ensures, c.loop-number.invariant.ready.followed_size)
 
 pub next_outside-number-requires-in-loop-number : goal.next_outside-number-requires-in-loop-number
 next_outside-number-requires-in-loop-number g c =
@@ -52,8 +52,8 @@ next_outside-number-requires-in-loop-number g c =
     let F : Frame = frame_in (g.P.Source.means c.args.src.now) in
     let h = c.args.head.now in
     let low = numbers_low f F h c.frame-frame.ensures.framed.safe.safe.ref_low c.requires.head in
-    let same = ap (λ (s : PlaceSet). s.size) c.mark.ensures.followed in
-    omega (arith, low, same, c.loop-number-test.true, c.number_of-first.ensures, c.refs_of.ensures, c.insert.ensures.size, c.loop-number.invariant.ready.followed_size)
+    let same = ap (λ (s : BitSet). s.size) c.mark.ensures.followed in
+    omega (arith, low, same, c.loop-number-test.true, c.place_index-first.ensures, c.refs_of.ensures, c.insert.ensures.size, c.loop-number.invariant.ready.followed_size)
 
 pub loop-number-preserved : goal.loop-number-preserved
 loop-number-preserved g c =
@@ -62,21 +62,21 @@ loop-number-preserved g c =
     let h = c.args.head.now in
     let i = c.loop-number.invariant in
     let j = c.loop-number.number in
-    let k = j - c.number_of-first.result in
+    let k = j - c.place_index-first.result in
     let low : k < ref_count h.kind h.count = omega (arith, c.loop-number-test.true, c.refs_of.ensures, i.from) in
-    let back : number_at F h.body + k ≡ j = omega (arith, c.number_of-first.ensures, i.from) in
+    let back : place_index F h.body + k ≡ j = omega (arith, c.place_index-first.ensures, i.from) in
     let at_j : reference_at f F j ≡ nth_number f h.body F.ref_size k = ap (reference_at f F) (sym back) ∙ reference_at_k f F h c.frame-frame.ensures.framed.safe.safe.ref_low c.requires.head k low in
     let next = c.next_outside-number-in-loop-number.ensures in
-    let same = ap (λ v. v.items) next.words ∙ ap (λ (s : PlaceSet). s.words.items) c.mark.ensures.followed in
-    let before = rw (ap (λ (s : PlaceSet). s.words.items) c.mark.ensures.followed) at next.before in
+    let same = ap (λ v. v.items) next.words ∙ ap (λ (s : BitSet). s.words.items) c.mark.ensures.followed in
+    let before = rw (ap (λ (s : BitSet). s.words.items) c.mark.ensures.followed) at next.before in
     let m = c.object_in-m.result in
     record {
       reads = c.in_ok-reference.ensures.reads ∙ i.reads;
       ready = record {
         all_marks = c.mark.ensures.all_marks ∙ i.ready.all_marks;
         stack_in = (rw i.ready.all_marks at c.in_ok-mark.ensures.stack_in) i.ready.stack_in;
-        good_size = ap (λ (s : PlaceSet). s.size) c.mark.ensures.good ∙ i.ready.good_size;
-        followed_size = next.size ∙ ap (λ (s : PlaceSet). s.size) c.mark.ensures.followed ∙ c.insert.ensures.size ∙ i.ready.followed_size;
+        good_size = ap (λ (s : BitSet). s.size) c.mark.ensures.good ∙ i.ready.good_size;
+        followed_size = next.size ∙ ap (λ (s : BitSet). s.size) c.mark.ensures.followed ∙ c.insert.ensures.size ∙ i.ready.followed_size;
       };
       good = c.mark.ensures.good ∙ i.good;
       from = omega (arith, next.from, i.from);
@@ -111,6 +111,6 @@ returns-clause-exact g c = λ honest below all.
     let i = c.loop-number.invariant in
     let followed = i.followed honest below all in (
       i.looked honest below all,
-      all_marked f F h c.frame-frame.ensures.framed.safe.safe.ref_low c.requires.head c.loop-number.search.followed.words.items c.loop-number.search.marks.items followed (λ k low. i.known _ (omega (arith, c.number_of-first.ensures)) (omega (arith, low, c.loop-number-test.false, c.number_of-first.ensures, c.refs_of.ensures))),
+      all_marked f F h c.frame-frame.ensures.framed.safe.safe.ref_low c.requires.head c.loop-number.search.followed.words.items c.loop-number.search.marks.items followed (λ k low. i.known _ (omega (arith, c.place_index-first.ensures)) (omega (arith, low, c.loop-number-test.false, c.place_index-first.ensures, c.refs_of.ensures))),
       followed,
     )

@@ -3,8 +3,8 @@ use Rattle.bplist_objects.specs.Framed.{frame_in, HonestlyIn}
 use Rattle.bplist_objects.specs.Heads.{content_at, refs}
 use Rattle.bplist_objects.specs.Safe.{ref_count}
 use Rattle.bplist_objects.specs.Scan.{AreBelow}
-use Rattle.bplist_lint.specs.PlaceSets.{IsIn}
-use Rattle.bplist_lint.specs.Reaching.{IsReady, AreFollowed, Looked}
+use Rattle.bplist_lint.specs.BitSets.{IsIn}
+use Rattle.bplist_lint.specs.ReachSearch.{IsReady, AreFollowed, Looked}
 use Rattle.bplist_lint.proofs.reach.follow.Given as goal
 
 abbrev pub invariant-loop-number : goal.invariant-loop-number

@@ -4,7 +4,7 @@ use Rattle.std.proofs.lemmas.List.{nil_from_length}
 use Rattle.bplist_objects.specs.declared.frame.Frame.{Frame}
 use Rattle.bplist_objects.specs.Framed.{frame_in}
 use Rattle.bplist_objects.specs.Spelled.{refs_at}
-use Rattle.bplist_lint.specs.declared.place_set.PlaceSet.{PlaceSet}
+use Rattle.bplist_lint.specs.declared.bit_set.BitSet.{BitSet}
 use Rattle.bplist_lint.proofs.ObjectReferences.{no_refs_shape, broken_count, refs_as_shape}
 use Rattle.bplist_lint.proofs.ReachSteps.{searching_step, searching_none}
 use Rattle.bplist_lint.proofs.reach.look_at.Goals as goal
@@ -21,7 +21,7 @@ returns-in_ok-follow-clause-searching g c = λ honest w.
     let below = exact.0 c.if-all.true in
     let same = refs_as_shape _ _ c.args.n c.in-Some.head has below in
     let follow = (rw (c.in_ok-all.ensures.reads, c.in_ok-head.ensures.reads) at c.in_ok-follow.ensures.exact) honest below w.known_followed in
-    searching_step _ _ c.args.n _ _ _ _ _ _ _ _ w (rw same follow.0) (rw same follow.1) (rw (ap (λ (s : PlaceSet). s.words.items) c.follow.ensures.good) good) follow.2
+    searching_step _ _ c.args.n _ _ _ _ _ _ _ _ w (rw same follow.0) (rw same follow.1) (rw (ap (λ (s : BitSet). s.words.items) c.follow.ensures.good) good) follow.2
 
 pub returns-else-all-clause-searching : goal.returns-else-all-clause-searching
 returns-else-all-clause-searching g c = λ honest w.

@@ -1,6 +1,6 @@
 use Rattle.std.proofs.Common.{◌≡◌, ◌+◌, not, count_by, vec_len}
 use Rattle.bplist_objects.specs.Framed.{frame_in, HonestlyIn}
-use Rattle.bplist_lint.specs.Reaching.{IsReady, Searching}
+use Rattle.bplist_lint.specs.ReachSearch.{IsReady, Searching}
 use Rattle.bplist_lint.proofs.reach.mark_reached.Given as goal
 
 abbrev pub invariant-loop-n : goal.invariant-loop-n

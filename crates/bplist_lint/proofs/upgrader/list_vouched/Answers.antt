@@ -5,7 +5,7 @@ use Rattle.bplist_objects.specs.declared.frame.Frame.{Frame}
 use Rattle.bplist_objects.specs.Framed.{frame_in}
 use Rattle.bplist_cert.specs.Valid.{IsVouchedBy}
 use Rattle.bplist_cert.proofs.AcceptedCertificates.{valid_seen}
-use Rattle.bplist_lint.proofs.Writes.{nothing, unwritten}
+use Rattle.bplist_lint.proofs.ListWrites.{nothing, unwritten}
 use Rattle.bplist_lint.proofs.ListSteps.{listed_none, listed_over}
 use Rattle.bplist_lint.proofs.UpgradeSteps.{check_no_change}
 use Rattle.bplist_lint.proofs.upgrader.list_vouched.Goals as goal

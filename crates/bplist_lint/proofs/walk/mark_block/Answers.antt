@@ -1,7 +1,7 @@
 use Rattle.std.proofs.Common.{◌≡◌, ◌<◌, ◌+◌, arith, true, false, not, length, get_or, refl, sym, ◌∙◌, below_more, vec_len}
 use Rattle.std.proofs.lemmas.Grind.{common_steps, elements}
 use Rattle.std.proofs.lemmas.List.{get_or_read}
-use Rattle.bplist_lint.proofs.Writes.{count-set}
+use Rattle.bplist_lint.proofs.ListWrites.{count-set}
 use Rattle.bplist_lint.proofs.MarkSteps.{noted_none, note_old, note_later, note_new}
 use Rattle.bplist_lint.proofs.walk.mark_block.Goals as goal
 use Rattle.bplist_lint.proofs.walk.mark_block.Goals.{then-not-index+then-m-worklist+in_ok-push, then-not-index+else-m-worklist, else-not-index}

@@ -1,5 +1,5 @@
 use Rattle.std.proofs.Common.{◌≡◌, ℕ, ◌+◌, ◌≤◌, ◌<◌, not, count_by, get_or, vec_len}
-use Rattle.bplist_lint.specs.Walks.{IsSteady, Noted}
+use Rattle.bplist_lint.specs.ReachWalk.{IsSteady, Noted}
 use Rattle.bplist_lint.proofs.walk.mark_block.Given as goal
 
 abbrev pub invariant-loop-number : goal.invariant-loop-number

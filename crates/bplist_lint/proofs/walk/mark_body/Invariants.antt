@@ -5,7 +5,7 @@ use Rattle.bplist_objects.specs.Scan.{AreBelow}
 use Rattle.bplist_objects.specs.declared.kind.Kind.TheVariants.{Dict}
 use Rattle.bplist_keys.specs.Classes.{key_ref}
 use Rattle.bplist_keys.specs.Marks.{IsMarked}
-use Rattle.bplist_lint.specs.Walks.{IsSteady, Noted}
+use Rattle.bplist_lint.specs.ReachWalk.{IsSteady, Noted}
 use Rattle.bplist_lint.proofs.walk.mark_body.Given as goal
 
 abbrev pub invariant-loop-done : goal.invariant-loop-done

@@ -10,7 +10,7 @@ use Rattle.bplist_lint.proofs.walk.visit_all.Goals.{then-index+in_ok-visit_from,
 pub loop-n-init : goal.loop-n-init
 loop-n-init g c =
     let marks_new : c.in_ok-marks.marks.items ≡ replicate c.frame-frame.result.objects false = search rules in
-    let bare_new : c.in_ok-bare.bare.items ≡ replicate c.frame-frame.result.objects false = search rules in
+    let childless_new : c.in_ok-childless.childless.items ≡ replicate c.frame-frame.result.objects false = search rules in
     record {
       reads = cc;
       steady = search rules;
@@ -18,7 +18,7 @@ loop-n-init g c =
       walking = λ honest.
           let f = (g.P.Source.means c.args.src.now).octets in
           let F : Frame = frame_in (g.P.Source.means c.args.src.now) in
-          rw (marks_new, bare_new, c.new-2.ensures, c.frame-frame.ensures.frame) (walking_start f F c.frame-frame.ensures.framed.safe.top _);
+          rw (marks_new, childless_new, c.new-2.ensures, c.frame-frame.ensures.frame) (walking_start f F c.frame-frame.ensures.framed.safe.top _);
     }
 
 pub loop-n-preserved : goal.loop-n-preserved

@@ -1,6 +1,6 @@
 use Rattle.std.proofs.Common.{◌≡◌, [], vec_len}
 use Rattle.bplist_objects.specs.Framed.{frame_in, HonestlyIn}
-use Rattle.bplist_lint.specs.Walks.{IsSteadyWalk, Walking}
+use Rattle.bplist_lint.specs.ReachWalk.{IsSteadyWalk, Walking}
 use Rattle.bplist_lint.proofs.walk.visit_all.Given as goal
 
 abbrev pub invariant-loop-n : goal.invariant-loop-n

@@ -24,7 +24,7 @@ visit-requires-in-Some-clause-steady g c =
     let all = s.worklist.stack_in in
     rw c.loop-m.invariant.reads (record {
       worklist = record { all_marks = s.worklist.all_marks; stack_in = grind (arith, elements) };
-      all_bare = s.all_bare;
+      all_childless = s.all_childless;
       all_named = s.all_named;
       roomy = s.roomy;
     })

@@ -1,7 +1,7 @@
 use Rattle.std.proofs.Common.{◌≡◌, ◌+◌, not, [], count_by, vec_len}
 use Rattle.bplist_objects.specs.Framed.{frame_in, HonestlyIn}
 use Rattle.bplist_keys.specs.Marks.{IsMarked}
-use Rattle.bplist_lint.specs.Walks.{IsSteadyWalk, Walking}
+use Rattle.bplist_lint.specs.ReachWalk.{IsSteadyWalk, Walking}
 use Rattle.bplist_lint.proofs.walk.visit_from.Given as goal
 
 abbrev pub invariant-loop-m : goal.invariant-loop-m

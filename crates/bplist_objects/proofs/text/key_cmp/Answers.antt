@@ -2,7 +2,7 @@ use Rattle.std.proofs.Common.{◌≡◌, ◌+◌, ◌*◌, ◌-◌, ◌≤◌, �
 use Rattle.std.proofs.lemmas.Bool.{cases_lt}
 use Rattle.std.proofs.lemmas.List.{length-take-le}
 use Rattle.bplist_octets.specs.Octets.{part}
-use Rattle.bplist_objects.specs.Announced.{unit}
+use Rattle.bplist_objects.specs.Announced.{item_size}
 use Rattle.bplist_objects.specs.Units.{units_of, compare_units}
 use Rattle.bplist_objects.proofs.Units.{length-units_at}
 use Rattle.bplist_objects.proofs.UnitOrder.{block_decides, block_same, lengths_decide, ne_not_equal, eq_is_equal}
@@ -16,7 +16,7 @@ returns-then-is_ne-clause-value g c = λ honest.
     let vs = c.args.units.now in
     let done = c.loop-done.done in
     let now = c.min-now.result in
-    let within : head.body + head.count * unit 1 head.kind ≤ length f = omega arith in
+    let within : head.body + head.count * item_size 1 head.kind ≤ length f = omega arith in
     let all = length-units_at f head.kind head.count head.body c.requires.kind within in
     let filled = (rw c.loop-done.invariant.same at c.in_ok-read_units.ensures.units) honest ∙ ap (part us done) (length-take-le now c.loop-done.buffer (omega arith)) in
     let behind : done + now - done ≡ now = omega arith in
@@ -46,7 +46,7 @@ returns-clause-value g c = λ honest.
     let head = c.args.head.now in
     let us = units_of f head in
     let vs = c.args.units.now in
-    let within : head.body + head.count * unit 1 head.kind ≤ length f = omega arith in
+    let within : head.body + head.count * item_size 1 head.kind ≤ length f = omega arith in
     let all = length-units_at f head.kind head.count head.body c.requires.kind within in
     let short : (length us ≤ c.loop-done.done) ⊎ (length vs ≤ c.loop-done.done) = elim (cases_lt (length vs) head.count) [ inl l ↦ inr (omega arith) | inr l ↦ inl (omega (arith, all)) ] in
     c.cmp.ensures

@@ -1,5 +1,5 @@
 use Rattle.std.proofs.Common.{◌+◌, ◌*◌, ◌≤◌, arith, length, Result, Ok, Err, OnOk}
-use Rattle.bplist_objects.specs.Announced.{unit}
+use Rattle.bplist_objects.specs.Announced.{item_size}
 use Rattle.bplist_objects.proofs.Units.{units_part}
 use Rattle.bplist_objects.proofs.text.read_units.Goals as goal
 
@@ -12,8 +12,8 @@ pub returns-clause-units : goal.returns-clause-units
 returns-clause-units g c =
     let f = (g.S.Source.means c.args.src.now).octets in
     let head = c.args.head.now in
-    let within : head.body + head.count * unit 1 head.kind ≤ length f = omega arith in
-    let here = rw c.unit_of-size.ensures at c.units_in.ensures.numbers in
+    let within : head.body + head.count * item_size 1 head.kind ≤ length f = omega arith in
+    let here = rw c.item_size-size.ensures at c.units_in.ensures.numbers in
     on_ok c.units_in.result
     (λ numbers honest. units_part f head.kind head.count head.body c.args.from (length c.args.into.now) c.units_in.new.into c.requires.kind within c.requires.within c.units_in.auto.into (numbers honest))
     here

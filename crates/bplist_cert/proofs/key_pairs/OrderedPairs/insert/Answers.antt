@@ -5,7 +5,7 @@ use Rattle.bplist_cert.proofs.key_pairs.OrderedPairs.insert.Goals as goal
 
 pub returns : goal.returns
 returns c = λ f F known asc. (
-  subst (λ p. ArePairs f F (set c.args.self.now.rows c.row_of.result p)) (sym c.pair_of-pair.ensures)
-      (pairs_more f F c.args.self.now.rows c.row_of.result c.args.a c.args.b (omega (arith, c.row_of.ensures)) c.ranges.b.fits known.0 asc),
+  subst (λ p. ArePairs f F (set c.args.self.now.slots c.slot_of.result p)) (sym c.pair_of-pair.ensures)
+      (pairs_more f F c.args.self.now.slots c.slot_of.result c.args.a c.args.b (omega (arith, c.slot_of.ensures)) c.ranges.b.fits known.0 asc),
   known.1,
 )

@@ -1,4 +1,4 @@
-use Rattle.bplist_cert.proofs.LowSteps.{low_none}
+use Rattle.bplist_cert.proofs.LowBytes.{low_none}
 use Rattle.bplist_cert.proofs.low_bytes.LowBytes.new.Goals as goal
 
 pub returns : goal.returns

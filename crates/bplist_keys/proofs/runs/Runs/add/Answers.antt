@@ -17,7 +17,7 @@ returns c = λ f first second runs agree.
     let most : units ≤ c.args.units = omega (arith, c.min.ensures, c.min-units.ensures) in
     let a_size = c.size_of-size.ensures.unit in
     let b_size = c.if-size-size_of.false ∙ c.size_of.ensures.unit in
-    All-set (IsRun f) c.args.self.now.rows c.row_of.result _ (elim (cases_lt b.body a.body) [
+    All-set (IsRun f) c.args.self.now.slots c.slot_of.result _ (elim (cases_lt b.body a.body) [
       | inr l ↦ agree_runs f a b a_kind b_kind first second _ a_size b_size (omega (arith, l, c.min-from.ensures)) (omega (arith, l, c.min-from.ensures, c.max.ensures)) c.args.units most few low agree
       | inl l ↦ agree_runs f b a b_kind a_kind second first _ b_size a_size (omega (arith, l, c.min-from.ensures)) (omega (arith, l, c.min-from.ensures, c.max.ensures)) c.args.units most low few (sym agree)
     ]) runs

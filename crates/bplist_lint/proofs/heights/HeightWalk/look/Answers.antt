@@ -3,7 +3,7 @@ use Rattle.std.proofs.lemmas.Bool.{eqb-false}
 use Rattle.std.proofs.lemmas.Grind.{common_steps}
 use Rattle.bplist_lint.specs.HeightWalks.{state_at}
 use Rattle.bplist_lint.specs.declared.heights.State.TheVariants.{Founded}
-use Rattle.bplist_lint.proofs.Parts.{contains_part, part_all}
+use Rattle.bplist_lint.proofs.ReferenceParts.{contains_part, part_all}
 use Rattle.bplist_lint.proofs.HeightSteps.{greatest_part}
 use Rattle.bplist_lint.proofs.heights.HeightWalk.look.Goals as goal
 

@@ -1,0 +1,181 @@
+-- The text of a map, and its way to the writer.
+use Rattle.std.proofs.Common.{◌≡◌, inl, inr, ℕ, ◌+◌, ◌<◌, ◌≤◌, List, [], ◌∷◌, ◌++◌, max, length, map, drop, cond, nat_lt, Bool, true, false, refl, sym, ap, ◌∙◌, subst, add-one, append_assoc, append-nil, Option, None, Some, Result, Ok, Err, get_or, arith, codes}
+use Rattle.std.proofs.lemmas.Grind.{flat_map-append}
+use Rattle.std.proofs.lemmas.List.{drop_all, get_or-map, length-map}
+use Rattle.std.proofs.Math.Seq.{drop-cons}
+use Rattle.bplist_objects.specs.declared.frame.Frame.{Frame}
+use Rattle.std.specs.Io.KnownBytes.{Appends, Keeps}
+use Rattle.bplist_objects.specs.declared.fault.Fault.{Fault}
+use Rattle.bplist_objects.specs.FrameRules.{IsFrameFault}
+use Rattle.bplint_lines.specs.Faults.{IsExcused}
+use Rattle.bplist_objects.specs.Frame.{IsFrame, off}
+use Rattle.bplist_ascii.specs.Sending.{Sending, SendsSome, Takes, TakesPart, IsCut, IsOut}
+use Rattle.bplist_ascii.proofs.SinkSteps.{out_end, out_part, out_start, out_takes, part_of_more, takes_then_part, takes_then_some}
+use Rattle.bplint_lines.specs.declared.fault.RunFault.{RunFault}
+use Rattle.bplint_lines.specs.declared.fault.RunFault.TheVariants as faults
+use Rattle.bplint_map.specs.declared.object_order.ObjectOffset.{ObjectOffset}
+use Rattle.bplint_map.specs.declared.rows.Finding.{Finding}
+use Rattle.bplint_map.specs.declared.rows.Row.{Row}
+use Rattle.bplint_map.specs.declared.verdict.Verdict.{Verdict}
+use Rattle.bplint_lines.specs.declared.said.Said.TheVariants.{All}
+use Rattle.bplint_lines.specs.declared.said.Said.{Said}
+use Rattle.bplint_lines.specs.Answers.{BeginsAnswer, LeavesBy, gives}
+use Rattle.bplint_map.proofs.Findings.{findings_of}
+use Rattle.bplint_map.specs.Layout.{object, region, before, parts, row_end}
+use Rattle.bplint_map.specs.Lines.{region_line, region_lines, part_line, part_lines}
+use Rattle.bplint_map.specs.Map.{IsVerdict, MapSays, PutsSome, map_text}
+use Rattle.bplint_map.specs.Rows.{AreFindings, IsByPlace, left_behind, placed, row, rows}
+
+-- ---- the text
+module _ (verdict : Verdict) (table : ℕ) where
+  row_lines : (reached : ℕ) (first : Row) (others : List Row) → part_lines verdict (parts table reached (first ∷ others))
+      ≡ part_lines verdict (before reached first ++ object first ∷ []) ++ part_lines verdict (parts table (max reached (row_end first)) others)
+  row_lines reached first others =
+      let rest = parts table (max reached (row_end first)) others in
+      ap (part_lines verdict) (sym (append_assoc (before reached first) (object first ∷ []) rest))
+      ∙ flat_map-append (part_line verdict) (before reached first ++ object first ∷ []) rest
+
+  pub last_lines : (reached : ℕ) → part_lines verdict (parts table reached []) ≡ region_lines reached table (codes "gap")
+  last_lines reached = go (nat_lt reached table)
+    where
+      go : (t : Bool) → part_lines verdict (cond t (region (codes "gap") reached table ∷ []) []) ≡ cond t (region_line reached table (codes "gap")) []
+      go true = append-nil (region_line reached table (codes "gap"))
+      go false = refl
+
+  module _ (f : List ℕ) (F : Frame) (findings : ℕ → Finding) where
+    -- one more row of a list of objects
+    pub more_lines : (reached left left' i : ℕ) (order : List ℕ) (objects : List ObjectOffset) (found : Row) (o d : ObjectOffset) → objects ≡ map (placed f F) order
+        → i < length objects → o ≡ get_or objects i d → found ≡ row f F findings left o.number → left' ≡ left_behind left o.place (findings o.number)
+        → part_lines verdict (parts table reached (rows f F findings left (drop i order)))
+        ≡ part_lines verdict (before reached found ++ object found ∷ []) ++ part_lines verdict (parts table (max reached (row_end found)) (rows f F findings left' (drop (i + 1) order)))
+    more_lines reached left left' i order objects found o d all low at is behind =
+        let long : length objects ≡ length order = ap length all ∙ length-map order (placed f F) in
+        let n = get_or order i 0 in
+        let here : o ≡ placed f F n = at ∙ ap (λ l. get_or l i d) all ∙ get_or-map (placed f F) order i 0 d (omega (arith, low, long)) in
+        let r : found ≡ row f F findings left n = is ∙ ap (λ (p : ObjectOffset). row f F findings left p.number) here in
+        let b : left' ≡ left_behind left (off f F n) (findings n) = behind ∙ ap (λ (p : ObjectOffset). left_behind left p.place (findings p.number)) here in
+        let e : drop i order ≡ n ∷ drop (i + 1) order = drop-cons order i 0 (omega (arith, low, long)) ∙ ap (λ k. n ∷ drop k order) (sym (add-one i)) in
+        rw (e, r, b) (row_lines reached (row f F findings left n) (rows f F findings (left_behind left (off f F n) (findings n)) (drop (i + 1) order)))
+
+    pub no_more_lines : (reached left i : ℕ) (order : List ℕ) (objects : List ObjectOffset) → objects ≡ map (placed f F) order → length objects ≤ i
+        → part_lines verdict (parts table reached (rows f F findings left (drop i order))) ≡ region_lines reached table (codes "gap")
+    no_more_lines reached left i order objects all low =
+        let long : length objects ≡ length order = ap length all ∙ length-map order (placed f F) in
+        rw (drop_all i order (omega (arith, low, long))) (last_lines reached)
+
+    -- the text after one more row
+    pub stepped : (are : AreFindings f F findings) (text done : List ℕ) (reached left left' i : ℕ) (order : List ℕ) (objects : List ObjectOffset) (found : Row) (d : ObjectOffset)
+        → objects ≡ map (placed f F) order → i < length objects
+        → text ≡ done ++ part_lines verdict (parts table reached (rows f F findings left (drop i order)))
+        → (get_or objects i d ≡ placed f F (get_or objects i d).number → (findings : ℕ → Finding) → AreFindings f F findings
+        → (found ≡ row f F findings left (get_or objects i d).number) × (left' ≡ left_behind left (get_or objects i d).place (findings (get_or objects i d).number)))
+        → text ≡ done ++ (part_lines verdict (before reached found ++ object found ∷ []) ++ part_lines verdict (parts table (max reached (row_end found)) (rows f F findings left' (drop (i + 1) order))))
+    stepped are text done reached left left' i order objects found d all low so_far reads =
+        let long : length objects ≡ length order = ap length all ∙ length-map order (placed f F) in
+        let n = get_or order i 0 in
+        let here : get_or objects i d ≡ placed f F n = ap (λ l. get_or l i d) all ∙ get_or-map (placed f F) order i 0 d (omega (arith, low, long)) in
+        let own : get_or objects i d ≡ placed f F (get_or objects i d).number = here ∙ ap (λ (p : ObjectOffset). placed f F p.number) (sym here) in
+        let r = reads own findings are in
+        so_far ∙ ap (λ l. done ++ l) (more_lines reached left left' i order objects found (get_or objects i d) d all low refl r.0 r.1)
+
+-- ---- the sink
+module _ (old mid new : Option (List ℕ)) (s t : Sending) where
+  -- a part was put in, and the next was not
+  pub then_some : (text xs ys : List ℕ) (fault : RunFault) → Takes old mid s t xs → PutsSome mid new t ys fault → text ≡ xs ++ ys → PutsSome old new s text fault
+  then_some text xs ys (faults.Write k) takes part e = rw e (takes_then_part old mid new s t xs ys k takes part)
+  then_some text xs ys (faults.Read _) takes some e = rw e (ended takes some)
+    where
+      ended : Takes old mid s t xs → SendsSome mid new (t.held ++ ys) → SendsSome old new (s.held ++ (xs ++ ys))
+      ended takes some = subst (λ l. SendsSome old new (s.held ++ (xs ++ l))) (append-nil ys) (takes_then_some old mid new ys [] takes some)
+  then_some text xs ys faults.Memory takes some e = rw e (subst (λ l. SendsSome old new (s.held ++ (xs ++ l))) (append-nil ys) (takes_then_some old mid new ys [] takes some))
+  then_some text xs ys (faults.Fault _) takes some e = absurd some
+  then_some text xs ys (faults.Circle _) takes some e = absurd some
+  then_some text xs ys (faults.Path _) takes some e = absurd some
+  then_some text xs ys (faults.NoAsciiForm _) takes some e = absurd some
+  then_some text xs ys faults.TooLong takes some e = absurd some
+  then_some text xs ys faults.Hex takes some e = absurd some
+  then_some text xs ys faults.Changed takes some e = absurd some
+  then_some text xs ys faults.Open takes some e = absurd some
+  then_some text xs ys faults.InputTooLong takes some e = absurd some
+
+module _ (old new : Option (List ℕ)) (s : Sending) where
+  -- what is not put in of a text is not put in of a longer one
+  pub some_of_more : (text xs ys : List ℕ) (fault : RunFault) → PutsSome old new s xs fault → text ≡ xs ++ ys → PutsSome old new s text fault
+  some_of_more text xs ys (faults.Write k) part e = rw e (part_of_more old new s xs ys k part)
+  some_of_more text xs ys (faults.Read _) some e = rw e (longer some)
+    where
+      longer : SendsSome old new (s.held ++ xs) → SendsSome old new (s.held ++ (xs ++ ys))
+      longer p = (p.0, p.1 ++ ys, p.2, sym (append_assoc s.held xs ys) ∙ ap (λ l. l ++ ys) p.3 ∙ append_assoc p.0 p.1 ys)
+  some_of_more text xs ys faults.Memory p e = rw e (p.0, p.1 ++ ys, p.2, sym (append_assoc s.held xs ys) ∙ ap (λ l. l ++ ys) p.3 ∙ append_assoc p.0 p.1 ys)
+  some_of_more text xs ys (faults.Fault _) some e = absurd some
+  some_of_more text xs ys (faults.Circle _) some e = absurd some
+  some_of_more text xs ys (faults.Path _) some e = absurd some
+  some_of_more text xs ys (faults.NoAsciiForm _) some e = absurd some
+  some_of_more text xs ys faults.TooLong some e = absurd some
+  some_of_more text xs ys faults.Hex some e = absurd some
+  some_of_more text xs ys faults.Changed some e = absurd some
+  some_of_more text xs ys faults.Open some e = absurd some
+  some_of_more text xs ys faults.InputTooLong some e = absurd some
+
+-- ---- what is left with the writer
+-- what a run leaves with the writer, where after a failed read or refused memory any first part of the map may be out
+abbrev LeavesMap : List ℕ → Option (List ℕ) → Option (List ℕ) → Result Said RunFault → Type 0
+LeavesMap f old new result = (most : ℕ) × LeavesBy (MapSays f) most old new result
+
+kept_self : (old : Option (List ℕ)) → Keeps old old
+kept_self None = tt
+kept_self (Some xs) = refl
+
+nothing_added : (old : Option (List ℕ)) → Appends old old []
+nothing_added None = tt
+nothing_added (Some xs) = sym (append-nil xs)
+
+-- the file breaks one of rules 1 to 13
+pub fault_out : (f : List ℕ) (old : Option (List ℕ)) (fault : Fault) → IsFrameFault f fault → LeavesMap f old old (Err (faults.Fault fault))
+fault_out f old fault h = (0, (h, kept_self old))
+
+-- a read failed or memory was refused before anything was put in
+pub excused_out : (f : List ℕ) (old : Option (List ℕ)) (fault : RunFault) → IsExcused fault → LeavesMap f old old (Err fault)
+excused_out f old (faults.Read _) h = (0, (([], omega arith, nothing_added old), inl (kept_self old)))
+excused_out f old faults.Memory h = (0, (([], omega arith, nothing_added old), inl (kept_self old)))
+excused_out f old _ h = absurd h
+
+module _ (f : List ℕ) (F : Frame) (frame : IsFrame f F) (verdict : Verdict) (linted : IsVerdict f verdict) (order : List ℕ) (by_place : IsByPlace f F order) where
+  -- the map of the file
+  abbrev pub the_map : List ℕ
+  the_map = map_text f F verdict (findings_of f F frame).0 order
+
+  says : MapSays f (gives All the_map)
+  says = (F, verdict, (findings_of f F frame).0, order, frame, linted, (findings_of f F frame).1, by_place, refl, refl)
+
+  -- a first part of it went out
+  begun : (old new : Option (List ℕ)) → SendsSome old new the_map → (most : ℕ) × BeginsAnswer (MapSays f) most old new
+  begun old new some = (length some.0, ((some.0, omega arith, some.2), inr (All, the_map, says, some)))
+
+  -- it was not put in
+  pub map_cut : (old new : Option (List ℕ)) (s : Sending) (fault : RunFault) → s ≡ record { sent = 0; held = [] } → PutsSome old new s the_map fault → LeavesMap f old new (Err fault)
+  map_cut old new s (faults.Write k) start part =
+      (0, (All, the_map, says, out_part old old new s [] the_map k (out_start old s (ap (λ x. x.sent) start) (ap (λ x. x.held) start)) part))
+  map_cut old new s (faults.Read _) start some = begun old new (subst (λ l. SendsSome old new (l ++ the_map)) (ap (λ x. x.held) start) some)
+  map_cut old new s faults.Memory start some = begun old new (subst (λ l. SendsSome old new (l ++ the_map)) (ap (λ x. x.held) start) some)
+  map_cut old new s (faults.Fault _) start some = absurd some
+  map_cut old new s (faults.Circle _) start some = absurd some
+  map_cut old new s (faults.Path _) start some = absurd some
+  map_cut old new s (faults.NoAsciiForm _) start some = absurd some
+  map_cut old new s faults.TooLong start some = absurd some
+  map_cut old new s faults.Hex start some = absurd some
+  map_cut old new s faults.Changed start some = absurd some
+  map_cut old new s faults.Open start some = absurd some
+  map_cut old new s faults.InputTooLong start some = absurd some
+
+  module _ (old mid new : Option (List ℕ)) (s t u : Sending) (start : s ≡ record { sent = 0; held = [] }) (takes : Takes old mid s t the_map) where
+    held : IsOut old mid t ([] ++ the_map)
+    held = out_takes (out_start old s (ap (λ x. x.sent) start) (ap (λ x. x.held) start)) takes
+
+    -- its end was not sent
+    pub end_cut : (k : ℕ) → TakesPart mid new t [] k → LeavesMap f old new (Err (faults.Write k))
+    end_cut k part = (0, (All, the_map, says, subst (λ l. IsCut old new l k) (append-nil the_map) (out_part old mid new t ([] ++ the_map) [] k held part)))
+
+    -- all of it was sent
+    pub all_out : Takes mid new t u [] → u.held ≡ [] → LeavesMap f old new (Ok All)
+    all_out flushed empty = (0, (the_map, says, subst (Appends old new) (append-nil the_map) (out_end (out_takes held flushed) empty)))

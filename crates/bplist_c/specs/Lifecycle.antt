@@ -1,0 +1,51 @@
+-- What opening a file answers. Source: profile.
+use Rattle.std.specs.Prelude.{◌≡◌, ◌≢◌, ◌⊎◌, ℕ, List, length, slice_index, Bool, IsTrue, IsSome, Some, Result, Ok, Err, Vec}
+use Rattle.std.specs.Global.{Global}
+use denote.Ref.{Bor}
+use Rattle.bplist_octets.specs.Slices.{source_over}
+use Rattle.bplist_objects.specs.declared.frame.Frame.{Frame}
+use Rattle.bplist_objects.specs.Frame.{IsFrame}
+use Rattle.bplist_cert.specs.CertifiedFile.{IsVouchedFor}
+use Rattle.bplist_cert.specs.CheckedFile.{CheckedFile}
+use Rattle.bplist_cert.specs.Encoding.{octets_of}
+use Rattle.bplist_cert.specs.Lists.{Lists}
+use Rattle.bplist_cert.specs.Sorted.{IsAccepted}
+use Rattle.bplist_lint.specs.declared.answer.Lint.{Lint}
+use Rattle.bplist_c.specs.declared.handle.BplistHandle.{BplistHandle}
+use Rattle.bplist_c.specs.declared.session.Session.{Session}
+use Rattle.bplist_c.specs.declared.status.Status.{Status}
+use Rattle.bplist_c.specs.declared.status.Status.TheVariants as statuses
+use Rattle.bplist_c.specs.Sessions.{IsSessionOf}
+
+-- the certificate is one of these bytes
+abbrev pub IsAcceptedFor : List ℕ → Lists → Type 0
+IsAcceptedFor f certificate = (F : Frame) × IsFrame f F × IsAccepted f F certificate
+
+-- the checked file is of these bytes and that certificate
+abbrev pub IsCheckedFor : Bor (List ℕ) → Lists → CheckedFile → Type 0
+IsCheckedFor file certificate checked = (checked.source ≡ source_over file) × (checked.certificate ≡ certificate)
+
+-- the session is of these bytes and heights, with key lists if they are asked for
+abbrev pub IsSessionFor : List ℕ → Lists → Bool → Session → Type 0
+IsSessionFor f certificate sorted s = IsSessionOf f s × (s.certificate.heights ≡ certificate.heights)
+    × (IsSome certificate.keys → s.certificate ≡ certificate) × (IsTrue sorted → IsSome s.certificate.keys)
+
+-- the handle has such a session, of a file of this length
+abbrev pub IsOpened : List ℕ → Lists → Bool → BplistHandle → Type 0
+IsOpened f certificate sorted h =
+    (h.length ≡ length f) × ((s : Session) × (h.held.value ≡ Some s) × IsSessionFor f certificate sorted s)
+
+-- what is shown of a file by its certificate: the height of the top, and no counts
+abbrev pub certified : Frame → Lists → Lint
+certified F certificate =
+    record { certificate = certificate; height = slice_index certificate.heights F.top.0; reached = 0; references = 0 }
+
+-- these bytes spell a certificate of the file, and it is shown with the height of the top and no counts
+abbrev pub IsPair : List ℕ → List ℕ → Lint → Type 0
+IsPair f octets lint = (F : Frame) × IsFrame f F × IsVouchedFor f octets F lint.certificate
+    × (lint.height ≡ slice_index lint.certificate.heights F.top.0) × (lint.reached ≡ 0) × (lint.references ≡ 0)
+
+-- the bytes of the handle's certificate, or refused memory, or that it is closed
+abbrev pub CertificateSays : BplistHandle → Result (Vec ℕ Global) Status → Type 0
+CertificateSays h (Ok bytes) = (s : Session) × (h.length ≢ 0) × (h.held.value ≡ Some s) × (bytes.items ≡ octets_of s.certificate)
+CertificateSays h (Err why) = ((h.length ≡ 0) × (why ≡ statuses.Closed)) ⊎ ((h.length ≢ 0) × (why ≡ statuses.Memory))

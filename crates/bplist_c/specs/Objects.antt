@@ -1,0 +1,49 @@
+-- What C is told of an object. Source: profile.
+use Rattle.std.specs.Prelude.{◌≡◌, ℕ, suc, ◌-◌, ◌*◌, ◌/◌, ◌%◌, ◌^◌, List, ◌++◌, length, drop, min, Result, Ok, Err}
+use Rattle.std.specs.Int.{w128, cast_unsigned}
+use denote.Enum.Declared.{tag_of}
+use Rattle.bplist_octets.specs.Octets.{part}
+use Rattle.bplist_objects.specs.contracts.kind.Kind.{the_type}
+use Rattle.bplist_objects.specs.Units.{IsTextKind, units_of}
+use Rattle.bplist_objects.specs.Value.{int, uid}
+use Rattle.bplist_objects.specs.declared.frame.Frame.{Frame}
+use Rattle.bplist_objects.specs.declared.head.Head.{Head}
+use Rattle.bplist_objects.specs.declared.kind.Kind.{Kind}
+use Rattle.bplist_objects.specs.Announced.{item_size}
+use Rattle.bplist_objects.specs.Heads.{Content, leaf}
+use Rattle.bplist_cert.specs.CheckedFile.{CheckedFile}
+use Rattle.bplist_cert.specs.Valid.{IsVouchedBy}
+use Rattle.bplist_c.specs.declared.object.BplistBody.{BplistBody}
+use Rattle.bplist_c.specs.declared.object.BplistInteger.{BplistInteger}
+use Rattle.bplist_c.specs.declared.status.Status.{Status}
+use Rattle.bplist_c.specs.declared.status.Status.TheVariants as statuses
+
+-- the number of a kind in the header: its place among the kinds, from 1
+abbrev pub kind_number : Kind → ℕ
+kind_number kind = suc (tag_of the_type kind)
+
+-- what a head tells of the body
+abbrev pub body_of : Frame → Head → BplistBody
+body_of F head =
+    record { kind = kind_number head.kind; count = head.count; place = head.body; length = head.count * item_size F.ref_size head.kind }
+
+-- what is said of an object by whatever it has of a sort, its head or its value; NoObject if it is not vouched for
+pub record OnObject {X Y : Type 0} (checked : CheckedFile) (n : ℕ) (Has : List ℕ → Frame → ℕ → Y → Type 0)
+    (Says : Y → Result X Status → Type 0) (answer : Result X Status) : Type 0 where
+  pub none : (IsVouchedBy checked.certificate.heights n → ⊥) → answer ≡ Err statuses.NoObject
+  pub said : IsVouchedBy checked.certificate.heights n → (y : Y) → Has checked.source.octets checked.frame n y → Says y answer
+
+-- the integer that is spelled, as the two halves of the number in two's complement
+abbrev pub int_answer : Content → Result BplistInteger Status
+int_answer (leaf (int i)) = Ok (record { low = cast_unsigned w128 i % 2 ^ 64; high = cast_unsigned w128 i / 2 ^ 64 })
+int_answer _ = Err statuses.OtherKind
+
+-- the number of the UID that is spelled
+abbrev pub uid_answer : Content → Result ℕ Status
+uid_answer content = elim content [ leaf (uid x) ↦ Ok (x % 2 ^ 32) | _ ↦ Err statuses.OtherKind ]
+
+-- the text's units from one on, as many as fit, are at the front of the buffer, and the answer is their count; or OtherKind
+pub record UnitsSay (f : List ℕ) (from : ℕ) (old new : List ℕ) (head : Head) (answer : Result ℕ Status) : Type 0 where
+  pub text : IsTextKind head.kind → (count : ℕ) × (answer ≡ Ok count) × (count ≡ min (head.count - from) (length old))
+      × (new ≡ part (units_of f head) from count ++ drop count old)
+  pub other : (IsTextKind head.kind → ⊥) → answer ≡ Err statuses.OtherKind

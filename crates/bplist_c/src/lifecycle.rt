@@ -1,0 +1,293 @@
+//! Handles, opened and closed.
+
+ghost use Rattle.std.specs.Prelude.{◌≡◌, ◌≢◌, ◌⊎◌, ⊤, ℕ, None, Result, IfSome, IsSome, MatchResult, Vec as vec};
+ghost use Rattle.std.specs.Global.{Global as global};
+ghost use Rattle.bplist_objects.specs.declared.head.Head.{Head as head};
+ghost use Rattle.bplist_objects.specs.Heads.{IsHeadOf};
+ghost use Rattle.bplist_octets.specs.Slices.{source_over};
+ghost use Rattle.bplist_cert.specs.CertifiedFile.{IsVouchingFault};
+ghost use Rattle.bplist_cert.specs.CheckedFile.{IsChecked};
+ghost use Rattle.bplist_cert.specs.Encoding.{octets_of as certificate_octets};
+ghost use Rattle.bplist_cert.specs.Lists.{IsCertificate};
+ghost use Rattle.bplist_cert.specs.declared.certificate.CertRefusal.TheVariants as refusals;
+ghost use Rattle.bplist_lint.specs.declared.answer.Lint.{Lint as lint_answer};
+ghost use Rattle.bplist_lint.specs.declared.refusal.LintRefusal.{LintRefusal as lint_refusal};
+ghost use Rattle.bplist_lint.specs.FileFault.{IsFileFault, IsFileCircle};
+ghost use Rattle.bplist_lint.specs.Linted.{IsLinted};
+ghost use Rattle.bplist_lint.specs.Refusals.{Lints, no_circle};
+ghost use Rattle.bplist_c.specs.declared.status.Status.{Status as status};
+ghost use Rattle.bplist_c.specs.declared.status.Status.TheVariants.{Memory};
+ghost use Rattle.bplist_c.specs.Lifecycle.{CertificateSays, IsAcceptedFor, IsCheckedFor, IsSessionFor, IsOpened, IsPair};
+ghost use Rattle.bplist_c.specs.Lifecycle.{certified};
+ghost use Rattle.bplist_c.specs.Objects.{kind_number};
+ghost use Rattle.bplist_c.specs.Sessions.{IsSame, IsSessionOf};
+ghost use Rattle.bplist_c.specs.Statuses.{Puts};
+ghost use Rattle.bplist_c.specs.declared.verdict.TheConstants.{NO_VERDICT};
+ghost use Rattle.bplist_c.specs.Verdicts.{ShowsLint, ShowsTop};
+
+use crate::handle::BplistHandle;
+use crate::linter::{lint_file, show};
+use crate::object::{head_of_object, number_of};
+use crate::session::Session;
+use crate::status::{Status, put_answer};
+use crate::verdict::{BplistVerdict, NO_VERDICT, Top};
+use bplist_cert::{CertRefusal, Certificate, Checked, Refusal, check};
+use bplist_lint::{Lint, upgrade};
+use bplist_objects::frame_of;
+use bplist_octets::SliceSource;
+use std::alloc::Global;
+use std::mem;
+
+/// The checked file of a certificate that is one of these bytes.
+fn vouched(file: &[u8], certificate: Certificate) -> Checked<SliceSource<'_>>
+    requires { IsAcceptedFor file.now certificate }
+    ensures { IsCheckedFor file.entry certificate result }
+{
+    let mut source = SliceSource::new(file);
+    match frame_of(&mut source) {
+        Ok(frame) => Checked::new(source, frame, certificate),
+        Err(_) => unreachable!(),
+    }
+}
+
+/// A checked file, with key lists in its certificate. None where a growth was refused.
+fn with_keys(alloc: Global, checked: Checked<SliceSource<'_>>) -> Option<Checked<SliceSource<'_>>>
+    ensures { IfSome result (λ keyed. (keyed.source ≡ checked.entry.source) × (keyed.frame ≡ checked.entry.frame)
+        × (keyed.certificate.heights ≡ checked.entry.certificate.heights) × IsSome keyed.certificate.keys) }
+{
+    let mut checked = checked;
+    let frame = checked.frame();
+    match upgrade(alloc, &mut checked) {
+        Ok(certificate) => {
+            let (source, _) = checked.into_parts();
+            Some(Checked::new(source, frame, certificate))
+        }
+        Err(_) => None,
+    }
+}
+
+/// The session of a checked file. None where a growth was refused.
+fn session_of(alloc: Global, checked: Checked<SliceSource<'_>>) -> Option<Box<Session>>
+    ensures { IfSome result (λ session. IsSessionOf checked.entry.source.octets session.value
+        × (session.value.certificate ≡ checked.entry.certificate)) }
+{
+    let _octets = checked.octets();
+    let frame = checked.frame();
+    let (_, certificate) = checked.into_parts();
+    match Box::new(alloc, Session { frame, certificate }) {
+        Ok(session) => Some(session),
+        Err(_) => None,
+    }
+}
+
+/// The session of a checked file, with key lists where `sorted` asks for them. None where a growth was refused.
+fn sorted_session(
+    alloc: Global,
+    checked: Checked<SliceSource<'_>>,
+    sorted: bool,
+) -> Option<Box<Session>>
+    ensures { IfSome result (λ session. IsSessionFor checked.entry.source.octets checked.entry.certificate sorted session.value) }
+{
+    if sorted && checked.certificate().keys.is_none() {
+        return session_of(alloc, with_keys(alloc, checked)?);
+    }
+    session_of(alloc, checked)
+}
+
+/// Puts the session of a checked file into a closed handle. `out` is what C is told of the file, and of a refused growth.
+fn keep(
+    alloc: Global,
+    handle: &mut BplistHandle,
+    checked: Checked<SliceSource<'_>>,
+    sorted: bool,
+    out: &mut BplistVerdict,
+) -> u32
+    requires { handle.old.length ≡ 0 }
+    ensures { ((result ≡ 0) × (out.new ≡ out.old)
+        × IsOpened checked.entry.source.octets checked.entry.certificate sorted handle.new)
+        ⊎ ((result ≡ 2) × (out.new ≡ NO_VERDICT) × (handle.new.length ≡ 0)) }
+{
+    let length = checked.octets().len() as u64;
+    match sorted_session(alloc, checked, sorted) {
+        Some(session) => {
+            *handle = BplistHandle::open(session, length);
+            0
+        }
+        None => {
+            *out = NO_VERDICT;
+            Status::Memory.number()
+        }
+    }
+}
+
+/// Lints a file, and opens it where it holds a value.
+#[unsafe(no_mangle)]
+pub extern "C" fn bplist_open(
+    alloc: Global,
+    handle: &mut BplistHandle,
+    file: &[u8],
+    sorted: bool,
+    out: &mut BplistVerdict,
+) -> u32
+    ensures opened { handle.old.length ≢ 0 → IsSame handle.old handle.new × (out.new ≡ NO_VERDICT) × (result ≡ 4) }
+    ensures exact { handle.old.length ≡ 0 → (answer : Result lint_answer lint_refusal)
+        × Lints (IsLinted file.now) (IsFileFault file.now) (IsFileCircle file.now) answer
+        × ShowsLint file.now answer out.new result
+        × MatchResult answer (λ lint. IsOpened file.now lint.certificate sorted handle.new) (λ _. handle.new.length ≡ 0) }
+{
+    if handle.length != 0 {
+        *out = NO_VERDICT;
+        return Status::Opened.number();
+    }
+    let answer = lint_file(alloc, file);
+    let status = show(file, &answer, out);
+    match answer {
+        Ok(Lint { certificate, .. }) => keep(
+            alloc,
+            handle,
+            vouched(file, certificate),
+            sorted,
+            out,
+        ),
+        Err(_refusal) => status,
+    }
+}
+
+/// The file with the certificate that these bytes spell, where it is one of the file.
+fn check_pair<'a>(
+    alloc: Global,
+    file: &'a [u8],
+    certificate: &[u8],
+) -> Result<Checked<SliceSource<'a>>, CertRefusal>
+    ensures { MatchResult result (λ checked. IsChecked checked × IsCertificate checked.certificate
+        × (certificate.now ≡ certificate_octets checked.certificate) × (checked.source ≡ source_over file.entry))
+        (λ why. elim why [ refusals.Fault x ↦ IsVouchingFault file.now certificate.now x | refusals.Memory ↦ ⊤ ]) }
+{
+    let certificate = Certificate::from_octets(alloc, certificate)?;
+    match check(alloc, SliceSource::new(file), certificate) {
+        Ok(checked) => {
+            let _frame = checked.frame();
+            Ok(checked)
+        }
+        Err((Refusal::Fault(fault), _, _)) => Err(CertRefusal::Fault(fault)),
+        Err(_) => Err(CertRefusal::Memory),
+    }
+}
+
+/// The number of the top's kind.
+fn top_kind(checked: &Checked<SliceSource<'_>>) -> u32
+    ensures { (head : head) → IsHeadOf checked.now.source.octets checked.now.frame checked.now.frame.top.0 head
+        → result ≡ kind_number head.kind }
+{
+    let _octets = checked.octets();
+    let frame = checked.frame();
+    match head_of_object(checked, frame.top.0) {
+        Ok(head) => number_of(head.kind),
+        Err(_) => 0,
+    }
+}
+
+/// The verdict on a file by its certificate.
+fn verdict_of(checked: &Checked<SliceSource<'_>>) -> BplistVerdict
+    ensures { ShowsTop checked.now.source.octets checked.now.frame (certified checked.now.frame checked.now.certificate) result }
+{
+    let frame = checked.frame();
+    let top = Top {
+        objects: frame.objects,
+        object: frame.top.0,
+        kind: top_kind(checked),
+        height: checked.height(frame.top),
+    };
+    BplistVerdict::of_top(top, 0, 0)
+}
+
+/// Opens a file by the bytes of a certificate of any origin.
+#[unsafe(no_mangle)]
+pub extern "C" fn bplist_open_certified(
+    alloc: Global,
+    handle: &mut BplistHandle,
+    file: &[u8],
+    certificate: &[u8],
+    sorted: bool,
+    out: &mut BplistVerdict,
+) -> u32
+    ensures opened { handle.old.length ≢ 0 → IsSame handle.old handle.new × (out.new ≡ NO_VERDICT) × (result ≡ 4) }
+    ensures exact { handle.old.length ≡ 0 → (answer : Result lint_answer lint_refusal)
+        × Lints (IsPair file.now certificate.now) (IsVouchingFault file.now certificate.now) no_circle answer
+        × ShowsLint file.now answer out.new result
+        × MatchResult answer (λ lint. IsOpened file.now lint.certificate sorted handle.new) (λ _. handle.new.length ≡ 0) }
+{
+    if handle.length != 0 {
+        *out = NO_VERDICT;
+        return Status::Opened.number();
+    }
+    match check_pair(alloc, file, certificate) {
+        Ok(checked) => {
+            *out = verdict_of(&checked);
+            keep(alloc, handle, checked, sorted, out)
+        }
+        Err(CertRefusal::Fault(fault)) => {
+            *out = BplistVerdict::of_fault(fault);
+            Status::Fault.number()
+        }
+        Err(CertRefusal::Memory) => {
+            *out = NO_VERDICT;
+            Status::Memory.number()
+        }
+    }
+}
+
+/// Closes a handle, and frees what it holds.
+#[unsafe(no_mangle)]
+pub extern "C" fn bplist_close(alloc: Global, handle: &mut BplistHandle) -> u32
+    ensures closed { handle.new.length ≡ 0 }
+    ensures none { handle.old.length ≡ 0 → IsSame handle.old handle.new × (result ≡ 3) }
+    ensures freed { handle.old.length ≢ 0 → (handle.new.held.value ≡ None) × (result ≡ 0) }
+{
+    if handle.length == 0 {
+        return Status::Closed.number();
+    }
+    let _session = mem::replace(handle, BplistHandle::closed(alloc)).into_session();
+    0
+}
+
+/// The bytes of a certificate.
+fn octets_of(alloc: Global, certificate: &Certificate) -> Result<Vec<u8>, Status>
+    ensures { MatchResult result (λ octets. octets.items ≡ certificate_octets certificate.now) (λ why. why ≡ Memory) }
+{
+    match certificate.to_octets(alloc) {
+        Ok(octets) => Ok(octets),
+        Err(_) => Err(Status::Memory),
+    }
+}
+
+/// The bytes of the certificate of a handle.
+fn octets_in(alloc: Global, handle: &mut BplistHandle) -> Result<Vec<u8>, Status>
+    ensures kept { IsSame handle.old handle.new }
+    ensures exact { CertificateSays handle.old result }
+{
+    if handle.length == 0 {
+        return Err(Status::Closed);
+    }
+    let length = handle.length;
+    let session = mem::replace(handle, BplistHandle::closed(alloc)).into_session();
+    let octets = octets_of(alloc, &session.certificate);
+    *handle = BplistHandle::open(session, length);
+    octets
+}
+
+/// The bytes of the certificate of an open handle.
+#[unsafe(no_mangle)]
+pub extern "C" fn bplist_certificate(
+    alloc: Global,
+    handle: &mut BplistHandle,
+    buffer: &mut [u8],
+    count: &mut u64,
+) -> u32
+    ensures kept { IsSame handle.old handle.new }
+    ensures exact { (octets : Result (vec ℕ global) status) × CertificateSays handle.old octets
+        × Puts octets buffer.old buffer.new count.old count.new result }
+{
+    let octets = octets_in(alloc, handle);
+    put_answer(&octets, buffer, count)
+}

@@ -1,0 +1,195 @@
+//! Where paths lead.
+
+ghost use Rattle.std.specs.Prelude.{◌≡◌, ◌∷◌, [], ℕ, Result};
+ghost use Rattle.bplist_c.specs.declared.lookup.Lead.{Lead as lead};
+ghost use Rattle.bplist_c.specs.declared.status.Status.{Status as status};
+ghost use Rattle.bplist_objects.specs.Holds.{Holds};
+ghost use Rattle.bplist_cursor.specs.Found.{IsFound};
+ghost use Rattle.bplist_cursor.specs.declared.found.Found.{Found as place};
+ghost use Rattle.bplist_c.specs.Lookup.{FindSays, TellsLead, lead_of, step_answer, why_status};
+ghost use Rattle.bplist_c.specs.Objects.{OnObject};
+ghost use Rattle.bplist_c.specs.Sessions.{IsFileOf, IsSame, OnHandle};
+ghost use Rattle.bplist_c.specs.Statuses.{Tells, number_of};
+
+use crate::handle::BplistHandle;
+use crate::loan::{give_back, lend};
+use crate::status::{self, Status};
+use bplist_cert::Checked;
+use bplist_cursor::{Found, Node, Path, PathFault, Why, locate_in_slice, step_from};
+use bplist_objects::ObjectNo;
+use bplist_octets::SliceSource;
+use std::alloc::Global;
+
+/// Where a path leads.
+#[repr(C)]
+#[derive(Clone, Copy, Debug, Drop)]
+pub struct BplistFound {
+    /// The object that it leads to.
+    pub object: u32,
+    /// The step that can't be taken, or the place in a wrong path text.
+    pub step: u64,
+}
+
+/// Where a path leads, with its status.
+#[derive(Clone, Copy, Debug, Drop)]
+pub(crate) struct Lead {
+    pub(crate) status: u32,
+    pub(crate) found: BplistFound,
+}
+
+impl Lead {
+    /// To an object.
+    fn at(object: u32) -> Lead
+        ensures { result ≡ record { status = 0; found = record { object = object; step = 0 } } }
+    {
+        Lead {
+            status: 0,
+            found: BplistFound { object, step: 0 },
+        }
+    }
+
+    /// Nowhere, for this step or place.
+    fn nowhere(why: Status, step: u64) -> Lead
+        ensures { result ≡ record { status = number_of why; found = record { object = 0; step = step } } }
+    {
+        Lead {
+            status: why.number(),
+            found: BplistFound { object: 0, step },
+        }
+    }
+}
+
+/// Why a step can't be taken.
+fn status_of(why: Why) -> Status
+    ensures { result ≡ why_status why }
+{
+    match why {
+        Why::NoKey => Status::NoKey,
+        Why::NoIndex => Status::NoIndex,
+        Why::NotSteppable => Status::NotSteppable,
+    }
+}
+
+/// What C is told of a place.
+fn show(place: Found) -> Lead
+    ensures { result ≡ lead_of place }
+{
+    match place {
+        Found::At(node) => Lead::at(node.object.0),
+        Found::Missing { step, why } => Lead::nowhere(status_of(why), step),
+    }
+}
+
+/// Where a path text leads.
+fn find(alloc: Global, checked: &mut Checked<SliceSource<'_>>, path: &[u8]) -> Result<Lead, Status>
+    ensures same { checked.new ≡ checked.old }
+    ensures exact { FindSays checked.old path.now result }
+{
+    let Ok(text) = std::str::from_utf8(path) else {
+        return Err(Status::NotUtf8);
+    };
+    match Path::parse(alloc, text) {
+        Ok(path) => Ok(show(locate_in_slice(checked, &path))),
+        Err(PathFault::Text { place }) => Ok(Lead::nowhere(Status::PathText, place as u64)),
+        Err(PathFault::Memory) => Err(Status::Memory),
+    }
+}
+
+/// Tells C where a path leads.
+fn tell(answer: Result<Lead, Status>, out: &mut BplistFound) -> u32
+    ensures { TellsLead answer out.old out.new result }
+{
+    match answer {
+        Ok(lead) => {
+            *out = lead.found;
+            lead.status
+        }
+        Err(status) => status.number(),
+    }
+}
+
+/// Where a path leads from the top.
+#[unsafe(no_mangle)]
+pub extern "C" fn bplist_find(
+    alloc: Global,
+    handle: &mut BplistHandle,
+    file: &[u8],
+    path: &[u8],
+    out: &mut BplistFound,
+) -> u32
+    requires same { IsFileOf file.now handle.old }
+    ensures kept { IsSame handle.old handle.new }
+    ensures exact { (answer : Result lead status) × TellsLead answer out.old out.new result
+        × OnHandle file.entry handle.old (λ checked. FindSays checked path.now) answer }
+{
+    let answer = match lend(alloc, handle, file) {
+        Ok(lent) => {
+            let mut lent = lent;
+            let answer = find(alloc, &mut lent.checked, path);
+            give_back(handle, lent);
+            answer
+        }
+        Err(status) => Err(status),
+    };
+    tell(answer, out)
+}
+
+/// Where one step leads from an object.
+fn step_of(
+    checked: &mut Checked<SliceSource<'_>>,
+    object: u32,
+    units: &[u16],
+) -> Result<u32, Status>
+    ensures same { checked.new ≡ checked.old }
+    ensures exact { OnObject checked.old object Holds (λ v answer. (found : place) × (answer ≡ step_answer found)
+        × IsFound checked.old object v (units.now ∷ []) found) result }
+{
+    let _before = checked.octets();
+    let node = Node {
+        object: ObjectNo(object),
+    };
+    let found = step_from(checked, node, units);
+    let _after = checked.octets();
+    match found {
+        Ok(place) => told(place),
+        Err(_) => Err(Status::NoObject),
+    }
+}
+
+/// What C is told of one step.
+fn told(place: Found) -> Result<u32, Status>
+    ensures { result ≡ step_answer place }
+{
+    match place {
+        Found::At(node) => Ok(node.object.0),
+        Found::Missing { step: _, why } => Err(status_of(why)),
+    }
+}
+
+/// Where one step leads from an object.
+#[unsafe(no_mangle)]
+pub extern "C" fn bplist_find_key(
+    alloc: Global,
+    handle: &mut BplistHandle,
+    file: &[u8],
+    object: u32,
+    units: &[u16],
+    out: &mut u32,
+) -> u32
+    requires same { IsFileOf file.now handle.old }
+    ensures kept { IsSame handle.old handle.new }
+    ensures exact { (answer : Result ℕ status) × Tells answer out.old out.new result
+        × OnHandle file.entry handle.old (λ checked. OnObject checked object Holds (λ v answer. (found : place)
+        × (answer ≡ step_answer found) × IsFound checked object v (units.now ∷ []) found)) answer }
+{
+    let answer = match lend(alloc, handle, file) {
+        Ok(lent) => {
+            let mut lent = lent;
+            let answer = step_of(&mut lent.checked, object, units);
+            give_back(handle, lent);
+            answer
+        }
+        Err(status) => Err(status),
+    };
+    status::tell(answer, out)
+}

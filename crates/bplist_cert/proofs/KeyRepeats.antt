@@ -1,0 +1,157 @@
+-- What the classes of the keys of a vouched dictionary say of them.
+use Rattle.std.proofs.Common.{Bool, not, IsTrue, Option, Some, None, MatchOption, is_some, Result, Ok, Err, OnOk, ◌≡◌, ℕ, ◌*◌, ◌<◌, ◌≤◌, List, slice_index, count_by, sym, ap, ◌∙◌, subst, inr, arith}
+use Rattle.std.proofs.lemmas.Bool.{false≢true}
+use Rattle.bplist_objects.specs.declared.frame.Frame.{Frame}
+use Rattle.bplist_objects.specs.declared.head.Head.{Head}
+use Rattle.bplist_objects.specs.declared.kind.Kind.TheVariants.{Dict}
+use Rattle.bplist_objects.specs.Announced.{HasHead}
+use Rattle.bplist_objects.specs.Frame.{IsFrame}
+use Rattle.bplist_objects.specs.Rules.{KeepsAll}
+use Rattle.bplist_objects.specs.ObjectRules.{KeepsByObject, object_rules}
+use Rattle.bplist_objects.specs.Safe.{ref_count}
+use Rattle.bplist_objects.specs.Units.{units_of}
+use Rattle.bplist_objects.proofs.BodyLaws.{HasHead-unique}
+use Rattle.bplist_objects.proofs.HeadTies.{shape_announced}
+use Rattle.bplist_keys.specs.Texts.{text_units}
+use Rattle.bplist_keys.specs.Ranks.{AreClasses}
+use Rattle.bplist_keys.specs.Classes.{HasNamedKeys, AreClassed, HaveClasses, AreApart}
+use Rattle.bplist_objects.specs.Claims.{FailsAt}
+use Rattle.bplist_objects.proofs.ClaimLaws.{fails_too}
+use Rattle.bplist_keys.proofs.RankLaws.{none_marked}
+use Rattle.bplist_keys.proofs.WeightSteps.{text_units-head}
+use Rattle.bplist_cert.specs.Heights.{ref}
+use Rattle.bplist_cert.specs.KeyKinds.{IsKey, KeysAreTexts, KeysDiffer, IsFirstTwice}
+use Rattle.bplist_cert.specs.Lists.{Keyed}
+use Rattle.bplist_cert.specs.CheckRules.{HasOrder, KeepsLast, IsKeysFault, IsOrderFault}
+use Rattle.bplist_objects.specs.declared.fault.ObjectFault.{ObjectFault}
+use Rattle.bplist_objects.specs.declared.fault.ObjectFault.TheVariants as errors
+use Rattle.bplist_objects.specs.Answers.{Gives}
+use Rattle.bplist_cert.specs.declared.refusal.Refusal.{Refusal}
+use Rattle.bplist_cert.specs.declared.refusal.Refusal.TheVariants as refusals
+use Rattle.bplist_cert.specs.Refusals.{Judges}
+use Rattle.bplist_cert.specs.Valid.{IsVouchedBy}
+use Rattle.bplist_cert.specs.Looks.{KeepsBeforeKeys, KeepBeforeKeysBelow}
+use Rattle.bplist_cert.specs.KeyRepeats.{KeysAreSound, HasGoodKeys, BreaksKeys}
+use Rattle.bplist_cert.proofs.TextObjects.{text_there}
+
+-- what holds anyway holds after a yes
+pub on_ok_always : {X E : Type 0} (P : Type 0) (r : Result X E) → P → OnOk r P
+on_ok_always P (Ok x) p = p
+on_ok_always P (Err e) p = tt
+
+-- none is found
+pub none_there : {X : Type 0} (A : Type 0) (B : X → Type 0) (found : Option X) (none : Bool) → is_some found ≡ not none → IsTrue none → MatchOption found A B → A
+none_there A B None none e t h = h
+none_there A B (Some x) none e t h = absurd (false≢true (sym (e ∙ ap not t)))
+
+module _ (f : List ℕ) (F : Frame) where
+  -- the key references of a dictionary that keeps rule 20 are objects
+  pub keys_inside : (n : ℕ) → KeepsAll (KeepsByObject f F n) object_rules → (head : Head) → HasHead f F n head → head.kind ≡ Dict → (k : ℕ) → k < head.count → ref f F head k < F.objects
+  keys_inside n kept head has dict k low =
+      let each = subst (λ kind. (i : ℕ) → i < ref_count kind head.count → ref f F head i < F.objects) dict (kept.1.1.1.1.1.1.0 head has) in
+      each k (omega (arith, low))
+
+  -- the classes of the named are those of the keys
+  pub keys_classed : (named : List Bool) (classes : List ℕ) (n : ℕ) → AreClasses f F named classes → HasNamedKeys f F named n → (head : Head) → HasHead f F n head → head.kind ≡ Dict → AreClassed f F classes head
+  keys_classed named classes n are named_keys head has dict = record {
+    only = λ k low some. ((are.given (ref f F head k)).0 some).1;
+    all = λ k low shape. (are.given (ref f F head k)).1 (named_keys head has dict k low, shape);
+    same = λ i j _ _. are.same (ref f F head i) (ref f F head j);
+  }
+
+  -- keys are good by one head
+  pub good_at : (keys : Option Keyed) (n : ℕ) (head : Head) → HasHead f F n head → (head.kind ≡ Dict → KeysAreTexts f F head head.count × KeepsLast f F keys n head) → HasGoodKeys f F keys n
+  good_at keys n head has good other h = subst (λ (x : Head). x.kind ≡ Dict → KeysAreTexts f F x x.count × KeepsLast f F keys n x) (HasHead-unique f F n head other has h) good
+
+  -- what is said of the keys by one head is said of the object
+  pub keys_judged : (count : ℕ) (keys : Option Keyed) (n : ℕ) (head : Head) → HasHead f F n head → (r : Result (Unit {0}) Refusal)
+      → Judges (λ _. KeysAreTexts f F head head.count × KeepsLast f F keys n head) (IsKeysFault f F count keys n head) r → Judges (λ _. HasGoodKeys f F keys n) (BreaksKeys f F count keys n) r
+  keys_judged count keys n head has (Ok x) h = good_at keys n head has (λ _. h)
+  keys_judged count keys n head has (Err (refusals.Fault fault)) h = (head, has, h)
+  keys_judged count keys n head has (Err (refusals.Read r)) h = tt
+  keys_judged count keys n head has (Err refusals.Memory) h = tt
+
+  pub keys_given : (count : ℕ) (keys : Option Keyed) (n : ℕ) (head : Head) → HasHead f F n head → (r : Result (Unit {0}) ObjectFault)
+      → Gives (λ _. KeysAreTexts f F head head.count × KeepsLast f F keys n head) (IsKeysFault f F count keys n head) r → Gives (λ _. HasGoodKeys f F keys n) (BreaksKeys f F count keys n) r
+  keys_given count keys n head has (Ok x) h = good_at keys n head has (λ _. h)
+  keys_given count keys n head has (Err (errors.Fault fault)) h = (head, has, h)
+  keys_given count keys n head has (Err (errors.Read r)) h = tt
+
+  -- keys that are texts, and a key list
+  pub order_given : (count : ℕ) (keyed : Keyed) (n : ℕ) (head : Head) → head.kind ≡ Dict → KeysAreTexts f F head head.count → (r : Result (Unit {0}) ObjectFault)
+      → Gives (λ _. HasOrder f F keyed n head) (IsOrderFault f F count keyed n head) r → Gives (λ _. KeysAreTexts f F head head.count × HasOrder f F keyed n head) (IsKeysFault f F count (Some keyed) n head) r
+  order_given count keyed n head dict texts (Ok x) h = (texts, h)
+  order_given count keyed n head dict texts (Err (errors.Fault fault)) h = (dict, inr (texts, h))
+  order_given count keyed n head dict texts (Err (errors.Read r)) h = tt
+
+  -- the keys of a vouched dictionary are vouched for, and lower
+  module _ (heights : List ℕ) (n : ℕ) (seen : KeepsBeforeKeys f F heights n) (head : Head) (has : HasHead f F n head) (dict : head.kind ≡ Dict) where
+    key_vouched : (k : ℕ) → k < head.count → IsVouchedBy heights (ref f F head k)
+    key_vouched k low =
+        let two : ref_count head.kind head.count ≡ 2 * head.count = ap (λ x. ref_count x head.count) dict in
+        (seen.lower head has k (omega (arith, low, two))).0
+
+    -- an object of height 1 has no keys
+    pub no_keys : slice_index heights n ≤ 1 → (k : ℕ) → k < head.count → ⊥
+    no_keys least k low =
+        let two : ref_count head.kind head.count ≡ 2 * head.count = ap (λ x. ref_count x head.count) dict in
+        let l = seen.lower head has k (omega (arith, low, two)) in
+        omega (arith, least, l.0, l.1)
+
+  pub named_low : (heights : List ℕ) (named : List Bool) (n : ℕ) → KeepsBeforeKeys f F heights n → slice_index heights n ≤ 1 → HasNamedKeys f F named n
+  named_low heights named n seen least head has dict k low = absurd (no_keys heights n seen head has dict least k low)
+
+  pub good_low : (heights : List ℕ) (n : ℕ) → KeepsBeforeKeys f F heights n → slice_index heights n ≤ 1 → HasGoodKeys f F None n
+  good_low heights n seen least head has dict =
+      (λ k low. absurd (no_keys heights n seen head has dict least k low), λ i j before low. absurd (no_keys heights n seen head has dict least j low))
+
+  -- where no object is named as a key, a dictionary whose keys are named has none
+  pub good_unnamed : (named : List Bool) (n : ℕ) → count_by (λ marked. marked) named ≡ 0 → HasNamedKeys f F named n → HasGoodKeys f F None n
+  good_unnamed named n none named_keys head has dict =
+      let no_key : (k : ℕ) → k < head.count → ⊥ = λ k low. none_marked named none _ (named_keys head has dict k low) in
+      (λ k low. absurd (no_key k low), λ i j before low. absurd (no_key j low))
+
+  -- they keep rules 14 to 20
+  pub sound_keys : (heights : List ℕ) → KeepBeforeKeysBelow f F heights F.objects → (n : ℕ) → n < F.objects → IsVouchedBy heights n → (head : Head) → HasHead f F n head → head.kind ≡ Dict → KeysAreSound f F head
+  sound_keys heights seen n within vouched head has dict k low inside =
+      (seen (ref f F head k) inside (key_vouched heights n (seen n within vouched) head has dict k low)).own
+
+  module _ (head : Head) (classes : List ℕ) (classed : AreClassed f F classes head) where
+    pub class_at : (k : ℕ) → k < head.count → (key : Head) → IsKey f F head k key → 0 < slice_index classes (ref f F head k)
+    class_at k low key is = classed.all k low (key, (is.is.0, is.kind))
+
+    units_at : (k : ℕ) (key : Head) → IsKey f F head k key → text_units f F (ref f F head k) ≡ units_of f key
+    units_at k key is = text_units-head f F (ref f F head k) key (is.is.0, is.kind)
+
+    pub apart_differ : (count : ℕ) → count ≤ head.count → AreApart (ref f F head) classes count → KeysDiffer f F head count
+    apart_differ count few apart i j low high a b is_a is_b same =
+        let i_low : i < head.count = omega (arith, few, low, high) in
+        let j_low : j < head.count = omega (arith, few, high) in
+        apart i j low high ((classed.same i j i_low j_low (class_at i i_low a is_a) (class_at j j_low b is_b)).1 (units_at i a is_a ∙ same ∙ sym (units_at j b is_b)))
+
+    -- texts have classes
+    pub texts_classed : (count : ℕ) → count ≤ head.count → KeysAreTexts f F head count → HaveClasses (ref f F head) classes count
+    texts_classed count few texts k low = let t = texts k low in class_at k (omega (arith, few, low)) t.0 t.1
+
+    module _ (texts : KeysAreTexts f F head head.count) where
+      differ_apart : (count : ℕ) → count ≤ head.count → KeysDiffer f F head count → AreApart (ref f F head) classes count
+      differ_apart count few differ i j low high same =
+          let i_low : i < head.count = omega (arith, few, low, high) in
+          let j_low : j < head.count = omega (arith, few, high) in
+          let a = texts i i_low in
+          let b = texts j j_low in
+          differ i j low high a.0 b.0 a.1 b.1
+          (sym (units_at i a.0 a.1) ∙ (classed.same i j i_low j_low (class_at i i_low a.0 a.1) (class_at j j_low b.0 b.1)).0 same ∙ units_at j b.0 b.1)
+
+      -- the first class that comes again is that of the first key that comes twice
+      pub again_twice : (j : ℕ) → FailsAt (AreApart (ref f F head) classes) head.count j → IsFirstTwice f F head j
+      again_twice = fails_too (AreApart (ref f F head) classes) (KeysDiffer f F head) head.count apart_differ differ_apart
+
+    module _ (framed : IsFrame f F) (sound : KeysAreSound f F head) (inside : (k : ℕ) → k < head.count → ref f F head k < F.objects) where
+      -- keys with a class are texts
+      pub classed_texts : (count : ℕ) → count ≤ head.count → HaveClasses (ref f F head) classes count → KeysAreTexts f F head count
+      classed_texts count few some k under =
+          let low : k < head.count = omega (arith, few, under) in
+          let m = ref f F head k in
+          let t = classed.only k low (some k under) in
+          (t.0, text_there f F m framed (inside k low) t.0 (shape_announced f F m t.0 t.1.0) (sound k low (inside k low)) t.1.1)

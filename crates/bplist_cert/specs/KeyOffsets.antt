@@ -1,0 +1,29 @@
+-- References read ahead, with the places of the objects that they name. Source: profile.
+use Rattle.std.specs.Prelude.{◌≡◌, ℕ, ◌+◌, ◌<◌, List, length, slice_index}
+use Rattle.bplist_objects.specs.declared.frame.Frame.{Frame}
+use Rattle.bplist_objects.specs.declared.head.Head.{Head}
+use Rattle.bplist_objects.specs.Frame.{off}
+use Rattle.bplist_cert.specs.Heights.{ref}
+use Rattle.bplist_cert.specs.KeyKinds.{IsText}
+
+-- these are the references from a number on
+abbrev pub AreRefs : List ℕ → Frame → Head → ℕ → List ℕ → Type 0
+AreRefs f F head from refs = (k : ℕ) → k < length refs → slice_index refs k ≡ ref f F head (from + k)
+
+-- this is the place of object m, if m is one
+abbrev pub IsOffsetOf : List ℕ → Frame → ℕ → ℕ → Type 0
+IsOffsetOf f F m place = m < F.objects → place ≡ off f F m
+
+-- these are the places of the first so many of the objects
+abbrev pub AreOffsetsOf : List ℕ → Frame → List ℕ → List ℕ → ℕ → Type 0
+AreOffsetsOf f F refs places count = (k : ℕ) → k < count → IsOffsetOf f F (slice_index refs k) (slice_index places k)
+
+-- the first so many of the objects are texts
+abbrev pub ReferToTexts : List ℕ → Frame → List ℕ → ℕ → Type 0
+ReferToTexts f F refs count = (k : ℕ) → k < count → (key : Head) × IsText f F (slice_index refs k) key
+
+-- the first of the objects that is no text
+pub record IsFirstOther (f : List ℕ) (F : Frame) (refs : List ℕ) (i : ℕ) : Type 0 where
+  pub within : i < length refs
+  pub none : (key : Head) → IsText f F (slice_index refs i) key → ⊥
+  pub before : ReferToTexts f F refs i

@@ -1,0 +1,35 @@
+-- The keys of vouched dictionaries, of which the rules before those of keys are known. Source: profile.
+use Rattle.std.specs.Prelude.{◌≡◌, ℕ, ◌<◌, List, length, Option}
+use Rattle.bplist_objects.specs.declared.fault.Fault.{Fault}
+use Rattle.bplist_objects.specs.declared.frame.Frame.{Frame}
+use Rattle.bplist_objects.specs.declared.head.Head.{Head}
+use Rattle.bplist_objects.specs.declared.kind.Kind.TheVariants.{Dict}
+use Rattle.bplist_objects.specs.Announced.{HasHead}
+use Rattle.bplist_objects.specs.Rules.{KeepsAll}
+use Rattle.bplist_objects.specs.ObjectRules.{KeepsByObject, object_rules}
+use Rattle.bplist_cert.specs.Lists.{Keyed, Lists}
+use Rattle.bplist_cert.specs.Valid.{IsVouchedBy}
+use Rattle.bplist_cert.specs.Heights.{ref}
+use Rattle.bplist_cert.specs.KeyKinds.{KeysAreTexts}
+use Rattle.bplist_cert.specs.CheckRules.{KeepsLast, IsKeysFault}
+
+-- each key of a dictionary with this head keeps rules 14 to 20, if it is an object
+abbrev pub KeysAreSound : List ℕ → Frame → Head → Type 0
+KeysAreSound f F head = (k : ℕ) → k < head.count → ref f F head k < F.objects → KeepsAll (KeepsByObject f F (ref f F head k)) object_rules
+
+-- the keys of object n, if it is a dictionary, keep the rules of keys
+abbrev pub HasGoodKeys : List ℕ → Frame → Option Keyed → ℕ → Type 0
+HasGoodKeys f F keys n =
+    (head : Head) → HasHead f F n head → head.kind ≡ Dict → KeysAreTexts f F head head.count × KeepsLast f F keys n head
+
+-- object n is a dictionary whose keys break them, first with this fault
+abbrev pub BreaksKeys : List ℕ → Frame → ℕ → Option Keyed → ℕ → Fault → Type 0
+BreaksKeys f F count keys n fault = (head : Head) × HasHead f F n head × IsKeysFault f F count keys n head fault
+
+-- the fault of the least vouched object whose keys break them
+pub record IsFirstKeysFault (f : List ℕ) (F : Frame) (certificate : Lists) (bound : ℕ) (fault : Fault) : Type 0 where
+  pub object : ℕ
+  pub within : object < bound
+  pub vouched : IsVouchedBy certificate.heights object
+  pub breaks : BreaksKeys f F (length certificate.heights) certificate.keys object fault
+  pub before : (m : ℕ) → m < object → IsVouchedBy certificate.heights m → HasGoodKeys f F certificate.keys m

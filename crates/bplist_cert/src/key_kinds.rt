@@ -1,0 +1,147 @@
+//! The keys of dictionaries: rule 21.
+
+ghost use Rattle.std.specs.Prelude.{◌≡◌, ◌↔◌, IsTrue, ◌+◌, ◌*◌, ◌≤◌, ◌<◌, length, IfOk, IfSome, MatchOption, Some, is_err};
+ghost use Rattle.bplist_octets.specs.Meaning.{OnlyReads};
+ghost use Rattle.bplist_objects.specs.Framed.{frame_in, HonestlyIn};
+ghost use Rattle.bplist_objects.specs.Frame.{off};
+ghost use Rattle.bplist_objects.specs.Safe.{IsSafeHead, IsSafeBody};
+ghost use Rattle.bplist_objects.specs.Units.{IsTextKind};
+ghost use Rattle.bplist_objects.specs.Announced.{HasHead};
+ghost use Rattle.bplist_objects.specs.Rules.{KeepsAll};
+ghost use Rattle.bplist_objects.specs.ObjectRules.{KeepsByObject, IsObjectFault, object_rules};
+ghost use Rattle.bplist_objects.specs.Answers.{Gives, Never, read_failed};
+ghost use Rattle.bplist_objects.specs.declared.kind.Kind.TheVariants.{Dict};
+ghost use Rattle.bplist_objects.specs.declared.rule.Rule.TheVariants.{KeyKind};
+ghost use Rattle.bplist_objects.specs.declared.head.Head.{Head as head_record};
+ghost use Rattle.bplist_cert.specs.KeyKinds.{IsText, IsKey, KeysAreTexts, IsFirstKeyless, IsKeylessFault};
+ghost use Rattle.bplist_cert.specs.LowBytes.{AreLow};
+ghost use Rattle.bplist_cert.specs.KeyOffsets.{IsOffsetOf, AreOffsetsOf, ReferToTexts, IsFirstOther};
+
+use crate::key_offsets::{BLOCK, read_ahead};
+use crate::low_bytes::LowBytes;
+use bplist_objects::{Fault, Framed, Head, Kind, ObjectFault, ObjectNo, Rule, ref_place, shape_at};
+use bplist_octets::ReadFault;
+
+/// Whether object number `m`, which stands at `place`, spells a text. The bytes of an Ascii one that are not known to be low
+/// are read.
+fn is_text<P: Framed>(
+    src: &mut P,
+    low: &mut LowBytes,
+    m: u64,
+    place: u64,
+) -> Result<bool, ReadFault>
+    ensures reads { OnlyReads (is_err result) (P.means src.old) (P.means src.new) }
+    ensures low { IsTrue (P.means src.old).honest → AreLow (P.means src.old).octets low.old.slots
+        → AreLow (P.means src.old).octets low.new.slots }
+    ensures exact { IfOk result (λ text. HonestlyIn (P.means src.old) (λ f F. AreLow f low.old.slots → IsOffsetOf f F m place
+        → IsTrue text ↔ ((key : head_record) × IsText f F m key))) }
+{
+    let frame = src.frame();
+    let _len = src.len();
+    if m >= frame.objects as u64 {
+        return Ok(false);
+    }
+    match shape_at(src, &frame, ObjectNo(m as u32), place) {
+        Ok(head) => match head.kind {
+            Kind::Ascii => low.covers(src, head.body, head.body + head.count),
+            Kind::Wide => Ok(true),
+            _ => Ok(false),
+        },
+        Err(ObjectFault::Fault(_)) => Ok(false),
+        Err(ObjectFault::Read(fault)) => Err(fault),
+    }
+}
+
+/// The first of these objects, which stand at these places, that is no text.
+fn first_other<P: Framed>(
+    src: &mut P,
+    low: &mut LowBytes,
+    refs: &[u64],
+    offsets: &[u64],
+) -> Result<Option<usize>, ReadFault>
+    requires { length offsets.now ≡ length refs.now }
+    ensures reads { OnlyReads (is_err result) (P.means src.old) (P.means src.new) }
+    ensures low { IsTrue (P.means src.old).honest → AreLow (P.means src.old).octets low.old.slots
+        → AreLow (P.means src.old).octets low.new.slots }
+    ensures found { IfOk result (λ found. HonestlyIn (P.means src.old)
+        (λ f F. AreLow f low.old.slots → AreOffsetsOf f F refs.now offsets.now (length refs.now)
+        → MatchOption found (ReferToTexts f F refs.now (length refs.now)) (IsFirstOther f F refs.now))) }
+    ensures inside { IfOk result (λ found. IfSome found (λ i. i < length refs.now)) }
+{
+    for i in 0..refs.len() {
+        if !is_text(src, low, refs[i], offsets[i])? {
+            return Ok(Some(i));
+        }
+    }
+    Ok(None)
+}
+
+/// The first key of a dictionary that is no text.
+fn first_keyless<P: Framed>(
+    src: &mut P,
+    low: &mut LowBytes,
+    head: &Head,
+) -> Result<Option<u64>, ReadFault>
+    requires head { IsSafeHead (frame_in (P.means src.old)) head.now }
+    requires dict { head.now.kind ≡ Dict }
+    ensures reads { OnlyReads (is_err result) (P.means src.old) (P.means src.new) }
+    ensures low { IsTrue (P.means src.old).honest → AreLow (P.means src.old).octets low.old.slots
+        → AreLow (P.means src.old).octets low.new.slots }
+    ensures found { IfOk result (λ found. HonestlyIn (P.means src.old)
+        (λ f F. AreLow f low.old.slots
+        → MatchOption found (KeysAreTexts f F head.now head.now.count) (IsFirstKeyless f F head.now))) }
+    ensures inside { IfOk result (λ found. IfSome found (λ i. i < head.now.count)) }
+{
+    let count = head.count;
+    let mut refs = [0u64; BLOCK];
+    let mut found = [0u64; BLOCK];
+    let mut done = 0u64;
+    while done < count {
+        let now = (count - done).min(BLOCK as u64);
+        let block = &mut refs[..now as usize];
+        let places = &mut found[..now as usize];
+        read_ahead(src, head, done, block, places)?;
+        if let Some(i) = first_other(src, low, block, places)? {
+            return Ok(Some(done + i as u64));
+        }
+        done += now;
+    }
+    Ok(None)
+}
+
+/// Looks for a key of dictionary `n`, whose head this is, that is no text: rule 21. The fault is that of the first such
+/// key, at its reference, counted from the file's first byte. `Read` where a read failed.
+pub(crate) fn check_texts<P: Framed>(
+    src: &mut P,
+    low: &mut LowBytes,
+    n: ObjectNo,
+    head: &Head,
+) -> Result<(), ObjectFault>
+    requires head { IsSafeHead (frame_in (P.means src.old)) head.now }
+    requires dict { head.now.kind ≡ Dict }
+    ensures reads { OnlyReads (read_failed result) (P.means src.old) (P.means src.new) }
+    ensures low { IsTrue (P.means src.old).honest → AreLow (P.means src.old).octets low.old.slots
+        → AreLow (P.means src.old).octets low.new.slots }
+    ensures exact { HonestlyIn (P.means src.old) (λ f F. AreLow f low.old.slots
+        → Gives (λ _. KeysAreTexts f F head.now head.now.count) (IsKeylessFault f F n.0 head.now) result) }
+{
+    match first_keyless(src, low, head)? {
+        None => Ok(()),
+        Some(i) => Err(ObjectFault::Fault(keyless(src, n, head, i))),
+    }
+}
+
+/// The fault of key `i` of dictionary `n`.
+pub(crate) fn keyless<P: Framed>(src: &P, n: ObjectNo, head: &Head, i: u64) -> Fault
+    requires head { IsSafeHead (frame_in (P.means src.now)) head.now }
+    requires dict { head.now.kind ≡ Dict }
+    requires within { i < head.now.count }
+    ensures { (result.rule ≡ KeyKind) × (result.object ≡ Some n)
+        × (result.place ≡ head.now.body + i * (frame_in (P.means src.now)).ref_size) }
+{
+    Fault {
+        rule: Rule::KeyKind,
+        object: Some(n),
+        place: ref_place(src, head, i),
+    }
+}

@@ -1,0 +1,45 @@
+//! Key references, read ahead with the places of the objects that they name.
+//!
+//! The references, the offset table and the objects lie far from each other in a file. A source with one
+//! window reads each of them forward where they are read in turns, and not for one key after the other.
+
+ghost use Rattle.std.specs.Prelude.{◌≡◌, ◌+◌, ◌≤◌, length, OnOk, is_err};
+ghost use Rattle.bplist_octets.specs.Meaning.{OnlyReads};
+ghost use Rattle.bplist_objects.specs.Framed.{frame_in, HonestlyIn};
+ghost use Rattle.bplist_objects.specs.Safe.{IsSafeHead, ref_count};
+ghost use Rattle.bplist_cert.specs.KeyOffsets.{AreOffsetsOf, AreRefs};
+
+use bplist_objects::{Framed, Head, ObjectNo, offset_of, read_refs};
+use bplist_octets::ReadFault;
+
+/// How many keys are read ahead at most.
+pub(crate) const BLOCK: usize = 256;
+
+/// Fills `refs` with the numbers of references from number `from` on, and `found` with the places of the
+/// objects that they name, and 0 for a number that names no object. The frame is copied once for all of them.
+pub(crate) fn read_ahead<P: Framed>(
+    src: &mut P,
+    head: &Head,
+    from: u64,
+    refs: &mut [u64],
+    found: &mut [u64],
+) -> Result<(), ReadFault>
+    requires head { IsSafeHead (frame_in (P.means src.old)) head.now }
+    requires within { from + length refs.old ≤ ref_count head.now.kind head.now.count }
+    requires many { length found.old ≡ length refs.old }
+    ensures reads { OnlyReads (is_err result) (P.means src.old) (P.means src.new) }
+    ensures refs { OnOk result (HonestlyIn (P.means src.old) (λ f F. AreRefs f F head.now from refs.new)) }
+    ensures found { OnOk result (HonestlyIn (P.means src.old) (λ f F. AreOffsetsOf f F refs.new found.new (length refs.new))) }
+{
+    let frame = src.frame();
+    read_refs(src, &frame, head, from, refs)?;
+    for k in 0..refs.len() {
+        let m = refs[k];
+        if m < frame.objects as u64 {
+            found[k] = offset_of(src, &frame, ObjectNo(m as u32))?;
+        } else {
+            found[k] = 0;
+        }
+    }
+    Ok(())
+}

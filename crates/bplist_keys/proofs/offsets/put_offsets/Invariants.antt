@@ -1,0 +1,10 @@
+use Rattle.std.proofs.Common.{◌≡◌, ℕ, ◌+◌, ◌<◌, length, slice_index}
+use Rattle.bplist_keys.specs.Offsets.{IsOffset32}
+use Rattle.bplist_keys.proofs.offsets.put_offsets.Given as goal
+
+abbrev pub invariant-loop-k : goal.invariant-loop-k
+invariant-loop-k l = record {
+  length : length l.table ≡ length l.fn.table;
+  before : (k : ℕ) → k < l.from → slice_index l.table k ≡ slice_index l.fn.table k;
+  put : (k : ℕ) → k < l.k → IsOffset32 (slice_index l.places k) (slice_index l.table (l.from + k));
+}

@@ -1,0 +1,174 @@
+//! The places of all objects, from the offset table, and sources that hold them.
+
+ghost use Rattle.std.specs.Prelude.{◌≡◌, ℕ, ◌+◌, ◌≤◌, ◌<◌, IsTrue, IfOk, is_err, length, slice_index, vec_len};
+ghost use Rattle.bplist_octets.specs.Meaning.{OnlyReads};
+ghost use Rattle.bplist_octets.specs.Windows.{borrowed};
+ghost use Rattle.bplist_objects.specs.Frame.{off, IsFrame};
+ghost use Rattle.bplist_objects.specs.Framed.{frame_in, with_frame, HonestlyIn};
+ghost use Rattle.bplist_objects.specs.Safe.{IsSafe, IsSafeFrame, IsSafeHead};
+ghost use Rattle.bplist_objects.specs.Answers.{Gives, read_failed};
+ghost use Rattle.bplist_objects.specs.Announced.{HasHead};
+ghost use Rattle.bplist_objects.specs.Heads.{HasShape};
+ghost use Rattle.bplist_objects.specs.Rules.{KeepsAll};
+ghost use Rattle.bplist_objects.specs.ObjectRules.{KeepsByObject, IsObjectFault, shape_rules};
+ghost use Rattle.bplist_keys.specs.Failures.{failed_to_read};
+ghost use Rattle.bplist_keys.specs.Offsets.{IsOffset32, AreOffsets32};
+ghost use Rattle.bplist_keys.specs.Texts.{AreOffsets};
+
+use crate::failure::Failure;
+use bplist_objects::{
+    Frame, Framed, Head, ObjectFault, ObjectNo, Plist, offset_in, read_offsets, shape_in,
+};
+use bplist_octets::{ReadFault, Source};
+use std::alloc::Global;
+
+/// How many entries of the table are read at once.
+const BLOCK: usize = 256;
+
+/// Puts places into the table from number `from` on. One that needs more than 32 bits is kept as their greatest number,
+/// which lies behind any offset table too.
+fn put_offsets(places: &[u64], from: usize, table: &mut [u32])
+    requires { from + length places.now ≤ length table.old }
+    ensures length { length table.new ≡ length table.old }
+    ensures before { (k : ℕ) → k < from → slice_index table.new k ≡ slice_index table.old k }
+    ensures put { (k : ℕ) → k < length places.now
+        → IsOffset32 (slice_index places.now k) (slice_index table.new (from + k)) }
+{
+    for (k, place) in places.iter().enumerate() {
+        table[from + k] = (*place).min(u32::MAX as u64) as u32;
+    }
+}
+
+/// Reads a block of entries of the offset table from number `from` on. The number of the entry after it.
+fn read_entries<S: Source>(
+    src: &mut S,
+    frame: &Frame,
+    from: u32,
+    table: &mut [u32],
+) -> Result<u32, ReadFault>
+    requires safe { IsSafe (length (S.means src.old).octets) frame.now }
+    requires all { length table.old ≡ frame.now.objects }
+    requires more { from < frame.now.objects }
+    ensures reads { OnlyReads (is_err result) (S.means src.old) (S.means src.new) }
+    ensures all { length table.new ≡ length table.old }
+    ensures next { IfOk result (λ next. (from < next) × (next ≤ frame.now.objects)) }
+    ensures exact { IsTrue (S.means src.old).honest
+        → AreOffsets32 (S.means src.old).octets frame.now from table.old
+        → IfOk result (λ next. AreOffsets32 (S.means src.old).octets frame.now next table.new) }
+{
+    let count = (frame.objects - from).min(BLOCK as u32);
+    let mut places = [0; BLOCK];
+    let places = &mut places[..count as usize];
+    read_offsets(src, frame, from, places)?;
+    put_offsets(places, from as usize, table);
+    Ok(from + count)
+}
+
+/// The place of each object, in the order of their numbers, as their entries say. One that needs more than 32 bits is
+/// answered as their greatest number.
+pub fn offsets_of<S: Source>(alloc: Global, src: &mut S, frame: &Frame) -> Result<Vec<u32>, Failure>
+    requires { IsSafe (length (S.means src.old).octets) frame.now }
+    ensures reads { OnlyReads (failed_to_read result) (S.means src.old) (S.means src.new) }
+    ensures all { IfOk result (λ places. vec_len places ≡ frame.now.objects) }
+    ensures exact { IsTrue (S.means src.old).honest
+        → IfOk result (λ places. AreOffsets32 (S.means src.old).octets frame.now frame.now.objects places.items) }
+{
+    let mut places = vec![in alloc; 0; frame.objects as usize]?;
+    let mut next = 0;
+    while next < frame.objects {
+        next = read_entries(src, frame, next, &mut places)?;
+    }
+    Ok(places)
+}
+
+/// A source that knows its frame and tells the places of its objects.
+///
+/// What walks over the objects in any order keeps their places, 4 bytes an object (`OffsetTable`). Where memory is short the
+/// entries are read again instead (`Plist`).
+pub trait Offsets: Framed {
+    /// The place of object `n`.
+    fn offset(&mut self, n: u32) -> Result<u64, ReadFault>
+        requires { n < (frame_in (Self.means self.old)).objects }
+        ensures reads { OnlyReads (is_err result) (Self.means self.old) (Self.means self.new) }
+        ensures value { HonestlyIn (Self.means self.old) (λ f F. IfOk result (λ place. place ≡ off f F n)) };
+}
+
+/// The head of object `n` by marker and count alone, as `shape_in` answers it.
+#[inline(always)]
+pub fn object_shape<P: Offsets>(src: &mut P, n: u32) -> Result<Head, ObjectFault>
+    requires { n < (frame_in (P.means src.old)).objects }
+    ensures reads { OnlyReads (read_failed result) (P.means src.old) (P.means src.new) }
+    ensures rules { HonestlyIn (P.means src.old) (λ f F.
+        Gives (λ head. HasHead f F n head × KeepsAll (KeepsByObject f F n) shape_rules)
+        (IsObjectFault f F n shape_rules) result) }
+    ensures exact { HonestlyIn (P.means src.old) (λ f F.
+        Gives (HasShape f F n) (IsObjectFault f F n shape_rules) result) }
+    ensures safe { IfOk result (IsSafeHead (frame_in (P.means src.old))) }
+{
+    let place = src.offset(n)?;
+    shape_in(src, ObjectNo(n), place)
+}
+
+impl<S: Source> Offsets for Plist<'_, S> {
+    fn offset(&mut self, n: u32) -> Result<u64, ReadFault> {
+        offset_in(self, ObjectNo(n))
+    }
+}
+
+/// A source that is lent, with its frame and its offset table as numbers, so that a place costs no read.
+#[derive(Drop)]
+pub struct OffsetTable<'a, S: Source> {
+    source: &'a mut S,
+    frame: Frame,
+    places: &'a [u32],
+    pub ghost safe: { IsSafeFrame (length (S.means source.now).octets) frame },
+    pub ghost all: { length places.now ≡ frame.objects },
+    pub ghost framed: { IsTrue (S.means source.now).honest → IsFrame (S.means source.now).octets frame },
+    pub ghost placed: { IsTrue (S.means source.now).honest → AreOffsets (S.means source.now).octets frame places.now },
+}
+
+impl<'a, S: Source> OffsetTable<'a, S> {
+    /// A source with its frame, as `frame_of` answers it, and the places of all objects, as `offsets_of` does.
+    pub fn new(source: &'a mut S, frame: Frame, places: &'a [u32]) -> OffsetTable<'a, S>
+        requires safe { IsSafeFrame (length (S.means source.old).octets) frame }
+        requires all { length places.now ≡ frame.objects }
+        requires framed { IsTrue (S.means source.old).honest → IsFrame (S.means source.old).octets frame }
+        requires placed { IsTrue (S.means source.old).honest → AreOffsets (S.means source.old).octets frame places.now }
+        ensures same_source { result.source.ghost_name ≡ source.entry.ghost_name }
+        ensures means { S.means result.source.now ≡ S.means source.old }
+        ensures frame { result.frame ≡ frame }
+    {
+        OffsetTable {
+            source,
+            frame,
+            places,
+        }
+    }
+}
+
+impl<S: Source> Source for OffsetTable<'_, S> {
+    ghost means = { λ t. with_frame t.frame (borrowed t.source.ghost_name (S.means t.source.now)) };
+
+    fn len(&self) -> u64 {
+        self.source.len()
+    }
+
+    // Inlined, so that a read costs what it costs the source.
+    #[inline(always)]
+    fn read_at(&mut self, at: u64, into: &mut [u8]) -> Result<(), ReadFault> {
+        self.source.read_at(at, into)
+    }
+}
+
+impl<S: Source> Framed for OffsetTable<'_, S> {
+    fn frame(&self) -> Frame {
+        self.frame
+    }
+}
+
+impl<S: Source> Offsets for OffsetTable<'_, S> {
+    #[inline(always)]
+    fn offset(&mut self, n: u32) -> Result<u64, ReadFault> {
+        Ok(self.places[n as usize] as u64)
+    }
+}

@@ -1,0 +1,42 @@
+-- What the places that are kept say of rule 13.
+use Rattle.std.proofs.Common.{ℕ, ◌^◌, ◌<◌, ◌≤◌, inl, inr, List, slice_index, ap, arith}
+use Rattle.std.proofs.lemmas.Bool.{cases_lt}
+use Rattle.bplist_objects.specs.declared.fault.Fault.{Fault}
+use Rattle.bplist_objects.specs.declared.frame.Frame.{Frame}
+use Rattle.bplist_objects.specs.Frame.{off}
+use Rattle.bplist_objects.specs.FrameRules.{AreEntriesLow, IsEntryFault, IsTrailer}
+use Rattle.bplist_objects.proofs.ScanLaws.{first_high}
+use Rattle.bplist_keys.specs.Offsets.{AreOffsets32}
+use Rattle.bplist_lint.specs.OffsetRule.{AreBelowTable, IsOffsetFault}
+
+-- a table that a trailer gives stands below 2^32
+table_fits : (f : List ℕ) (F : Frame) → IsTrailer f F → F.table < 2 ^ 32
+table_fits f F (is, (large, (_, (_, (_, (_, (_, (late, _)))))))) = let e = ap (λ G. G.table) is in omega (arith, e, large, late)
+
+module _ (f : List ℕ) (F : Frame) (places : List ℕ) (kept : AreOffsets32 f F F.objects places) where
+  below : F.table < 2 ^ 32 → (n : ℕ) → n < F.objects → slice_index places n < F.table → off f F n < F.table
+  below fits n within low = elim (cases_lt (off f F n) (2 ^ 32)) [
+    | inl small ↦ let e = (kept n within).0 small in omega (arith, e)
+    | inr great ↦ let e = (kept n within).1 (omega (arith, great)) in omega (arith, e, low, fits)
+  ]
+
+  -- where all that is kept is below the table, so are all entries
+  pub kept_low : IsTrailer f F → AreBelowTable F places → AreEntriesLow f F
+  kept_low trailed low n within = below (table_fits f F trailed) n within (low n within)
+
+  high : (n : ℕ) → n < F.objects → F.table < 2 ^ 32 → F.table ≤ slice_index places n → F.table ≤ off f F n
+  high n within fits at = elim (cases_lt (off f F n) (2 ^ 32)) [
+    | inl small ↦ let e = (kept n within).0 small in omega (arith, e)
+    | inr great ↦ omega (arith, great)
+  ]
+
+  -- the first kept place that is not below the table is that of the first such entry
+  pub kept_high : (fault : Fault) → IsTrailer f F → IsOffsetFault F places fault → IsEntryFault f F fault.object fault.place
+  kept_high fault trailed h =
+      let fits = table_fits f F trailed in (
+        h.n,
+        first_high f F.table F.offset_size F.objects F.table h.n h.within (high h.n h.within fits h.high)
+            (λ k low. below fits k (let w = h.within in omega (arith, w, low)) (h.before k low)),
+        h.object,
+        h.place,
+      )

@@ -1,0 +1,44 @@
+use Rattle.std.proofs.Common.{None, arith}
+use Rattle.std.proofs.lemmas.Result.{err_from_is_err_and}
+use Rattle.bplist_objects.specs.declared.frame.Frame.{Frame}
+use Rattle.bplist_objects.specs.Framed.{frame_in}
+use Rattle.bplist_cert.proofs.TextObjects.{shape_kept}
+use Rattle.bplist_cert.proofs.CheckSteps.{object_refused}
+use Rattle.bplist_lint.proofs.KeySteps.{kept_by_good}
+use Rattle.bplist_cert.proofs.KeyRepeats.{keys_inside, good_at, classed_texts, apart_differ}
+use Rattle.bplist_lint.proofs.KeyClasses.{wrong_fault}
+use Rattle.bplist_lint.proofs.key_rules.check_dict_keys.Goals as goal
+
+pub returns-in_err-head-clause-exact : goal.returns-in_err-head-clause-exact
+returns-in_err-head-clause-exact g c = λ honest kept keys low.
+    let p = err_from_is_err_and c.from_residual.result c.from_residual.ensures.1 in
+    let F : Frame = frame_in (g.P.Source.means c.args.src.now) in
+    rw (p.1, p.2) (object_refused _ _ c.in_err-head.field-0.0 (λ fault h. absurd (shape_kept (g.P.Source.means c.args.src.now).octets F c.args.n fault kept h)) (c.in_err-head.ensures.rules honest))
+
+pub returns-in-None-clause-exact : goal.returns-in-None-clause-exact
+returns-in-None-clause-exact g c = λ honest kept keys low.
+    let f = (g.P.Source.means c.args.src.now).octets in
+    let F : Frame = frame_in (g.P.Source.means c.args.src.now) in
+    let framed = c.frame-frame.ensures.framed.framed honest in
+    let n = c.args.n in
+    let head = c.in_ok-head.head in
+    let classes = c.args.table.now.classes.table.items in
+    let has = (c.in_ok-head.ensures.rules honest).0 in
+    let known = keys head has c.in-Dict.is in
+    let inside = keys_inside f F n kept head has c.in-Dict.is in
+    let good = (rw (c.in_ok-head.ensures.reads, c.in-None.is) at c.in_ok-first_wrong-in-Dict.ensures.exact) honest low in
+    kept_by_good f F n (good_at f F None n head has (λ _. (classed_texts f F head classes known.0 framed known.1 inside head.count (omega arith) good.0, apart_differ f F head classes known.0 head.count (omega arith) good.1)))
+
+pub returns-in-Some-clause-exact : goal.returns-in-Some-clause-exact
+returns-in-Some-clause-exact g c = λ honest kept keys low.
+    let f = (g.P.Source.means c.args.src.now).octets in
+    let F : Frame = frame_in (g.P.Source.means c.args.src.now) in
+    let framed = c.frame-frame.ensures.framed.framed honest in
+    let n = c.args.n in
+    let head = c.in_ok-head.head in
+    let classes = c.args.table.now.classes.table.items in
+    let has = (c.in_ok-head.ensures.rules honest).0 in
+    let known = keys head has c.in-Dict.is in
+    let inside = keys_inside f F n kept head has c.in-Dict.is in
+    let wrong = (rw (c.in_ok-head.ensures.reads, c.in-Some.is) at c.in_ok-first_wrong-in-Dict.ensures.exact) honest low in
+    wrong_fault f F framed head classes known.0 known.1 inside (record { 0 = n }) has c.in-Dict.is c.in-Some.wrong c.key_fault.result wrong (rw (c.in_ok-first_wrong-in-Dict.ensures.reads, c.in_ok-head.ensures.reads) at c.key_fault.ensures)

@@ -1,0 +1,8 @@
+use Rattle.bplist_objects.proofs.FirstFaults.{no_shape}
+use Rattle.bplist_lint.proofs.offset_rule.shape_there.Goals as goal
+
+pub returns-in-Ok-clause-shape : goal.returns-in-Ok-clause-shape
+returns-in-Ok-clause-shape g c = λ honest. c.in-Ok.ensures.exact honest
+
+pub returns-in-Err-Fault-clause-shape : goal.returns-in-Err-Fault-clause-shape
+returns-in-Err-Fault-clause-shape g c = λ honest h. no_shape _ _ _ _ h (rw c.in-Err-Fault.field-0-is at (c.in-Err-Fault.ensures.exact honest))

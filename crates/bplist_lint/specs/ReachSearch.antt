@@ -1,0 +1,68 @@
+-- Marks on references, and the search for the reached objects: places by numbers, and what is known of those that were looked at.
+-- Source: profile.
+use Rattle.std.specs.Prelude.{◌≡◌, ◌⊎◌, ℕ, ◌+◌, ◌*◌, ◌/◌, ◌%◌, ◌<◌, Bool, All, List, length, slice_index, vec_len, Contains}
+use Rattle.bplist_objects.specs.declared.frame.Frame.{Frame}
+use Rattle.bplist_objects.specs.Numbers.{num_at}
+use Rattle.bplist_objects.specs.Reach.{Reach}
+use Rattle.bplist_objects.specs.Spelled.{refs_at}
+use Rattle.bplist_keys.specs.Marks.{IsMarked}
+use Rattle.bplist_lint.specs.BitSets.{IsIn}
+use Rattle.bplist_lint.specs.declared.reach.Search.{Search}
+
+-- the references of an object are marked
+abbrev pub HasMarks : List Bool → List ℕ → Type 0
+HasMarks marks references = (i : ℕ) → i < length references → IsMarked marks (slice_index references i)
+
+-- ---- places by numbers
+-- how many references can stand one behind the other
+abbrev pub row_length : Frame → ℕ
+row_length F = F.table / F.ref_size + 1
+
+-- the number of a place: those of references that stand one behind the other follow one another
+abbrev pub place_index : Frame → ℕ → ℕ
+place_index F place = place % F.ref_size * row_length F + place / F.ref_size
+
+-- how many numbers there are
+abbrev pub index_count : Frame → ℕ
+index_count F = row_length F * F.ref_size
+
+-- the reference at the place with this number
+abbrev pub reference_at : List ℕ → Frame → ℕ → ℕ
+reference_at f F number = num_at f (number % row_length F * F.ref_size + number / row_length F) F.ref_size
+
+-- at the places in this set the numbers of objects stand
+abbrev pub AreGood : List ℕ → Frame → List ℕ → Type 0
+AreGood f F words = (k : ℕ) → IsIn words k → reference_at f F k < F.objects
+
+-- the objects whose numbers stand at the places in this set are marked
+abbrev pub AreFollowed : List ℕ → Frame → List ℕ → List Bool → Type 0
+AreFollowed f F words marks = (k : ℕ) → IsIn words k → IsMarked marks (reference_at f F k)
+
+-- ---- the search
+-- whatever the source gives: there is a mark for each object, objects are on the stack, and the sets are for all places
+pub record IsReady (F : Frame) (search : Search) : Type 0 where
+  pub all_marks : vec_len search.marks ≡ F.objects
+  pub stack_in : All (λ m. m < F.objects) search.stack.items
+  pub good_size : search.good.size ≡ index_count F
+  pub followed_size : search.followed.size ≡ index_count F
+
+-- what is marked now was marked or is one of these references and on the stack, and nothing else came onto the stack
+pub record Looked (references : List ℕ) (marks : List Bool) (stack : List ℕ) (marks' : List Bool) (stack' : List ℕ) : Type 0 where
+  pub keeps_marks : (m : ℕ) → IsMarked marks m → IsMarked marks' m
+  pub keeps_stack : (m : ℕ) → Contains stack m → Contains stack' m
+  pub fresh : (m : ℕ) → IsMarked marks' m → IsMarked marks m ⊎ (Contains references m × Contains stack' m)
+  pub waiting : (m : ℕ) → Contains stack' m → Contains stack m ⊎ IsMarked marks' m
+
+module _ (f : List ℕ) (F : Frame) where
+  -- the marked objects are reached; they are on the stack, or their references are marked
+  pub record IsSearching (stack : List ℕ) (marks : List Bool) (good followed : List ℕ) : Type 0 where
+    pub begun : IsMarked marks F.top.0
+    pub sound : (m : ℕ) → IsMarked marks m → Reach f F m
+    pub on_stack : (m : ℕ) → Contains stack m → IsMarked marks m
+    pub closed : (m : ℕ) → IsMarked marks m → Contains stack m ⊎ HasMarks marks (refs_at f F m)
+    pub known_good : AreGood f F good
+    pub known_followed : AreFollowed f F followed marks
+
+  -- the same of a search, with this stack
+  abbrev pub Searching : List ℕ → Search → Type 0
+  Searching stack search = IsSearching stack search.marks.items search.good.words.items search.followed.words.items

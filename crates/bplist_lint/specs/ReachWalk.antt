@@ -1,0 +1,125 @@
+-- The one walk over the reached objects: what it knows between two visits, and at its end. Source: profile.
+use Rattle.std.specs.Prelude.{◌≡◌, ◌≢◌, ◌⊎◌, ◌↔◌, ℕ, ◌-◌, ◌<◌, ◌≤◌, Bool, true, false, cond, All, List, length, slice_index, vec_len, Contains, Option, Some, None, Result, Ok, Err}
+use Rattle.bplist_objects.specs.declared.fault.ObjectFault.{ObjectFault}
+use Rattle.bplist_objects.specs.declared.fault.ObjectFault.TheVariants as object_faults
+use Rattle.bplist_objects.specs.declared.frame.Frame.{Frame}
+use Rattle.bplist_objects.specs.declared.head.Head.{Head}
+use Rattle.bplist_objects.specs.Announced.{HasHead, head_found}
+use Rattle.bplist_objects.specs.Frame.{off}
+use Rattle.bplist_objects.specs.ObjectRules.{KeepsByObject, object_rules}
+use Rattle.bplist_objects.specs.Reach.{Reach}
+use Rattle.bplist_objects.specs.Rules.{KeepsAll}
+use Rattle.bplist_objects.specs.Spelled.{refs_at}
+use Rattle.bplist_keys.specs.Classes.{HasNamedKeys}
+use Rattle.bplist_keys.specs.Marks.{IsMarked}
+use Rattle.bplist_lint.specs.declared.tally.Tally.{Tally}
+use Rattle.bplist_lint.specs.declared.walk.Stop.{Stop}
+use Rattle.bplist_lint.specs.declared.walk.Stop.TheVariants as stops
+use Rattle.bplist_lint.specs.declared.walk.Worklist.{Worklist}
+use Rattle.bplist_lint.specs.declared.walk.Progress.{Progress}
+use Rattle.bplist_lint.specs.declared.walk.Reached.{Reached}
+use Rattle.bplist_lint.specs.ReachSearch.{HasMarks}
+use Rattle.bplist_lint.specs.ReferenceGraph.{AreChildless}
+use Rattle.bplist_lint.specs.ReachRules.{sum_below, number_below, references_below, is_marked, Tallied}
+use Rattle.bplist_lint.specs.Tallies.{IsRoomy}
+
+-- ---- why the walk ended
+-- the reason for a fault of an object or a failed read
+abbrev pub of_object : ObjectFault → Stop
+of_object (object_faults.Fault _) = stops.Trouble
+of_object (object_faults.Read error) = stops.Read error
+
+-- the walk met a failed read
+abbrev pub stopped_by_read : Stop → Bool
+stopped_by_read (stops.Read _) = true
+stopped_by_read _ = false
+
+-- the answer says that a read has failed
+abbrev pub stop_failed : {X : Type 0} → Result X Stop → Bool
+stop_failed (Ok x) = false
+stop_failed (Err stop) = stopped_by_read stop
+
+-- ---- whatever the source gives
+-- there is a mark for each of so many objects, and objects are on the stack
+pub record IsSteady (size : ℕ) (w : Worklist) : Type 0 where
+  pub all_marks : vec_len w.marks ≡ size
+  pub stack_in : All (λ m. m < size) w.stack.items
+
+-- besides, there is room for what was visited
+pub record IsSteadyWalk (F : Frame) (p : Progress) : Type 0 where
+  pub worklist : IsSteady F.objects p.worklist
+  pub all_childless : vec_len p.childless ≡ F.objects
+  pub all_named : length p.named.marks.items ≡ F.objects
+  pub roomy : IsRoomy F p.tally
+
+-- there is a mark of either kind for each object, and there is room for the reached ones
+pub record Fits (F : Frame) (reached : Reached) : Type 0 where
+  pub all_marks : vec_len reached.marks ≡ F.objects
+  pub all_childless : vec_len reached.childless ≡ F.objects
+  pub roomy : IsRoomy F reached.tally
+
+-- ---- one visit
+-- no object stands on the stack twice
+abbrev pub AreApart : List ℕ → Type 0
+AreApart stack = (j k : ℕ) → j < k → k < length stack → slice_index stack j ≢ slice_index stack k
+
+-- the first i of these references are marked, and those that were not are from next on or on the stack, each once
+pub record Noted (references : List ℕ) (next i : ℕ) (marks : List Bool) (stack : List ℕ) (marks' : List Bool) (stack' : List ℕ) : Type 0 where
+  pub keeps_marks : (m : ℕ) → IsMarked marks m → IsMarked marks' m
+  pub keeps_stack : (m : ℕ) → Contains stack m → Contains stack' m
+  pub fresh : (m : ℕ) → IsMarked marks' m → IsMarked marks m ⊎ (Contains references m × ((next ≤ m) ⊎ Contains stack' m))
+  pub waiting : (m : ℕ) → Contains stack' m → Contains stack m ⊎ (IsMarked marks' m × (IsMarked marks m → ⊥) × (m < next))
+  pub apart : ((m : ℕ) → Contains stack m → IsMarked marks m) → AreApart stack → AreApart stack'
+  pub all : (k : ℕ) → k < i → IsMarked marks' (slice_index references k)
+
+-- how many bytes an object at this place takes, by its head
+abbrev pub extent_by : ℕ → Option Head → ℕ
+extent_by place None = 0
+extent_by place (Some head) = head.end - place
+
+module _ (f : List ℕ) (F : Frame) where
+  -- how many bytes object n takes
+  abbrev pub extent : ℕ → ℕ
+  extent n = extent_by (off f F n) (head_found f F n)
+
+  -- how many bytes the objects that p holds of take together among those below n
+  abbrev pub extents_below : (ℕ → Bool) → ℕ → ℕ
+  extents_below p n = sum_below (λ m. cond (p m) (extent m) 0) n
+
+  -- object n keeps rules 14 to 20, its references are marked, and its keys are named
+  pub record IsVisited (marks keys : List Bool) (n : ℕ) : Type 0 where
+    pub head : Head
+    pub has : HasHead f F n head
+    pub kept : KeepsAll (KeepsByObject f F n) object_rules
+    pub all : HasMarks marks (refs_at f F n)
+    pub named : HasNamedKeys f F keys n
+
+  -- between two visits: what is marked is reached; it is from next on, on the stack, or was visited once; and the tally
+  -- is that of what was visited
+  pub record IsWalkState (next : ℕ) (stack : List ℕ) (marks childless keys : List Bool) (tally : Tally) : Type 0 where
+    pub visited : List Bool
+    pub all_visited : length visited ≡ F.objects
+    pub begun : IsMarked marks F.top.0
+    pub sound : (m : ℕ) → IsMarked marks m → Reach f F m
+    pub waiting : (m : ℕ) → Contains stack m → IsMarked marks m × (IsMarked visited m → ⊥) × (m < next)
+    pub apart : AreApart stack
+    pub closed : (m : ℕ) → IsMarked marks m → (next ≤ m) ⊎ (Contains stack m ⊎ IsMarked visited m)
+    pub each : (m : ℕ) → IsMarked visited m → IsMarked marks m × (m < next) × IsVisited marks keys m
+    pub childless_known : AreChildless f F childless
+    pub reached : tally.reached ≡ number_below (is_marked visited) F.objects
+    pub used : tally.used ≡ extents_below (is_marked visited) F.objects
+    pub references : tally.references ≡ references_below f F (is_marked visited) F.objects
+
+  -- the same of the walk's progress, with this stack
+  abbrev pub Walking : ℕ → List ℕ → Progress → Type 0
+  Walking next stack p = IsWalkState next stack p.worklist.marks.items p.childless.items p.named.marks.items p.tally
+
+  -- exactly the reached objects are marked, they keep rules 14 to 20 and 31, and this is their tally
+  pub record IsWalked (reached : Reached) : Type 0 where
+    pub marked : (n : ℕ) → IsMarked reached.marks.items n ↔ Reach f F n
+    pub childless : AreChildless f F reached.childless.items
+    pub tallied : Tallied f F reached.marks.items F.objects reached.tally
+
+  -- the keys of the reached dictionaries are named
+  abbrev pub AreNamed : List Bool → Type 0
+  AreNamed keys = (n : ℕ) → Reach f F n → HasNamedKeys f F keys n

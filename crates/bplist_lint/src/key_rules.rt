@@ -1,0 +1,107 @@
+//! The first fault of the reached dictionaries by rules 21 and 22.
+//!
+//! Each text that is named as a key has a class, which is found once for all dictionaries. A repeated key is a repeated
+//! class, and a key without one is no text.
+
+ghost use Rattle.std.specs.Prelude.{◌≡◌, ◌↔◌, ℕ, ◌<◌, length};
+ghost use Rattle.bplist_octets.specs.Meaning.{OnlyReads};
+ghost use Rattle.bplist_objects.specs.Framed.{frame_in, HonestlyIn};
+ghost use Rattle.bplist_objects.specs.Safe.{IsSafeHead};
+ghost use Rattle.bplist_objects.specs.Reach.{Reach};
+ghost use Rattle.bplist_objects.specs.Rules.{KeepsAll, IsFirstFault};
+ghost use Rattle.bplist_objects.specs.ObjectRules.{KeepsByObject, object_rules};
+ghost use Rattle.bplist_objects.specs.Announced.{HasHead};
+ghost use Rattle.bplist_objects.specs.declared.kind.Kind.TheVariants.{Dict};
+ghost use Rattle.bplist_cert.specs.KeyRepeats.{KeysAreSound};
+ghost use Rattle.bplist_cert.specs.Refusals.{Judges, refused_read};
+ghost use Rattle.bplist_keys.specs.Marks.{IsMarked};
+ghost use Rattle.bplist_lint.specs.ReferenceGraph.{AreChildless};
+ghost use Rattle.bplist_lint.specs.ReachRules.{KeepReachBelow};
+ghost use Rattle.bplist_lint.specs.ReachWalk.{AreNamed};
+ghost use Rattle.bplist_lint.specs.KeyRules.{KeepsByKeys, BreaksAtKeys, key_rules, KeepKeysBelow, IsKeysFault};
+ghost use Rattle.bplist_keys.specs.Classes.{AreClassed, IsStamped, IsNew, defect_key};
+ghost use Rattle.bplist_lint.specs.KeyClasses.{IsWrongFault};
+ghost use Rattle.bplist_objects.specs.declared.head.Head.{Head as head_record};
+
+use bplist_cert::Refusal;
+use bplist_keys::{ClassTable, KeyDefect, NamedKeys, Offsets, classes_of, object_shape};
+use bplist_objects::{Fault, Framed, Head, Kind, ObjectNo, Rule, ref_place};
+use std::alloc::Global;
+
+/// The fault of the keys of dictionary `n`.
+fn key_fault<P: Framed>(src: &P, n: ObjectNo, head: &Head, wrong: KeyDefect) -> Fault
+    requires head { IsSafeHead (frame_in (P.means src.now)) head.now }
+    requires dict { head.now.kind ≡ Dict }
+    requires within { defect_key wrong < head.now.count }
+    ensures { IsWrongFault (frame_in (P.means src.now)) n head.now wrong result }
+{
+    match wrong {
+        KeyDefect::NotText(i) => Fault {
+            rule: Rule::KeyKind,
+            object: Some(n),
+            place: ref_place(src, head, i),
+        },
+        KeyDefect::Repeated(i) => Fault {
+            rule: Rule::KeyTwice,
+            object: Some(n),
+            place: ref_place(src, head, i),
+        },
+    }
+}
+
+/// Looks at the keys of marked object `n`, where it is a dictionary.
+fn check_dict_keys<P: Offsets>(src: &mut P, n: u32, table: &mut ClassTable) -> Result<(), Refusal>
+    requires { n < (frame_in (P.means src.old)).objects }
+    ensures reads { OnlyReads (refused_read result) (P.means src.old) (P.means src.new) }
+    ensures same { table.new.classes.table.items ≡ table.old.classes.table.items }
+    ensures stamped { IsStamped n table.old.seen.items table.new.seen.items }
+    ensures exact { HonestlyIn (P.means src.old) (λ f F. KeepsAll (KeepsByObject f F n) object_rules
+        → ((head : head_record) → HasHead f F n head → head.kind ≡ Dict
+        → AreClassed f F table.old.classes.table.items head × KeysAreSound f F head)
+        → IsNew table.old.seen.items n
+        → Judges (λ _. KeepsAll (KeepsByKeys f F n) key_rules)
+        (IsFirstFault (KeepsByKeys f F n) (BreaksAtKeys f F n) key_rules) result) }
+{
+    let _frame = src.frame();
+    let head = object_shape(src, n)?;
+    match head.kind {
+        Kind::Dict => match table.first_wrong(src, n, &head)? {
+            None => Ok(()),
+            Some(wrong) => Err(Refusal::Fault(key_fault(src, ObjectNo(n), &head, wrong))),
+        },
+        _ => Ok(()),
+    }
+}
+
+/// Looks at the keys of each marked dictionary, in the order of the objects' numbers, where exactly the reached objects are
+/// marked, all of them keep rules 14 to 20, and what they name as keys is named. Objects with a mark in `childless` have no
+/// references. Where no object is named as a key, as in a file without dictionaries, neither classes nor a pass over all
+/// objects are worth their cost: no dictionary has a key that could be wrong.
+pub fn check_keys<P: Offsets>(
+    alloc: Global,
+    src: &mut P,
+    marks: &[bool],
+    childless: &[bool],
+    named: NamedKeys,
+) -> Result<(), Refusal>
+    requires marks { length marks.now ≡ (frame_in (P.means src.old)).objects }
+    requires childless { length childless.now ≡ (frame_in (P.means src.old)).objects }
+    requires all_named { length named.marks.items ≡ (frame_in (P.means src.old)).objects }
+    ensures reads { OnlyReads (refused_read result) (P.means src.old) (P.means src.new) }
+    ensures exact { HonestlyIn (P.means src.old) (λ f F. ((n : ℕ) → IsMarked marks.now n ↔ Reach f F n)
+        → KeepReachBelow f F F.objects → AreChildless f F childless.now → AreNamed f F named.marks.items
+        → Judges (λ _. KeepKeysBelow f F F.objects) (IsKeysFault f F) result) }
+{
+    let frame = src.frame();
+    if named.count() == 0 {
+        return Ok(());
+    }
+    let classes = classes_of(alloc, src, named)?;
+    let mut table = ClassTable::new(alloc, classes)?;
+    for n in 0..frame.objects {
+        if marks[n as usize] && !childless[n as usize] {
+            check_dict_keys(src, n, &mut table)?;
+        }
+    }
+    Ok(())
+}

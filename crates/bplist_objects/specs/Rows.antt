@@ -1,9 +1,0 @@
--- The form of the small files to try the definitions on. Source: the format comment of CFBinaryPList.c.
-use Rattle.std.specs.Prelude.{ℕ, ◌+◌, List, [], ◌∷◌, ◌++◌, length, replicate}
-use Rattle.bplist_objects.specs.Frame.{header}
-
--- a file of these objects, with entries and references of one byte and the top 0
-abbrev pub row : List ℕ → List ℕ → List ℕ
-row objects entries =
-    header ++ objects ++ entries ++ replicate 6 0 ++ (1 ∷ 1 ∷ []) ++ replicate 7 0 ++ (length entries ∷ [])
-    ++ replicate 15 0 ++ ((8 + length objects) ∷ [])
