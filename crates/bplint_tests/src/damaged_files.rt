@@ -2,7 +2,7 @@
 
 ghost use Rattle.bplint_engine.specs.Commands.{PrintsOnePath};
 
-use crate::runs::{certificate_of, plain, told, with_path};
+use crate::runs::{certificate_of, outcome, plain, with_path};
 use bplint_engine::{Command, Verb, run_on, run_over};
 use bplist_octets::ShiftingSource;
 use bplist_samples::{SMALLEST_FILE, TWO_TRUES, small, tested_rows};
@@ -82,7 +82,7 @@ const LINES: [(&str, u32); 13] = [
 fn line_of(alloc: Global, file: &[u8]) -> Result<usize, Fail> {
     let mut out = Vec::new(alloc);
     let answer = run_over(alloc, &plain(alloc, Verb::Lint), file, b"", &mut out);
-    let line = told(alloc, answer, &out)?;
+    let line = outcome(alloc, answer, &out)?;
     let known = LINES
         .iter()
         .position(|(beginning, _)| line.as_str().starts_with(*beginning));
@@ -116,7 +116,7 @@ fn changes_of_one_byte_by_counts(rt: HostRuntime) -> Result<(), Fail> {
 }
 
 /// Runs a command over a file that after so many reads is another one of its length.
-fn told_of_shifting(
+fn outcome_of_shifting(
     alloc: Global,
     command: &Command,
     file: &[u8],
@@ -132,7 +132,7 @@ fn told_of_shifting(
     let source = ShiftingSource::new(file, other, reads);
     let mut out = Vec::new(alloc);
     let (answer, _source) = run_on(alloc, command, source, cert, &mut out);
-    told(alloc, answer, &out)
+    outcome(alloc, answer, &out)
 }
 
 #[test]
@@ -147,13 +147,13 @@ fn file_that_changes(rt: HostRuntime) -> Result<(), Fail> {
     let command = with_path(alloc, Verb::Get, "/0")?;
     let mut changes = 0u32;
     for reads in 0..100 {
-        let line = told_of_shifting(alloc, &command, &file, &other, reads, &cert)?;
+        let line = outcome_of_shifting(alloc, &command, &file, &other, reads, &cert)?;
         if line.as_str() == "3 changed\n" {
             changes = changes.saturating_add(1);
         }
     }
     assert!(rt; changes > 0);
-    let line = told_of_shifting(alloc, &command, &file, &other, 100, &cert)?;
+    let line = outcome_of_shifting(alloc, &command, &file, &other, 100, &cert)?;
     assert_eq!(rt; line.as_str(), "0 true\n");
     Ok(())
 }

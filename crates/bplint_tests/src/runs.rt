@@ -37,7 +37,7 @@ pub(crate) fn with_path(alloc: Global, verb: Verb, path: &str) -> Result<Command
 }
 
 /// What was written, or the line of the fault, with its status before it.
-pub(crate) fn told(
+pub(crate) fn outcome(
     alloc: Global,
     answer: Result<Said, RunFault>,
     written: &[u8],

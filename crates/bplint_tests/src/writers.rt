@@ -1,6 +1,6 @@
 //! Writers that fail or are interrupted.
 
-use crate::runs::{told, with_path};
+use crate::runs::{outcome, with_path};
 use arrayvec::ArrayVec;
 use bplint_engine::{Verb, run_over};
 use bplist_samples::{
@@ -59,7 +59,7 @@ fn writers(rt: HostRuntime) -> Result<(), Fail> {
         };
         let answer = run_over(alloc, &command, &row.octets, &row.certificate, &mut out);
         assert_eq!(rt;
-            told(alloc, answer, b"")?.as_str(),
+            outcome(alloc, answer, b"")?.as_str(),
             *line,
             "with room for {room}"
         );

@@ -22,14 +22,14 @@ pub struct WriteFault {
 
 /// How many bytes went out, and how many interrupted writes were tried again.
 #[derive(Drop)]
-struct Tally {
+struct Sender {
     /// The bytes that the writer took.
     sent: u64,
     /// The interrupted writes that were tried again, `RETRIES` at most.
     interrupts: u32,
 }
 
-impl Tally {
+impl Sender {
     /// Sends all of the bytes.
     fn send<W: Write>(&mut self, out: &mut W, bytes: &[u8]) -> Result<(), WriteFault>
         requires { self.old.sent + length bytes.now < 2 ^ 64 }
@@ -78,15 +78,15 @@ pub struct Sink {
     /// How many bytes are held back.
     used: usize,
     /// What went out.
-    tally: Tally,
+    sender: Sender,
 }
 
 impl Model for Sink {
     ghost Value = { Sending };
 
-    ghost view = { λ s. record { sent = s.tally.sent; held = take s.used s.buffer } };
+    ghost view = { λ s. record { sent = s.sender.sent; held = take s.used s.buffer } };
 
-    ghost invariant = { λ s. (s.used ≤ 4096) × (s.tally.sent + s.used < 2 ^ 64) };
+    ghost invariant = { λ s. (s.used ≤ 4096) × (s.sender.sent + s.used < 2 ^ 64) };
 }
 
 impl Sink {
@@ -97,7 +97,7 @@ impl Sink {
         Sink {
             buffer: [0; BUFFERED],
             used: 0,
-            tally: Tally {
+            sender: Sender {
                 sent: 0,
                 interrupts: 0,
             },
@@ -139,14 +139,14 @@ impl Sink {
     {
         let used = self.used;
         self.used = 0;
-        self.tally.send(out, &self.buffer[..used])
+        self.sender.send(out, &self.buffer[..used])
     }
 
     /// Whether the bytes can be counted with all that came before them.
     fn can_count(&self, bytes: &[u8]) -> bool
         ensures { IsTrue result ↔ (self.now.sent + length self.now.held + length bytes.now < 2 ^ 64) }
     {
-        bytes.len() as u64 <= u64::MAX - self.tally.sent - self.used as u64
+        bytes.len() as u64 <= u64::MAX - self.sender.sent - self.used as u64
     }
 
     fn has_room(&self, bytes: &[u8]) -> bool
@@ -175,7 +175,7 @@ impl Sink {
             (self.old.held ++ bytes.now) e.sent) }
         ensures dropped { IfErr result (λ e. self.new ≡ record { sent = e.sent; held = [] }) }
     {
-        self.tally.send(out, bytes)
+        self.sender.send(out, bytes)
     }
 
     /// Drops what is held back, and says how many bytes went out.
@@ -185,7 +185,7 @@ impl Sink {
     {
         self.used = 0;
         WriteFault {
-            sent: self.tally.sent,
+            sent: self.sender.sent,
         }
     }
 }

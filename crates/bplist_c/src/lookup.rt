@@ -151,13 +151,13 @@ fn step_of(
     let found = step_from(checked, node, units);
     let _after = checked.octets();
     match found {
-        Ok(place) => told(place),
+        Ok(place) => step_object(place),
         Err(_) => Err(Status::NoObject),
     }
 }
 
 /// What C is told of one step.
-fn told(place: Found) -> Result<u32, Status>
+fn step_object(place: Found) -> Result<u32, Status>
     ensures { result ≡ step_answer place }
 {
     match place {

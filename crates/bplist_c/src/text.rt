@@ -68,11 +68,11 @@ fn text_of(
         &mut text,
     );
     let _after = checked.octets();
-    told(printed, text, length)
+    text_outcome(printed, text, length)
 }
 
 /// What became of a text that was to be printed into an empty list.
-fn told(printed: Result<(), PrintFault>, text: Vec<u8>, length: u64) -> Result<Text, Status>
+fn text_outcome(printed: Result<(), PrintFault>, text: Vec<u8>, length: u64) -> Result<Text, Status>
     ensures { result ≡ printed_as printed text length }
 {
     match printed {

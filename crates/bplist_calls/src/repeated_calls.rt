@@ -72,9 +72,9 @@ fn calls_twice<W: Write>(
 ) -> Result<()> {
     for call in calls {
         writeln!(out, "call {}", call.name())?;
-        let first = call.told(alloc, checked)?;
+        let first = call.answer_text(alloc, checked)?;
         out.write_all(MADE)?;
-        let again = call.told(alloc, checked)?;
+        let again = call.answer_text(alloc, checked)?;
         writeln!(out, "{first}\n{again}")?;
     }
     Ok(())

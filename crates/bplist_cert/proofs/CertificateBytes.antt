@@ -6,7 +6,7 @@ use Rattle.bplist_octets.specs.Octets.{part, num}
 use Rattle.bplist_octets.proofs.Spelled.{num-lt}
 use Rattle.bplist_objects.proofs.Units.{length-part}
 use Rattle.bplist_cert.specs.Lists.{Keyed, Lists, lists, AreWords, AreKeyed, HasStarts, HasCount, IsCertificate}
-use Rattle.bplist_cert.specs.Encoding.{magic, words, key_words, octets_of, told, Fits, IsOctetsFault}
+use Rattle.bplist_cert.specs.Encoding.{magic, words, key_words, octets_of, height_count, Fits, IsOctetsFault}
 use Rattle.bplist_objects.specs.declared.fault.Fault.{Fault}
 use Rattle.bplist_cert.proofs.NumberBytes.{AreBytes, num-bytes, bytes-num, length-bytes, length-words, part-low}
 
@@ -67,7 +67,7 @@ drop-part : (xs : List ℕ) (place n : ℕ) → drop place xs ≡ part xs place 
 drop-part xs place n = sym (take-append-drop n (drop place xs)) ∙ ap (λ ys. part xs place n ++ ys) (drop-drop n place xs)
 
 -- the number of heights behind the magic
-head_of : (octets front : List ℕ) (count : ℕ) → AreBytes octets → 16 ≤ length octets → take 8 octets ≡ front → count ≡ told octets
+head_of : (octets front : List ℕ) (count : ℕ) → AreBytes octets → 16 ≤ length octets → take 8 octets ≡ front → count ≡ height_count octets
     → octets ≡ front ++ (bytes_high_first 8 count ++ drop 16 octets)
 head_of octets front count low long magic e =
     let bytes = bytes-num 8 (part octets 8 8) (length-part octets 8 8 (omega arith)) (part-low octets 8 8 low) in
@@ -88,7 +88,7 @@ starts_fit heights None count n h = tt
 starts_fit heights (Some k) count n h = h ∙ sym n
 
 -- the parts of a certificate are its bytes
-pub whole : (octets heights : List ℕ) (keys : Option Keyed) (count : ℕ) → AreBytes octets → take 8 octets ≡ magic (is_some keys) → 16 + 4 * count ≤ length octets → count ≡ told octets
+pub whole : (octets heights : List ℕ) (keys : Option Keyed) (count : ℕ) → AreBytes octets → take 8 octets ≡ magic (is_some keys) → 16 + 4 * count ≤ length octets → count ≡ height_count octets
     → AreWords heights → AreKeyed keys → HasCount keys count → part octets 16 (4 * count) ≡ words heights → drop (16 + 4 * count) octets ≡ key_words keys
     → IsCertificate (lists heights keys) × (octets ≡ octets_of (lists heights keys))
 whole octets heights keys count low front len e p q starts w v =
@@ -103,9 +103,9 @@ whole octets heights keys count low front len e p q starts w v =
     )
 
 -- the number that a certificate's bytes tell is that of its heights
-told_is : (h : List ℕ) (j : Option Keyed) → IsCertificate (lists h j) → told (octets_of (lists h j)) ≡ length h
-told_is h None p = ap num (take_at (bytes_high_first 8 (length h)) (words h ++ []) 8 (length-bytes 8 (length h))) ∙ num-bytes 8 (length h) p.count
-told_is h (Some k) p = ap num (take_at (bytes_high_first 8 (length h)) (words h ++ key_words (Some k)) 8 (length-bytes 8 (length h))) ∙ num-bytes 8 (length h) p.count
+height_count_is : (h : List ℕ) (j : Option Keyed) → IsCertificate (lists h j) → height_count (octets_of (lists h j)) ≡ length h
+height_count_is h None p = ap num (take_at (bytes_high_first 8 (length h)) (words h ++ []) 8 (length-bytes 8 (length h))) ∙ num-bytes 8 (length h) p.count
+height_count_is h (Some k) p = ap num (take_at (bytes_high_first 8 (length h)) (words h ++ key_words (Some k)) 8 (length-bytes 8 (length h))) ∙ num-bytes 8 (length h) p.count
 
 length_behind : (h : List ℕ) (j : Option Keyed) → length (behind (lists h j)) ≡ 8 + 4 * length h + length (key_words j)
 length_behind h j =
@@ -115,13 +115,13 @@ length_behind h j =
     let d = length-words h in
     omega (arith, a, b, c, d)
 
-length_of : (h : List ℕ) (j : Option Keyed) → IsCertificate (lists h j) → Fits (is_some j) (told (octets_of (lists h j))) (length (octets_of (lists h j)))
+length_of : (h : List ℕ) (j : Option Keyed) → IsCertificate (lists h j) → Fits (is_some j) (height_count (octets_of (lists h j))) (length (octets_of (lists h j)))
 length_of h None p =
-    let t = told_is h None p in
+    let t = height_count_is h None p in
     let l = length_behind h None in
     omega (arith, t, l)
 length_of h (Some k) p =
-    let t = told_is h (Some k) p in
+    let t = height_count_is h (Some k) p in
     let l = length_behind h (Some k) in
     let a = length-append (words k.starts) (words k.positions) in
     let b = length-words k.starts in
@@ -143,9 +143,9 @@ one_magic true false e = absurd (omega (arith, ap (λ xs. get_or xs 7 0) e))
 pub octets_kept : (octets : List ℕ) (c : Lists) (a : Fault) → IsCertificate c → octets ≡ octets_of c → IsOctetsFault octets a → ⊥
 octets_kept octets c a p e (inl h) = h.0 (is_some c.keys) (ap (take 8) e ∙ magic_of c.heights c.keys)
 octets_kept octets c a p e (inr (keyed, is, never, _)) =
-    let fits = subst (λ xs. Fits (is_some c.keys) (told xs) (length xs)) (sym e) (length_of c.heights c.keys p) in
+    let fits = subst (λ xs. Fits (is_some c.keys) (height_count xs) (length xs)) (sym e) (length_of c.heights c.keys p) in
     let same : is_some c.keys ≡ keyed = one_magic (is_some c.keys) keyed (sym (magic_of c.heights c.keys) ∙ sym (ap (take 8) e) ∙ is) in
-    never (subst (λ k. Fits k (told octets) (length octets)) same fits)
+    never (subst (λ k. Fits k (height_count octets) (length octets)) same fits)
 
 -- the first broken rule of 24 and 25 is one
 pub one_octets_fault : (octets : List ℕ) (a b : Fault) → IsOctetsFault octets a → IsOctetsFault octets b → a ≡ b

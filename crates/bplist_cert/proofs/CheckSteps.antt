@@ -30,7 +30,7 @@ use Rattle.bplist_cert.specs.Lists.{Keyed, Lists, lists, HasStarts, HasCount}
 use Rattle.bplist_cert.specs.Valid.{IsVouchedBy}
 use Rattle.bplist_cert.specs.Heights.{AreMet, IsHeightFault}
 use Rattle.bplist_objects.specs.Claims.{FailsAt}
-use Rattle.bplist_cert.specs.KeyKinds.{KeysAreTexts, KeysDiffer}
+use Rattle.bplist_cert.specs.DictKeys.{KeysAreTexts, KeysDiffer}
 use Rattle.bplist_cert.specs.CheckRules.{Asks, KeepsByCheck, BreaksAtCheck, KeepsCheck, IsCheckFault, vouched_rules, last_rule, HasOrder, KeepsLast, IsLastFault}
 use Rattle.bplist_cert.specs.declared.checker.Look.{Look}
 use Rattle.bplist_cert.specs.declared.checker.Look.TheVariants.{Quick, Exact}

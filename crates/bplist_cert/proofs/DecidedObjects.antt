@@ -25,7 +25,7 @@ use Rattle.bplist_cert.specs.declared.checker.Look.TheVariants.{Exact}
 use Rattle.bplist_cert.specs.Lists.{Keyed, Lists, lists, list_of}
 use Rattle.bplist_cert.specs.Valid.{IsVouchedBy}
 use Rattle.bplist_cert.specs.Heights.{ref, Meets, AreMet, IsFirstUnmet, IsHeightFault}
-use Rattle.bplist_cert.specs.KeyKinds.{KeysAreTexts}
+use Rattle.bplist_cert.specs.DictKeys.{KeysAreTexts}
 use Rattle.bplist_cert.specs.CheckRules.{KeepsLast, IsLastFault, IsKeysFault, IsCheckFault}
 use Rattle.bplist_cert.specs.PairFault.{IsCheckedObject, AreCheckedBelow, IsVouchedFault, IsCountFault, IsPairFault}
 use Rattle.bplist_cert.specs.Sorted.{IsAccepted}

@@ -14,7 +14,7 @@ use Rattle.bplist_keys.proofs.WeightSteps.{text_units-head}
 use Rattle.bplist_cert.specs.Heights.{ref}
 use Rattle.bplist_cert.specs.Lists.{Keyed, IsWhole}
 use Rattle.bplist_cert.specs.Looks.{KeepsBeforeKeys}
-use Rattle.bplist_cert.specs.KeyKinds.{KeysAreTexts, AreInOrder}
+use Rattle.bplist_cert.specs.DictKeys.{KeysAreTexts, AreInOrder}
 use Rattle.bplist_cert.specs.KeyRepeats.{KeysAreSound, HasGoodKeys}
 use Rattle.bplist_cert.specs.declared.key_lists.ReadKey.{ReadKey}
 use Rattle.bplist_cert.specs.KeyPairs.{Ascends, ArePairs, Follows, HaveTextShapes}

@@ -17,7 +17,7 @@ use Rattle.bplist_objects.proofs.BodyLaws.{HasHead-unique}
 use Rattle.bplist_objects.proofs.Fronts.{one_shape}
 use Rattle.bplist_objects.proofs.RuleLaws.{kept_all_after}
 use Rattle.bplist_objects.proofs.HeadTies.{each_byte, shape_announced}
-use Rattle.bplist_cert.specs.KeyKinds.{IsText}
+use Rattle.bplist_cert.specs.DictKeys.{IsText}
 use Rattle.bplist_cert.specs.declared.low_bytes.Stretch.{Stretch}
 use Rattle.bplist_cert.specs.LowBytes.{IsLow, stretch_at, AreLow}
 

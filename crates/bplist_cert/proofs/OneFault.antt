@@ -16,7 +16,7 @@ use Rattle.bplist_objects.specs.Claims.{FailsAt}
 use Rattle.bplist_objects.proofs.ClaimLaws.{one_failure}
 use Rattle.bplist_cert.specs.Lists.{Keyed, Lists, list_of}
 use Rattle.bplist_cert.specs.Valid.{IsVouchedBy}
-use Rattle.bplist_cert.specs.KeyKinds.{AreInOrder}
+use Rattle.bplist_cert.specs.DictKeys.{AreInOrder}
 use Rattle.bplist_cert.specs.CheckRules.{Asks, KeepsByCheck, BreaksAtCheck, BreaksOrder, IsCheckFault, vouched_rules}
 use Rattle.bplist_cert.specs.PairFault.{IsVouchedFault, IsCountFault, IsPairFault}
 use Rattle.bplist_cert.proofs.AcceptedCertificates.{broken, fewer, no_check_fault}

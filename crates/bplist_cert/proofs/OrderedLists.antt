@@ -5,7 +5,7 @@ use Rattle.bplist_objects.specs.declared.frame.Frame.{Frame}
 use Rattle.bplist_objects.specs.declared.head.Head.{Head}
 use Rattle.bplist_objects.specs.Units.{units_of, compare_units}
 use Rattle.bplist_objects.proofs.Fronts.{one_shape}
-use Rattle.bplist_cert.specs.KeyKinds.{IsText, IsKey, AreInOrder, ComesAfter}
+use Rattle.bplist_cert.specs.DictKeys.{IsText, IsKey, AreInOrder, ComesAfter}
 
 -- a text has one head
 pub text_once : (f : List ℕ) (F : Frame) (m : ℕ) (a b : Head) → IsText f F m a → IsText f F m b → a ≡ b

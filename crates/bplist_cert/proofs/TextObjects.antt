@@ -13,7 +13,7 @@ use Rattle.bplist_objects.proofs.BodyLaws.{HasHead-unique}
 use Rattle.bplist_objects.proofs.Broken.{no_object_fault}
 use Rattle.bplist_objects.proofs.HeadTies.{kept_spells, shape_announced}
 use Rattle.bplist_objects.proofs.FirstFaults.{no_content}
-use Rattle.bplist_cert.specs.KeyKinds.{IsText}
+use Rattle.bplist_cert.specs.DictKeys.{IsText}
 
 module _ (f : List ℕ) (F : Frame) (m : ℕ) where
   -- an object with a head of a text's kind is a text

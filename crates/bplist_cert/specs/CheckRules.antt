@@ -17,7 +17,7 @@ use Rattle.bplist_objects.specs.Claims.{FailsAt}
 use Rattle.bplist_cert.specs.Lists.{Keyed, Lists, IsWhole, list_of}
 use Rattle.bplist_cert.specs.Valid.{IsVouchedBy}
 use Rattle.bplist_cert.specs.Heights.{ref}
-use Rattle.bplist_cert.specs.KeyKinds.{KeysAreTexts, KeysDiffer, AreInOrder, IsKeylessFault, IsTwiceFault}
+use Rattle.bplist_cert.specs.DictKeys.{KeysAreTexts, KeysDiffer, AreInOrder, IsKeylessFault, IsTwiceFault}
 
 -- rule 22, or in version 2 rule 32
 abbrev pub last_rule : Option Keyed → Rule

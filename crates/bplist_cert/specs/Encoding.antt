@@ -29,8 +29,8 @@ octets_of lists =
     magic (is_some lists.keys) ++ (bytes_high_first 8 (length lists.heights) ++ (words lists.heights ++ key_words lists.keys))
 
 -- the number of heights, as the bytes tell it
-abbrev pub told : List ℕ → ℕ
-told octets = num (part octets 8 8)
+abbrev pub height_count : List ℕ → ℕ
+height_count octets = num (part octets 8 8)
 
 -- a certificate of so many heights, without key lists or with them, can have so many bytes
 abbrev pub Fits : Bool → ℕ → ℕ → Type 0
@@ -41,7 +41,7 @@ Fits true count len = (16 + 8 * count ≤ len) × (len % 4 ≡ 0)
 abbrev pub IsOctetsFault : List ℕ → Fault → Type 0
 IsOctetsFault octets fault =
     (((keyed : Bool) → take 8 octets ≢ magic keyed) × (fault ≡ record { rule = rules.CertMagic; object = None; place = 0 }))
-    ⊎ ((keyed : Bool) × (take 8 octets ≡ magic keyed) × (Fits keyed (told octets) (length octets) → ⊥)
+    ⊎ ((keyed : Bool) × (take 8 octets ≡ magic keyed) × (Fits keyed (height_count octets) (length octets) → ⊥)
     × (fault ≡ record { rule = rules.CertLength; object = None; place = length octets }))
 
 -- bytes are refused by the first broken rule of 24 and 25, or because memory was refused

@@ -4,7 +4,7 @@ use Rattle.bplist_objects.specs.declared.frame.Frame.{Frame}
 use Rattle.bplist_objects.specs.declared.head.Head.{Head}
 use Rattle.bplist_objects.specs.Frame.{off}
 use Rattle.bplist_cert.specs.Heights.{ref}
-use Rattle.bplist_cert.specs.KeyKinds.{IsText}
+use Rattle.bplist_cert.specs.DictKeys.{IsText}
 
 -- these are the references from a number on
 abbrev pub AreRefs : List ℕ → Frame → Head → ℕ → List ℕ → Type 0

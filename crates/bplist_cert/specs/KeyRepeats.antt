@@ -10,7 +10,7 @@ use Rattle.bplist_objects.specs.ObjectRules.{KeepsByObject, object_rules}
 use Rattle.bplist_cert.specs.Lists.{Keyed, Lists}
 use Rattle.bplist_cert.specs.Valid.{IsVouchedBy}
 use Rattle.bplist_cert.specs.Heights.{ref}
-use Rattle.bplist_cert.specs.KeyKinds.{KeysAreTexts}
+use Rattle.bplist_cert.specs.DictKeys.{KeysAreTexts}
 use Rattle.bplist_cert.specs.CheckRules.{KeepsLast, IsKeysFault}
 
 -- each key of a dictionary with this head keeps rules 14 to 20, if it is an object

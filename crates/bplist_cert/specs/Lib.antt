@@ -4,7 +4,7 @@ pub mod Versions
 pub mod Valid
 pub mod Sorted
 pub mod Heights
-pub mod KeyKinds
+pub mod DictKeys
 pub mod CheckRules
 pub mod Looks
 pub mod PairFault

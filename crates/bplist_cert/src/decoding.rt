@@ -4,7 +4,7 @@ ghost use Rattle.std.specs.Prelude.{◌≡◌, ℕ, ◌+◌, ◌*◌, ◌≤◌,
 ghost use Rattle.bplist_cert.specs.declared.certificate.CertRefusal.TheVariants.{Memory};
 ghost use Rattle.bplist_octets.specs.Octets.{part, num};
 ghost use Rattle.bplist_cert.specs.Lists.{Lists, IsCertificate, AreWords, AreKeyed, HasCount};
-ghost use Rattle.bplist_cert.specs.Encoding.{octets_of, magic, words, key_words, told, Fits, IsOctetsFault, IsCertRefusal};
+ghost use Rattle.bplist_cert.specs.Encoding.{octets_of, magic, words, key_words, height_count, Fits, IsOctetsFault, IsCertRefusal};
 ghost use Rattle.bplist_cert.specs.Versions.{is_keyed};
 
 use crate::certificate::{CertRefusal, Certificate, KeyLists};
@@ -60,7 +60,7 @@ fn version_of(octets: &[u8]) -> Result<Version, Fault>
 fn count_of(octets: &[u8], version: Version) -> Result<usize, Fault>
     requires { take 8 octets.now ≡ magic (is_keyed version) }
     ensures { MatchResult result
-        (λ count. (count ≡ told octets.now) × Fits (is_keyed version) count (length octets.now))
+        (λ count. (count ≡ height_count octets.now) × Fits (is_keyed version) count (length octets.now))
         (IsOctetsFault octets.now) }
 {
     let len = octets.len();

@@ -13,7 +13,7 @@ ghost use Rattle.bplist_objects.specs.Answers.{Gives, Never, read_failed};
 ghost use Rattle.bplist_objects.specs.declared.kind.Kind.TheVariants.{Dict};
 ghost use Rattle.bplist_objects.specs.declared.rule.Rule.TheVariants.{KeyKind};
 ghost use Rattle.bplist_objects.specs.declared.head.Head.{Head as head_record};
-ghost use Rattle.bplist_cert.specs.KeyKinds.{IsText, IsKey, KeysAreTexts, IsFirstKeyless, IsKeylessFault};
+ghost use Rattle.bplist_cert.specs.DictKeys.{IsText, IsKey, KeysAreTexts, IsFirstKeyless, IsKeylessFault};
 ghost use Rattle.bplist_cert.specs.LowBytes.{AreLow};
 ghost use Rattle.bplist_cert.specs.KeyOffsets.{IsOffsetOf, AreOffsetsOf, ReferToTexts, IsFirstOther};
 

@@ -15,7 +15,7 @@ ghost use Rattle.bplist_keys.specs.Texts.{HasTextShape, IsTextHead};
 ghost use Rattle.bplist_cert.specs.Heights.{ref};
 ghost use Rattle.bplist_cert.specs.Lists.{lists, IsWhole, list_of};
 ghost use Rattle.bplist_cert.specs.CheckRules.{HasOrder, IsKeysFault};
-ghost use Rattle.bplist_cert.specs.KeyKinds.{KeysAreTexts, AreInOrder};
+ghost use Rattle.bplist_cert.specs.DictKeys.{KeysAreTexts, AreInOrder};
 ghost use Rattle.bplist_cert.specs.KeyRepeats.{KeysAreSound, HasGoodKeys, BreaksKeys, IsFirstKeysFault};
 ghost use Rattle.bplist_cert.specs.KeyPairs.{AreFewKeys, HoldsOffsets, Ascends, AreKnown, HaveTextShapes, Follows, IsReadKey, IsSafeKey};
 ghost use Rattle.bplist_cert.specs.LowBytes.{AreLow};

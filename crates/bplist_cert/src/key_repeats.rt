@@ -16,7 +16,7 @@ ghost use Rattle.bplist_keys.specs.Failures.{failed_to_read};
 ghost use Rattle.bplist_cert.specs.Heights.{ref};
 ghost use Rattle.bplist_cert.specs.Lists.{lists};
 ghost use Rattle.bplist_cert.specs.Valid.{IsVouchedBy};
-ghost use Rattle.bplist_cert.specs.KeyKinds.{KeysAreTexts, KeysDiffer, IsTwiceFault};
+ghost use Rattle.bplist_cert.specs.DictKeys.{KeysAreTexts, KeysDiffer, IsTwiceFault};
 ghost use Rattle.bplist_cert.specs.Looks.{KeepBeforeKeysBelow};
 ghost use Rattle.bplist_cert.specs.LowBytes.{AreLow};
 ghost use Rattle.bplist_cert.specs.CheckRules.{IsKeysFault};

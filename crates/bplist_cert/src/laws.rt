@@ -13,7 +13,7 @@ ghost use Rattle.bplist_cert.specs.Lists.{Lists, IsCertificate};
 ghost use Rattle.bplist_cert.specs.Encoding.{octets_of};
 ghost use Rattle.bplist_cert.specs.Valid.{IsVouchedBy, IsValid, HoldsOneValue, SpellsText};
 ghost use Rattle.bplist_cert.specs.Sorted.{IsSorted, IsAccepted};
-ghost use Rattle.bplist_cert.specs.KeyKinds.{KeysAreTexts, KeysDiffer, AreInOrder};
+ghost use Rattle.bplist_cert.specs.DictKeys.{KeysAreTexts, KeysDiffer, AreInOrder};
 ghost use Rattle.bplist_cert.specs.PairFault.{IsPairFault};
 ghost use Rattle.bplist_cert.specs.CheckedFile.{CheckedFile, meaning_of};
 

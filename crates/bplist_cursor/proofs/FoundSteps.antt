@@ -39,12 +39,12 @@ drop_all units (x ∷ xs) = drop_all units xs
 
 module _ (checked : CheckedFile) where
   -- after k steps, with so many comparisons made since: at object n
-  pub record Along (v : Value) (steps : List (List ℕ)) (k n before made : ℕ) : Type 0 where
+  pub record Along (v : Value) (steps : List (List ℕ)) (k n before comparisons : ℕ) : Type 0 where
     pub value : Value
     pub led : look_from k value (drop k steps) ≡ look v steps
     pub holds : IsHeld checked n value
     pub leads : (m : ℕ) → LeadTo checked.source.octets checked.frame n (drop k steps) m → LeadTo checked.source.octets checked.frame checked.frame.top.0 steps m
-    pub spent : RisesAtMost checked (before + halvings v steps) (made + halvings value (drop k steps)) 0
+    pub spent : RisesAtMost checked (before + halvings v steps) (comparisons + halvings value (drop k steps)) 0
 
 module _ (checked : CheckedFile) (is : IsChecked checked) (honest : IsTrue checked.source.honest) where
   abbrev f : List ℕ
@@ -74,8 +74,8 @@ module _ (checked : CheckedFile) (is : IsChecked checked) (honest : IsTrue check
   pub begin : (v : Value) (steps : List (List ℕ)) (before : ℕ) → Holds f F F.top.0 v → Along checked v steps 0 F.top.0 before before
   begin v steps before h = record { value = v; led = refl; holds = (top_vouched, h); leads = λ m l. l; spent = λ keyed e. omega arith }
 
-  module _ (v : Value) (steps : List (List ℕ)) (k n before made more : ℕ) (s : List ℕ) (e : drop k steps ≡ s ∷ drop (suc k) steps) (a : Along checked v steps k n before made) where
-    pub on : (m : ℕ) → RisesAtMost checked made more (halvings_at a.value) → Leads f F n s m → Along checked v steps (k + 1) m before more
+  module _ (v : Value) (steps : List (List ℕ)) (k n before comparisons more : ℕ) (s : List ℕ) (e : drop k steps ≡ s ∷ drop (suc k) steps) (a : Along checked v steps k n before comparisons) where
+    pub on : (m : ℕ) → RisesAtMost checked comparisons more (halvings_at a.value) → Leads f F n s m → Along checked v steps (k + 1) m before more
     on m rises b =
         let q = leads_held f F (one_head f F) a.value n s m a.holds.1 (λ h sp. few_refs f F (is.framed honest) n h sp) b in
         let z : suc k ≡ k + 1 = omega arith in
@@ -95,18 +95,18 @@ module _ (checked : CheckedFile) (is : IsChecked checked) (honest : IsTrue check
     pub off : (y : Why) → stepped a.value s ≡ Err y → look v steps ≡ Err (k, y)
     off y x = sym a.led ∙ ap (λ d. look_from k a.value d) e ∙ ap (λ x. on_either x (λ w. look_from (k + 1) w (drop (suc k) steps)) (λ why. Err (k, why))) x
 
-    pub spent_off : (y : Why) → stepped a.value s ≡ Err y → RisesAtMost checked made more (halvings_at a.value) → RisesAtMost checked before more (halvings v steps)
+    pub spent_off : (y : Why) → stepped a.value s ≡ Err y → RisesAtMost checked comparisons more (halvings_at a.value) → RisesAtMost checked before more (halvings v steps)
     spent_off y x rises keyed has =
         let old = a.spent keyed has in
         let rise = rises keyed has in
         let sum = ap (λ d. halvings a.value d) e ∙ ap (λ x. halvings_at a.value + on_either x (λ w. halvings w (drop (suc k) steps)) (λ why. 0)) x in
         omega (arith, old, rise, sum)
 
-  module _ (v : Value) (steps : List (List ℕ)) (k n before made : ℕ) (e : drop k steps ≡ []) (a : Along checked v steps k n before made) where
+  module _ (v : Value) (steps : List (List ℕ)) (k n before comparisons : ℕ) (e : drop k steps ≡ []) (a : Along checked v steps k n before comparisons) where
     pub done : LeadTo f F F.top.0 steps n × ((w : Value) × (look v steps ≡ Ok w) × IsHeld checked n w)
     done = (a.leads n (subst (λ d. LeadTo f F n d n) (sym e) refl), (a.value, sym a.led ∙ ap (λ d. look_from k a.value d) e, a.holds))
 
-    pub spent_done : RisesAtMost checked before made (halvings v steps)
+    pub spent_done : RisesAtMost checked before comparisons (halvings v steps)
     spent_done keyed has = let old = a.spent keyed has in omega (arith, old)
 
   -- one step from an object that is vouched for

@@ -28,17 +28,17 @@ fn compare_key<S: Source>(
     checked: &mut Checked<S>,
     k: ObjectNo,
     units: &[u16],
-    made: &mut u64,
+    comparisons: &mut u64,
 ) -> Result<Ordering, Unread>
     requires within { k.0 < checked.old.frame.objects }
     ensures reads { Keeps (read_failed result) checked.old checked.new }
     ensures exact { HonestlyChecked checked.old (λ f F. (us : List ℕ) → Spells f F k.0 (leaf (text us))
         → GivesRead (λ o. o ≡ compare_units us units.now) result) }
-    ensures made { made.new ≤ made.old + 1 }
+    ensures comparisons { comparisons.new ≤ comparisons.old + 1 }
 {
     let head = head_in(checked, k)?;
     match head.kind {
-        Kind::Ascii | Kind::Wide => Ok(key_cmp(checked, &head, units, made)?),
+        Kind::Ascii | Kind::Wide => Ok(key_cmp(checked, &head, units, comparisons)?),
         _ => Err(Unread::Changed),
     }
 }
@@ -48,7 +48,7 @@ fn walk_keys<S: Source>(
     checked: &mut Checked<S>,
     head: &Head,
     units: &[u16],
-    made: &mut u64,
+    comparisons: &mut u64,
 ) -> Result<Option<u64>, Unread>
     requires head { IsSafeHead checked.old.frame head.now }
     requires is_dict { head.now.kind ≡ Dict }
@@ -58,7 +58,7 @@ fn walk_keys<S: Source>(
 {
     for i in 0..head.count {
         let k = reference_in(checked, head, i)?;
-        if compare_key(checked, k, units, made)? == Ordering::Equal {
+        if compare_key(checked, k, units, comparisons)? == Ordering::Equal {
             return Ok(Some(i));
         }
     }
@@ -80,7 +80,7 @@ fn compare_listed<S: Source>(
     head: &Head,
     at: u64,
     units: &[u16],
-    made: &mut u64,
+    comparisons: &mut u64,
 ) -> Result<(u64, Ordering), Unread>
     requires head { IsSafeHead checked.old.frame head.now }
     requires is_dict { head.now.kind ≡ Dict }
@@ -89,7 +89,7 @@ fn compare_listed<S: Source>(
         → at < length keyed.positions → slice_index keyed.positions at < length ks
         → GivesRead (IsCompared f F ks (slice_index keyed.positions at) units.now) result) }
     ensures inside { IfOk result (λ found. found.0 < head.now.count) }
-    ensures made { made.new ≤ made.old + 1 }
+    ensures comparisons { comparisons.new ≤ comparisons.old + 1 }
 {
     let Some(position) = position_of(checked, at) else {
         return Err(Unread::Changed);
@@ -99,7 +99,7 @@ fn compare_listed<S: Source>(
         return Err(Unread::Changed);
     }
     let k = reference_in(checked, head, i)?;
-    Ok((i, compare_key(checked, k, units, made)?))
+    Ok((i, compare_key(checked, k, units, comparisons)?))
 }
 
 /// The place of the key with these units, by halving the key list that begins at this number of the positions.
@@ -108,7 +108,7 @@ fn search_keys<S: Source>(
     head: &Head,
     start: u64,
     units: &[u16],
-    made: &mut u64,
+    comparisons: &mut u64,
 ) -> Result<Option<u64>, Unread>
     requires head { IsSafeHead checked.old.frame head.now }
     requires is_dict { head.now.kind ≡ Dict }
@@ -118,13 +118,13 @@ fn search_keys<S: Source>(
         → start + length ks ≤ length keyed.positions → IsKeyList f F ks (part keyed.positions start (length ks))
         → GivesRead (IsKeyPlace f F ks units.now) result) }
     ensures inside { IfOk result (λ o. IfSome o (λ i. i < head.now.count)) }
-    ensures bound { made.new ≤ made.old + length (digits_of 2 head.now.count) }
+    ensures bound { comparisons.new ≤ comparisons.old + length (digits_of 2 head.now.count) }
 {
     let mut low = 0u64;
     let mut high = head.count;
     while low < high {
         let middle = low + (high - low) / 2;
-        let (i, order) = compare_listed(checked, head, start + middle, units, made)?;
+        let (i, order) = compare_listed(checked, head, start + middle, units, comparisons)?;
         match order {
             Ordering::Less => low = middle + 1,
             Ordering::Equal => return Ok(Some(i)),
@@ -164,7 +164,7 @@ pub(crate) fn key_place<S: Source>(
     n: ObjectNo,
     head: &Head,
     units: &[u16],
-    made: &mut u64,
+    comparisons: &mut u64,
 ) -> Result<Option<u64>, Unread>
     requires within { n.0 < checked.old.frame.objects }
     requires head { IsSafeHead checked.old.frame head.now }
@@ -174,11 +174,11 @@ pub(crate) fn key_place<S: Source>(
         → (ks ms : List ℕ) → Spells f F n.0 (dict ks ms) → dict ks ms ≡ content_at f F head.now → SpellTexts f F ks
         → GivesRead (IsKeyPlace f F ks units.now) result) }
     ensures inside { IfOk result (λ o. IfSome o (λ i. i < head.now.count)) }
-    ensures bound { RisesAtMost checked.old made.old made.new (length (digits_of 2 head.now.count)) }
+    ensures bound { RisesAtMost checked.old comparisons.old comparisons.new (length (digits_of 2 head.now.count)) }
 {
     let _frame = checked.frame();
     match list_start(checked, n, head.count)? {
-        Some(start) => search_keys(checked, head, start, units, made),
-        None => walk_keys(checked, head, units, made),
+        Some(start) => search_keys(checked, head, start, units, comparisons),
+        None => walk_keys(checked, head, units, comparisons),
     }
 }

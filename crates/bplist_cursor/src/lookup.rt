@@ -21,17 +21,17 @@ use bplist_octets::{SliceSource, Source};
 fn lead<S: Source>(
     checked: &mut Checked<S>,
     steps: &[Vec<u16>],
-    made: &mut u64,
+    comparisons: &mut u64,
 ) -> Result<Found, Unread>
     ensures reads { Keeps (read_failed result) checked.old checked.new }
     ensures exact { HonestlyChecked checked.old (λ f F. (v : Value) → Holds f F F.top.0 v
         → GivesRead (IsFound checked.old checked.old.frame.top.0 v (units_of steps.now)) result) }
     ensures bound { OnOk result (HonestlyChecked checked.old (λ f F. (v : Value) → Holds f F F.top.0 v
-        → RisesAtMost checked.old made.old made.new (halvings v (units_of steps.now)))) }
+        → RisesAtMost checked.old comparisons.old comparisons.new (halvings v (units_of steps.now)))) }
 {
     let mut object = checked.frame().top;
     for k in 0..steps.len() {
-        match step_at(checked, object, &steps[k], made)? {
+        match step_at(checked, object, &steps[k], comparisons)? {
             Step::On(next) => object = next,
             Step::Not(why) => {
                 return Ok(Found::Missing {
@@ -63,9 +63,9 @@ pub fn locate_counted<S: Source>(
     ensures memory { result ≢ Err Memory }
 {
     let _frame = checked.frame();
-    let mut made = 0u64;
-    let found = lead(checked, path.steps(), &mut made)?;
-    Ok((found, made))
+    let mut comparisons = 0u64;
+    let found = lead(checked, path.steps(), &mut comparisons)?;
+    Ok((found, comparisons))
 }
 
 /// Where a path leads: the node that it leads to, or the first step that can't be taken.

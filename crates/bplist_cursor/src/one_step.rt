@@ -37,8 +37,8 @@ pub fn step_from<S: Source>(
     if checked.height(node.object) == 0 {
         return Err(CursorFault::Changed);
     }
-    let mut made = 0u64;
-    match step_at(checked, node.object, units, &mut made)? {
+    let mut comparisons = 0u64;
+    match step_at(checked, node.object, units, &mut comparisons)? {
         Step::On(object) => Ok(Found::At(Node { object })),
         Step::Not(why) => Ok(Found::Missing { step: 0, why }),
     }

@@ -42,7 +42,7 @@ fn place_of<S: Source>(
     n: ObjectNo,
     head: &Head,
     units: &[u16],
-    made: &mut u64,
+    comparisons: &mut u64,
 ) -> Result<Place, Unread>
     requires within { n.0 < checked.old.frame.objects }
     requires head { IsSafeHead checked.old.frame head.now }
@@ -51,12 +51,12 @@ fn place_of<S: Source>(
         → (content : Content) → Spells f F n.0 content → content ≡ content_at f F head.now → HasTextKeys f F content
         → GivesRead (IsPlace f F content units.now) result) }
     ensures inside { IfOk result (IsPlaceBelow (ref_count head.now.kind head.now.count)) }
-    ensures bound { RisesAtMost checked.old made.old made.new (halvings_of head.now.kind head.now.count) }
+    ensures bound { RisesAtMost checked.old comparisons.old comparisons.new (halvings_of head.now.kind head.now.count) }
 {
     match head.kind {
         Kind::Dict => {
             let _bounds = (checked.frame(), head.body, head.end);
-            match key_place(checked, n, head, units, made)? {
+            match key_place(checked, n, head, units, comparisons)? {
                 Some(i) => Ok(Place::Of(head.count + i)),
                 None => Ok(Place::Nowhere(Why::NoKey)),
             }
@@ -74,7 +74,7 @@ pub(crate) fn step_at<S: Source>(
     checked: &mut Checked<S>,
     n: ObjectNo,
     units: &[u16],
-    made: &mut u64,
+    comparisons: &mut u64,
 ) -> Result<Step, Unread>
     requires within { n.0 < checked.old.frame.objects }
     ensures reads { Keeps (read_failed result) checked.old checked.new }
@@ -82,10 +82,10 @@ pub(crate) fn step_at<S: Source>(
         → Holds f F n.0 v → GivesRead (IsStep f F n.0 v units.now) result) }
     ensures inside { IfOk result (IsInside checked.old.frame.objects) }
     ensures bound { OnOk result (HonestlyChecked checked.old (λ f F. (v : Value) → Holds f F n.0 v
-        → RisesAtMost checked.old made.old made.new (halvings_at v))) }
+        → RisesAtMost checked.old comparisons.old comparisons.new (halvings_at v))) }
 {
     let head = head_in(checked, n)?;
-    match place_of(checked, n, &head, units, made)? {
+    match place_of(checked, n, &head, units, comparisons)? {
         Place::Nowhere(why) => Ok(Step::Not(why)),
         Place::Of(i) => Ok(Step::On(reference_in(checked, &head, i)?)),
     }

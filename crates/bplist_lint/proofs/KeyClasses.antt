@@ -16,7 +16,7 @@ use Rattle.bplist_keys.specs.Ranks.{AreClasses}
 use Rattle.bplist_keys.specs.Marks.{IsMarked}
 use Rattle.bplist_objects.proofs.ClaimLaws.{fails_too}
 use Rattle.bplist_cert.specs.Heights.{ref}
-use Rattle.bplist_cert.specs.KeyKinds.{KeysAreTexts}
+use Rattle.bplist_cert.specs.DictKeys.{KeysAreTexts}
 use Rattle.bplist_cert.specs.KeyRepeats.{KeysAreSound}
 use Rattle.bplist_cert.proofs.KeyRepeats as keys
 use Rattle.bplist_lint.specs.ReachRules.{KeepReachBelow}

@@ -16,7 +16,7 @@ use Rattle.bplist_objects.proofs.HeadTies.{head_tie}
 use Rattle.bplist_objects.proofs.References.{length-refs}
 use Rattle.bplist_objects.proofs.ReachedObjects.{refs_spelled}
 use Rattle.bplist_keys.specs.Classes.{HasNamedKeys}
-use Rattle.bplist_cert.specs.KeyKinds.{KeysAreTexts, KeysDiffer}
+use Rattle.bplist_cert.specs.DictKeys.{KeysAreTexts, KeysDiffer}
 use Rattle.bplist_cert.specs.KeyRepeats.{HasGoodKeys}
 use Rattle.bplist_cert.proofs.KeyRepeats.{good_unnamed}
 use Rattle.bplist_cert.proofs.CheckSteps.{key_count, good_kept}

@@ -32,7 +32,7 @@ use Rattle.bplist_lint.specs.Refusals.{of_check, Refuses, no_circle}
 use Rattle.bplist_keys.specs.Offsets.{AreOffsets32}
 use Rattle.bplist_lint.specs.OffsetRule.{AreBelowTable, IsOffsetFault}
 use Rattle.bplist_lint.specs.LeastHeights.{AreLeastHeights}
-use Rattle.bplist_lint.specs.Linted.{is_vouched, IsSifted, IsLintedBy, HasNoHeights}
+use Rattle.bplist_lint.specs.Linted.{is_vouched, KeepsRules, IsLintedBy, HasNoHeights}
 use Rattle.bplist_lint.proofs.HeldValues.{formed_holds, holds_formed}
 use Rattle.bplist_lint.proofs.KeptRules.{kept_spells}
 use Rattle.bplist_lint.proofs.OffsetSteps.{kept_low, kept_high}
@@ -68,7 +68,7 @@ vouched_counted heights (suc n) l =
 
 module _ (f : List ℕ) (F : Frame) where
   -- the marked objects are those with a height
-  module _ (reached : Reached) (s : IsSifted f F reached) (heights : List ℕ) (least : AreLeastHeights f F heights) (vouched : (n : ℕ) → Reach f F n → IsVouchedBy heights n) where
+  module _ (reached : Reached) (s : KeepsRules f F reached) (heights : List ℕ) (least : AreLeastHeights f F heights) (vouched : (n : ℕ) → Reach f F n → IsVouchedBy heights n) where
     same_objects : (n : ℕ) → is_marked reached.marks.items n ≡ is_vouched heights n
     same_objects n = same_mark (is_marked reached.marks.items n) (is_vouched heights n)
         (λ e. let v = vouched n ((s.walked.marked n).0 e) in lt-ltb 0 (slice_index heights n) (omega arith))
@@ -84,7 +84,7 @@ module _ (f : List ℕ) (F : Frame) where
     same_references = s.walked.tallied.references ∙ sum_alike _ _ F.objects (λ m low. ap (λ b. cond b (length (refs_at f F m)) 0) (same_objects m))
 
   -- the answer
-  pub linted : IsFrame f F → (reached : Reached) → IsSifted f F reached → reached.tally.references + 8 ≤ F.table → (lint : Lint) → lint.certificate.keys ≡ None
+  pub linted : IsFrame f F → (reached : Reached) → KeepsRules f F reached → reached.tally.references + 8 ≤ F.table → (lint : Lint) → lint.certificate.keys ≡ None
       → length lint.certificate.heights ≡ F.objects → AreLeast (refs_at f F) F.top.0 lint.certificate.heights → lint.height ≡ slice_index lint.certificate.heights F.top.0 → 0 < lint.height
       → lint.reached ≡ reached.tally.reached → lint.references ≡ reached.tally.references → IsLintedBy f F lint
   linted frame sifted s few lint version count walked height has reached references =
@@ -106,7 +106,7 @@ module _ (f : List ℕ) (F : Frame) where
       }
 
   -- the circle
-  pub circled : IsFrame f F → (reached : Reached) → IsSifted f F reached → (circle : List ℕ) → IsCircleOf (refs_at f F) F.top.0 circle → IsFramedCircle f F circle
+  pub circled : IsFrame f F → (reached : Reached) → KeepsRules f F reached → (circle : List ℕ) → IsCircleOf (refs_at f F) F.top.0 circle → IsFramedCircle f F circle
   circled frame sifted s circle c = (s.walked.tallied.kept, s.keys, (circle_iff f F (kept_spells f F frame s.walked.tallied.kept) circle).0 c)
 
 -- ---- a fault excludes heights and values

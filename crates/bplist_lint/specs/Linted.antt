@@ -47,6 +47,6 @@ abbrev pub HasNoHeights : List ℕ → Type 0
 HasNoHeights f = (F : Frame) (heights : List ℕ) → IsValid f F heights → ⊥
 
 -- the reached objects keep all rules but 23
-pub record IsSifted (f : List ℕ) (F : Frame) (reached : Reached) : Type 0 where
+pub record KeepsRules (f : List ℕ) (F : Frame) (reached : Reached) : Type 0 where
   pub walked : IsWalked f F reached
   pub keys : KeepKeysBelow f F F.objects

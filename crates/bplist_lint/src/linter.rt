@@ -21,7 +21,7 @@ ghost use Rattle.bplist_lint.specs.KeyRules.{KeepKeysBelow};
 ghost use Rattle.bplist_lint.specs.ReachWalk.{Fits, IsWalked, AreNamed};
 ghost use Rattle.bplist_lint.specs.FileFault.{IsObjectsFault, IsFileFault, IsFileCircle, IsFramedCircle};
 ghost use Rattle.bplist_lint.specs.Refusals.{Lints, lint_failed, no_circle};
-ghost use Rattle.bplist_lint.specs.Linted.{IsSifted, IsLintedBy, IsLinted, IsLintedWithKind, HasNoHeights};
+ghost use Rattle.bplist_lint.specs.Linted.{KeepsRules, IsLintedBy, IsLinted, IsLintedWithKind, HasNoHeights};
 
 use crate::answer::Lint;
 use crate::circle::circle;
@@ -123,7 +123,7 @@ fn find_reached<P: Offsets>(alloc: Global, src: &mut P) -> Result<(Reached, Name
 
 /// Looks at the reached objects by rules 14 to 20 and 31, and where no more than a third of all objects are named as keys,
 /// at the keys too. The objects that are named where there are more.
-fn sift_few<P: Offsets>(
+fn check_rules_by_table<P: Offsets>(
     alloc: Global,
     src: &mut P,
     places: &[u32],
@@ -153,7 +153,7 @@ fn sift_few<P: Offsets>(
 ///
 /// What many keys take and the places would come to more than 12 bytes an object together. So the places are given up before
 /// many keys are looked at.
-fn sift<P: Offsets>(
+fn check_rules<P: Offsets>(
     alloc: Global,
     src: &mut P,
     places: Vec<u32>,
@@ -165,9 +165,9 @@ fn sift<P: Offsets>(
     ensures all { IfOk result (λ known. IfSome known.1 (λ places. length places.items ≡ (frame_in (P.means src.old)).objects)) }
     ensures placed { HonestlyIn (P.means src.old) (λ f F. IfOk result (λ known. IfSome known.1 (λ places. AreOffsets f F places.items))) }
     ensures exact { HonestlyIn (P.means src.old) (λ f F.
-        Lints (λ known. IsSifted f F known.0) (IsObjectsFault f F) no_circle result) }
+        Lints (λ known. KeepsRules f F known.0) (IsObjectsFault f F) no_circle result) }
 {
-    let (reached, many) = sift_few(alloc, src, &places)?;
+    let (reached, many) = check_rules_by_table(alloc, src, &places)?;
     let Some(named) = many else {
         return Ok((reached, Some(places)));
     };
@@ -177,13 +177,13 @@ fn sift<P: Offsets>(
 }
 
 /// What the linter says of a file whose reached objects keep rules 14 to 22 and 31.
-fn lint_sifted<P: Offsets>(
+fn heights_or_circle<P: Offsets>(
     alloc: Global,
     src: &mut P,
     reached: Reached,
 ) -> Result<Lint, LintRefusal>
     requires fits { Fits (frame_in (P.means src.old)) reached }
-    requires sifted { HonestlyIn (P.means src.old) (λ f F. IsSifted f F reached) }
+    requires sifted { HonestlyIn (P.means src.old) (λ f F. KeepsRules f F reached) }
     ensures reads { OnlyReads (lint_failed result) (P.means src.old) (P.means src.new) }
     ensures exact { HonestlyIn (P.means src.old) (λ f F.
         Lints (IsLintedBy f F) Never (IsFramedCircle f F) result) }
@@ -224,21 +224,21 @@ fn lint_reached<P: Offsets>(
     requires fits { Fits (frame_in (P.means src.old)) reached }
     requires all { IfSome places (λ places. length places.items ≡ (frame_in (P.means src.old)).objects) }
     requires placed { HonestlyIn (P.means src.old) (λ f F. IfSome places (λ places. AreOffsets f F places.items)) }
-    requires sifted { HonestlyIn (P.means src.old) (λ f F. IsSifted f F reached) }
+    requires sifted { HonestlyIn (P.means src.old) (λ f F. KeepsRules f F reached) }
     ensures reads { OnlyReads (lint_failed result) (P.means src.old) (P.means src.new) }
     ensures exact { HonestlyIn (P.means src.old) (λ f F.
         Lints (IsLintedBy f F) Never (IsFramedCircle f F) result) }
 {
     let Some(places) = places else {
-        return lint_sifted(alloc, src, reached);
+        return heights_or_circle(alloc, src, reached);
     };
     if reached.containers() > places.len() / 4 {
         drop(places);
-        return lint_sifted(alloc, src, reached);
+        return heights_or_circle(alloc, src, reached);
     }
     let frame = src.frame();
     let mut table = OffsetTable::new(src, frame, &places);
-    lint_sifted(alloc, &mut table, reached)
+    heights_or_circle(alloc, &mut table, reached)
 }
 
 /// What the linter says of a file whose frame and places keep rules 1 to 13, and beside a yes the kind of the top.
@@ -254,7 +254,7 @@ fn lint_objects<P: Offsets>(
         Lints (λ answer. IsLintedBy f F answer.0 × ((x : head) → HasShape f F F.top.0 x → answer.1 ≡ x.kind))
         (IsObjectsFault f F) (IsFramedCircle f F) result) }
 {
-    let (reached, places) = sift(alloc, src, places)?;
+    let (reached, places) = check_rules(alloc, src, places)?;
     let lint = lint_reached(alloc, src, reached, places)?;
     let frame = src.frame();
     let head = object_shape(src, frame.top.0)?;

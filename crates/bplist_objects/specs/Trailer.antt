@@ -3,8 +3,8 @@ use Rattle.bplist_objects.specs.declared.frame.Trailer.{Trailer}
 use Rattle.bplist_objects.specs.declared.frame.Frame.{Frame}
 
 -- the frame of these five numbers
-abbrev pub told : Trailer → Frame
-told t = record {
+abbrev pub frame_of_trailer : Trailer → Frame
+frame_of_trailer t = record {
   offset_size = t.offset_size;
   ref_size = t.ref_size;
   objects = t.objects;

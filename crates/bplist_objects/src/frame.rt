@@ -7,7 +7,7 @@ ghost use Rattle.bplist_objects.specs.Frame.{trailer as spelled, Keeps, IsFrame,
 ghost use Rattle.bplist_objects.specs.Rules.{KeepsAll, IsFirstFault};
 ghost use Rattle.bplist_objects.specs.FrameRules.{Breaks, IsTrailer, IsTrailerFault, IsFrameFault};
 ghost use Rattle.bplist_objects.specs.Safe.{IsSafeFrame};
-ghost use Rattle.bplist_objects.specs.Trailer.{told};
+ghost use Rattle.bplist_objects.specs.Trailer.{frame_of_trailer};
 ghost use Rattle.bplist_objects.specs.declared.rule.Rule.TheVariants.{Magic};
 ghost use Rattle.bplist_objects.specs.declared.frame.Frame.{Frame as frame};
 ghost use Rattle.bplist_objects.specs.Answers.{Gives, Never, read_failed};
@@ -108,8 +108,8 @@ fn power_of_256(k: u8) -> u64
 fn frame_by(trailer: &Trailer, len: u64) -> Result<Frame, Fault>
     requires low { 41 ≤ len }
     requires high { len ≤ 4294967295 }
-    ensures exact { (f : List ℕ) → length f ≡ len → spelled f ≡ told trailer.now
-        → MatchResult result (λ x. (x ≡ told trailer.now) × KeepsAll (Keeps f) number_rules)
+    ensures exact { (f : List ℕ) → length f ≡ len → spelled f ≡ frame_of_trailer trailer.now
+        → MatchResult result (λ x. (x ≡ frame_of_trailer trailer.now) × KeepsAll (Keeps f) number_rules)
         (IsFirstFault (Keeps f) (Breaks f) number_rules) }
     ensures safe { IfOk result (IsSafeFrame len) }
 {

@@ -56,7 +56,7 @@ impl Call {
     }
 
     /// Makes the call, and gives its answer as text: `Err(..)` for a fault.
-    pub fn told<S: Source>(
+    pub fn answer_text<S: Source>(
         &self,
         alloc: Global,
         checked: &mut Checked<S>,

@@ -5,7 +5,7 @@
 //! for row in tested_rows(alloc)? {
 //!     let mut checked = row.checked(alloc, SliceSource::new(&row.octets))?;
 //!     for call in all_calls(alloc)? {
-//!         let answer = call.told(alloc, &mut checked)?;
+//!         let answer = call.answer_text(alloc, &mut checked)?;
 //!     }
 //! }
 //! ```

@@ -43,8 +43,8 @@ fn check_turn(alloc: Global, row: &Row, fails: u64) -> Result<Turn, Fail> {
 /// A call on a file that is checked over a source whose read number `fails` fails, made twice.
 fn call_turn(alloc: Global, row: &Row, call: &Call, fails: u64) -> Result<Turn, Fail> {
     let mut checked = row.checked(alloc, FaultySource::new(&row.octets, fails))?;
-    let first = call.told(alloc, &mut checked)?;
-    let again = call.told(alloc, &mut checked)?;
+    let first = call.answer_text(alloc, &mut checked)?;
+    let again = call.answer_text(alloc, &mut checked)?;
     Ok(Turn { first, again })
 }
 
@@ -79,7 +79,7 @@ fn call_at_each_turn(
     checking: u64,
 ) -> Result<u64, Fail> {
     let mut whole = row.checked(alloc, SliceSource::new(&row.octets))?;
-    let want = call.told(alloc, &mut whole)?;
+    let want = call.answer_text(alloc, &mut whole)?;
     for turn in 0..MOST_READS {
         let fails = checking.saturating_add(turn);
         if is_whole(rt, row.name, &call_turn(alloc, row, call, fails)?, &want) {

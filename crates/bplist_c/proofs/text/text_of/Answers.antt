@@ -12,7 +12,7 @@ returns-clause-exact c =
     record {
       none = λ bad. absurd (bad vouched);
       said = λ v w holds.
-          rw c.told.ensures (text_said checked.source.octets checked.frame c.args.object w c.args.room c.length_of-length.result c.print-printed.new.out c.print-printed.result
+          rw c.text_outcome.ensures (text_said checked.source.octets checked.frame c.args.object w c.args.room c.length_of-length.result c.print-printed.new.out c.print-printed.result
           (exact honest vouched w holds)
           (λ t is. c.length_of-length.ensures ∙ told_length _ c.args.object w t (c.in-Some.ensures.exact.form c.args.object w vouched holds) is));
     }

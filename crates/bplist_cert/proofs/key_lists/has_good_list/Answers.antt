@@ -2,7 +2,7 @@ use Rattle.std.proofs.Common.{subst}
 use Rattle.std.proofs.lemmas.Result.{IfOk-weaker}
 use Rattle.bplist_objects.specs.declared.frame.Frame.{Frame}
 use Rattle.bplist_objects.specs.Framed.{frame_in}
-use Rattle.bplist_cert.specs.KeyKinds.{AreInOrder}
+use Rattle.bplist_cert.specs.DictKeys.{AreInOrder}
 use Rattle.bplist_cert.proofs.key_lists.has_good_list.Goals as goal
 
 pub returns-in-Some-clause-exact : goal.returns-in-Some-clause-exact

@@ -4,7 +4,7 @@ use Rattle.bplist_octets.specs.Octets.{part}
 use Rattle.bplist_objects.specs.declared.frame.Frame.{Frame}
 use Rattle.bplist_objects.specs.Framed.{frame_in}
 use Rattle.bplist_objects.specs.Claims.{FailsAt}
-use Rattle.bplist_cert.specs.KeyKinds.{AreInOrder}
+use Rattle.bplist_cert.specs.DictKeys.{AreInOrder}
 use Rattle.bplist_cert.specs.Lists.{Keyed, list_of}
 use Rattle.bplist_cert.proofs.key_order.check_order.Goals as goal
 

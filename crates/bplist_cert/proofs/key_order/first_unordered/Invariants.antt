@@ -3,7 +3,7 @@ use Rattle.bplist_objects.specs.Framed.{HonestlyIn}
 use Rattle.bplist_objects.specs.Safe.{IsSafeBody}
 use Rattle.bplist_objects.specs.Units.{IsTextKind}
 use Rattle.bplist_keys.specs.Runs.{AreRuns}
-use Rattle.bplist_cert.specs.KeyKinds.{KeysAreTexts, AreInOrder}
+use Rattle.bplist_cert.specs.DictKeys.{KeysAreTexts, AreInOrder}
 use Rattle.bplist_cert.proofs.OrderedLists.{IsBefore}
 use Rattle.bplist_cert.proofs.key_order.first_unordered.Given as goal
 

@@ -5,7 +5,7 @@ use Rattle.bplist_objects.specs.declared.head.Head.{Head}
 use Rattle.bplist_objects.specs.Framed.{frame_in}
 use Rattle.bplist_objects.proofs.Fronts.{one_shape}
 use Rattle.bplist_keys.specs.Texts.{HasTextShape, IsTextHead}
-use Rattle.bplist_cert.specs.KeyKinds.{IsText}
+use Rattle.bplist_cert.specs.DictKeys.{IsText}
 use Rattle.bplist_cert.proofs.key_order.key_head.Goals as goal
 
 pub returns-then-m-frame-clause-exact : goal.returns-then-m-frame-clause-exact

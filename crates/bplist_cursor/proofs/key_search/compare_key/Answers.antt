@@ -25,5 +25,5 @@ returns-in_default g c = record {
       let head = c.in_ok-head.head in
       let is = text_value c.args.checked.now.source.octets c.args.checked.now.frame head.kind head.count head.body us (c.in_ok-head.ensures.exact honest (leaf (text us)) s) in
       absurd (text_kinds head.kind is.0 c.in_default.not-Ascii c.in_default.not-Wide);
-  made = omega arith;
+  comparisons = omega arith;
 }

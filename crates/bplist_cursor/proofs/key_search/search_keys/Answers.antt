@@ -38,7 +38,7 @@ loop-low-preserved-in-Less g c = record {
   high = c.loop-low.invariant.high;
   bound =
       (let less = halved_digits (c.loop-low.high - (c.loop-low.low + (c.loop-low.high - c.loop-low.low) / 2 + 1)) (c.loop-low.high - c.loop-low.low) (omega (arith, c.loop-low-test.true)) (omega (arith, c.loop-low-test.true)) in
-      omega (arith, less, c.loop-low.invariant.bound, c.in_ok-i.ensures.made));
+      omega (arith, less, c.loop-low.invariant.bound, c.in_ok-i.ensures.comparisons));
   searching = λ honest n ks ms s e t keyed is room list.
       let f = c.args.checked.now.source.octets in
       let F = c.args.checked.now.frame in
@@ -78,7 +78,7 @@ loop-low-preserved g c = record {
   high = omega (arith, c.loop-low.invariant.high);
   bound =
       (let less = halved_digits (c.loop-low.low + (c.loop-low.high - c.loop-low.low) / 2 - c.loop-low.low) (c.loop-low.high - c.loop-low.low) (omega (arith, c.loop-low-test.true)) (omega (arith, c.loop-low-test.true)) in
-      omega (arith, less, c.loop-low.invariant.bound, c.in_ok-i.ensures.made));
+      omega (arith, less, c.loop-low.invariant.bound, c.in_ok-i.ensures.comparisons));
   searching = λ honest n ks ms s e t keyed is room list.
       let f = c.args.checked.now.source.octets in
       let F = c.args.checked.now.frame in
@@ -101,9 +101,9 @@ returns-clause-exact g c = λ honest n ks ms s e t keyed is room list i l u.
 pub returns-in_err-i-clause-bound : goal.returns-in_err-i-clause-bound
 returns-in_err-i-clause-bound g c =
     let some = some_digits (c.loop-low.high - c.loop-low.low) (omega (arith, c.loop-low-test.true)) in
-    omega (arith, some, c.loop-low.invariant.bound, c.in_err-i.ensures.made)
+    omega (arith, some, c.loop-low.invariant.bound, c.in_err-i.ensures.comparisons)
 
 pub returns-in-Equal-clause-bound : goal.returns-in-Equal-clause-bound
 returns-in-Equal-clause-bound g c =
     let some = some_digits (c.loop-low.high - c.loop-low.low) (omega (arith, c.loop-low-test.true)) in
-    omega (arith, some, c.loop-low.invariant.bound, c.in_ok-i.ensures.made)
+    omega (arith, some, c.loop-low.invariant.bound, c.in_ok-i.ensures.comparisons)

@@ -12,7 +12,7 @@ invariant-loop-low g l = record {
   same : l.checked ≡ l.fn.checked;
   order : l.low ≤ l.high;
   high : l.high ≤ l.fn.head.count;
-  bound : l.made + digits_2 (l.high - l.low) ≤ l.fn.made + digits_2 l.fn.head.count;
+  bound : l.comparisons + digits_2 (l.high - l.low) ≤ l.fn.comparisons + digits_2 l.fn.head.count;
   searching : HonestlyKeyed l.fn.checked l.fn.head (λ f F ks. (keyed : Keyed) → l.fn.checked.certificate.keys ≡ Some keyed
       → l.fn.start + length ks ≤ length keyed.positions → IsKeyList f F ks (part keyed.positions l.fn.start (length ks))
       → Searching f F ks (part keyed.positions l.fn.start (length ks)) l.fn.units l.low l.high);

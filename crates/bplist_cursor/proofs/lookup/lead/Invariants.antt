@@ -11,5 +11,5 @@ invariant-loop-k g l = record {
   within : l.object.0 < l.fn.checked.frame.objects;
   at : IsTrue l.fn.checked.source.honest → (v : Value)
       → Holds l.fn.checked.source.octets l.fn.checked.frame l.fn.checked.frame.top.0 v
-      → Along l.fn.checked v (units_of l.fn.steps) l.k l.object.0 l.fn.made l.made;
+      → Along l.fn.checked v (units_of l.fn.steps) l.k l.object.0 l.fn.comparisons l.comparisons;
 }

@@ -1,7 +1,7 @@
 use Rattle.std.proofs.Common.{◌∙◌, ◌-◌, ap, arith, sym}
 use Rattle.bplist_octets.specs.Octets.{part}
 use Rattle.std.proofs.lemmas.Result.{err_from_is_err_and}
-use Rattle.bplist_objects.proofs.FrameLaws.{trailer-told}
+use Rattle.bplist_objects.proofs.FrameLaws.{trailer-framed}
 use Rattle.bplist_objects.proofs.frame.numbers_of.Goals as goal
 
 pub returns-in_err-frame_by-clause-exact : goal.returns-in_err-frame_by-clause-exact
@@ -9,7 +9,7 @@ returns-in_err-frame_by-clause-exact g c = λ honest.
     let f = (g.S.Source.means c.args.src.now).octets in
     let t = c.trailer_in.ensures in
     let filled = c.in_ok-read_at.ensures.filled honest in
-    let e = trailer-told f c.read_at.new.into c.trailer_in.result (omega arith) (filled ∙ ap (λ n. part f (n - 32) 32) c.len-len.ensures) t.offset_size t.ref_size t.objects t.top t.table in
+    let e = trailer-framed f c.read_at.new.into c.trailer_in.result (omega arith) (filled ∙ ap (λ n. part f (n - 32) 32) c.len-len.ensures) t.offset_size t.ref_size t.objects t.top t.table in
     let p = err_from_is_err_and c.from_residual-in_err-frame_by.result c.from_residual-in_err-frame_by.ensures.1 in
     rw (p.1, p.2) (c.in_err-frame_by.ensures.exact f (omega arith) e)
 
@@ -18,6 +18,6 @@ returns-clause-exact g c = λ honest.
     let f = (g.S.Source.means c.args.src.now).octets in
     let t = c.trailer_in.ensures in
     let filled = c.in_ok-read_at.ensures.filled honest in
-    let e = trailer-told f c.read_at.new.into c.trailer_in.result (omega arith) (filled ∙ ap (λ n. part f (n - 32) 32) c.len-len.ensures) t.offset_size t.ref_size t.objects t.top t.table in
+    let e = trailer-framed f c.read_at.new.into c.trailer_in.result (omega arith) (filled ∙ ap (λ n. part f (n - 32) 32) c.len-len.ensures) t.offset_size t.ref_size t.objects t.top t.table in
     let h = c.in_ok-frame_by.ensures.exact f (omega arith) e in
     (h.0 ∙ sym e, h.1)

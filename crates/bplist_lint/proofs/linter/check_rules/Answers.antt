@@ -2,7 +2,7 @@ use Rattle.std.proofs.Common.{inr}
 use Rattle.std.proofs.lemmas.Result.{err_from_is_err_and}
 use Rattle.bplist_lint.specs.Refusals.{no_circle}
 use Rattle.bplist_lint.proofs.Passes.{check_means}
-use Rattle.bplist_lint.proofs.linter.sift.Goals as goal
+use Rattle.bplist_lint.proofs.linter.check_rules.Goals as goal
 
 pub returns-in_default-clause-exact : goal.returns-in_default-clause-exact
 returns-in_default-clause-exact g c = λ honest. let known = c.in_ok-reached.ensures.exact honest in record { walked = known.0; keys = rw c.in_default.is at known.1 }

@@ -11,7 +11,7 @@ use Rattle.bplist_lint.specs.ReferenceGraph.{AreChildless}
 use Rattle.bplist_lint.specs.Refusals.{no_circle}
 use Rattle.bplist_lint.specs.ReachWalk.{AreNamed}
 use Rattle.bplist_lint.proofs.Passes.{check_means}
-use Rattle.bplist_lint.proofs.linter.sift_few.Goals as goal
+use Rattle.bplist_lint.proofs.linter.check_rules_by_table.Goals as goal
 
 pub returns-in_err-check_keys-clause-exact : goal.returns-in_err-check_keys-clause-exact
 returns-in_err-check_keys-clause-exact g c = λ honest.

@@ -4,7 +4,7 @@ use Rattle.std.proofs.lemmas.List.{get_or_read}
 use Rattle.bplist_objects.specs.declared.frame.Frame.{Frame}
 use Rattle.bplist_objects.specs.Framed.{frame_in}
 use Rattle.bplist_lint.proofs.Passes.{linted, circled}
-use Rattle.bplist_lint.proofs.linter.lint_sifted.Goals as goal
+use Rattle.bplist_lint.proofs.linter.heights_or_circle.Goals as goal
 
 pub returns-then-height-eq0-clause-exact : goal.returns-then-height-eq0-clause-exact
 returns-then-height-eq0-clause-exact g c = λ honest.

@@ -1,6 +1,6 @@
 use Rattle.std.proofs.Common.{rules, arith, refl}
 use Rattle.bplist_ascii.proofs.Parts.{sends_more}
-use Rattle.bplist_ascii.proofs.sink.Tally.send.Goals as goal
+use Rattle.bplist_ascii.proofs.sink.Sender.send.Goals as goal
 
 pub loop-sent-preserved-in-Ok : goal.loop-sent-preserved-in-Ok
 loop-sent-preserved-in-Ok g c = record {
