@@ -86,13 +86,13 @@ abbrev pub explain_shape : Shape
 explain_shape = subcommand (codes "explain") (operand (codes "WORD") ∷ [])
 
 -- the program's command without its subcommands, of which the words have to name one
-abbrev pub bare : App
-bare = record { top = record ((new_app (codes "bplint")).top) { has_version = true; subcommand_required = true }; subs = [] }
+abbrev pub without_subcommands : App
+without_subcommands = record { top = record ((new_app (codes "bplint")).top) { has_version = true; subcommand_required = true }; subs = [] }
 
 -- the program's command line
 abbrev pub usage : App
 usage = record {
-  top = record bare.top { is_leaf = false };
+  top = record without_subcommands.top { is_leaf = false };
   subs = lint_shape ∷ show_shape ∷ ls_shape ∷ map_shape ∷ explain_shape ∷ certify_shape ∷ check_shape ∷ get_shape
       ∷ print_shape ∷ [];
 }

@@ -291,8 +291,8 @@ fn explain<'a>(alloc: Global) -> Result<Command<'a>, AllocError>
 }
 
 /// The command of the program, without its subcommands.
-fn bare<'a>(alloc: Global) -> Command<'a>
-    ensures { app_of result ≡ usage.bare }
+fn without_subcommands<'a>(alloc: Global) -> Command<'a>
+    ensures { app_of result ≡ usage.without_subcommands }
 {
     Command::new(alloc, "bplint")
         .about("Lints, checks and reads binary property lists")
@@ -305,7 +305,7 @@ fn bare<'a>(alloc: Global) -> Command<'a>
 pub fn bplint<'a>(alloc: Global) -> Result<Command<'a>, AllocError>
     ensures { IfOk result (λ command. app_of command ≡ usage.usage) }
 {
-    bare(alloc)
+    without_subcommands(alloc)
         .subcommand(lint(alloc)?)?
         .subcommand(show(alloc)?)?
         .subcommand(ls(alloc)?)?

@@ -5,7 +5,7 @@ ghost use Rattle.std.specs.List.{list_any};
 ghost use Rattle.bplist_octets.specs.Meaning.{OnlyReads};
 ghost use Rattle.bplist_objects.specs.Holds.{Holds};
 ghost use Rattle.bplist_objects.specs.Value.{Value};
-ghost use Rattle.bplist_cursor.specs.Kept.{Keeps};
+ghost use Rattle.bplist_cursor.specs.Kept.{OnlyReadsFile};
 ghost use Rattle.bplist_cursor.specs.Replies.{reply};
 ghost use Rattle.bplint_lines.specs.Answers.{read_failed};
 ghost use Rattle.bplint_engine.specs.Output.{Answers};
@@ -66,7 +66,7 @@ fn lines_for<S: Source>(
     checked: &mut Checked<S>,
     queries: &[Query],
 ) -> Result<Output, RunFault>
-    ensures reads { Keeps (read_failed result) checked.old checked.new }
+    ensures reads { OnlyReadsFile (read_failed result) checked.old checked.new }
     ensures exact { IsTrue checked.old.source.honest → Gives (λ output. (v : Value)
         → Holds checked.old.source.octets checked.old.frame checked.old.frame.top.0 v
         → (output.said ≡ spec.replies_said (map (reply v) queries.now))

@@ -4,7 +4,7 @@ ghost use Rattle.bplist_octets.specs.Meaning.{OnlyReads};
 ghost use Rattle.bplist_objects.specs.Holds.{Holds};
 ghost use Rattle.bplist_objects.specs.Value.{Value};
 ghost use Rattle.bplist_cert.specs.Valid.{IsVouchedBy};
-ghost use Rattle.bplist_cursor.specs.Kept.{Keeps};
+ghost use Rattle.bplist_cursor.specs.Kept.{OnlyReadsFile};
 ghost use Rattle.bplist_cursor.specs.Look.{look};
 ghost use Rattle.bplist_cursor.specs.Replies.{face as face_of};
 ghost use Rattle.bplist_cursor.specs.Shown.{HasRoom};
@@ -87,7 +87,7 @@ fn list_path<S: Source>(
     path: &Path,
     text: &str,
 ) -> Result<Output, RunFault>
-    ensures reads { Keeps (read_failed result) checked.old checked.new }
+    ensures reads { OnlyReadsFile (read_failed result) checked.old checked.new }
     ensures exact { IsTrue checked.old.source.honest → (v : Value)
         → Holds checked.old.source.octets checked.old.frame checked.old.frame.top.0 v
         → Gives (λ output. ListGives text.now (look v path.now) output.said output.bytes.items) result }
@@ -111,7 +111,7 @@ fn lines_at<S: Source>(
     node: Node,
     path: &str,
 ) -> Result<Vec<u8>, RunFault>
-    ensures reads { Keeps (read_failed result) checked.old checked.new }
+    ensures reads { OnlyReadsFile (read_failed result) checked.old checked.new }
     ensures exact { IsTrue checked.old.source.honest → IsVouchedBy checked.old.certificate.heights node.object.0 → (w : Value)
         → Holds checked.old.source.octets checked.old.frame node.object.0 w
         → Gives (λ lines. lines.items ≡ listed path.now w) result }

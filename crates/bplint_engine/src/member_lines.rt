@@ -3,7 +3,7 @@ ghost use Rattle.std.specs.Prelude.{◌≡◌, ◌++◌, ◌∷◌, [], ◌*◌,
 ghost use Rattle.bplist_objects.specs.Holds.{Holds};
 ghost use Rattle.bplist_objects.specs.Value.{Value};
 ghost use Rattle.bplist_cert.specs.Valid.{IsVouchedBy};
-ghost use Rattle.bplist_cursor.specs.Kept.{Keeps};
+ghost use Rattle.bplist_cursor.specs.Kept.{OnlyReadsFile};
 ghost use Rattle.bplist_cursor.specs.Members.{member_of};
 ghost use Rattle.bplist_cursor.specs.Replies.{face as face_of};
 ghost use Rattle.bplint_lines.specs.Answers.{read_failed};
@@ -11,7 +11,7 @@ ghost use Rattle.bplint_lines.specs.Faults.{Gives};
 ghost use Rattle.bplint_engine.specs.Ls.{IsContainer, first_lines, member_line};
 ghost use Rattle.bplint_lines.specs.OutputLines.{face_line};
 
-use bplint_lines::{RunFault, add_face, add_index_name, add_key_name, add_place};
+use bplint_lines::{RunFault, add_face, add_index_name, add_key_name, add_index};
 use bplist_cert::Checked;
 use bplist_cursor::{Face, Node, face, member};
 use bplist_octets::Source;
@@ -22,7 +22,7 @@ use std::alloc::{AllocError, Global};
 pub(crate) enum Members {
     /// Those of an array, with indexes for names.
     Array,
-    /// Those of a set, which have places alone.
+    /// Those of a set, which have indexes alone.
     Set,
     /// The pairs of a dictionary, with keys for names.
     Dict,
@@ -49,7 +49,7 @@ pub(crate) fn add_members<S: Source>(
     lines: &mut Vec<u8>,
 ) -> Result<(), RunFault>
     requires { container.now.members ≡ Members.Dict → 2 * container.now.count < 2 ^ 64 }
-    ensures reads { Keeps (read_failed result) checked.old checked.new }
+    ensures reads { OnlyReadsFile (read_failed result) checked.old checked.new }
     ensures exact { IsTrue checked.old.source.honest
         → IsVouchedBy checked.old.certificate.heights container.now.node.object.0 → (w : Value)
         → Holds checked.old.source.octets checked.old.frame container.now.node.object.0 w
@@ -72,7 +72,7 @@ fn add_member<S: Source>(
 ) -> Result<(), RunFault>
     requires few { container.now.members ≡ Members.Dict → 2 * container.now.count < 2 ^ 64 }
     requires within { i < container.now.count }
-    ensures reads { Keeps (read_failed result) checked.old checked.new }
+    ensures reads { OnlyReadsFile (read_failed result) checked.old checked.new }
     ensures exact { IsTrue checked.old.source.honest
         → IsVouchedBy checked.old.certificate.heights container.now.node.object.0 → (w : Value)
         → Holds checked.old.source.octets checked.old.frame container.now.node.object.0 w
@@ -87,7 +87,7 @@ fn add_member<S: Source>(
         }
         Members::Set => {
             let shown = member_face(alloc, checked, container.node, i)?;
-            add_place(alloc, i, lines)?;
+            add_index(alloc, i, lines)?;
             Ok(add_value(alloc, &shown, lines)?)
         }
         Members::Dict => {
@@ -109,7 +109,7 @@ fn member_face<S: Source>(
     node: Node,
     i: u64,
 ) -> Result<Face, RunFault>
-    ensures reads { Keeps (read_failed result) checked.old checked.new }
+    ensures reads { OnlyReadsFile (read_failed result) checked.old checked.new }
     ensures exact { IsTrue checked.old.source.honest → IsVouchedBy checked.old.certificate.heights node.object.0
         → (w m : Value) → Holds checked.old.source.octets checked.old.frame node.object.0 w → member_of w i ≡ Some m
         → Gives (λ shown. shown ≡ face_of m) result }

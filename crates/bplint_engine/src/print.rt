@@ -4,7 +4,7 @@ ghost use Rattle.bplist_octets.specs.Meaning.{OnlyReads};
 ghost use Rattle.bplist_objects.specs.Holds.{Holds};
 ghost use Rattle.bplist_objects.specs.Value.{Value};
 ghost use Rattle.bplist_cert.specs.Valid.{IsVouchedBy};
-ghost use Rattle.bplist_cursor.specs.Kept.{Keeps};
+ghost use Rattle.bplist_cursor.specs.Kept.{OnlyReadsFile};
 ghost use Rattle.bplist_ascii.specs.Sending.{Takes, TakesPart};
 ghost use Rattle.bplint_lines.specs.Answers.{Leaves, LeavesBy, read_failed};
 ghost use Rattle.bplint_lines.specs.OutputLines.{missing_line};
@@ -75,7 +75,7 @@ fn print_path<S: Source, W: Write>(
     limit: u64,
     out: &mut W,
 ) -> Result<Said, RunFault>
-    ensures reads { Keeps (read_failed result) checked.old checked.new }
+    ensures reads { OnlyReadsFile (read_failed result) checked.old checked.new }
     ensures exact { IsTrue checked.old.source.honest → (v : Value)
         → Holds checked.old.source.octets checked.old.frame checked.old.frame.top.0 v
         → LeavesBy (PathSays checked.old.source.octets checked.old.frame limit path.now v) limit
@@ -109,7 +109,7 @@ fn print_node<S: Source, W: Write>(
     limit: u64,
     out: &mut W,
 ) -> Result<Said, RunFault>
-    ensures reads { Keeps (read_failed result) checked.old checked.new }
+    ensures reads { OnlyReadsFile (read_failed result) checked.old checked.new }
     ensures exact { IsTrue checked.old.source.honest → IsVouchedBy checked.old.certificate.heights node.object.0 → (w : Value)
         → Holds checked.old.source.octets checked.old.frame node.object.0 w
         → LeavesBy (NodeSays checked.old.source.octets checked.old.frame limit node.object.0 w) limit

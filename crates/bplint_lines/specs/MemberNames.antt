@@ -1,4 +1,4 @@
--- The names that lines have for the members of containers. Source: the path texts RFC 6901; the places profile.
+-- The names that lines have for the members of containers. Source: the path texts RFC 6901; the indexes profile.
 use Rattle.std.specs.Prelude.{◌∷◌, ◌++◌, ℕ, ◌==◌, ◌||◌, ◌&&◌, not, nat_lt, List, [], Bool, if◌then◌else◌, encode_utf8_all}
 use Rattle.std.specs.List.{flat_map, list_any}
 use Rattle.std.specs.Fmt.{decimal}
@@ -9,7 +9,7 @@ use Rattle.bplist_cursor.specs.Path.{escaped}
 abbrev pub has_path_text : List ℕ → Bool
 has_path_text units = not (list_any (λ u. nat_lt u 0x20 || u == 0x7F) units) && not (has_unpaired_surrogate units)
 
--- a place among the members, in brackets
+-- an index among the members, in brackets
 abbrev pub bracketed : ℕ → List ℕ
 bracketed i = 0x5B ∷ (decimal i ++ 0x5D ∷ [])
 
@@ -17,7 +17,7 @@ bracketed i = 0x5B ∷ (decimal i ++ 0x5D ∷ [])
 abbrev pub index_name : List ℕ → ℕ → List ℕ
 index_name path i = path ++ 0x2F ∷ decimal i
 
--- the name of value i: its container's path text, `/` and the escaped key, or its place if that cannot be shown
+-- the name of value i: its container's path text, `/` and the escaped key, or its index if that cannot be shown
 abbrev pub key_name : List ℕ → ℕ → List ℕ → List ℕ
 key_name path i units =
     if has_path_text units then path ++ 0x2F ∷ flat_map escaped (encode_utf8_all (utf16_lossy_chars units)) else bracketed i

@@ -14,7 +14,7 @@
 //! | what a fault is about | [`explain`] |
 //! | what a rule asks, and the rule of a word | [`rule_text`], [`rule_of_word`] |
 //! | the lines of answers | [`add_lint`], [`add_check`], [`add_face`], [`add_missing`], [`kind_name`] |
-//! | the names of members in them | [`add_index_name`], [`add_key_name`], [`add_place`] |
+//! | the names of members in them | [`add_index_name`], [`add_key_name`], [`add_index`] |
 //! | what a run says of its answer | [`Said`] |
 //!
 //! Answers, and what a run leaves with the writer, are defined in specs/Answers.antt.
@@ -31,7 +31,7 @@ mod said;
 
 pub use explanation::explain;
 pub use fault::RunFault;
-pub use member_names::{add_index_name, add_key_name, add_place};
+pub use member_names::{add_index_name, add_key_name, add_index};
 pub use output_lines::{add_check, add_face, add_lint, add_missing, kind_name};
 pub use rule_lines::{rule_of_word, rule_text};
 pub use said::Said;

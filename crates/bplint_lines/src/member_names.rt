@@ -23,15 +23,15 @@ pub fn add_index_name(
     lines.extend_from_slice(token.as_bytes())
 }
 
-/// Adds a place in brackets, which names a member of a set.
-pub fn add_place(alloc: Global, i: u64, lines: &mut Vec<u8>) -> Result<(), AllocError>
+/// Adds an index in brackets, which names a member of a set.
+pub fn add_index(alloc: Global, i: u64, lines: &mut Vec<u8>) -> Result<(), AllocError>
     ensures { OnOk result (lines.new.items ≡ lines.old.items ++ bracketed i) }
 {
-    let place = format!(in alloc; "[{i}]")?;
-    lines.extend_from_slice(place.as_bytes())
+    let index = format!(in alloc; "[{i}]")?;
+    lines.extend_from_slice(index.as_bytes())
 }
 
-/// Adds the path text of the value of a key with these units, which is number `i`, or its place where it has none that
+/// Adds the path text of the value of a key with these units, which is number `i`, or its index where it has none that
 /// can be shown.
 pub fn add_key_name(
     alloc: Global,
@@ -44,7 +44,7 @@ pub fn add_key_name(
 {
     match key_text(alloc, units)? {
         Some(text) => add_path(path, text.as_bytes(), lines),
-        None => add_place(alloc, i, lines),
+        None => add_index(alloc, i, lines),
     }
 }
 

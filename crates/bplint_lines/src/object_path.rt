@@ -124,7 +124,7 @@ impl Search {
         Ok(())
     }
 
-    /// Keeps the step to an object that was not met before.
+    /// OnlyReadsFile the step to an object that was not met before.
     fn meet(&mut self, object: u64, step: Step) -> Result<(), AllocError> {
         let Ok(n) = u32::try_from(object) else {
             return Ok(());

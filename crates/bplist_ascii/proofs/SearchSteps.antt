@@ -25,7 +25,7 @@ use Rattle.bplist_cursor.specs.Found.{IsHeld}
 use Rattle.bplist_cursor.specs.Members.{HoldsMember, member_of, member_reference, named, node_of, members}
 use Rattle.bplist_cursor.proofs.Membership.{in_turn, held_members}
 use Rattle.bplist_ascii.specs.Walks.{IsContainer, IsOfKind}
-use Rattle.bplist_ascii.specs.FormlessSearch.{places_of, HaveForms, HasSameFormless}
+use Rattle.bplist_ascii.specs.FormlessSearch.{first_value_of, HaveForms, HasSameFormless}
 use Rattle.bplist_ascii.proofs.WalkSteps.{IsMember, held_some, held_none}
 
 -- a form says whether there is a text
@@ -83,11 +83,11 @@ abbrev pub Passes : Kind → ℕ → ℕ → Type 0
 Passes kinds.Dict i distance = (i % 2 ≡ 1) × (distance ≡ 2)
 Passes _ i distance = distance ≡ 1
 
-pub passes_start : (k : Kind) → Passes k (places_of k).0 (places_of k).1
+pub passes_start : (k : Kind) → Passes k (first_value_of k).0 (first_value_of k).1
 passes_start kinds.Dict = (refl, refl)
 passes_start _ = refl
 
-pub starts_low : (k : Kind) (n : ℕ) → (places_of k).0 ≤ n + 1
+pub starts_low : (k : Kind) (n : ℕ) → (first_value_of k).0 ≤ n + 1
 starts_low kinds.Dict n = omega arith
 starts_low _ n = omega arith
 
@@ -99,7 +99,7 @@ pub passes_few : (k : Kind) (i distance : ℕ) → Passes k i distance → (1 �
 passes_few kinds.Dict i distance (odd, p) = (omega (arith, p), omega (arith, p))
 passes_few _ i distance p = (omega (arith, p), omega (arith, p))
 
-pub texts_start : (k : Kind) (v : Value) → IsOfKind k v → HaveForms v (places_of k).0
+pub texts_start : (k : Kind) (v : Value) → IsOfKind k v → HaveForms v (first_value_of k).0
 texts_start kinds.Array (array vs) o j l w is e = absurd (omega (arith, l))
 texts_start kinds.Dict (dict ps) o j l w is e = key_has j ps w (omega (arith, l)) is e
 texts_start _ _ o j l w is e = absurd o

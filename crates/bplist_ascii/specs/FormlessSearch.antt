@@ -10,9 +10,9 @@ use Rattle.bplist_cursor.specs.OldStyle.{value_text}
 use Rattle.bplist_cursor.specs.Formless.{IsFormless}
 
 -- the number of the first member that is no key, and how far the next such member is from it
-abbrev pub places_of : Kind → ℕ × ℕ
-places_of kinds.Dict = (1, 2)
-places_of _ = (0, 1)
+abbrev pub first_value_of : Kind → ℕ × ℕ
+first_value_of kinds.Dict = (1, 2)
+first_value_of _ = (0, 1)
 
 -- the members before number i have texts
 abbrev pub HaveForms : Value → ℕ → Type 0

@@ -8,14 +8,14 @@ ghost use Rattle.bplist_objects.specs.Holds.{Holds};
 ghost use Rattle.bplist_objects.specs.Safe.{IsSafeHead};
 ghost use Rattle.bplist_cert.specs.Valid.{IsVouchedBy};
 ghost use Rattle.bplist_cursor.specs.Causes.{GivesRead, read_failed};
-ghost use Rattle.bplist_cursor.specs.Kept.{Keeps};
+ghost use Rattle.bplist_cursor.specs.Kept.{OnlyReadsFile};
 ghost use Rattle.bplist_cursor.specs.Sizes.{AreMeasures, form_in};
 ghost use Rattle.bplist_cursor.specs.declared.form.Form.TheVariants.{NoForm};
 ghost use Rattle.bplist_cursor.specs.OldStyle.{value_text};
 ghost use Rattle.bplist_cursor.specs.Formless.{IsFormless};
 ghost use Rattle.bplist_cursor.specs.Found.{IsHeld};
 ghost use Rattle.bplist_ascii.specs.Walks.{IsContainer};
-ghost use Rattle.bplist_ascii.specs.FormlessSearch.{HasSameFormless, places_of};
+ghost use Rattle.bplist_ascii.specs.FormlessSearch.{HasSameFormless, first_value_of};
 
 use bplist_cert::Checked;
 use bplist_cursor::{Form, Measures, Node, Unread, member_by_head, node_head};
@@ -30,8 +30,8 @@ fn has_no_form(measures: &Measures, n: ObjectNo) -> bool
 }
 
 /// The number of the first member that is no key, and how far the next such member is from it.
-fn places(kind: Kind) -> (u64, u64)
-    ensures { result ≡ places_of kind }
+fn first_value(kind: Kind) -> (u64, u64)
+    ensures { result ≡ first_value_of kind }
 {
     match kind {
         Kind::Dict => (1, 2),
@@ -49,13 +49,13 @@ fn first_without_text<S: Source>(
     requires container { IsContainer head.now.kind }
     requires measured { HonestlyChecked checked.old
         (λ f F. AreMeasures f F checked.old.certificate.heights measures.now) }
-    ensures reads { Keeps (read_failed result) checked.old checked.new }
+    ensures reads { OnlyReadsFile (read_failed result) checked.old checked.new }
     ensures exact { HonestlyChecked checked.old (λ f F. (n : ℕ) (v : Value) → IsHeld checked.old n v → value_text v ≡ None
         → ((c : Content) → Spells f F n c → c ≡ content_at f F head.now)
         → GivesRead (λ node. HasSameFormless checked.old n v node.object.0 × (slice_index checked.old.certificate.heights node.object.0
         < slice_index checked.old.certificate.heights n)) result) }
 {
-    let (mut i, distance) = places(head.kind);
+    let (mut i, distance) = first_value(head.kind);
     let _bounds = (checked.frame(), head.end);
     while let Some(node) = member_by_head(checked, head, i)? {
         if has_no_form(measures, node.object) {
@@ -74,7 +74,7 @@ fn next_formless<S: Source>(
 ) -> Result<Option<Node>, Unread>
     requires measured { HonestlyChecked checked.old
         (λ f F. AreMeasures f F checked.old.certificate.heights measures.now) }
-    ensures reads { Keeps (read_failed result) checked.old checked.new }
+    ensures reads { OnlyReadsFile (read_failed result) checked.old checked.new }
     ensures exact { HonestlyChecked checked.old (λ f F. (v : Value) → IsHeld checked.old node.object.0 v → value_text v ≡ None
         → GivesRead (λ next. MatchOption next (IsFormless f F node.object.0 v node.object.0)
         (λ m. HasSameFormless checked.old node.object.0 v m.object.0)) result) }
@@ -103,7 +103,7 @@ pub(crate) fn first_formless<S: Source>(
 ) -> Result<ObjectNo, Unread>
     requires measured { HonestlyChecked checked.old
         (λ f F. AreMeasures f F checked.old.certificate.heights measures.now) }
-    ensures reads { Keeps (read_failed result) checked.old checked.new }
+    ensures reads { OnlyReadsFile (read_failed result) checked.old checked.new }
     ensures exact { HonestlyChecked checked.old (λ f F. (v : Value) → IsHeld checked.old node.object.0 v → value_text v ≡ None
         → GivesRead (λ m. IsFormless f F node.object.0 v m.0) result) }
 {

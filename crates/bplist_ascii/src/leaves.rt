@@ -8,7 +8,7 @@ ghost use Rattle.bplist_objects.specs.Safe.{IsSafeBody};
 ghost use Rattle.bplist_objects.specs.Units.{IsTextKind, units_of};
 ghost use Rattle.bplist_objects.specs.declared.kind.Kind.TheVariants.{Bytes};
 ghost use Rattle.bplist_cursor.specs.Causes.{GivesRead, read_failed};
-ghost use Rattle.bplist_cursor.specs.Kept.{Keeps};
+ghost use Rattle.bplist_cursor.specs.Kept.{OnlyReadsFile};
 ghost use Rattle.bplist_cursor.specs.Texts.{hex_digits, text_of_units, text_of_bytes, quoted};
 ghost use Rattle.bplist_ascii.specs.BoundedWrites.{print_read, AddsText, AddFails, FailsWithin, StaysWithin, styled, fits, is_unquoted_text};
 ghost use Rattle.bplist_ascii.specs.declared.style.Style.TheVariants.{Unquoted};
@@ -30,7 +30,7 @@ const PART: usize = 128;
 fn is_unquoted<S: Source>(checked: &mut Checked<S>, head: &Head) -> Result<bool, Unread>
     requires kind { IsTextKind head.now.kind }
     requires head { IsSafeBody (length checked.old.source.octets) head.now }
-    ensures reads { Keeps (read_failed result) checked.old checked.new }
+    ensures reads { OnlyReadsFile (read_failed result) checked.old checked.new }
     ensures exact { GivesRead (λ unquoted. HonestlyChecked checked.old
         (λ f _. unquoted ≡ is_unquoted_text (units_of f head.now))) result }
     ensures some { IfOk result (λ unquoted. unquoted ≡ true → 0 < head.now.count) }
@@ -62,7 +62,7 @@ fn write_text_body<S: Source, W: Write>(
 ) -> Result<(), PrintFault>
     requires kind { IsTextKind text.now.head.kind }
     requires head { IsSafeBody (length checked.old.source.octets) text.now.head }
-    ensures reads { Keeps (print_read result) checked.old checked.new }
+    ensures reads { OnlyReadsFile (print_read result) checked.old checked.new }
     ensures adds { OnOk result (AddsText (W.contents out.old) (W.contents out.new) sink.old sink.new room.old room.new
         (IsTrue checked.old.source.honest) (flat_map (styled text.now.style)
         (units_of checked.old.source.octets text.now.head))) }
@@ -96,7 +96,7 @@ fn write_data_body<S: Source, W: Write>(
 ) -> Result<(), PrintFault>
     requires kind { head.now.kind ≡ Bytes }
     requires head { IsSafeBody (length checked.old.source.octets) head.now }
-    ensures reads { Keeps (print_read result) checked.old checked.new }
+    ensures reads { OnlyReadsFile (print_read result) checked.old checked.new }
     ensures adds { OnOk result (AddsText (W.contents out.old) (W.contents out.new) sink.old sink.new room.old room.new
         (IsTrue checked.old.source.honest) (flat_map hex_digits (part checked.old.source.octets head.now.body head.now.count))) }
     ensures fails { IfErr result (λ e. HonestlyChecked checked.old
@@ -126,7 +126,7 @@ pub(crate) fn write_data<S: Source, W: Write>(
 ) -> Result<(), PrintFault>
     requires kind { head.now.kind ≡ Bytes }
     requires head { IsSafeBody (length checked.old.source.octets) head.now }
-    ensures reads { Keeps (print_read result) checked.old checked.new }
+    ensures reads { OnlyReadsFile (print_read result) checked.old checked.new }
     ensures adds { OnOk result (AddsText (W.contents out.old) (W.contents out.new) sink.old sink.new room.old room.new
         (IsTrue checked.old.source.honest) (text_of_bytes (part checked.old.source.octets head.now.body head.now.count))) }
     ensures fails { IfErr result (λ e. HonestlyChecked checked.old
@@ -150,7 +150,7 @@ fn write_quoted<S: Source, W: Write>(
 ) -> Result<(), PrintFault>
     requires kind { IsTextKind head.now.kind }
     requires head { IsSafeBody (length checked.old.source.octets) head.now }
-    ensures reads { Keeps (print_read result) checked.old checked.new }
+    ensures reads { OnlyReadsFile (print_read result) checked.old checked.new }
     ensures adds { OnOk result (AddsText (W.contents out.old) (W.contents out.new) sink.old sink.new room.old room.new
         (IsTrue checked.old.source.honest) (quoted (units_of checked.old.source.octets head.now))) }
     ensures fails { IfErr result (λ e. HonestlyChecked checked.old
@@ -177,7 +177,7 @@ pub(crate) fn write_text<S: Source, W: Write>(
 ) -> Result<(), PrintFault>
     requires kind { IsTextKind head.now.kind }
     requires head { IsSafeBody (length checked.old.source.octets) head.now }
-    ensures reads { Keeps (print_read result) checked.old checked.new }
+    ensures reads { OnlyReadsFile (print_read result) checked.old checked.new }
     ensures adds { OnOk result (AddsText (W.contents out.old) (W.contents out.new) sink.old sink.new room.old room.new
         (IsTrue checked.old.source.honest) (text_of_units (units_of checked.old.source.octets head.now))) }
     ensures fails { IfErr result (λ e. HonestlyChecked checked.old

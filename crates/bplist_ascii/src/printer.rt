@@ -5,7 +5,7 @@ ghost use Rattle.bplist_cert.specs.CheckedFile.{HonestlyChecked};
 ghost use Rattle.bplist_objects.specs.Value.{Value};
 ghost use Rattle.bplist_objects.specs.Holds.{Holds};
 ghost use Rattle.bplist_cert.specs.Valid.{IsVouchedBy};
-ghost use Rattle.bplist_cursor.specs.Kept.{Keeps};
+ghost use Rattle.bplist_cursor.specs.Kept.{OnlyReadsFile};
 ghost use Rattle.bplist_cursor.specs.Sizes.{AreMeasures};
 ghost use Rattle.bplist_ascii.specs.Sending.{AtMost, Takes};
 ghost use Rattle.bplist_ascii.specs.BoundedWrites.{print_read};
@@ -39,7 +39,7 @@ pub fn print_into<S: Source, W: Write>(
 ) -> Result<(), PrintFault>
     requires measured { HonestlyChecked checked.old
         (λ f F. AreMeasures f F checked.old.certificate.heights measures.now) }
-    ensures reads { Keeps (print_read result) checked.old checked.new }
+    ensures reads { OnlyReadsFile (print_read result) checked.old checked.new }
     ensures exact { HonestlyChecked checked.old (λ f F. IsVouchedBy checked.old.certificate.heights node.object.0
         → (v : Value) → Holds f F node.object.0 v
         → IsPut (W.contents out.old) (W.contents out.new) sink.old sink.new f F node.object.0 v limit result) }
@@ -89,7 +89,7 @@ pub fn print<S: Source, W: Write>(
 ) -> Result<(), PrintFault>
     requires measured { HonestlyChecked checked.old
         (λ f F. AreMeasures f F checked.old.certificate.heights measures.now) }
-    ensures reads { Keeps (print_read result) checked.old checked.new }
+    ensures reads { OnlyReadsFile (print_read result) checked.old checked.new }
     ensures exact { HonestlyChecked checked.old (λ f F. IsVouchedBy checked.old.certificate.heights node.object.0
         → (v : Value) → Holds f F node.object.0 v
         → IsPrinted (W.contents out.old) (W.contents out.new) f F node.object.0 v limit result) }

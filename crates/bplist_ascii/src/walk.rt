@@ -2,7 +2,7 @@
 
 ghost use Rattle.std.specs.Prelude.{◌≡◌, ◌<◌, ◌++◌, [], ◌∷◌, List, ℕ, OnOk, IfErr, OnErr};
 ghost use Rattle.bplist_objects.specs.Safe.{IsSafeHead};
-ghost use Rattle.bplist_cursor.specs.Kept.{Keeps};
+ghost use Rattle.bplist_cursor.specs.Kept.{OnlyReadsFile};
 ghost use Rattle.bplist_ascii.specs.BoundedWrites.{print_read, AddsSome, TakesWithin, FailsWithin, StaysWithin};
 ghost use Rattle.bplist_ascii.specs.Sending.{Takes};
 ghost use Rattle.bplist_ascii.specs.Walks.{opening_of, separator_of, closing_of, AreSafe, HonestlyLeft, HonestlyPlain, StackLeft, GoesOn};
@@ -88,7 +88,7 @@ fn begin<S: Source, W: Write>(
     out: &mut W,
 ) -> Result<(), PrintFault>
     requires heads { AreSafe checked.old.frame walk.old.stack.items }
-    ensures reads { Keeps (print_read result) checked.old checked.new }
+    ensures reads { OnlyReadsFile (print_read result) checked.old checked.new }
     ensures heads { OnOk result (AreSafe checked.old.frame walk.new.stack.items) }
     ensures exact { OnOk result (HonestlyPlain checked.old node.object.0 (λ text. (left : List ℕ)
         → StackLeft checked.old walk.old.stack.items left → GoesOn checked.old (W.contents out.old) (W.contents out.new)
@@ -122,7 +122,7 @@ fn step<S: Source, W: Write>(
 ) -> Result<(), PrintFault>
     requires heads { AreSafe checked.old.frame walk.old.stack.items }
     requires head { IsSafeHead checked.old.frame opened.head }
-    ensures reads { Keeps (print_read result) checked.old checked.new }
+    ensures reads { OnlyReadsFile (print_read result) checked.old checked.new }
     ensures heads { OnOk result (AreSafe checked.old.frame walk.new.stack.items) }
     ensures exact { OnOk result (HonestlyLeft checked.old (walk.old.stack.items ++ opened ∷ [])
         (GoesOn checked.old (W.contents out.old) (W.contents out.new) sink.old sink.new walk.old.room walk.new.room
@@ -155,7 +155,7 @@ pub(crate) fn write_value<S: Source, W: Write>(
     out: &mut W,
 ) -> Result<(), PrintFault>
     requires begins { walk.stack.items ≡ [] }
-    ensures reads { Keeps (print_read result) checked.old checked.new }
+    ensures reads { OnlyReadsFile (print_read result) checked.old checked.new }
     ensures exact { OnOk result (HonestlyPlain checked.old node.object.0
         (Takes (W.contents out.old) (W.contents out.new) sink.old sink.new)) }
     ensures fails { IfErr result (λ e. HonestlyPlain checked.old node.object.0

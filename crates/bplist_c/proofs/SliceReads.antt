@@ -3,17 +3,17 @@ use Rattle.std.proofs.Common.{◌≡◌, ◌≢◌, Bool, true, false, Result, O
 use Rattle.bplist_octets.proofs.Sources.{never_fails}
 use Rattle.bplist_cert.specs.CheckedFile.{CheckedFile}
 use Rattle.bplist_cursor.specs.Causes.{GivesCursor, cursor_read}
-use Rattle.bplist_cursor.specs.Kept.{Keeps}
+use Rattle.bplist_cursor.specs.Kept.{OnlyReadsFile}
 use Rattle.bplist_cursor.specs.declared.faults.CursorFault.{CursorFault}
 use Rattle.bplist_cursor.specs.declared.faults.CursorFault.TheVariants as faults
 
 -- no read has failed
-pub kept_unread : (b : Bool) (old new : CheckedFile) → old.source.failures ≡ 0 → new.source.failures ≡ 0 → Keeps b old new → b ≡ false
+pub kept_unread : (b : Bool) (old new : CheckedFile) → old.source.failures ≡ 0 → new.source.failures ≡ 0 → OnlyReadsFile b old new → b ≡ false
 kept_unread false old new e d kept = refl
 kept_unread true old new e d kept = never_fails true old.source new.source e d kept.0
 
 -- so the checked file is as it was
-pub kept_same : (b : Bool) (old new : CheckedFile) → b ≡ false → Keeps b old new → new ≡ old
+pub kept_same : (b : Bool) (old new : CheckedFile) → b ≡ false → OnlyReadsFile b old new → new ≡ old
 kept_same false old new e kept = kept
 kept_same true old new e kept = cc e
 

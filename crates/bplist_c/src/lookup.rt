@@ -96,7 +96,7 @@ fn find(alloc: Global, checked: &mut Checked<SliceSource<'_>>, path: &[u8]) -> R
 }
 
 /// Tells C where a path leads.
-fn tell(answer: Result<Lead, Status>, out: &mut BplistFound) -> u32
+fn tell_lead(answer: Result<Lead, Status>, out: &mut BplistFound) -> u32
     ensures { TellsLead answer out.old out.new result }
 {
     match answer {
@@ -131,7 +131,7 @@ pub extern "C" fn bplist_find(
         }
         Err(status) => Err(status),
     };
-    tell(answer, out)
+    tell_lead(answer, out)
 }
 
 /// Where one step leads from an object.

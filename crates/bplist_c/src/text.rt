@@ -94,7 +94,7 @@ fn length_of(measures: &Measures, n: ObjectNo) -> u64
 }
 
 /// Tells C what became of a text, and puts it into the buffer where it fits.
-fn tell(answer: Result<Text, Status>, buffer: &mut [u8], out: &mut BplistWritten) -> u32
+fn tell_text(answer: Result<Text, Status>, buffer: &mut [u8], out: &mut BplistWritten) -> u32
     ensures { TellsText answer buffer.old buffer.new out.old out.new result }
 {
     match answer {
@@ -149,5 +149,5 @@ pub extern "C" fn bplist_text(
         }
         Err(status) => Err(status),
     };
-    tell(answer, buffer, out)
+    tell_text(answer, buffer, out)
 }

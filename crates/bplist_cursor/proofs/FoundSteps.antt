@@ -19,7 +19,7 @@ use Rattle.bplist_cursor.specs.declared.found.Why.{Why}
 use Rattle.std.specs.Bool.{⊤}
 use Rattle.bplist_cursor.specs.Causes.{GivesCursor, read_failed}
 use Rattle.bplist_cursor.proofs.Causes.{IsUnread, IsExcused}
-use Rattle.bplist_cursor.specs.Kept.{Keeps}
+use Rattle.bplist_cursor.specs.Kept.{OnlyReadsFile}
 use Rattle.bplist_octets.proofs.Sources.{never_fails}
 use Rattle.bplist_cursor.specs.declared.faults.Unread.{Unread}
 use Rattle.bplist_cursor.specs.declared.faults.Unread.TheVariants as unread
@@ -138,7 +138,7 @@ pub no_step : (v : Value) (s : List ℕ) (why : Why) → stepped v s ≡ Err why
 no_step v s why is = ap (λ x. on_either x (λ w. look_from 1 w []) (λ why. Err (0, why))) is
 
 -- a source without failures has not failed
-pub never_read : (old new : CheckedFile) (e : Unread) → Keeps (read_failed {X = ⊤} (Err e)) old new → new.source.failures ≡ 0 → IsUnread e → ⊥
+pub never_read : (old new : CheckedFile) (e : Unread) → OnlyReadsFile (read_failed {X = ⊤} (Err e)) old new → new.source.failures ≡ 0 → IsUnread e → ⊥
 never_read old new (unread.Read x) k z h =
     let before : old.source.failures ≡ 0 = omega (arith, k.0.rises, z) in
     let no_read : true ≡ false = never_fails true old.source new.source before z k.0 in

@@ -21,7 +21,7 @@ mod OrderSteps
 mod BinaryDigits
 mod Keys
 mod KeyLists
-mod PlaceSteps
+mod IndexSteps
 mod FoundSteps
 mod ListItems
 mod KeyReplies

@@ -4,6 +4,6 @@ use Rattle.bplist_octets.specs.Meaning.{ReadFailed}
 use Rattle.bplist_cert.specs.CheckedFile.{CheckedFile}
 
 -- the call only reads; if it tells of a failed read, one has failed, and frame and certificate are unchanged
-abbrev pub Keeps : Bool → CheckedFile → CheckedFile → Type 0
-Keeps false old new = new ≡ old
-Keeps true old new = ReadFailed old.source new.source × (new.frame ≡ old.frame) × (new.certificate ≡ old.certificate)
+abbrev pub OnlyReadsFile : Bool → CheckedFile → CheckedFile → Type 0
+OnlyReadsFile false old new = new ≡ old
+OnlyReadsFile true old new = ReadFailed old.source new.source × (new.frame ≡ old.frame) × (new.certificate ≡ old.certificate)

@@ -40,7 +40,7 @@ module _ (f : List ℕ) (F : Frame) where
   IsCompared ks i units found =
       (found.0 ≡ i) × ((us : List ℕ) → Spells f F (slice_index ks i) (Content.leaf (text us)) → found.1 ≡ compare_units us units)
 
-  -- the list has the places of these keys in ascending order of their units
+  -- the list has the indexes of these keys in ascending order of their units
   pub record IsKeyList (ks list : List ℕ) : Type 0 where
     pub within : (j : ℕ) → j < length ks → slice_index list j < length ks
     pub ascend : (i j : ℕ) → i < j → j < length ks → (us vs : List ℕ)

@@ -7,8 +7,8 @@ use Rattle.bplist_objects.specs.Heads.{Content, Spells, leaf, dict, refs, conten
 use Rattle.bplist_cert.specs.CheckedFile.{CheckedFile, HonestlyChecked}
 use Rattle.bplist_cursor.specs.Look.{stepped}
 use Rattle.bplist_cursor.specs.Leads.{IsTaken, Leads, why_of}
-use Rattle.bplist_cursor.specs.declared.path_step.Place.{Place}
-use Rattle.bplist_cursor.specs.declared.path_step.Place.TheVariants as place
+use Rattle.bplist_cursor.specs.declared.path_step.RefIndex.{RefIndex}
+use Rattle.bplist_cursor.specs.declared.path_step.RefIndex.TheVariants as ref_index
 use Rattle.bplist_cursor.specs.declared.path_step.Step.{Step}
 use Rattle.bplist_cursor.specs.declared.path_step.Step.TheVariants as step
 
@@ -18,18 +18,18 @@ IsInside objects (step.On m) = m.0 < objects
 IsInside objects (step.Not _) = ⊤
 
 -- the step takes one of so many references, if it takes one
-abbrev pub IsPlaceBelow : ℕ → Place → Type 0
-IsPlaceBelow count (place.Of i) = i < count
-IsPlaceBelow count (place.Nowhere _) = ⊤
+abbrev pub IsRefIndexBelow : ℕ → RefIndex → Type 0
+IsRefIndexBelow count (ref_index.Of i) = i < count
+IsRefIndexBelow count (ref_index.Nowhere _) = ⊤
 
 module _ (f : List ℕ) (F : Frame) where
   -- these are objects that spell texts
   abbrev pub SpellTexts : List ℕ → Type 0
   SpellTexts ks = (i : ℕ) → i < length ks → (u : List ℕ) × Spells f F (slice_index ks i) (leaf (text u))
 
-  -- the key at this place spells s, or no key does
-  abbrev pub IsKeyPlace : List ℕ → List ℕ → Option ℕ → Type 0
-  IsKeyPlace ks s o = MatchOption o ((i : ℕ) → i < length ks → Spells f F (slice_index ks i) (leaf (text s)) → ⊥)
+  -- the key at this index spells s, or no key does
+  abbrev pub IsKeyIndex : List ℕ → List ℕ → Option ℕ → Type 0
+  IsKeyIndex ks s o = MatchOption o ((i : ℕ) → i < length ks → Spells f F (slice_index ks i) (leaf (text s)) → ⊥)
       (λ i. (i < length ks) × Spells f F (slice_index ks i) (leaf (text s)))
 
   -- where the step s goes from object n, which holds v
@@ -38,9 +38,9 @@ module _ (f : List ℕ) (F : Frame) where
   IsStep n v s (step.Not y) = stepped v s ≡ Err y
 
   -- the reference that is taken for the step s at an object with this content, or none is
-  abbrev pub IsPlace : Content → List ℕ → Place → Type 0
-  IsPlace h s (place.Of i) = IsTaken f F h s (slice_index (refs h) i)
-  IsPlace h s (place.Nowhere y) = ((m : ℕ) → IsTaken f F h s m → ⊥) × (y ≡ why_of h)
+  abbrev pub IsRefIndex : Content → List ℕ → RefIndex → Type 0
+  IsRefIndex h s (ref_index.Of i) = IsTaken f F h s (slice_index (refs h) i)
+  IsRefIndex h s (ref_index.Nowhere y) = ((m : ℕ) → IsTaken f F h s m → ⊥) × (y ≡ why_of h)
 
 -- P holds of the keys of a dictionary with this head, if the source is honest and they are texts
 abbrev pub HonestlyKeyed : CheckedFile → Head → (List ℕ → Frame → List ℕ → Type 0) → Type 0

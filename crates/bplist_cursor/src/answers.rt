@@ -5,7 +5,7 @@ ghost use Rattle.bplist_cert.specs.CheckedFile.{HonestlyChecked};
 ghost use Rattle.bplist_objects.specs.Value.{Value};
 ghost use Rattle.bplist_objects.specs.Holds.{Holds};
 ghost use Rattle.bplist_cursor.specs.Causes.{GivesCursor, cursor_read};
-ghost use Rattle.bplist_cursor.specs.Kept.{Keeps};
+ghost use Rattle.bplist_cursor.specs.Kept.{OnlyReadsFile};
 ghost use Rattle.bplist_cursor.specs.Found.{IsHeld, AreMeasuresOf};
 ghost use Rattle.bplist_cursor.specs.Nodes.{cap, nodes};
 ghost use Rattle.bplist_cursor.specs.Replies.{reply, keys_reply};
@@ -32,7 +32,7 @@ fn keys_at<S: Source>(
     checked: &mut Checked<S>,
     node: Node,
 ) -> Result<Reply, CursorFault>
-    ensures reads { Keeps (cursor_read result) checked.old checked.new }
+    ensures reads { OnlyReadsFile (cursor_read result) checked.old checked.new }
     ensures exact { IsTrue checked.old.source.honest → (v : Value) → IsHeld checked.old node.object.0 v
         → GivesCursor (λ told. told ≡ keys_reply v) result }
 {
@@ -49,7 +49,7 @@ fn measures_of<S: Source>(
     checked: &mut Checked<S>,
     measures: Option<Measures>,
 ) -> Result<Measures, CursorFault>
-    ensures reads { Keeps (cursor_read result) checked.old checked.new }
+    ensures reads { OnlyReadsFile (cursor_read result) checked.old checked.new }
     ensures exact { IsTrue checked.old.source.honest → IfSome measures (AreMeasuresOf checked.old)
         → GivesCursor (AreMeasuresOf checked.old) result }
 {
@@ -66,7 +66,7 @@ fn nodes_at<S: Source>(
     node: Node,
     measures: Option<Measures>,
 ) -> Result<(u64, Measures), CursorFault>
-    ensures reads { Keeps (cursor_read result) checked.old checked.new }
+    ensures reads { OnlyReadsFile (cursor_read result) checked.old checked.new }
     ensures exact { IsTrue checked.old.source.honest → IfSome measures (AreMeasuresOf checked.old)
         → (v : Value) → IsHeld checked.old node.object.0 v
         → GivesCursor (λ told. (told.0 ≡ cap (nodes v)) × AreMeasuresOf checked.old told.1) result }
@@ -96,7 +96,7 @@ fn answer_at<S: Source>(
     query: &Query,
     measures: &mut Option<Measures>,
 ) -> Result<Reply, CursorFault>
-    ensures reads { Keeps (cursor_read result) checked.old checked.new }
+    ensures reads { OnlyReadsFile (cursor_read result) checked.old checked.new }
     ensures exact { IsTrue checked.old.source.honest → IfSome measures.old (AreMeasuresOf checked.old)
         → (v : Value) → IsHeld checked.old node.object.0 v
         → GivesCursor (λ told. (told ≡ reply_at v query.now) × IfSome measures.new (AreMeasuresOf checked.old)) result }
@@ -119,7 +119,7 @@ fn answer_by<S: Source>(
     query: &Query,
     measures: &mut Option<Measures>,
 ) -> Result<Reply, CursorFault>
-    ensures reads { Keeps (cursor_read result) checked.old checked.new }
+    ensures reads { OnlyReadsFile (cursor_read result) checked.old checked.new }
     ensures exact { HonestlyChecked checked.old (λ f F. IfSome measures.old (AreMeasuresOf checked.old) → (v : Value)
         → Holds f F F.top.0 v → GivesCursor (λ told. (told ≡ reply v query.now)
         × IfSome measures.new (AreMeasuresOf checked.old)) result) }
@@ -139,7 +139,7 @@ pub fn answer<S: Source>(
     checked: &mut Checked<S>,
     query: &Query,
 ) -> Result<Reply, CursorFault>
-    ensures reads { Keeps (cursor_read result) checked.old checked.new }
+    ensures reads { OnlyReadsFile (cursor_read result) checked.old checked.new }
     ensures exact { HonestlyChecked checked.old (λ f F. (v : Value) → Holds f F F.top.0 v
         → GivesCursor (λ told. told ≡ reply v query.now) result) }
     ensures unchanged { IsTrue checked.old.source.honest → GivesCursor (λ _. ⊤) result }
@@ -158,7 +158,7 @@ pub fn answer_all<S: Source>(
     checked: &mut Checked<S>,
     queries: &[Query],
 ) -> Result<Vec<Reply>, CursorFault>
-    ensures reads { Keeps (cursor_read result) checked.old checked.new }
+    ensures reads { OnlyReadsFile (cursor_read result) checked.old checked.new }
     ensures exact { HonestlyChecked checked.old (λ f F. (v : Value) → Holds f F F.top.0 v
         → GivesCursor (λ replies. replies.items ≡ map (reply v) queries.now) result) }
     ensures unchanged { IsTrue checked.old.source.honest → GivesCursor (λ _. ⊤) result }

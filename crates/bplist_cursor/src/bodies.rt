@@ -8,7 +8,7 @@ ghost use Rattle.bplist_objects.specs.Kinds.{IsLeafKind};
 ghost use Rattle.bplist_objects.specs.Safe.{IsSafeBody};
 ghost use Rattle.bplist_objects.specs.Units.{IsTextKind, units_of};
 ghost use Rattle.bplist_cursor.specs.Causes.{GivesRead, read_failed};
-ghost use Rattle.bplist_cursor.specs.Kept.{Keeps};
+ghost use Rattle.bplist_cursor.specs.Kept.{OnlyReadsFile};
 
 use crate::faults::Unread;
 use bplist_cert::Checked;
@@ -28,7 +28,7 @@ pub fn body_bytes<S: Source>(
     requires kind { IsLeafKind head.now.kind }
     requires head { IsSafeBody (length checked.old.source.octets) head.now }
     requires within { from + length into.old ≤ head.now.count * item_size 1 head.now.kind }
-    ensures reads { Keeps (read_failed result) checked.old checked.new }
+    ensures reads { OnlyReadsFile (read_failed result) checked.old checked.new }
     ensures filled { GivesRead (λ _. HonestlyChecked checked.old
         (λ f _. into.new ≡ part f (head.now.body + from) (length into.old))) result }
 {
@@ -48,7 +48,7 @@ pub fn body_units<S: Source>(
     requires kind { IsTextKind head.now.kind }
     requires head { IsSafeBody (length checked.old.source.octets) head.now }
     requires within { from + length into.old ≤ head.now.count }
-    ensures reads { Keeps (read_failed result) checked.old checked.new }
+    ensures reads { OnlyReadsFile (read_failed result) checked.old checked.new }
     ensures units { GivesRead (λ _. HonestlyChecked checked.old
         (λ f _. into.new ≡ part (units_of f head.now) from (length into.old))) result }
 {

@@ -5,7 +5,7 @@ ghost use Rattle.bplist_cert.specs.CheckedFile.{HonestlyChecked};
 ghost use Rattle.bplist_objects.specs.Heads.{Content, Spells, content_at, refs};
 ghost use Rattle.bplist_objects.specs.Safe.{IsSafeHead, IsSafeBody, ref_count};
 ghost use Rattle.bplist_cursor.specs.Causes.{GivesRead, read_failed};
-ghost use Rattle.bplist_cursor.specs.Kept.{Keeps};
+ghost use Rattle.bplist_cursor.specs.Kept.{OnlyReadsFile};
 
 use crate::faults::Unread;
 use bplist_cert::Checked;
@@ -15,7 +15,7 @@ use bplist_octets::Source;
 /// The head of object `n`, by its marker and count: the check has read the rest.
 pub(crate) fn head_in<S: Source>(checked: &mut Checked<S>, n: ObjectNo) -> Result<Head, Unread>
     requires within { n.0 < checked.old.frame.objects }
-    ensures reads { Keeps (read_failed result) checked.old checked.new }
+    ensures reads { OnlyReadsFile (read_failed result) checked.old checked.new }
     ensures exact { HonestlyChecked checked.old (λ f F. (content : Content) → Spells f F n.0 content
         → GivesRead (λ head. content ≡ content_at f F head) result) }
     ensures safe { IfOk result (IsSafeHead checked.old.frame) }
@@ -33,7 +33,7 @@ pub(crate) fn reference_in<S: Source>(
 ) -> Result<ObjectNo, Unread>
     requires head { IsSafeHead checked.old.frame head.now }
     requires within { i < ref_count head.now.kind head.now.count }
-    ensures reads { Keeps (read_failed result) checked.old checked.new }
+    ensures reads { OnlyReadsFile (read_failed result) checked.old checked.new }
     ensures exact { HonestlyChecked checked.old (λ f F. (n : ℕ) (content : Content) → Spells f F n content
         → content ≡ content_at f F head.now → GivesRead (λ m. m.0 ≡ slice_index (refs content) i) result) }
     ensures inside { IfOk result (λ m. m.0 < checked.old.frame.objects) }

@@ -12,8 +12,8 @@ ghost use Rattle.bplist_objects.specs.declared.kind.Kind.TheVariants.{Dict};
 ghost use Rattle.bplist_cert.specs.Lists.{Keyed};
 ghost use Rattle.bplist_cert.specs.Valid.{IsVouchedBy};
 ghost use Rattle.bplist_cursor.specs.Causes.{GivesRead, read_failed};
-ghost use Rattle.bplist_cursor.specs.Kept.{Keeps};
-ghost use Rattle.bplist_cursor.specs.Steps.{SpellTexts, HonestlyKeyed, IsKeyPlace};
+ghost use Rattle.bplist_cursor.specs.Kept.{OnlyReadsFile};
+ghost use Rattle.bplist_cursor.specs.Steps.{SpellTexts, HonestlyKeyed, IsKeyIndex};
 ghost use Rattle.bplist_cursor.specs.KeySearch.{IsCompared, IsKeyList, RisesAtMost, ListStarts, IsUnlisted};
 
 use crate::checked_objects::{head_in, reference_in};
@@ -31,7 +31,7 @@ fn compare_key<S: Source>(
     comparisons: &mut u64,
 ) -> Result<Ordering, Unread>
     requires within { k.0 < checked.old.frame.objects }
-    ensures reads { Keeps (read_failed result) checked.old checked.new }
+    ensures reads { OnlyReadsFile (read_failed result) checked.old checked.new }
     ensures exact { HonestlyChecked checked.old (λ f F. (us : List ℕ) → Spells f F k.0 (leaf (text us))
         → GivesRead (λ o. o ≡ compare_units us units.now) result) }
     ensures comparisons { comparisons.new ≤ comparisons.old + 1 }
@@ -43,7 +43,7 @@ fn compare_key<S: Source>(
     }
 }
 
-/// The place of the key with these units, by a walk over all keys.
+/// The index of the key with these units, by a walk over all keys.
 fn walk_keys<S: Source>(
     checked: &mut Checked<S>,
     head: &Head,
@@ -52,8 +52,8 @@ fn walk_keys<S: Source>(
 ) -> Result<Option<u64>, Unread>
     requires head { IsSafeHead checked.old.frame head.now }
     requires is_dict { head.now.kind ≡ Dict }
-    ensures reads { Keeps (read_failed result) checked.old checked.new }
-    ensures exact { HonestlyKeyed checked.old head.now (λ f F ks. GivesRead (IsKeyPlace f F ks units.now) result) }
+    ensures reads { OnlyReadsFile (read_failed result) checked.old checked.new }
+    ensures exact { HonestlyKeyed checked.old head.now (λ f F ks. GivesRead (IsKeyIndex f F ks units.now) result) }
     ensures inside { IfOk result (λ o. IfSome o (λ i. i < head.now.count)) }
 {
     for i in 0..head.count {
@@ -74,7 +74,7 @@ fn position_of<S: Source>(checked: &Checked<S>, at: u64) -> Option<u32>
     lists.positions.get(at as usize).copied()
 }
 
-/// The place that number `at` of the positions gives, and how the key there compares with these units.
+/// The index that number `at` of the positions gives, and how the key there compares with these units.
 fn compare_listed<S: Source>(
     checked: &mut Checked<S>,
     head: &Head,
@@ -84,7 +84,7 @@ fn compare_listed<S: Source>(
 ) -> Result<(u64, Ordering), Unread>
     requires head { IsSafeHead checked.old.frame head.now }
     requires is_dict { head.now.kind ≡ Dict }
-    ensures reads { Keeps (read_failed result) checked.old checked.new }
+    ensures reads { OnlyReadsFile (read_failed result) checked.old checked.new }
     ensures exact { HonestlyKeyed checked.old head.now (λ f F ks. (keyed : Keyed) → checked.old.certificate.keys ≡ Some keyed
         → at < length keyed.positions → slice_index keyed.positions at < length ks
         → GivesRead (IsCompared f F ks (slice_index keyed.positions at) units.now) result) }
@@ -102,7 +102,7 @@ fn compare_listed<S: Source>(
     Ok((i, compare_key(checked, k, units, comparisons)?))
 }
 
-/// The place of the key with these units, by halving the key list that begins at this number of the positions.
+/// The index of the key with these units, by halving the key list that begins at this number of the positions.
 fn search_keys<S: Source>(
     checked: &mut Checked<S>,
     head: &Head,
@@ -113,10 +113,10 @@ fn search_keys<S: Source>(
     requires head { IsSafeHead checked.old.frame head.now }
     requires is_dict { head.now.kind ≡ Dict }
     requires room { start + head.now.count < 2 ^ 64 }
-    ensures reads { Keeps (read_failed result) checked.old checked.new }
+    ensures reads { OnlyReadsFile (read_failed result) checked.old checked.new }
     ensures exact { HonestlyKeyed checked.old head.now (λ f F ks. (keyed : Keyed) → checked.old.certificate.keys ≡ Some keyed
         → start + length ks ≤ length keyed.positions → IsKeyList f F ks (part keyed.positions start (length ks))
-        → GivesRead (IsKeyPlace f F ks units.now) result) }
+        → GivesRead (IsKeyIndex f F ks units.now) result) }
     ensures inside { IfOk result (λ o. IfSome o (λ i. i < head.now.count)) }
     ensures bound { comparisons.new ≤ comparisons.old + length (digits_of 2 head.now.count) }
 {
@@ -158,8 +158,8 @@ fn list_start<S: Source>(
     Ok(Some(start))
 }
 
-/// The place of the key with these units in dictionary `n` with this head.
-pub(crate) fn key_place<S: Source>(
+/// The index of the key with these units in dictionary `n` with this head.
+pub(crate) fn key_index<S: Source>(
     checked: &mut Checked<S>,
     n: ObjectNo,
     head: &Head,
@@ -169,10 +169,10 @@ pub(crate) fn key_place<S: Source>(
     requires within { n.0 < checked.old.frame.objects }
     requires head { IsSafeHead checked.old.frame head.now }
     requires is_dict { head.now.kind ≡ Dict }
-    ensures reads { Keeps (read_failed result) checked.old checked.new }
+    ensures reads { OnlyReadsFile (read_failed result) checked.old checked.new }
     ensures exact { HonestlyChecked checked.old (λ f F. IsVouchedBy checked.old.certificate.heights n.0
         → (ks ms : List ℕ) → Spells f F n.0 (dict ks ms) → dict ks ms ≡ content_at f F head.now → SpellTexts f F ks
-        → GivesRead (IsKeyPlace f F ks units.now) result) }
+        → GivesRead (IsKeyIndex f F ks units.now) result) }
     ensures inside { IfOk result (λ o. IfSome o (λ i. i < head.now.count)) }
     ensures bound { RisesAtMost checked.old comparisons.old comparisons.new (length (digits_of 2 head.now.count)) }
 {

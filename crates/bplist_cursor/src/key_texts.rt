@@ -9,7 +9,7 @@ ghost use Rattle.bplist_objects.specs.Safe.{IsSafeHead};
 ghost use Rattle.bplist_objects.specs.declared.kind.Kind.TheVariants.{Dict};
 ghost use Rattle.bplist_cert.specs.Valid.{SpellsText};
 ghost use Rattle.bplist_cursor.specs.Causes.{GivesCursor, cursor_read};
-ghost use Rattle.bplist_cursor.specs.Kept.{Keeps};
+ghost use Rattle.bplist_cursor.specs.Kept.{OnlyReadsFile};
 
 use crate::checked_objects::{head_in, reference_in};
 use crate::faults::CursorFault;
@@ -27,7 +27,7 @@ fn key_text<S: Source>(
     k: ObjectNo,
 ) -> Result<List<u16>, CursorFault>
     requires within { k.0 < checked.old.frame.objects }
-    ensures reads { Keeps (cursor_read result) checked.old checked.new }
+    ensures reads { OnlyReadsFile (cursor_read result) checked.old checked.new }
     ensures exact { HonestlyChecked checked.old (λ f F. (us : list ℕ) → Spells f F k.0 (leaf (text us))
         → GivesCursor (λ units. units ≡ us) result) }
 {
@@ -46,7 +46,7 @@ pub(crate) fn key_texts<S: Source>(
 ) -> Result<List<List<u16>>, CursorFault>
     requires head { IsSafeHead checked.old.frame head.now }
     requires is_dict { head.now.kind ≡ Dict }
-    ensures reads { Keeps (cursor_read result) checked.old checked.new }
+    ensures reads { OnlyReadsFile (cursor_read result) checked.old checked.new }
     ensures exact { HonestlyChecked checked.old (λ f F. (n : ℕ) (ks ms : list ℕ) → Spells f F n (dict ks ms)
         → dict ks ms ≡ content_at f F head.now → (us : list (list ℕ)) → AllZip (SpellsText f F) ks us
         → GivesCursor (λ keys. keys ≡ us) result) }

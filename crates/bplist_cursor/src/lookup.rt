@@ -5,7 +5,7 @@ ghost use Rattle.bplist_cert.specs.CheckedFile.{HonestlyChecked};
 ghost use Rattle.bplist_objects.specs.Value.{Value};
 ghost use Rattle.bplist_objects.specs.Holds.{Holds};
 ghost use Rattle.bplist_cursor.specs.Causes.{GivesRead, GivesCursor, read_failed, cursor_read};
-ghost use Rattle.bplist_cursor.specs.Kept.{Keeps};
+ghost use Rattle.bplist_cursor.specs.Kept.{OnlyReadsFile};
 ghost use Rattle.bplist_cursor.specs.KeySearch.{halvings, RisesAtMost};
 ghost use Rattle.bplist_cursor.specs.Found.{IsFound, units_of};
 ghost use Rattle.bplist_cursor.specs.declared.faults.CursorFault.TheVariants.{Memory};
@@ -23,7 +23,7 @@ fn lead<S: Source>(
     steps: &[Vec<u16>],
     comparisons: &mut u64,
 ) -> Result<Found, Unread>
-    ensures reads { Keeps (read_failed result) checked.old checked.new }
+    ensures reads { OnlyReadsFile (read_failed result) checked.old checked.new }
     ensures exact { HonestlyChecked checked.old (λ f F. (v : Value) → Holds f F F.top.0 v
         → GivesRead (IsFound checked.old checked.old.frame.top.0 v (units_of steps.now)) result) }
     ensures bound { OnOk result (HonestlyChecked checked.old (λ f F. (v : Value) → Holds f F F.top.0 v
@@ -53,7 +53,7 @@ pub fn locate_counted<S: Source>(
     checked: &mut Checked<S>,
     path: &Path,
 ) -> Result<(Found, u64), CursorFault>
-    ensures reads { Keeps (cursor_read result) checked.old checked.new }
+    ensures reads { OnlyReadsFile (cursor_read result) checked.old checked.new }
     ensures exact { HonestlyChecked checked.old (λ f F. (v : Value) → Holds f F F.top.0 v
         → GivesCursor (λ found. IsFound checked.old checked.old.frame.top.0 v path.now found.0) result) }
     ensures bound { HonestlyChecked checked.old (λ f F. (v : Value) → Holds f F F.top.0 v
@@ -74,7 +74,7 @@ pub fn locate_counted<S: Source>(
 /// `Changed` is answered where an object is not what the check has found, and never while the source is
 /// honest.
 pub fn locate<S: Source>(checked: &mut Checked<S>, path: &Path) -> Result<Found, CursorFault>
-    ensures reads { Keeps (cursor_read result) checked.old checked.new }
+    ensures reads { OnlyReadsFile (cursor_read result) checked.old checked.new }
     ensures exact { HonestlyChecked checked.old (λ f F. (v : Value) → Holds f F F.top.0 v
         → GivesCursor (IsFound checked.old checked.old.frame.top.0 v path.now) result) }
     ensures unchanged { IsTrue checked.old.source.honest → GivesCursor (λ _. ⊤) result }

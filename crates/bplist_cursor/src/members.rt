@@ -8,7 +8,7 @@ ghost use Rattle.bplist_objects.specs.Holds.{Holds};
 ghost use Rattle.bplist_objects.specs.Safe.{IsSafeHead, ref_count};
 ghost use Rattle.bplist_cert.specs.Valid.{IsVouchedBy};
 ghost use Rattle.bplist_cursor.specs.Causes.{GivesCursor, GivesRead, cursor_read, read_failed};
-ghost use Rattle.bplist_cursor.specs.Kept.{Keeps};
+ghost use Rattle.bplist_cursor.specs.Kept.{OnlyReadsFile};
 ghost use Rattle.bplist_cursor.specs.Members.{IsNumberOf, HoldsMember, member_of, member_reference, named, node_of};
 ghost use Rattle.bplist_cursor.specs.declared.faults.CursorFault.TheVariants.{Changed, Memory};
 
@@ -45,7 +45,7 @@ pub fn member_by_head<S: Source>(
     i: u64,
 ) -> Result<Option<Node>, Unread>
     requires head { IsSafeHead checked.old.frame head.now }
-    ensures reads { Keeps (read_failed result) checked.old checked.new }
+    ensures reads { OnlyReadsFile (read_failed result) checked.old checked.new }
     ensures reference { HonestlyChecked checked.old (λ f F. (n : ℕ) → IsVouchedBy checked.old.certificate.heights n
         → (content : Content) → Spells f F n content → content ≡ content_at f F head.now
         → GivesRead (λ member. member ≡ option_map node_of (member_reference content i)) result) }
@@ -69,7 +69,7 @@ fn member_by_reference<S: Source>(
     node: Node,
     i: u64,
 ) -> Result<Option<Node>, CursorFault>
-    ensures reads { Keeps (cursor_read result) checked.old checked.new }
+    ensures reads { OnlyReadsFile (cursor_read result) checked.old checked.new }
     ensures reference { HonestlyChecked checked.old (λ f F. IsVouchedBy checked.old.certificate.heights node.object.0
         → (content : Content) → Spells f F node.object.0 content → GivesCursor
         (λ member. member ≡ named (member_reference content i)) result) }
@@ -92,7 +92,7 @@ pub fn member<S: Source>(
     node: Node,
     i: u64,
 ) -> Result<Option<Node>, CursorFault>
-    ensures reads { Keeps (cursor_read result) checked.old checked.new }
+    ensures reads { OnlyReadsFile (cursor_read result) checked.old checked.new }
     ensures array { HonestlyChecked checked.old (λ f F. IsVouchedBy checked.old.certificate.heights node.object.0
         → (ms : List ℕ) → Spells f F node.object.0 (array ms) → i < length ms
         → GivesCursor (λ member. member ≡ Some (node_of (slice_index ms i))) result) }

@@ -12,7 +12,7 @@ ghost use Rattle.bplist_objects.specs.Units.{IsTextKind, units_of};
 ghost use Rattle.bplist_objects.specs.Safe.{IsSafeHead, IsSafeBody};
 ghost use Rattle.bplist_cert.specs.Valid.{IsVouchedBy};
 ghost use Rattle.bplist_cursor.specs.Causes.{GivesCursor, cursor_read};
-ghost use Rattle.bplist_cursor.specs.Kept.{Keeps};
+ghost use Rattle.bplist_cursor.specs.Kept.{OnlyReadsFile};
 ghost use Rattle.bplist_cursor.specs.Replies.{face as face_of};
 ghost use Rattle.bplist_cursor.specs.Shown.{content_face, HasRoom};
 ghost use Rattle.bplist_cursor.specs.declared.faults.CursorFault.TheVariants.{Changed};
@@ -37,7 +37,7 @@ fn leaf_bytes<S: Source>(
     requires kind { IsLeafKind head.now.kind }
     requires one { item_size 1 head.now.kind ≡ 1 }
     requires head { IsSafeBody (length checked.old.source.octets) head.now }
-    ensures reads { Keeps (cursor_read result) checked.old checked.new }
+    ensures reads { OnlyReadsFile (cursor_read result) checked.old checked.new }
     ensures value { GivesCursor (λ bytes. HonestlyChecked checked.old
         (λ f _. bytes ≡ part f head.now.body head.now.count)) result }
 {
@@ -54,7 +54,7 @@ pub(crate) fn text_units<S: Source>(
 ) -> Result<List<u16>, CursorFault>
     requires kind { IsTextKind head.now.kind }
     requires head { IsSafeBody (length checked.old.source.octets) head.now }
-    ensures reads { Keeps (cursor_read result) checked.old checked.new }
+    ensures reads { OnlyReadsFile (cursor_read result) checked.old checked.new }
     ensures value { GivesCursor (λ units. HonestlyChecked checked.old (λ f _. units ≡ units_of f head.now)) result }
 {
     let mut units = vec![in alloc; 0u16; head.count as usize]?;
@@ -70,7 +70,7 @@ fn face_by_head<S: Source>(
 ) -> Result<Face, CursorFault>
     requires head { IsSafeHead checked.old.frame head.now }
     requires body { IsSafeBody (length checked.old.source.octets) head.now }
-    ensures reads { Keeps (cursor_read result) checked.old checked.new }
+    ensures reads { OnlyReadsFile (cursor_read result) checked.old checked.new }
     ensures content { HonestlyChecked checked.old (λ f F. (n : ℕ) → Spells f F n (content_at f F head.now)
         → GivesCursor (λ shown. shown ≡ content_face (content_at f F head.now)) result) }
     ensures room { IfOk result (HasRoom (length checked.old.source.octets)) }
@@ -105,7 +105,7 @@ pub fn face<S: Source>(
     checked: &mut Checked<S>,
     node: Node,
 ) -> Result<Face, CursorFault>
-    ensures reads { Keeps (cursor_read result) checked.old checked.new }
+    ensures reads { OnlyReadsFile (cursor_read result) checked.old checked.new }
     ensures value { HonestlyChecked checked.old (λ f F. IsVouchedBy checked.old.certificate.heights node.object.0
         → (v : Value) → Holds f F node.object.0 v → GivesCursor (λ shown. shown ≡ face_of v) result) }
     ensures content { HonestlyChecked checked.old (λ f F. IsVouchedBy checked.old.certificate.heights node.object.0

@@ -6,7 +6,7 @@ ghost use Rattle.bplist_objects.specs.Heads.{Content, Spells, content_at};
 ghost use Rattle.bplist_objects.specs.Safe.{IsSafeHead, IsSafeBody};
 ghost use Rattle.bplist_cert.specs.Valid.{IsVouchedBy};
 ghost use Rattle.bplist_cursor.specs.Causes.{GivesRead, read_failed};
-ghost use Rattle.bplist_cursor.specs.Kept.{Keeps};
+ghost use Rattle.bplist_cursor.specs.Kept.{OnlyReadsFile};
 ghost use Rattle.bplist_cursor.specs.declared.faults.Unread.TheVariants.{Changed};
 
 use crate::checked_objects::head_in;
@@ -22,7 +22,7 @@ use bplist_octets::Source;
 /// This is for a caller who reads a body in parts, by [`crate::body_bytes`] or [`crate::body_units`], or many members of one
 /// object, by [`crate::member_by_head`].
 pub fn node_head<S: Source>(checked: &mut Checked<S>, node: Node) -> Result<Head, Unread>
-    ensures reads { Keeps (read_failed result) checked.old checked.new }
+    ensures reads { OnlyReadsFile (read_failed result) checked.old checked.new }
     ensures exact { HonestlyChecked checked.old (λ f F. IsVouchedBy checked.old.certificate.heights node.object.0
         → (content : Content) → Spells f F node.object.0 content → GivesRead
         (λ head. content ≡ content_at f F head) result) }

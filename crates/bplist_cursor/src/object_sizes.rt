@@ -9,7 +9,7 @@ ghost use Rattle.bplist_objects.specs.Holds.{Holds};
 ghost use Rattle.bplist_objects.specs.Safe.{IsSafeHead, IsSafeBody};
 ghost use Rattle.bplist_cert.specs.Valid.{IsValid};
 ghost use Rattle.bplist_cursor.specs.Causes.{GivesRead, read_failed, GivesCursor, cursor_read};
-ghost use Rattle.bplist_cursor.specs.Kept.{Keeps};
+ghost use Rattle.bplist_cursor.specs.Kept.{OnlyReadsFile};
 ghost use Rattle.bplist_cursor.specs.OldStyle.{leaf_text};
 ghost use Rattle.bplist_cursor.specs.Forms.{form_of_text};
 ghost use Rattle.bplist_cursor.specs.Sizes.{size_of, size_in, added, IsSized, AreMeasures};
@@ -60,7 +60,7 @@ fn add_refs<S: Source>(
     start: Size,
 ) -> Result<Size, Unread>
     requires { IsSafeHead checked.old.frame head.now }
-    ensures reads { Keeps (read_failed result) checked.old checked.new }
+    ensures reads { OnlyReadsFile (read_failed result) checked.old checked.new }
     ensures exact { HonestlyChecked checked.old (λ f F. (whole : size)
         → added sizes.now start (refs (content_at f F head.now)) ≡ Some whole → GivesRead (λ s. s ≡ whole) result) }
 {
@@ -96,7 +96,7 @@ fn punctuation(head: &Head) -> Form
 /// The form of the leaf with this head.
 fn leaf_form<S: Source>(checked: &mut Checked<S>, head: &Head) -> Result<Form, Unread>
     requires { IsSafeBody (length checked.old.source.octets) head.now }
-    ensures reads { Keeps (read_failed result) checked.old checked.new }
+    ensures reads { OnlyReadsFile (read_failed result) checked.old checked.new }
     ensures exact { GivesRead (λ form. HonestlyChecked checked.old (λ f F. (l : Leaf) → leaf l ≡ content_at f F head.now
         → form ≡ form_of_text (leaf_text l))) result }
 {
@@ -114,7 +114,7 @@ fn size_of_object<S: Source>(
     sizes: &[Option<Size>],
 ) -> Result<Size, Unread>
     requires { n.0 < checked.old.frame.objects }
-    ensures reads { Keeps (read_failed result) checked.old checked.new }
+    ensures reads { OnlyReadsFile (read_failed result) checked.old checked.new }
     ensures exact { HonestlyChecked checked.old (λ f F. (v : Value) → Holds f F n.0 v
         → ((c : Content) → Spells f F n.0 c → AllByRecursion (IsSized f F sizes.now) (refs c))
         → GivesRead (λ s. s ≡ size_of v) result) }
@@ -144,7 +144,7 @@ fn measure_in_order<S: Source>(
 ) -> Result<(), Unread>
     requires inside { AreInside order.now checked.old.frame.objects }
     requires count { length sizes.old ≡ checked.old.frame.objects }
-    ensures reads { Keeps (read_failed result) checked.old checked.new }
+    ensures reads { OnlyReadsFile (read_failed result) checked.old checked.new }
     ensures exact { HonestlyChecked checked.old (λ f F. (heights : List ℕ) → IsValid f F heights → IsOrder heights order.now
         → IsEmpty sizes.old → GivesRead (λ _. AreSet f F heights order.now (length order.now) sizes.new) result) }
 {
@@ -191,7 +191,7 @@ fn in_order<S: Source>(alloc: Global, checked: &Checked<S>) -> Result<Vec<u32>, 
 /// where a growth was refused. `Changed` is answered where an object is not what the check has found, and never while
 /// the source is honest.
 pub fn measure<S: Source>(alloc: Global, checked: &mut Checked<S>) -> Result<Measures, CursorFault>
-    ensures reads { Keeps (cursor_read result) checked.old checked.new }
+    ensures reads { OnlyReadsFile (cursor_read result) checked.old checked.new }
     ensures exact { HonestlyChecked checked.old
         (λ f F. GivesCursor (AreMeasures f F checked.old.certificate.heights) result) }
 {

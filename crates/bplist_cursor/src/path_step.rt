@@ -8,8 +8,8 @@ ghost use Rattle.bplist_objects.specs.Holds.{Holds};
 ghost use Rattle.bplist_objects.specs.Safe.{IsSafeHead, ref_count};
 ghost use Rattle.bplist_cert.specs.Valid.{IsVouchedBy};
 ghost use Rattle.bplist_cursor.specs.Causes.{GivesRead, read_failed};
-ghost use Rattle.bplist_cursor.specs.Kept.{Keeps};
-ghost use Rattle.bplist_cursor.specs.Steps.{IsStep, IsInside, IsPlace, IsPlaceBelow};
+ghost use Rattle.bplist_cursor.specs.Kept.{OnlyReadsFile};
+ghost use Rattle.bplist_cursor.specs.Steps.{IsStep, IsInside, IsRefIndex, IsRefIndexBelow};
 ghost use Rattle.bplist_cursor.specs.Leads.{HasTextKeys};
 ghost use Rattle.bplist_cursor.specs.KeySearch.{halvings_of, halvings_at, RisesAtMost};
 
@@ -17,7 +17,7 @@ use crate::checked_objects::{head_in, reference_in};
 use crate::faults::Unread;
 use crate::found::Why;
 use crate::index::index_of;
-use crate::key_search::key_place;
+use crate::key_search::key_index;
 use bplist_cert::Checked;
 use bplist_objects::{Head, Kind, ObjectNo};
 use bplist_octets::Source;
@@ -31,41 +31,41 @@ pub(crate) enum Step {
 
 /// Which reference a step takes.
 #[derive(Clone, Copy, Debug, PartialEq, Eq, Drop)]
-enum Place {
+enum RefIndex {
     Of(u64),
     Nowhere(Why),
 }
 
 /// Which reference of object `n` with this head the step with these units takes.
-fn place_of<S: Source>(
+fn ref_index<S: Source>(
     checked: &mut Checked<S>,
     n: ObjectNo,
     head: &Head,
     units: &[u16],
     comparisons: &mut u64,
-) -> Result<Place, Unread>
+) -> Result<RefIndex, Unread>
     requires within { n.0 < checked.old.frame.objects }
     requires head { IsSafeHead checked.old.frame head.now }
-    ensures reads { Keeps (read_failed result) checked.old checked.new }
+    ensures reads { OnlyReadsFile (read_failed result) checked.old checked.new }
     ensures exact { HonestlyChecked checked.old (λ f F. IsVouchedBy checked.old.certificate.heights n.0
         → (content : Content) → Spells f F n.0 content → content ≡ content_at f F head.now → HasTextKeys f F content
-        → GivesRead (IsPlace f F content units.now) result) }
-    ensures inside { IfOk result (IsPlaceBelow (ref_count head.now.kind head.now.count)) }
+        → GivesRead (IsRefIndex f F content units.now) result) }
+    ensures inside { IfOk result (IsRefIndexBelow (ref_count head.now.kind head.now.count)) }
     ensures bound { RisesAtMost checked.old comparisons.old comparisons.new (halvings_of head.now.kind head.now.count) }
 {
     match head.kind {
         Kind::Dict => {
             let _bounds = (checked.frame(), head.body, head.end);
-            match key_place(checked, n, head, units, comparisons)? {
-                Some(i) => Ok(Place::Of(head.count + i)),
-                None => Ok(Place::Nowhere(Why::NoKey)),
+            match key_index(checked, n, head, units, comparisons)? {
+                Some(i) => Ok(RefIndex::Of(head.count + i)),
+                None => Ok(RefIndex::Nowhere(Why::NoKey)),
             }
         }
         Kind::Array => match index_of(units, head.count) {
-            Some(i) => Ok(Place::Of(i)),
-            None => Ok(Place::Nowhere(Why::NoIndex)),
+            Some(i) => Ok(RefIndex::Of(i)),
+            None => Ok(RefIndex::Nowhere(Why::NoIndex)),
         },
-        _ => Ok(Place::Nowhere(Why::NotSteppable)),
+        _ => Ok(RefIndex::Nowhere(Why::NotSteppable)),
     }
 }
 
@@ -77,7 +77,7 @@ pub(crate) fn step_at<S: Source>(
     comparisons: &mut u64,
 ) -> Result<Step, Unread>
     requires within { n.0 < checked.old.frame.objects }
-    ensures reads { Keeps (read_failed result) checked.old checked.new }
+    ensures reads { OnlyReadsFile (read_failed result) checked.old checked.new }
     ensures exact { HonestlyChecked checked.old (λ f F. IsVouchedBy checked.old.certificate.heights n.0 → (v : Value)
         → Holds f F n.0 v → GivesRead (IsStep f F n.0 v units.now) result) }
     ensures inside { IfOk result (IsInside checked.old.frame.objects) }
@@ -85,8 +85,8 @@ pub(crate) fn step_at<S: Source>(
         → RisesAtMost checked.old comparisons.old comparisons.new (halvings_at v))) }
 {
     let head = head_in(checked, n)?;
-    match place_of(checked, n, &head, units, comparisons)? {
-        Place::Nowhere(why) => Ok(Step::Not(why)),
-        Place::Of(i) => Ok(Step::On(reference_in(checked, &head, i)?)),
+    match ref_index(checked, n, &head, units, comparisons)? {
+        RefIndex::Nowhere(why) => Ok(Step::Not(why)),
+        RefIndex::Of(i) => Ok(Step::On(reference_in(checked, &head, i)?)),
     }
 }

@@ -6,7 +6,7 @@ ghost use Rattle.bplist_cert.specs.CheckedFile.{HonestlyChecked};
 ghost use Rattle.bplist_objects.specs.Safe.{IsSafeBody};
 ghost use Rattle.bplist_objects.specs.Units.{IsTextKind, units_of};
 ghost use Rattle.bplist_cursor.specs.Causes.{GivesRead, read_failed};
-ghost use Rattle.bplist_cursor.specs.Kept.{Keeps};
+ghost use Rattle.bplist_cursor.specs.Kept.{OnlyReadsFile};
 ghost use Rattle.bplist_cursor.specs.Nodes.{cap};
 ghost use Rattle.bplist_cursor.specs.Texts as texts;
 
@@ -61,7 +61,7 @@ fn quoted_length(units: &[u16]) -> u64
 pub(crate) fn text_length<S: Source>(checked: &mut Checked<S>, head: &Head) -> Result<u64, Unread>
     requires kind { IsTextKind head.now.kind }
     requires head { IsSafeBody (length checked.old.source.octets) head.now }
-    ensures reads { Keeps (read_failed result) checked.old checked.new }
+    ensures reads { OnlyReadsFile (read_failed result) checked.old checked.new }
     ensures exact { GivesRead (λ n. HonestlyChecked checked.old
         (λ f _. n ≡ cap (length (texts.text_of_units (units_of f head.now))))) result }
 {

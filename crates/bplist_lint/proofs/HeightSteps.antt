@@ -10,7 +10,7 @@ use Rattle.bplist_lint.specs.Graph.{Ends, Least, greatest, IsPart}
 use Rattle.bplist_lint.specs.Graph.Ends.{ends}
 use Rattle.bplist_lint.specs.Graph.Least.{above}
 use Rattle.bplist_keys.specs.Marks.{IsMarked}
-use Rattle.bplist_lint.specs.HeightWalks.{state_at, is_new, is_founded, first_state, work, Standing, Walking, AreLeastOf}
+use Rattle.bplist_lint.specs.HeightWalks.{state_at, is_new, is_founded, first_state, work, Standing, IsHeightWalk, AreLeastOf}
 use Rattle.bplist_lint.specs.declared.heights.State.{State}
 use Rattle.bplist_lint.specs.declared.heights.State.TheVariants.{New, Open, Founded, Circular}
 use Rattle.bplist_lint.proofs.MarkSteps.{apart_none, apart_push, apart_front, apart_last}
@@ -220,7 +220,7 @@ greatest_part heights references block i count best height low part is here =
     rw (take_part references block i count part low, map-append h (take i references) (take count block), is, here) (sym (greatest-append (map h (take i references)) (map h (take count block))))
 
 -- ---- what is known of the references
-pub walking_first : (refs : ℕ → List ℕ) (marks childless : List Bool) → ((n : ℕ) → IsMarked childless n → IsMarked marks n × (refs n ≡ [])) → Walking refs marks (map first_state childless) (map from_bool childless) []
+pub walking_first : (refs : ℕ → List ℕ) (marks childless : List Bool) → ((n : ℕ) → IsMarked childless n → IsMarked marks n × (refs n ≡ [])) → IsHeightWalk refs marks (map first_state childless) (map from_bool childless) []
 walking_first refs marks childless are = record {
   marked = λ n known. elim (first_is childless n) [
     | inl c ↦ (are n c.0).0
@@ -241,7 +241,7 @@ walking_first refs marks childless are = record {
 
 module _ (refs : ℕ → List ℕ) (marks : List Bool) (states : List State) (heights stack : List ℕ) where
   -- a new object is opened, a reference of the one on top of the stack, if there is one
-  pub walking_open : (m : ℕ) → Walking refs marks states heights stack → IsMarked marks m → m < length states → ((k : ℕ) → suc k ≡ length stack → Contains (refs (slice_index stack k)) m) → Walking refs marks (set states m Open) heights (stack ++ m ∷ [])
+  pub walking_open : (m : ℕ) → IsHeightWalk refs marks states heights stack → IsMarked marks m → m < length states → ((k : ℕ) → suc k ≡ length stack → Contains (refs (slice_index stack k)) m) → IsHeightWalk refs marks (set states m Open) heights (stack ++ m ∷ [])
   walking_open m w marked within among = record {
     marked = λ n h. elim (at_set states m Open New n within) [
       | inl c ↦ rw c.0 marked
@@ -263,7 +263,7 @@ module _ (refs : ℕ → List ℕ) (marks : List Bool) (states : List State) (he
     ];
   }
 
-module _ (refs : ℕ → List ℕ) (marks : List Bool) (size : ℕ) (states : List State) (heights stack : List ℕ) (n : ℕ) (s : Standing size states heights (stack ++ n ∷ [])) (w : Walking refs marks states heights (stack ++ n ∷ [])) where
+module _ (refs : ℕ → List ℕ) (marks : List Bool) (size : ℕ) (states : List State) (heights stack : List ℕ) (n : ℕ) (s : Standing size states heights (stack ++ n ∷ [])) (w : IsHeightWalk refs marks states heights (stack ++ n ∷ [])) where
   is_open : state_at states n ≡ Open
   is_open = top_open size states heights stack n s
 
@@ -271,7 +271,7 @@ module _ (refs : ℕ → List ℕ) (marks : List Bool) (size : ℕ) (states : Li
   top_marked = w.marked n (λ e. absurd (cc (sym is_open ∙ e)))
 
   -- what stands for an open object in place of its height says nothing of the references
-  pub walking_back : (heights' : List ℕ) → ((m : ℕ) → m ≢ n → get_or heights' m 0 ≡ get_or heights m 0) → Walking refs marks states heights' (stack ++ n ∷ [])
+  pub walking_back : (heights' : List ℕ) → ((m : ℕ) → m ≢ n → get_or heights' m 0 ≡ get_or heights m 0) → IsHeightWalk refs marks states heights' (stack ++ n ∷ [])
   walking_back heights' same = record {
     marked = w.marked;
     linked = w.linked;
@@ -280,7 +280,7 @@ module _ (refs : ℕ → List ℕ) (marks : List Bool) (size : ℕ) (states : Li
   }
 
   -- the object on top is settled
-  pub walking_settle : (state : State) (h : ℕ) → (state ≡ Founded → Least refs n h) → (state ≡ Circular → Ends refs n → ⊥) → Walking refs marks (set states n state) (set heights n h) stack
+  pub walking_settle : (state : State) (h : ℕ) → (state ≡ Founded → Least refs n h) → (state ≡ Circular → Ends refs n → ⊥) → IsHeightWalk refs marks (set states n state) (set heights n h) stack
   walking_settle state h least circular =
       let within : n < length states = let l = top_within size states heights stack n s in omega (arith, l, s.all_states) in
       let within' : n < length heights = let l = top_within size states heights stack n s in omega (arith, l, s.all_heights) in
@@ -326,7 +326,7 @@ module _ (refs : ℕ → List ℕ) (marks : List Bool) (size : ℕ) (states : Li
       rw (add-one, is) least
 
 -- the stack is empty, and something is known of all that is marked
-pub are_least : (refs : ℕ → List ℕ) (marks : List Bool) (size : ℕ) (states : List State) (heights : List ℕ) → Standing size states heights [] → Walking refs marks states heights [] → ((n : ℕ) → IsMarked marks n → state_at states n ≢ New) → AreLeastOf refs marks heights
+pub are_least : (refs : ℕ → List ℕ) (marks : List Bool) (size : ℕ) (states : List State) (heights : List ℕ) → Standing size states heights [] → IsHeightWalk refs marks states heights [] → ((n : ℕ) → IsMarked marks n → state_at states n ≢ New) → AreLeastOf refs marks heights
 are_least refs marks size states heights s w all = record {
   vouched = λ n h. elim (s.known n h) [
     | inl is ↦ (w.marked n (λ e. absurd (cc (sym is ∙ e))), w.measured n is)

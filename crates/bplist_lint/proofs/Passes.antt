@@ -28,7 +28,7 @@ use Rattle.bplist_lint.specs.declared.walk.Reached.{Reached}
 use Rattle.bplist_lint.specs.Graph.{AreLeast, IsCircleOf}
 use Rattle.bplist_lint.specs.ReachRules.{number_below, references_below, is_marked}
 use Rattle.bplist_lint.specs.FileFault.{IsFileFault, IsFileCircle, IsObjectsFault, IsFramedCircle}
-use Rattle.bplist_lint.specs.Refusals.{of_check, Refuses, no_circle}
+use Rattle.bplist_lint.specs.Refusals.{lint_refusal_of, Refuses, no_circle}
 use Rattle.bplist_keys.specs.Offsets.{AreOffsets32}
 use Rattle.bplist_lint.specs.OffsetRule.{AreBelowTable, IsOffsetFault}
 use Rattle.bplist_lint.specs.LeastHeights.{AreLeastHeights}
@@ -42,11 +42,11 @@ use Rattle.bplist_lint.proofs.LintAnswers.{formed_by_valid, least_lowest, lint_y
 use Rattle.bplist_lint.proofs.FirstFaults.{fault_not_formed, circle_not_formed}
 
 -- ---- what is said of a fault is said of the refusal
-pub object_means : (P Q : Fault → Type 0) (R : List ℕ → Type 0) (e : ObjectFault) → ((x : Fault) → P x → Q x) → GivesFault P e → Refuses Q R (of_check (refusal_of e))
+pub object_means : (P Q : Fault → Type 0) (R : List ℕ → Type 0) (e : ObjectFault) → ((x : Fault) → P x → Q x) → GivesFault P e → Refuses Q R (lint_refusal_of (refusal_of e))
 object_means P Q R (object_faults.Fault fault) same h = same fault h
 object_means P Q R (object_faults.Read _) same h = tt
 
-pub check_means : (P Q : Fault → Type 0) (R : List ℕ → Type 0) (e : Refusal) → ((x : Fault) → P x → Q x) → GivesRefusal P e → Refuses Q R (of_check e)
+pub check_means : (P Q : Fault → Type 0) (R : List ℕ → Type 0) (e : Refusal) → ((x : Fault) → P x → Q x) → GivesRefusal P e → Refuses Q R (lint_refusal_of e)
 check_means P Q R (cert_refusals.Fault fault) same h = same fault h
 check_means P Q R (cert_refusals.Read _) same h = tt
 check_means P Q R cert_refusals.Memory same h = tt

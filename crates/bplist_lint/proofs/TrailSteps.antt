@@ -7,7 +7,7 @@ use Rattle.bplist_lint.specs.Graph.{Reaches, Ends, Least, IsFirstWithout, IsFirs
 use Rattle.bplist_lint.specs.Graph.Reaches.{start, onward}
 use Rattle.bplist_lint.specs.Graph.Ends.{ends}
 use Rattle.bplist_lint.specs.Graph.Least.{above}
-use Rattle.bplist_lint.specs.Trail.{number, object, AllHave, IsPlaceOf, IsTrail, Leading}
+use Rattle.bplist_lint.specs.Trail.{number, object, AllHave, IsFirstIndex, IsTrail, Leading}
 use Rattle.bplist_lint.proofs.FirstWithout.{first_among, first_off, first_too}
 use Rattle.bplist_lint.proofs.ListWrites.{push_cases, at_set, seen-set, unwritten}
 
@@ -87,24 +87,24 @@ leading_start refs top heights a zero_at = record {
   not_founded = λ is. let h = a.all top start is in omega arith;
 }
 
--- the trail from the place of x on is the circle
-pub is_circle : (refs : ℕ → List ℕ) (top size : ℕ) (met : List Bool) (trail : List ℕ) (x place : ℕ) → IsTrail size met trail → Leading refs top trail x → IsPlaceOf trail x place → IsCircleOf refs top (drop place trail)
-is_circle refs top size met trail x place p l at_place =
+-- the trail from the index of x on is the circle
+pub is_circle : (refs : ℕ → List ℕ) (top size : ℕ) (met : List Bool) (trail : List ℕ) (x index : ℕ) → IsTrail size met trail → Leading refs top trail x → IsFirstIndex trail x index → IsCircleOf refs top (drop index trail)
+is_circle refs top size met trail x index p l at_index =
     let walk : List ℕ = trail ++ x ∷ [] in
-    let low = at_place.within in
-    let long = length-drop place trail in
-    let end : place + length (drop place trail) ≡ length trail = omega (arith, long, low) in
+    let low = at_index.within in
+    let long = length-drop index trail in
+    let end : index + length (drop index trail) ≡ length trail = omega (arith, long, low) in
     let on_trail : (k : ℕ) → k < length trail → get_or walk k 0 ≡ get_or trail k 0 = λ k h. get_or_append_left trail (x ∷ []) 0 k h in
     record {
       x = λ k. get_or walk k 0;
-      i = place;
+      i = index;
       begins = l.begins;
       leads = λ k h. l.next k (omega (arith, h, end));
       some = omega (arith, end, low);
-      meets = on_trail place low ∙ at_place.here ∙ sym (get_or_push trail x 0 (length trail) refl) ∙ ap (λ k. get_or walk k 0) (sym end);
+      meets = on_trail index low ∙ at_index.here ∙ sym (get_or_push trail x 0 (length trail) refl) ∙ ap (λ k. get_or walk k 0) (sym end);
       least = λ k m less h same.
           let h' : m < length trail = omega (arith, h, end) in
           let k' : k < length trail = omega (arith, less, h') in
           p.differ k m less h' (sym (on_trail k k') ∙ same ∙ on_trail m h');
-      listed = λ k h. get_or-drop place trail k 0 ∙ sym (on_trail (place + k) (omega (arith, long)));
+      listed = λ k h. get_or-drop index trail k 0 ∙ sym (on_trail (index + k) (omega (arith, long)));
     }

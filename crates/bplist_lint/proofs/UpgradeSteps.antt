@@ -17,13 +17,13 @@ use Rattle.bplist_cert.specs.declared.refusal.Refusal.TheVariants as cert_refusa
 use Rattle.bplist_cert.specs.Refusals.{GivesRefusal, refusal_of}
 use Rattle.bplist_lint.specs.declared.upgrade_fault.UpgradeFault.{UpgradeFault}
 use Rattle.bplist_lint.specs.declared.upgrade_fault.UpgradeFault.TheVariants as faults
-use Rattle.bplist_lint.specs.UpgradeAnswers.{of_check}
+use Rattle.bplist_lint.specs.UpgradeAnswers.{upgrade_fault_of}
 
-pub object_no_change : (P : Fault → Type 0) (e : ObjectFault) → ((x : Fault) → P x → ⊥) → GivesFault P e → of_check (refusal_of e) ≢ faults.Changed
+pub object_no_change : (P : Fault → Type 0) (e : ObjectFault) → ((x : Fault) → P x → ⊥) → GivesFault P e → upgrade_fault_of (refusal_of e) ≢ faults.Changed
 object_no_change P (object_faults.Fault fault) never h = absurd (never fault h)
 object_no_change P (object_faults.Read _) never h = λ e. cc
 
-pub check_no_change : (e : Refusal) → GivesRefusal Never e → of_check e ≢ faults.Changed
+pub check_no_change : (e : Refusal) → GivesRefusal Never e → upgrade_fault_of e ≢ faults.Changed
 check_no_change (cert_refusals.Fault fault) h = absurd h
 check_no_change (cert_refusals.Read _) h = λ e. cc
 check_no_change cert_refusals.Memory h = λ e. cc

@@ -6,8 +6,8 @@ use Rattle.bplist_lint.specs.ReachSearch.{HasMarks}
 use Rattle.bplist_lint.specs.ReachWalk.{AreApart}
 use Rattle.bplist_lint.specs.declared.heights.State.{State}
 use Rattle.bplist_lint.specs.declared.heights.State.TheVariants.{New, Open, Founded, Circular}
-use Rattle.bplist_lint.specs.declared.heights.Look.{Look}
-use Rattle.bplist_lint.specs.declared.heights.Look.TheVariants as looks
+use Rattle.bplist_lint.specs.declared.heights.Finding.{Finding}
+use Rattle.bplist_lint.specs.declared.heights.Finding.TheVariants as looks
 
 -- the state of object n
 abbrev pub state_at : List State → ℕ → State
@@ -43,7 +43,7 @@ pub record Standing (size : ℕ) (states : List State) (heights stack : List ℕ
   pub known : (n : ℕ) → 0 < slice_index heights n → (state_at states n ≡ Founded) ⊎ (state_at states n ≡ Open)
 
 -- what the states, the heights and the stack say of the references
-pub record Walking (refs : ℕ → List ℕ) (marks : List Bool) (states : List State) (heights stack : List ℕ) : Type 0 where
+pub record IsHeightWalk (refs : ℕ → List ℕ) (marks : List Bool) (states : List State) (heights stack : List ℕ) : Type 0 where
   pub marked : (n : ℕ) → state_at states n ≢ New → IsMarked marks n
   pub linked : (k : ℕ) → suc k < length stack → Contains (refs (slice_index stack k)) (slice_index stack (suc k))
   pub measured : (n : ℕ) → state_at states n ≡ Founded → Least refs n (slice_index heights n)
@@ -51,14 +51,14 @@ pub record Walking (refs : ℕ → List ℕ) (marks : List Bool) (states : List 
 
 -- what a look finds, whatever the references are: an object of which nothing is known, or a height that is not above all
 -- heights of founded objects
-abbrev pub Finds : ℕ → List State → List ℕ → Look → Type 0
+abbrev pub Finds : ℕ → List State → List ℕ → Finding → Type 0
 Finds size states heights (looks.New i m) = (m < size) × (state_at states m ≡ New)
 Finds size states heights looks.Circular = ⊤
 Finds size states heights (looks.Founded best) =
     (bound : ℕ) → ((n : ℕ) → state_at states n ≡ Founded → slice_index heights n ≤ bound) → best ≤ bound
 
 -- what it shows of the references it looked at, from number from on: the height is the greatest of all where it began at 0
-abbrev pub Shows : List ℕ → List State → List ℕ → ℕ → Look → Type 0
+abbrev pub Shows : List ℕ → List State → List ℕ → ℕ → Finding → Type 0
 Shows references states heights from (looks.New i m) = (i < length references) × (m ≡ slice_index references i)
 Shows references states heights from looks.Circular =
     (m : ℕ) × Contains references m × ((state_at states m ≡ Open) ⊎ (state_at states m ≡ Circular))

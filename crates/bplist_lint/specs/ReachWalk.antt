@@ -53,7 +53,7 @@ pub record IsSteadyWalk (F : Frame) (p : Progress) : Type 0 where
   pub roomy : IsRoomy F p.tally
 
 -- there is a mark of either kind for each object, and there is room for the reached ones
-pub record Fits (F : Frame) (reached : Reached) : Type 0 where
+pub record HasRoomFor (F : Frame) (reached : Reached) : Type 0 where
   pub all_marks : vec_len reached.marks ≡ F.objects
   pub all_childless : vec_len reached.childless ≡ F.objects
   pub roomy : IsRoomy F reached.tally
@@ -111,8 +111,8 @@ module _ (f : List ℕ) (F : Frame) where
     pub references : tally.references ≡ references_below f F (is_marked visited) F.objects
 
   -- the same of the walk's progress, with this stack
-  abbrev pub Walking : ℕ → List ℕ → Progress → Type 0
-  Walking next stack p = IsWalkState next stack p.worklist.marks.items p.childless.items p.named.marks.items p.tally
+  abbrev pub IsWalking : ℕ → List ℕ → Progress → Type 0
+  IsWalking next stack p = IsWalkState next stack p.worklist.marks.items p.childless.items p.named.marks.items p.tally
 
   -- exactly the reached objects are marked, they keep rules 14 to 20 and 31, and this is their tally
   pub record IsWalked (reached : Reached) : Type 0 where

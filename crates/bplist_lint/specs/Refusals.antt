@@ -8,10 +8,10 @@ use Rattle.bplist_lint.specs.declared.refusal.LintRefusal.TheVariants as refusal
 use Rattle.bplist_lint.specs.Trail.{number}
 
 -- a refusal of the checker as one of the linter
-abbrev pub of_check : Refusal → LintRefusal
-of_check (cert_refusals.Fault fault) = refusals.Fault fault
-of_check (cert_refusals.Read error) = refusals.Read error
-of_check cert_refusals.Memory = refusals.Memory
+abbrev pub lint_refusal_of : Refusal → LintRefusal
+lint_refusal_of (cert_refusals.Fault fault) = refusals.Fault fault
+lint_refusal_of (cert_refusals.Read error) = refusals.Read error
+lint_refusal_of cert_refusals.Memory = refusals.Memory
 
 -- the answer is a failed read
 abbrev pub lint_failed : {X : Type 0} → Result X LintRefusal → Bool

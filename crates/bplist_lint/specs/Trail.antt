@@ -16,11 +16,11 @@ object n = record { 0 = n }
 abbrev pub AllHave : List ℕ → List ℕ → ℕ → Type 0
 AllHave heights references i = (k : ℕ) → k < i → 0 < slice_index heights (slice_index references k)
 
--- the first place of x in the list
-pub record IsPlaceOf (trail : List ℕ) (x place : ℕ) : Type 0 where
-  pub within : place < length trail
-  pub here : slice_index trail place ≡ x
-  pub before : (k : ℕ) → k < place → slice_index trail k ≢ x
+-- the first index of x in the list
+pub record IsFirstIndex (trail : List ℕ) (x index : ℕ) : Type 0 where
+  pub within : index < length trail
+  pub here : slice_index trail index ≡ x
+  pub before : (k : ℕ) → k < index → slice_index trail k ≢ x
 
 -- exactly the objects of the trail are marked, and each stands there once
 pub record IsTrail (size : ℕ) (met : List Bool) (trail : List ℕ) : Type 0 where

@@ -6,10 +6,10 @@ use Rattle.bplist_lint.specs.declared.upgrade_fault.UpgradeFault.{UpgradeFault}
 use Rattle.bplist_lint.specs.declared.upgrade_fault.UpgradeFault.TheVariants as faults
 
 -- a broken rule means that the file changed
-abbrev pub of_check : Refusal → UpgradeFault
-of_check (cert_refusals.Fault _) = faults.Changed
-of_check (cert_refusals.Read error) = faults.Read error
-of_check cert_refusals.Memory = faults.Memory
+abbrev pub upgrade_fault_of : Refusal → UpgradeFault
+upgrade_fault_of (cert_refusals.Fault _) = faults.Changed
+upgrade_fault_of (cert_refusals.Read error) = faults.Read error
+upgrade_fault_of cert_refusals.Memory = faults.Memory
 
 -- the answer is a failed read
 abbrev pub upgrade_failed : {X : Type 0} → Result X UpgradeFault → Bool

@@ -4,7 +4,7 @@ ghost use Rattle.std.specs.Prelude.{◌≡◌, ◌^◌, ◌<◌, ◌≤◌, IsTr
 ghost use Rattle.bplist_octets.specs.Meaning.{OnlyReads};
 ghost use Rattle.bplist_keys.specs.Failures.{failed_to_read};
 ghost use Rattle.bplist_lint.specs.Graph.{IsWhole, AreWhole, AreObjects, AreLeast, IsFirstWithout, IsCircleOf};
-ghost use Rattle.bplist_lint.specs.Trail.{number, object, AllHave, IsPlaceOf};
+ghost use Rattle.bplist_lint.specs.Trail.{number, object, AllHave, IsFirstIndex};
 
 use crate::references::{BLOCK, References};
 use bplist_keys::Failure;
@@ -58,16 +58,16 @@ fn first_without<R: References>(
     Ok(None)
 }
 
-/// The first place of `x` on the trail.
-fn place_of(trail: &[u32], x: u32) -> usize
+/// The first index of `x` on the trail.
+fn index_in(trail: &[u32], x: u32) -> usize
     requires { Contains trail.now x }
-    ensures { IsPlaceOf trail.now x result }
+    ensures { IsFirstIndex trail.now x result }
 {
-    let mut place = 0;
-    while trail[place] != x {
-        place += 1;
+    let mut index = 0;
+    while trail[index] != x {
+        index += 1;
     }
-    place
+    index
 }
 
 /// The objects with these numbers.
@@ -77,12 +77,12 @@ fn named(alloc: Global, numbers: &[u32]) -> Result<Vec<ObjectNo>, AllocError>
     numbers.iter().map(|n| ObjectNo(*n)).collect(alloc)
 }
 
-/// What stands on the trail from a place on.
-fn tail(trail: &[u32], place: usize) -> &[u32]
-    requires { place ≤ length trail.now }
-    ensures { result.now ≡ drop place trail.now }
+/// What stands on the trail from an index on.
+fn tail(trail: &[u32], index: usize) -> &[u32]
+    requires { index ≤ length trail.now }
+    ensures { result.now ≡ drop index trail.now }
 {
-    &trail[place..]
+    &trail[index..]
 }
 
 /// The circle that first references without a height lead to from `top`. The trail is walked once; an object is met
@@ -116,6 +116,6 @@ pub fn circle<R: References>(
         }
     }
     drop(met);
-    let place = place_of(&trail, x);
-    Ok(named(alloc, tail(&trail, place))?)
+    let index = index_in(&trail, x);
+    Ok(named(alloc, tail(&trail, index))?)
 }

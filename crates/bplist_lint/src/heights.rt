@@ -6,7 +6,7 @@ ghost use Rattle.bplist_octets.specs.Meaning.{OnlyReads};
 ghost use Rattle.bplist_keys.specs.Failures.{failed_to_read};
 ghost use Rattle.bplist_lint.specs.Graph.{IsWhole, AreObjects};
 ghost use Rattle.bplist_keys.specs.Marks.{IsMarked};
-ghost use Rattle.bplist_lint.specs.HeightWalks.{Finds, Shows, Standing, Walking, AreClosed, AreLeastOf, state_at, first_state, work};
+ghost use Rattle.bplist_lint.specs.HeightWalks.{Finds, Shows, Standing, IsHeightWalk, AreClosed, AreLeastOf, state_at, first_state, work};
 ghost use Rattle.bplist_lint.specs.declared.heights.State.TheVariants as states;
 
 use crate::references::{BLOCK, References};
@@ -31,7 +31,7 @@ enum State {
 
 /// What a look at the references of an object finds.
 #[derive(Clone, Copy, Debug)]
-enum Look {
+enum Finding {
     /// The first that leads to an object of which nothing is known yet: its number, and that object.
     New(u64, u32),
     /// One that leads to an object that is not founded.
@@ -121,7 +121,7 @@ impl HeightWalk {
     }
 
     /// Looks at these objects. Where nothing is known of one its number among them is given.
-    fn look_at(&self, objects: &[u32]) -> Look
+    fn look_at(&self, objects: &[u32]) -> Finding
         requires inside { AreObjects (vec_len self.now.states) (length objects.now) objects.now }
         requires all { vec_len self.now.heights ≡ vec_len self.now.states }
         ensures finds { Finds (vec_len self.now.states) self.now.states.items self.now.heights.items result }
@@ -130,17 +130,17 @@ impl HeightWalk {
         let mut best = 0;
         for (k, m) in objects.iter().enumerate() {
             match self.states[*m as usize] {
-                State::New => return Look::New(k as u64, *m),
-                State::Open | State::Circular => return Look::Circular,
+                State::New => return Finding::New(k as u64, *m),
+                State::Open | State::Circular => return Finding::Circular,
                 State::Founded => best = best.max(self.heights[*m as usize]),
             }
         }
-        Look::Founded(best)
+        Finding::Founded(best)
     }
 
     /// Looks at the references of object `n`, from number `from` on. Behind the first a few are read, and then twice as many
     /// each time: a walk that comes back to an object again and again reads none of its references often.
-    fn look<R: References>(&self, graph: &mut R, n: u32, from: u64) -> Result<Look, Failure>
+    fn look<R: References>(&self, graph: &mut R, n: u32, from: u64) -> Result<Finding, Failure>
         requires n_in { n < (R.graph graph.old).size }
         requires all_states { vec_len self.now.states ≡ (R.graph graph.old).size }
         requires all_heights { vec_len self.now.heights ≡ (R.graph graph.old).size }
@@ -159,20 +159,20 @@ impl HeightWalk {
             let block = &mut buffer[..portion];
             let count = graph.read(n, done, block)?;
             match self.look_at(&block[..count]) {
-                Look::New(k, m) => return Ok(Look::New(done + k, m)),
-                Look::Circular => return Ok(Look::Circular),
-                Look::Founded(height) => best = best.max(height),
+                Finding::New(k, m) => return Ok(Finding::New(done + k, m)),
+                Finding::Circular => return Ok(Finding::Circular),
+                Finding::Founded(height) => best = best.max(height),
             }
             done += count as u64;
             more = count == portion;
             portion = (2 * portion).min(BLOCK);
         }
-        Ok(Look::Founded(best))
+        Ok(Finding::Founded(best))
     }
 
     /// Looks at the references of open object `n`, from where the last look at it ended. Where these are founded it looks at
     /// all, since the height needs the greatest.
-    fn look_on<R: References>(&self, graph: &mut R, n: u32) -> Result<Look, Failure>
+    fn look_on<R: References>(&self, graph: &mut R, n: u32) -> Result<Finding, Failure>
         requires n_in { n < (R.graph graph.old).size }
         requires all_states { vec_len self.now.states ≡ (R.graph graph.old).size }
         requires all_heights { vec_len self.now.heights ≡ (R.graph graph.old).size }
@@ -185,7 +185,7 @@ impl HeightWalk {
         let from = (self.heights[n as usize] as u64).saturating_mul(self.stride);
         if from > 0 {
             match self.look(graph, n, from)? {
-                Look::Founded(_) => {}
+                Finding::Founded(_) => {}
                 found => return Ok(found),
             }
         }
@@ -203,16 +203,16 @@ impl HeightWalk {
             < work self.old.states.items (self.old.stack.items ++ n ∷ [])) }
         ensures keeps { OnOk result ((m : ℕ) → state_at self.old.states.items m ≢ states.New → state_at self.new.states.items m ≢ states.New) }
         ensures walking { OnOk result (IsTrue (R.means graph.old).honest → (marks : List Bool) → AreClosed (R.graph graph.old) marks
-            → Walking (R.graph graph.old).refs marks self.old.states.items self.old.heights.items (self.old.stack.items ++ n ∷ [])
-            → Walking (R.graph graph.old).refs marks self.new.states.items self.new.heights.items self.new.stack.items) }
+            → IsHeightWalk (R.graph graph.old).refs marks self.old.states.items self.old.heights.items (self.old.stack.items ++ n ∷ [])
+            → IsHeightWalk (R.graph graph.old).refs marks self.new.states.items self.new.heights.items self.new.stack.items) }
     {
         match self.look_on(graph, n)? {
-            Look::New(i, m) => {
+            Finding::New(i, m) => {
                 self.put_back(n, i)?;
                 self.open(m)?;
             }
-            Look::Circular => self.settle(n, State::Circular, 0),
-            Look::Founded(best) => self.settle(n, State::Founded, best + 1),
+            Finding::Circular => self.settle(n, State::Circular, 0),
+            Finding::Founded(best) => self.settle(n, State::Founded, best + 1),
         }
         Ok(())
     }
@@ -232,8 +232,8 @@ impl HeightWalk {
         ensures keeps { OnOk result ((m : ℕ) → state_at self.old.states.items m ≢ states.New → state_at self.new.states.items m ≢ states.New) }
         ensures walking { OnOk result (IsTrue (R.means graph.old).honest → (marks : List Bool) → AreClosed (R.graph graph.old) marks
             → IsMarked marks n
-            → Walking (R.graph graph.old).refs marks self.old.states.items self.old.heights.items []
-            → Walking (R.graph graph.old).refs marks self.new.states.items self.new.heights.items []) }
+            → IsHeightWalk (R.graph graph.old).refs marks self.old.states.items self.old.heights.items []
+            → IsHeightWalk (R.graph graph.old).refs marks self.new.states.items self.new.heights.items []) }
     {
         match self.states[n as usize] {
             State::New => {}

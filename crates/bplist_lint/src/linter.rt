@@ -18,7 +18,7 @@ ghost use Rattle.bplist_lint.specs.ReferenceGraph.{AreChildless};
 ghost use Rattle.bplist_lint.specs.Trail.{number};
 ghost use Rattle.bplist_lint.specs.ReachRules.{IsReachFault, KeepReachBelow};
 ghost use Rattle.bplist_lint.specs.KeyRules.{KeepKeysBelow};
-ghost use Rattle.bplist_lint.specs.ReachWalk.{Fits, IsWalked, AreNamed};
+ghost use Rattle.bplist_lint.specs.ReachWalk.{HasRoomFor, IsWalked, AreNamed};
 ghost use Rattle.bplist_lint.specs.FileFault.{IsObjectsFault, IsFileFault, IsFileCircle, IsFramedCircle};
 ghost use Rattle.bplist_lint.specs.Refusals.{Lints, lint_failed, no_circle};
 ghost use Rattle.bplist_lint.specs.Linted.{KeepsRules, IsLintedBy, IsLinted, IsLintedWithKind, HasNoHeights};
@@ -88,7 +88,7 @@ fn find_circle<P: Offsets>(
 /// source. As keys all objects are named then.
 fn find_reached<P: Offsets>(alloc: Global, src: &mut P) -> Result<(Reached, NamedKeys), LintRefusal>
     ensures reads { OnlyReads (lint_failed result) (P.means src.old) (P.means src.new) }
-    ensures fits { IfOk result (λ known. Fits (frame_in (P.means src.old)) known.0) }
+    ensures fits { IfOk result (λ known. HasRoomFor (frame_in (P.means src.old)) known.0) }
     ensures all_named { IfOk result (λ known. length known.1.marks.items ≡ (frame_in (P.means src.old)).objects) }
     ensures exact { HonestlyIn (P.means src.old) (λ f F. Lints
         (λ known. IsWalked f F known.0 × AreNamed f F known.1.marks.items) (IsReachFault f F) no_circle result) }
@@ -131,7 +131,7 @@ fn check_rules_by_table<P: Offsets>(
     requires all { length places.now ≡ (frame_in (P.means src.old)).objects }
     requires placed { HonestlyIn (P.means src.old) (λ f F. AreOffsets f F places.now) }
     ensures reads { OnlyReads (lint_failed result) (P.means src.old) (P.means src.new) }
-    ensures fits { IfOk result (λ known. Fits (frame_in (P.means src.old)) known.0) }
+    ensures fits { IfOk result (λ known. HasRoomFor (frame_in (P.means src.old)) known.0) }
     ensures all_named { IfOk result (λ known. IfSome known.1
         (λ named. length named.marks.items ≡ (frame_in (P.means src.old)).objects)) }
     ensures exact { HonestlyIn (P.means src.old) (λ f F. Lints (λ known. IsWalked f F known.0
@@ -161,7 +161,7 @@ fn check_rules<P: Offsets>(
     requires all { length places.items ≡ (frame_in (P.means src.old)).objects }
     requires placed { HonestlyIn (P.means src.old) (λ f F. AreOffsets f F places.items) }
     ensures reads { OnlyReads (lint_failed result) (P.means src.old) (P.means src.new) }
-    ensures fits { IfOk result (λ known. Fits (frame_in (P.means src.old)) known.0) }
+    ensures fits { IfOk result (λ known. HasRoomFor (frame_in (P.means src.old)) known.0) }
     ensures all { IfOk result (λ known. IfSome known.1 (λ places. length places.items ≡ (frame_in (P.means src.old)).objects)) }
     ensures placed { HonestlyIn (P.means src.old) (λ f F. IfOk result (λ known. IfSome known.1 (λ places. AreOffsets f F places.items))) }
     ensures exact { HonestlyIn (P.means src.old) (λ f F.
@@ -182,7 +182,7 @@ fn heights_or_circle<P: Offsets>(
     src: &mut P,
     reached: Reached,
 ) -> Result<Lint, LintRefusal>
-    requires fits { Fits (frame_in (P.means src.old)) reached }
+    requires fits { HasRoomFor (frame_in (P.means src.old)) reached }
     requires sifted { HonestlyIn (P.means src.old) (λ f F. KeepsRules f F reached) }
     ensures reads { OnlyReads (lint_failed result) (P.means src.old) (P.means src.new) }
     ensures exact { HonestlyIn (P.means src.old) (λ f F.
@@ -221,7 +221,7 @@ fn lint_reached<P: Offsets>(
     reached: Reached,
     places: Option<Vec<u32>>,
 ) -> Result<Lint, LintRefusal>
-    requires fits { Fits (frame_in (P.means src.old)) reached }
+    requires fits { HasRoomFor (frame_in (P.means src.old)) reached }
     requires all { IfSome places (λ places. length places.items ≡ (frame_in (P.means src.old)).objects) }
     requires placed { HonestlyIn (P.means src.old) (λ f F. IfSome places (λ places. AreOffsets f F places.items)) }
     requires sifted { HonestlyIn (P.means src.old) (λ f F. KeepsRules f F reached) }

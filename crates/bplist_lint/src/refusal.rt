@@ -4,7 +4,7 @@ ghost use Rattle.std.specs.Prelude.{◌≡◌};
 ghost use Rattle.bplist_objects.specs.declared.fault.ObjectFault.{ObjectFault as object_fault};
 ghost use Rattle.bplist_cert.specs.declared.refusal.Refusal.{Refusal as cert_refusal};
 ghost use Rattle.bplist_lint.specs.declared.refusal.LintRefusal.TheVariants.{Fault as is_fault};
-ghost use Rattle.bplist_lint.specs.Refusals.{of_check};
+ghost use Rattle.bplist_lint.specs.Refusals.{lint_refusal_of};
 ghost use Rattle.bplist_cert.specs.Refusals.{refusal_of, refusal_of_keys};
 
 use crate::object_nos::ObjectNos;
@@ -35,7 +35,7 @@ impl From<Fault> for LintRefusal {
 }
 
 impl From<ObjectFault> for LintRefusal {
-    ghost from_gives = { λ fault e. e ≡ of_check (refusal_of fault) };
+    ghost from_gives = { λ fault e. e ≡ lint_refusal_of (refusal_of fault) };
 
     fn from(fault: ObjectFault) -> LintRefusal {
         match fault {
@@ -46,7 +46,7 @@ impl From<ObjectFault> for LintRefusal {
 }
 
 impl From<Failure> for LintRefusal {
-    ghost from_gives = { λ fault e. e ≡ of_check (refusal_of_keys fault) };
+    ghost from_gives = { λ fault e. e ≡ lint_refusal_of (refusal_of_keys fault) };
 
     fn from(fault: Failure) -> LintRefusal {
         match fault {
@@ -57,7 +57,7 @@ impl From<Failure> for LintRefusal {
 }
 
 impl From<Refusal> for LintRefusal {
-    ghost from_gives = { λ refusal e. e ≡ of_check refusal };
+    ghost from_gives = { λ refusal e. e ≡ lint_refusal_of refusal };
 
     fn from(refusal: Refusal) -> LintRefusal {
         match refusal {

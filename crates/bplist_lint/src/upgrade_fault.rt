@@ -5,7 +5,7 @@ ghost use Rattle.bplist_objects.specs.declared.fault.ObjectFault.{ObjectFault as
 ghost use Rattle.bplist_cert.specs.declared.refusal.Refusal.{Refusal as cert_refusal};
 ghost use Rattle.bplist_cert.specs.Refusals.{refusal_of, refusal_of_keys};
 ghost use Rattle.bplist_lint.specs.declared.upgrade_fault.UpgradeFault.TheVariants.{Memory as is_memory};
-ghost use Rattle.bplist_lint.specs.UpgradeAnswers.{of_check};
+ghost use Rattle.bplist_lint.specs.UpgradeAnswers.{upgrade_fault_of};
 
 use bplist_cert::Refusal;
 use bplist_keys::Failure;
@@ -25,7 +25,7 @@ pub enum UpgradeFault {
 }
 
 impl From<ObjectFault> for UpgradeFault {
-    ghost from_gives = { λ fault e. e ≡ of_check (refusal_of fault) };
+    ghost from_gives = { λ fault e. e ≡ upgrade_fault_of (refusal_of fault) };
 
     fn from(fault: ObjectFault) -> UpgradeFault {
         match fault {
@@ -36,7 +36,7 @@ impl From<ObjectFault> for UpgradeFault {
 }
 
 impl From<Refusal> for UpgradeFault {
-    ghost from_gives = { λ refusal e. e ≡ of_check refusal };
+    ghost from_gives = { λ refusal e. e ≡ upgrade_fault_of refusal };
 
     fn from(refusal: Refusal) -> UpgradeFault {
         match refusal {
@@ -48,7 +48,7 @@ impl From<Refusal> for UpgradeFault {
 }
 
 impl From<Failure> for UpgradeFault {
-    ghost from_gives = { λ fault e. e ≡ of_check (refusal_of_keys fault) };
+    ghost from_gives = { λ fault e. e ≡ upgrade_fault_of (refusal_of_keys fault) };
 
     fn from(fault: Failure) -> UpgradeFault {
         match fault {

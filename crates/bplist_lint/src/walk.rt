@@ -12,7 +12,7 @@ ghost use Rattle.bplist_keys.specs.Classes.{key_ref};
 ghost use Rattle.bplist_keys.specs.Failures.{failed_to_read};
 ghost use Rattle.bplist_keys.specs.Marks.{IsMarked};
 ghost use Rattle.bplist_lint.specs.Tallies.{IsRoomy};
-ghost use Rattle.bplist_lint.specs.ReachWalk.{IsSteady, IsSteadyWalk, Noted, Walking, Fits, IsWalked, AreNamed, of_object, stop_failed};
+ghost use Rattle.bplist_lint.specs.ReachWalk.{IsSteady, IsSteadyWalk, Noted, IsWalking, HasRoomFor, IsWalked, AreNamed, of_object, stop_failed};
 ghost use Rattle.bplist_lint.specs.declared.walk.Stop.TheVariants.{Read as is_read, Memory as is_memory};
 
 use crate::tally::Tally;
@@ -207,8 +207,8 @@ fn visit<P: Offsets>(src: &mut P, n: u32, progress: &mut Progress) -> Result<(),
     ensures work { OnOk result (count_by not progress.new.worklist.marks.items + vec_len progress.new.worklist.stack
         ≤ count_by not progress.old.worklist.marks.items + vec_len progress.old.worklist.stack) }
     ensures walking { OnOk result (HonestlyIn (P.means src.old) (λ f F.
-        Walking f F (progress.old.worklist.current + 1) (progress.old.worklist.stack.items ++ n ∷ []) progress.old
-        → Walking f F (progress.old.worklist.current + 1) progress.new.worklist.stack.items progress.new)) }
+        IsWalking f F (progress.old.worklist.current + 1) (progress.old.worklist.stack.items ++ n ∷ []) progress.old
+        → IsWalking f F (progress.old.worklist.current + 1) progress.new.worklist.stack.items progress.new)) }
 {
     let frame = src.frame();
     let place = src.offset(n)?;
@@ -235,7 +235,7 @@ fn visit_from<P: Offsets>(src: &mut P, n: u32, progress: &mut Progress) -> Resul
     ensures steady { OnOk result (IsSteadyWalk (frame_in (P.means src.old)) progress.new) }
     ensures empty { OnOk result (vec_len progress.new.worklist.stack ≡ 0) }
     ensures walking { OnOk result (HonestlyIn (P.means src.old) (λ f F. IsMarked progress.old.worklist.marks.items n
-        → Walking f F n [] progress.old → Walking f F (n + 1) [] progress.new)) }
+        → IsWalking f F n [] progress.old → IsWalking f F (n + 1) [] progress.new)) }
 {
     progress.worklist.current = n;
     visit(src, n, progress)?;
@@ -249,7 +249,7 @@ fn visit_from<P: Offsets>(src: &mut P, n: u32, progress: &mut Progress) -> Resul
 fn visit_all<P: Offsets>(alloc: Global, src: &mut P) -> Result<Progress, Stop>
     ensures reads { OnlyReads (stop_failed result) (P.means src.old) (P.means src.new) }
     ensures steady { IfOk result (IsSteadyWalk (frame_in (P.means src.old))) }
-    ensures walking { HonestlyIn (P.means src.old) (λ f F. IfOk result (Walking f F F.objects [])) }
+    ensures walking { HonestlyIn (P.means src.old) (λ f F. IfOk result (IsWalking f F F.objects [])) }
 {
     let frame = src.frame();
     let mut marks = vec![in alloc; false; frame.objects as usize]?;
@@ -278,7 +278,7 @@ fn visit_all<P: Offsets>(alloc: Global, src: &mut P) -> Result<Progress, Stop>
 /// that they name as keys. Where one of them breaks a rule there is no answer, and nothing is said of the others.
 pub fn walk<P: Offsets>(alloc: Global, src: &mut P) -> Result<Option<(Reached, NamedKeys)>, Failure>
     ensures reads { OnlyReads (failed_to_read result) (P.means src.old) (P.means src.new) }
-    ensures fits { IfOk result (λ found. IfSome found (λ known. Fits (frame_in (P.means src.old)) known.0)) }
+    ensures fits { IfOk result (λ found. IfSome found (λ known. HasRoomFor (frame_in (P.means src.old)) known.0)) }
     ensures all_named { IfOk result (λ found. IfSome found (λ known. length known.1.marks.items ≡ (frame_in (P.means src.old)).objects)) }
     ensures exact { HonestlyIn (P.means src.old) (λ f F. IfOk result (λ found. IfSome found
         (λ known. IsWalked f F known.0 × AreNamed f F known.1.marks.items))) }

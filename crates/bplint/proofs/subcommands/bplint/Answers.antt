@@ -5,7 +5,7 @@ use Rattle.bplint.proofs.subcommands.bplint.Goals as goal
 
 pub returns : goal.returns
 returns c =
-    let lint = entered c.bare.ensures c.in_ok-lint.ensures refl c.in_ok-subcommand.ensures in
+    let lint = entered c.without_subcommands.ensures c.in_ok-lint.ensures refl c.in_ok-subcommand.ensures in
     let show = entered lint c.in_ok-show.ensures refl c.in_ok-subcommand-2.ensures in
     let ls = entered show c.in_ok-ls.ensures refl c.in_ok-subcommand-3.ensures in
     let map = entered ls c.in_ok-map.ensures refl c.in_ok-subcommand-4.ensures in

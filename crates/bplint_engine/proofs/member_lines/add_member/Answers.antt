@@ -48,7 +48,7 @@ pub returns-in_ok-add_value-in-Set-clause-exact : goal.returns-in_ok-add_value-i
 returns-in_ok-add_value-in-Set-clause-exact g c =
     λ honest vouched w holds is. let there = set_member _ c.args.i w (rw c.in-Set.is at is) c.requires.within in
     let shown = c.in_ok-shown-in-Set.ensures.exact honest vouched w there.0 holds there.1 in
-    added _ _ _ _ _ there.0 c.in_ok-add_place-in-Set.ensures c.in_ok-add_value-in-Set.ensures shown
+    added _ _ _ _ _ there.0 c.in_ok-add_index-in-Set.ensures c.in_ok-add_value-in-Set.ensures shown
     ∙ ap (λ x. c.args.lines.now.items ++ x) (sym (there.2 c.args.container.now.path.now))
 
 pub returns-in_ok-add_value-in-Dict-clause-exact : goal.returns-in_ok-add_value-in-Dict-clause-exact

@@ -12,7 +12,7 @@ use Rattle.bplist_ascii.proofs.formless.first_without_text.Goals as goal
 pub loop-node-init : goal.loop-node-init
 loop-node-init g c =
     let head = c.args.head.now in
-    rw c.places-i.ensures (record {
+    rw c.first_value-i.ensures (record {
       same = refl;
       passes = passes_start head.kind;
       near = starts_low head.kind (ref_count head.kind head.count);
@@ -41,10 +41,10 @@ returns-then-has_no_form-clause-exact g c = λ honest n v held none shown.
 pub loop-node-preserved : goal.loop-node-preserved
 loop-node-preserved g c = record {
   same = search rules;
-  passes = passes_on c.args.head.now.kind c.loop-node.i c.places-i.result.1 c.loop-node.invariant.passes;
+  passes = passes_on c.args.head.now.kind c.loop-node.i c.first_value-i.result.1 c.loop-node.invariant.passes;
   near =
       let within = rw c.in-Some.is at c.in_ok-node.ensures.within in
-      let few = passes_few c.args.head.now.kind c.loop-node.i c.places-i.result.1 c.loop-node.invariant.passes in
+      let few = passes_few c.args.head.now.kind c.loop-node.i c.first_value-i.result.1 c.loop-node.invariant.passes in
       omega (arith, within, few.1);
   so_far = λ honest n v held shown.
       let file = c.args.checked.now in
@@ -52,7 +52,7 @@ loop-node-preserved g c = record {
       let node = c.in-Some.node in
       let member = subst (IsMember file head c.loop-node.i) c.in-Some.is ((rw c.loop-node.invariant.same at c.in_ok-node.ensures.reference) honest) in
       let vouched = rw (c.in-Some.is, c.loop-node.invariant.same) at c.in_ok-node.ensures.vouched in
-      texts_more head.kind v c.loop-node.i c.places-i.result.1 (kind_is file head n v held shown c.requires.container) c.loop-node.invariant.passes (c.loop-node.invariant.so_far honest n v held shown)
+      texts_more head.kind v c.loop-node.i c.first_value-i.result.1 (kind_is file head n v held shown c.requires.container) c.loop-node.invariant.passes (c.loop-node.invariant.so_far honest n v held shown)
       (has_text file head n v held shown c.requires.container c.loop-node.i node member
       (λ w h none. let e = c.if-has_no_form.ensures.1 ((c.requires.measured honest).form node.object.0 w vouched h ∙ ap (λ t. Some (form_of_text t)) none) in cc e));
 }

@@ -1,8 +1,8 @@
 use Rattle.std.proofs.Common.{arith, sym, ap, ◌∙◌, subst, Err}
 use Rattle.std.proofs.lemmas.Result.{err_from_is_err_and}
 use Rattle.bplist_cursor.specs.Leads.{IsTaken}
-use Rattle.bplist_cursor.specs.Steps.{IsPlace}
-use Rattle.bplist_cursor.proofs.PlaceSteps.{same_halvings}
+use Rattle.bplist_cursor.specs.Steps.{IsRefIndex}
+use Rattle.bplist_cursor.proofs.IndexSteps.{same_halvings}
 use Rattle.bplist_cursor.proofs.StepReferences.{content_of_value, not_taken}
 use Rattle.bplist_cursor.proofs.path_step.step_at.Goals as goal
 
@@ -32,7 +32,7 @@ returns-in-Nowhere-clause-exact g c = λ honest vouched v o.
     let F = c.args.checked.now.frame in
     let h = content_of_value f F v c.args.n.0 o in
     let e = c.in_ok-head.ensures.exact honest h.0 h.1 in
-    let t = subst (IsPlace f F h.0 c.args.units.now) c.in-Nowhere.is ((rw c.in_ok-head.ensures.reads at c.in_ok-why.ensures.exact) honest vouched h.0 h.1 e h.2) in
+    let t = subst (IsRefIndex f F h.0 c.args.units.now) c.in-Nowhere.is ((rw c.in_ok-head.ensures.reads at c.in_ok-why.ensures.exact) honest vouched h.0 h.1 e h.2) in
     not_taken f F v c.args.n.0 c.args.units.now h.0 o h.1 t.0 ∙ ap (λ y. Err y) (sym t.1)
 
 pub returns-in-Nowhere-clause-bound : goal.returns-in-Nowhere-clause-bound
@@ -47,7 +47,7 @@ returns-in_ok-reference_in-in-Of-clause-exact g c = λ honest vouched v o.
     let F = c.args.checked.now.frame in
     let h = content_of_value f F v c.args.n.0 o in
     let e = c.in_ok-head.ensures.exact honest h.0 h.1 in
-    let t = subst (IsPlace f F h.0 c.args.units.now) c.in-Of.is ((rw c.in_ok-head.ensures.reads at c.in_ok-why.ensures.exact) honest vouched h.0 h.1 e h.2) in
+    let t = subst (IsRefIndex f F h.0 c.args.units.now) c.in-Of.is ((rw c.in_ok-head.ensures.reads at c.in_ok-why.ensures.exact) honest vouched h.0 h.1 e h.2) in
     let m = (rw (c.in_ok-why.ensures.reads ∙ c.in_ok-head.ensures.reads) at c.in_ok-reference_in-in-Of.ensures.exact) honest c.args.n.0 h.0 h.1 e in
     (h.0, h.1, subst (IsTaken f F h.0 c.args.units.now) (sym m) t)
 

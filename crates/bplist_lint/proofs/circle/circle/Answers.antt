@@ -38,9 +38,9 @@ returns-clause-circle g c = λ honest whole.
     let p = c.walk.invariant.placed in
     elim c.walk-test.branch [
       | else-walk-test w ↦
-          let at_place = rw (c.deref.ensures.value, w.trail-is) at c.place_of-place.ensures in
+          let at_index = rw (c.deref.ensures.value, w.trail-is) at c.index_in-index.ensures in
           let objects = rw (c.tail.ensures, c.deref-2.ensures.value, w.trail-is) at c.in_ok-named.ensures in
-          rw (objects, numbers_named) (is_circle _ _ _ _ _ _ _ p l at_place)
+          rw (objects, numbers_named) (is_circle _ _ _ _ _ _ _ p l at_index)
       | then-walk-test+in_ok-push+in_ok-m+in-None w ↦
           let have = (rw w.in-None.is at (rw (c.walk.invariant.same, c.walk.invariant.reads) at w.in_ok-m.ensures.first)) honest (whole _ l.reached) in
           absurd (l.not_founded (founded_all _ _ _ _ (c.requires.heights honest) have))

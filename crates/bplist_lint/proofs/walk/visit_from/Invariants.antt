@@ -1,7 +1,7 @@
 use Rattle.std.proofs.Common.{◌≡◌, ◌+◌, not, [], count_by, vec_len}
 use Rattle.bplist_objects.specs.Framed.{frame_in, HonestlyIn}
 use Rattle.bplist_keys.specs.Marks.{IsMarked}
-use Rattle.bplist_lint.specs.ReachWalk.{IsSteadyWalk, Walking}
+use Rattle.bplist_lint.specs.ReachWalk.{IsSteadyWalk, IsWalking}
 use Rattle.bplist_lint.proofs.walk.visit_from.Given as goal
 
 abbrev pub invariant-loop-m : goal.invariant-loop-m
@@ -11,7 +11,7 @@ invariant-loop-m g l =
       reads : means l.src ≡ means l.fn.src;
       steady : IsSteadyWalk (frame_in (means l.fn.src)) l.progress;
       current : l.progress.worklist.current ≡ l.n;
-      walking : HonestlyIn (means l.fn.src) (λ f F. IsMarked l.fn.progress.worklist.marks.items l.n → Walking f F l.n [] l.fn.progress → Walking f F (l.n + 1) l.progress.worklist.stack.items l.progress);
+      walking : HonestlyIn (means l.fn.src) (λ f F. IsMarked l.fn.progress.worklist.marks.items l.n → IsWalking f F l.n [] l.fn.progress → IsWalking f F (l.n + 1) l.progress.worklist.stack.items l.progress);
     }
 
 abbrev pub decreases-loop-m : goal.decreases-loop-m

@@ -14,9 +14,9 @@ use Rattle.bplist_cursor.specs.KeySearch.{halvings_of, halvings_at}
 use Rattle.bplist_cursor.proofs.BinaryDigits.{digits_2}
 use Rattle.bplist_objects.specs.declared.kind.Kind.{Kind}
 use Rattle.bplist_objects.specs.declared.kind.Kind.TheVariants as kinds
-use Rattle.bplist_cursor.specs.Steps.{SpellTexts, IsKeyPlace, IsPlace}
+use Rattle.bplist_cursor.specs.Steps.{SpellTexts, IsKeyIndex, IsRefIndex}
 use Rattle.bplist_cursor.specs.declared.found.Why.TheVariants as why
-use Rattle.bplist_cursor.specs.declared.path_step.Place.TheVariants as place
+use Rattle.bplist_cursor.specs.declared.path_step.RefIndex.TheVariants as ref_index
 use Rattle.bplist_cursor.proofs.Counts.{pair_counts}
 use Rattle.bplist_cursor.proofs.Keys.{value_ref}
 
@@ -38,10 +38,10 @@ module _ (f : List ℕ) (F : Frame) where
       (keys_at head, values_at head, subst (Spells f F n) (sym w) s, w ∙ e, λ i l. (subst (HasTextKeys f F) (sym w) t i l).1)
 
   abbrev KeyAnswer : Head → ℕ → List ℕ → Option ℕ → Type 0
-  KeyAnswer head n s o = (ks ms : List ℕ) → Spells f F n (H.Content.dict ks ms) → H.Content.dict ks ms ≡ H.content_at f F head → SpellTexts f F ks → IsKeyPlace f F ks s o
+  KeyAnswer head n s o = (ks ms : List ℕ) → Spells f F n (H.Content.dict ks ms) → H.Content.dict ks ms ≡ H.content_at f F head → SpellTexts f F ks → IsKeyIndex f F ks s o
 
   pub dict_place : (h : H.Content) (head : Head) (i : ℕ) (s : List ℕ) → head.kind ≡ kinds.Dict → h ≡ H.content_at f F head → (n : ℕ) → Spells f F n h → HasTextKeys f F h
-      → KeyAnswer head n s (Some i) → IsPlace f F h s (place.Of (head.count + i))
+      → KeyAnswer head n s (Some i) → IsRefIndex f F h s (ref_index.Of (head.count + i))
   dict_place h head i s d e n sp t key =
       let w = dict_is h head d e in
       let p = key (keys_at head) (values_at head) (subst (Spells f F n) (sym w) sp) (w ∙ e) (λ i l. (subst (HasTextKeys f F) (sym w) t i l).1) in
@@ -49,7 +49,7 @@ module _ (f : List ℕ) (F : Frame) where
       (i, p.0, p.1, sym (value_ref (keys_at head) (values_at head) head.count i (length-nums_at f head.body F.ref_size head.count)))
 
   pub no_key : (h : H.Content) (head : Head) (s : List ℕ) → head.kind ≡ kinds.Dict → h ≡ H.content_at f F head → (n : ℕ) → Spells f F n h → HasTextKeys f F h
-      → KeyAnswer head n s None → IsPlace f F h s (place.Nowhere why.NoKey)
+      → KeyAnswer head n s None → IsRefIndex f F h s (ref_index.Nowhere why.NoKey)
   no_key h head s d e n sp t key =
       let w = dict_is h head d e in
       let p = key (keys_at head) (values_at head) (subst (Spells f F n) (sym w) sp) (w ∙ e) (λ i l. (subst (HasTextKeys f F) (sym w) t i l).1) in
@@ -58,12 +58,12 @@ module _ (f : List ℕ) (F : Frame) where
   array_is : (h : H.Content) (head : Head) → head.kind ≡ kinds.Array → h ≡ H.content_at f F head → H.Content.array (keys_at head) ≡ h
   array_is h head d e = sym (e ∙ ap (λ k. H.content_of f F k head.count head.body) d)
 
-  pub array_place : (h : H.Content) (head : Head) (i : ℕ) (s : List ℕ) → head.kind ≡ kinds.Array → h ≡ H.content_at f F head → i < head.count → decimal i ≡ s → IsPlace f F h s (place.Of i)
+  pub array_place : (h : H.Content) (head : Head) (i : ℕ) (s : List ℕ) → head.kind ≡ kinds.Array → h ≡ H.content_at f F head → i < head.count → decimal i ≡ s → IsRefIndex f F h s (ref_index.Of i)
   array_place h head i s d e l q =
       let n = length-nums_at f head.body F.ref_size head.count in
       subst (λ x. IsTaken f F x s (slice_index (H.refs x) i)) (array_is h head d e) (i, omega (arith, n, l), q, refl)
 
-  pub no_index : (h : H.Content) (head : Head) (s : List ℕ) → head.kind ≡ kinds.Array → h ≡ H.content_at f F head → ((i : ℕ) → i < head.count → decimal i ≢ s) → IsPlace f F h s (place.Nowhere why.NoIndex)
+  pub no_index : (h : H.Content) (head : Head) (s : List ℕ) → head.kind ≡ kinds.Array → h ≡ H.content_at f F head → ((i : ℕ) → i < head.count → decimal i ≢ s) → IsRefIndex f F h s (ref_index.Nowhere why.NoIndex)
   no_index h head s d e none =
       let n = length-nums_at f head.body F.ref_size head.count in
       subst (λ x. ((m : ℕ) → IsTaken f F x s m → ⊥) × (why.NoIndex ≡ why_of x)) (array_is h head d e) (λ m q. none q.0 (omega (arith, n, q.1)) q.2, refl)

@@ -1,8 +1,8 @@
 use Rattle.std.proofs.Common.{subst}
 use Rattle.std.proofs.lemmas.Result.{err_from_is_err_and}
-use Rattle.bplist_cursor.specs.Steps.{IsKeyPlace}
-use Rattle.bplist_cursor.proofs.PlaceSteps.{dict_place, no_key, dict_keys, array_place, no_index}
-use Rattle.bplist_cursor.proofs.path_step.place_of.Goals as goal
+use Rattle.bplist_cursor.specs.Steps.{IsKeyIndex}
+use Rattle.bplist_cursor.proofs.IndexSteps.{dict_place, no_key, dict_keys, array_place, no_index}
+use Rattle.bplist_cursor.proofs.path_step.ref_index.Goals as goal
 
 pub returns-in_err-i-in-Dict-clause-exact : goal.returns-in_err-i-in-Dict-clause-exact
 returns-in_err-i-in-Dict-clause-exact g c = λ honest vouched content s e t.
@@ -14,13 +14,13 @@ pub returns-in-Some-clause-exact : goal.returns-in-Some-clause-exact
 returns-in-Some-clause-exact g c = λ honest vouched content s e t.
     let f = c.args.checked.now.source.octets in
     dict_place f c.args.checked.now.frame content c.args.head.now c.in-Some.i c.args.units.now c.in-Dict.is e c.args.n.0 s t
-    (λ ks ms sp d x. subst (IsKeyPlace f c.args.checked.now.frame ks c.args.units.now) c.in-Some.is (c.in_ok-i-in-Dict.ensures.exact honest vouched ks ms sp d x))
+    (λ ks ms sp d x. subst (IsKeyIndex f c.args.checked.now.frame ks c.args.units.now) c.in-Some.is (c.in_ok-i-in-Dict.ensures.exact honest vouched ks ms sp d x))
 
 pub returns-in-None-clause-exact : goal.returns-in-None-clause-exact
 returns-in-None-clause-exact g c = λ honest vouched content s e t.
     let f = c.args.checked.now.source.octets in
     no_key f c.args.checked.now.frame content c.args.head.now c.args.units.now c.in-Dict.is e c.args.n.0 s t
-    (λ ks ms sp d x. subst (IsKeyPlace f c.args.checked.now.frame ks c.args.units.now) c.in-None.is (c.in_ok-i-in-Dict.ensures.exact honest vouched ks ms sp d x))
+    (λ ks ms sp d x. subst (IsKeyIndex f c.args.checked.now.frame ks c.args.units.now) c.in-None.is (c.in_ok-i-in-Dict.ensures.exact honest vouched ks ms sp d x))
 
 pub returns-in-Some-index_of-clause-exact : goal.returns-in-Some-index_of-clause-exact
 returns-in-Some-index_of-clause-exact g c = λ honest vouched content s e t.

@@ -3,7 +3,7 @@ use Rattle.bplist_octets.specs.Octets.{part}
 use Rattle.bplist_cursor.specs.KeySearch.{IsKeyList, ListStarts}
 use Rattle.bplist_cursor.proofs.Keys.{dict_counts}
 use Rattle.bplist_cursor.proofs.KeyLists.{list_room, list_of_keys}
-use Rattle.bplist_cursor.proofs.key_search.key_place.Goals as goal
+use Rattle.bplist_cursor.proofs.key_search.key_index.Goals as goal
 
 pub returns-in_err-start-clause-exact : goal.returns-in_err-start-clause-exact
 returns-in_err-start-clause-exact g c = λ honest vouched ks ms s e t.
