@@ -3,7 +3,6 @@ use Rattle.std.proofs.Common.{◌≡◌, ◌⊎◌, inl, inr, ℕ, List, [], tru
 use Rattle.std.specs.Prelude.{MatchResult, IsErr, if◌then◌else◌}
 use Rattle.std.proofs.Math.Logic.{∥∥₁_map}
 use Rattle.std.proofs.lemmas.Grind.{merely}
-use Rattle.hex.specs.Hex.{decode_pairs}
 use Rattle.hex.specs.declared.error.FromHexError.{FromHexError}
 use Rattle.bplint_lines.specs.declared.fault.RunFault.{RunFault}
 use Rattle.bplint_lines.specs.declared.fault.RunFault.TheVariants.{Hex, Memory}
@@ -28,27 +27,13 @@ over_file command file cert f hex is a h =
     subst (λ b. SaysOver b command file cert a) (sym hex)
     (subst (λ r. MatchResult r (λ g. Spells (Says command g) (if takes_cert command.verb then cert else []) a) (λ _. a ≡ refuses Hex)) (sym is) h)
 
--- the empty text spells no bytes
-none_spelled : spelled [] ≡ Ok []
-unfolding decode_pairs
-none_spelled = refl
-
--- the certificate is not looked at
-pub as_file : (command : Asked) (file cert f : List ℕ) (old new : Option (List ℕ)) (result : Result Said RunFault) → command.hex ≡ true
-    → spelled file ≡ Ok f → takes_cert command.verb ≡ false → Leaves (Says command f []) (most command) old new result
-    → Leaves (SaysOver command.hex command file cert) (most command) old new result
-as_file command file cert f old new result hex is alone left =
-    ∥∥₁_map left (said_as (Says command f []) (SaysOver command.hex command file cert) (most command) old new result
-    (λ a h. over_file command file cert f hex is a (subst (λ b. Spells (Says command f) (if b then cert else []) a) (sym alone)
-    (subst (λ r. MatchResult r (λ o. Says command f o a) (λ _. a ≡ refuses Hex)) (sym none_spelled) h))))
-
--- the certificate's text spells bytes too
-pub as_texts : (command : Asked) (file cert f octets : List ℕ) (old new : Option (List ℕ)) (result : Result Said RunFault) → command.hex ≡ true
-    → spelled file ≡ Ok f → takes_cert command.verb ≡ true → spelled cert ≡ Ok octets → Leaves (Says command f octets) (most command) old new result
-    → Leaves (SaysOver command.hex command file cert) (most command) old new result
-as_texts command file cert f octets old new result hex is takes spells left =
+-- what is looked at of the certificate's text spells bytes too
+pub as_texts : (command : Asked) (file cert shown f octets : List ℕ) (old new : Option (List ℕ)) (result : Result Said RunFault) → command.hex ≡ true
+    → spelled file ≡ Ok f → shown ≡ (if takes_cert command.verb then cert else []) → spelled shown ≡ Ok octets
+    → Leaves (Says command f octets) (most command) old new result → Leaves (SaysOver command.hex command file cert) (most command) old new result
+as_texts command file cert shown f octets old new result hex is shows spells left =
     ∥∥₁_map left (said_as (Says command f octets) (SaysOver command.hex command file cert) (most command) old new result
-    (λ a h. over_file command file cert f hex is a (subst (λ b. Spells (Says command f) (if b then cert else []) a) (sym takes)
+    (λ a h. over_file command file cert f hex is a (subst (λ s. Spells (Says command f) s a) shows
     (subst (λ r. MatchResult r (λ o. Says command f o a) (λ _. a ≡ refuses Hex)) (sym spells) h))))
 
 -- a text that spells nothing
@@ -56,15 +41,15 @@ wrong_says : (r : Result (List ℕ) FromHexError) (X : List ℕ → Type 0) (Y :
 wrong_says (Ok l) X Y h y = absurd (cc)
 wrong_says (Err e) X Y h y = y
 
--- the certificate's text is wrong
-pub text_refused : (command : Asked) (file cert f : List ℕ) (old : Option (List ℕ)) (fault : RunFault) → command.hex ≡ true
-    → spelled file ≡ Ok f → takes_cert command.verb ≡ true → (fault ≡ Memory) ⊎ ((fault ≡ Hex) × IsErr (spelled cert))
+-- what is looked at of the certificate's text is wrong
+pub text_refused : (command : Asked) (file cert shown f : List ℕ) (old : Option (List ℕ)) (fault : RunFault) → command.hex ≡ true
+    → spelled file ≡ Ok f → shown ≡ (if takes_cert command.verb then cert else []) → (fault ≡ Memory) ⊎ ((fault ≡ Hex) × IsErr (spelled shown))
     → Leaves (SaysOver command.hex command file cert) (most command) old old (Err fault)
-text_refused command file cert f old fault hex is takes (inl memory) = rw memory (merely (begins_nothing (SaysOver command.hex command file cert) (most command) old old (kept_self old)))
-text_refused command file cert f old fault hex is takes (inr (wrong, none)) =
+text_refused command file cert shown f old fault hex is shows (inl memory) = rw memory (merely (begins_nothing (SaysOver command.hex command file cert) (most command) old old (kept_self old)))
+text_refused command file cert shown f old fault hex is shows (inr (wrong, none)) =
     rw wrong (merely (
-      over_file command file cert f hex is (refuses Hex) (subst (λ b. Spells (Says command f) (if b then cert else []) (refuses Hex)) (sym takes)
-          (wrong_says (spelled cert) (λ o. Says command f o (refuses Hex)) (refuses Hex ≡ refuses Hex) none refl)),
+      over_file command file cert f hex is (refuses Hex) (subst (λ s. Spells (Says command f) s (refuses Hex)) shows
+          (wrong_says (spelled shown) (λ o. Says command f o (refuses Hex)) (refuses Hex ≡ refuses Hex) none refl)),
       kept_self old,
     ))
 

@@ -1,4 +1,5 @@
 mod CertifyAnswers
+mod DecodedCertificates
 mod EqualAnswers
 mod LowerFaults
 mod GetAnswers

@@ -1,12 +1,18 @@
 -- What `check` says. Source: profile.
-use Rattle.std.specs.Prelude.{◌≡◌, ◌∷◌, ◌++◌, ℕ, List, [], slice_index}
+use Rattle.std.specs.Prelude.{◌≡◌, ◌∷◌, ◌++◌, ℕ, List, [], slice_index, Result, MatchResult}
 use Rattle.bplist_objects.specs.declared.frame.Frame.{Frame}
 use Rattle.bplist_cert.specs.CertifiedFile.{IsVouchedFor, IsVouchingFault}
-use Rattle.bplist_cert.specs.Lists.{Lists}
+use Rattle.bplist_cert.specs.Encoding.{octets_of, IsCertRefusal}
+use Rattle.bplist_cert.specs.Lists.{Lists, IsCertificate}
+use Rattle.bplist_cert.specs.declared.certificate.CertRefusal.{CertRefusal}
 use Rattle.bplint_lines.specs.declared.fault.RunFault.TheVariants.{Fault}
 use Rattle.bplint_lines.specs.declared.said.Said.TheVariants.{All}
 use Rattle.bplint_lines.specs.Answers.{Answer, gives, refuses}
 use Rattle.bplint_lines.specs.OutputLines.{check_line}
+
+-- decoding these bytes gave this: the certificate that has them, or why they are none
+abbrev pub IsDecoded : List ℕ → Result Lists CertRefusal → Type 0
+IsDecoded cert decoded = MatchResult decoded (λ lists. IsCertificate lists × (cert ≡ octets_of lists)) (IsCertRefusal cert)
 
 -- `check` answers the number of objects and the top's height, or the first fault of certificate bytes and file
 abbrev pub CheckSays : List ℕ → List ℕ → Answer → Type 0

@@ -1,37 +1,37 @@
 //! A file with a certificate.
-ghost use Rattle.std.specs.Prelude.{◌≡◌, IfOk, IsTrue, MatchResult, None};
+ghost use Rattle.std.specs.Prelude.{◌≡◌, ℕ, List, IfOk, IsTrue, MatchResult, None};
 ghost use Rattle.bplist_octets.specs.Meaning.{OnlyReads};
 ghost use Rattle.bplist_objects.specs.Holds.{Holds};
 ghost use Rattle.bplist_objects.specs.Value.{Value};
 ghost use Rattle.bplist_cert.specs.Lists.{AreWords, IsCertificate};
 ghost use Rattle.bplint_engine.specs.Output.{IsRefusal, is_read};
-ghost use Rattle.bplint_engine.specs.Check.{CheckSays};
+ghost use Rattle.bplint_engine.specs.Check.{CheckSays, IsDecoded};
 ghost use Rattle.bplint_engine.specs.Lint.{LintSays};
 ghost use Rattle.bplist_cert.specs.CertifiedFile.{IsVouchedFor};
 ghost use Rattle.bplint_engine.specs.Show.{IsLeastFor};
 
 use bplint_lines::RunFault;
-use bplist_cert::{Certificate, Checked, check};
+use bplist_cert::{CertRefusal, Certificate, Checked, check};
 use bplist_lint::{UpgradeFault, lint};
 use bplist_octets::Source;
 use std::alloc::Global;
 
-/// The file with the certificate that these bytes spell, where it is one of the file.
-pub(crate) fn check_octets<S: Source>(
+/// The file with the certificate that was decoded, where it is one of the file.
+pub(crate) fn check_decoded<S: Source>(
     alloc: Global,
     src: S,
-    cert: &[u8],
+    decoded: Result<Certificate, CertRefusal>,
 ) -> Result<Checked<S>, (RunFault, S)>
     ensures handed { MatchResult result
         (λ checked. checked.source ≡ S.means src)
         (λ refused. OnlyReads (is_read refused.0) (S.means src) (S.means refused.1)) }
-    ensures exact { IsTrue (S.means src).honest → MatchResult result
-        (λ checked. IsVouchedFor (S.means src).octets cert.now checked.frame checked.certificate)
-        (λ refused. IsRefusal (CheckSays (S.means src).octets cert.now) refused.0) }
+    ensures exact { IsTrue (S.means src).honest → (cert : List ℕ) → IsDecoded cert decoded → MatchResult result
+        (λ checked. IsVouchedFor (S.means src).octets cert checked.frame checked.certificate)
+        (λ refused. IsRefusal (CheckSays (S.means src).octets cert) refused.0) }
     ensures value { IsTrue (S.means src).honest → IfOk result (λ checked.
         ∥ ((v : Value) × Holds (S.means src).octets checked.frame checked.frame.top.0 v) ∥₁) }
 {
-    let certificate = match Certificate::from_octets(alloc, cert) {
+    let certificate = match decoded {
         Ok(certificate) => certificate,
         Err(refusal) => return Err((RunFault::from(refusal), src)),
     };

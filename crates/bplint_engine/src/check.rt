@@ -1,15 +1,15 @@
 //! The answer of `check`.
-ghost use Rattle.std.specs.Prelude.{◌≡◌, ◌∷◌, ◌++◌, [], IfErr, IfOk, IsTrue, slice_index};
+ghost use Rattle.std.specs.Prelude.{◌≡◌, ◌∷◌, ◌++◌, ℕ, List, [], IfErr, IfOk, IsTrue, slice_index};
 ghost use Rattle.bplist_octets.specs.Meaning.{OnlyReads};
 ghost use Rattle.bplint_lines.specs.Answers.{read_failed};
 ghost use Rattle.bplint_engine.specs.Output.{Answers};
-ghost use Rattle.bplint_engine.specs.Check.{CheckSays};
+ghost use Rattle.bplint_engine.specs.Check.{CheckSays, IsDecoded};
 ghost use Rattle.bplint_lines.specs.OutputLines.{check_line};
 
-use crate::certified_file::check_octets;
+use crate::certified_file::check_decoded;
 use crate::output::Output;
 use bplint_lines::{RunFault, Said, add_check};
-use bplist_cert::Checked;
+use bplist_cert::{CertRefusal, Certificate, Checked};
 use bplist_octets::Source;
 use std::alloc::Global;
 
@@ -17,12 +17,13 @@ use std::alloc::Global;
 pub(crate) fn check_output<S: Source>(
     alloc: Global,
     src: S,
-    cert: &[u8],
+    decoded: Result<Certificate, CertRefusal>,
 ) -> (Result<Output, RunFault>, S)
     ensures source { OnlyReads (read_failed result.0) (S.means src) (S.means result.1) }
-    ensures exact { IsTrue (S.means src).honest → Answers (CheckSays (S.means src).octets cert.now) result.0 }
+    ensures exact { IsTrue (S.means src).honest → (cert : List ℕ) → IsDecoded cert decoded
+        → Answers (CheckSays (S.means src).octets cert) result.0 }
 {
-    match check_octets(alloc, src, cert) {
+    match check_decoded(alloc, src, decoded) {
         Ok(checked) => {
             let made = yes_of(alloc, &checked);
             (made, checked.into_parts().0)

@@ -1,5 +1,5 @@
 //! The answer of `get`.
-ghost use Rattle.std.specs.Prelude.{◌≡◌, ◌++◌, IfOk, IsTrue, OnOk, map, string_bytes};
+ghost use Rattle.std.specs.Prelude.{◌≡◌, ◌++◌, ℕ, List, IfOk, IsTrue, OnOk, map, string_bytes};
 ghost use Rattle.std.specs.List.{flat_map};
 ghost use Rattle.std.specs.List.{list_any};
 ghost use Rattle.bplist_octets.specs.Meaning.{OnlyReads};
@@ -10,14 +10,15 @@ ghost use Rattle.bplist_cursor.specs.Replies.{reply};
 ghost use Rattle.bplint_lines.specs.Answers.{read_failed};
 ghost use Rattle.bplint_engine.specs.Output.{Answers};
 ghost use Rattle.bplint_lines.specs.Faults.{Gives};
+ghost use Rattle.bplint_engine.specs.Check.{IsDecoded};
 ghost use Rattle.bplint_engine.specs.Get.{GetSays, reply_line};
 ghost use Rattle.bplint_engine.specs.Get as spec;
 
-use crate::certified_file::check_octets;
+use crate::certified_file::check_decoded;
 use crate::output::Output;
 use crate::path_queries::queries_of;
 use bplint_lines::{RunFault, Said, add_face, add_missing};
-use bplist_cert::Checked;
+use bplist_cert::{CertRefusal, Certificate, Checked};
 use bplist_cursor::{Query, Reply, answer_all};
 use bplist_octets::Source;
 use std::alloc::{AllocError, Global};
@@ -26,18 +27,18 @@ use std::alloc::{AllocError, Global};
 pub(crate) fn get_output<S: Source>(
     alloc: Global,
     src: S,
-    cert: &[u8],
+    decoded: Result<Certificate, CertRefusal>,
     texts: &[String],
 ) -> (Result<Output, RunFault>, S)
     ensures source { OnlyReads (read_failed result.0) (S.means src) (S.means result.1) }
-    ensures exact { IsTrue (S.means src).honest
-        → Answers (GetSays (S.means src).octets cert.now (map (λ text. string_bytes text) texts.now)) result.0 }
+    ensures exact { IsTrue (S.means src).honest → (cert : List ℕ) → IsDecoded cert decoded
+        → Answers (GetSays (S.means src).octets cert (map (λ text. string_bytes text) texts.now)) result.0 }
 {
     let queries = match queries_of(alloc, texts) {
         Ok(queries) => queries,
         Err(fault) => return (Err(fault), src),
     };
-    match check_octets(alloc, src, cert) {
+    match check_decoded(alloc, src, decoded) {
         Ok(checked) => answer_queries(alloc, checked, &queries),
         Err((fault, src)) => (Err(fault), src),
     }

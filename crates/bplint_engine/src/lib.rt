@@ -11,6 +11,7 @@
 //! | what | calls |
 //! |---|---|
 //! | lint, check, get, certify, print over a source | [`run_on`], [`Command`], [`Verb`] |
+//! | the same with a certificate that was decoded | [`run_certified`] |
 //! | the same over bytes or hexadecimal texts | [`run_over`], [`undo_hex`] |
 //! | show and ls, without a certificate | [`show_on`], [`show_text_on`], [`list_on`] |
 //!
@@ -40,5 +41,5 @@ pub use command::{Command, Verb};
 pub use hexadecimal::undo_hex;
 pub use laws::{one_answer, one_answer_over};
 pub use ls::list_on;
-pub use run::{run_on, run_over};
+pub use run::{run_certified, run_on, run_over};
 pub use show::{show_on, show_text_on};

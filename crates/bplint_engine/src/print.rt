@@ -1,5 +1,5 @@
 //! The answer of `print`.
-ghost use Rattle.std.specs.Prelude.{◌≡◌, ◌∷◌, ◌++◌, [], IfErr, IfOk, IsTrue, OnOk, length, map, string_bytes};
+ghost use Rattle.std.specs.Prelude.{◌≡◌, ◌∷◌, ◌++◌, ℕ, List, [], IfErr, IfOk, IsTrue, OnOk, length, map, string_bytes};
 ghost use Rattle.bplist_octets.specs.Meaning.{OnlyReads};
 ghost use Rattle.bplist_objects.specs.Holds.{Holds};
 ghost use Rattle.bplist_objects.specs.Value.{Value};
@@ -8,15 +8,16 @@ ghost use Rattle.bplist_cursor.specs.Kept.{OnlyReadsFile};
 ghost use Rattle.bplist_ascii.specs.Sending.{Takes, TakesPart};
 ghost use Rattle.bplint_lines.specs.Answers.{Leaves, LeavesBy, read_failed};
 ghost use Rattle.bplint_lines.specs.OutputLines.{missing_line};
+ghost use Rattle.bplint_engine.specs.Check.{IsDecoded};
 ghost use Rattle.bplint_engine.specs.Print.{NodeSays, PathSays, PrintSays};
 
-use crate::certified_file::check_octets;
+use crate::certified_file::check_decoded;
 use crate::delivery::send_output;
 use crate::output::Output;
 use crate::path_queries::path_of;
 use bplint_lines::{RunFault, Said, add_missing};
 use bplist_ascii::{Sink, WriteFault, print_into};
-use bplist_cert::Checked;
+use bplist_cert::{CertRefusal, Certificate, Checked};
 use bplist_cursor::{Found, Node, Path, Why, locate, measure};
 use bplist_octets::Source;
 use std::alloc::Global;
@@ -27,22 +28,22 @@ use std::io::Write;
 pub(crate) fn print_answer<S: Source, W: Write>(
     alloc: Global,
     src: S,
-    cert: &[u8],
+    decoded: Result<Certificate, CertRefusal>,
     texts: &[String],
     limit: u64,
     out: &mut W,
 ) -> (Result<Said, RunFault>, S)
     requires { length texts.now ≡ 1 }
     ensures source { OnlyReads (read_failed result.0) (S.means src) (S.means result.1) }
-    ensures exact { IsTrue (S.means src).honest
-        → Leaves (PrintSays limit (S.means src).octets cert.now (map (λ text. string_bytes text) texts.now)) limit
+    ensures exact { IsTrue (S.means src).honest → (cert : List ℕ) → IsDecoded cert decoded
+        → Leaves (PrintSays limit (S.means src).octets cert (map (λ text. string_bytes text) texts.now)) limit
         (W.contents out.old) (W.contents out.new) result.0 }
 {
     let path = match path_of(alloc, texts) {
         Ok(path) => path,
         Err(fault) => return (Err(fault), src),
     };
-    match check_octets(alloc, src, cert) {
+    match check_decoded(alloc, src, decoded) {
         Ok(checked) => print_checked(alloc, checked, &path, limit, out),
         Err((fault, src)) => (Err(fault), src),
     }

@@ -1,9 +1,15 @@
 -- Laws of the bytes of certificates.
-use Rattle.std.proofs.Common.{◌≡◌, inl, inr, Bool, true, false, is_some, ℕ, suc, ◌+◌, ◌*◌, ◌^◌, ◌<◌, ◌≤◌, List, [], ◌∷◌, ◌++◌, length, get_or, take, drop, Option, Some, None, refl, sym, ap, ◌∙◌, subst, arith}
+use Rattle.std.proofs.Common.{◌≡◌, inl, inr, Bool, true, false, is_some, ℕ, suc, ◌+◌, ◌-◌, ◌*◌, ◌/◌, ◌%◌, ◌^◌, ◌<◌, ◌≤◌, min, List, [], ◌∷◌, ◌++◌, length, get_or, take, drop, Option, Some, None, refl, sym, ap, ◌∙◌, subst, arith, append_assoc}
 use Rattle.std.specs.Int.{bytes_high_first}
-use Rattle.std.proofs.lemmas.List.{append_cancel_left, length-append, take-append-drop, drop-drop, take_at, drop_at}
+use Rattle.std.proofs.Math.Seq.{take-add}
+use Rattle.std.proofs.lemmas.Bool.{cases_lt}
+use Rattle.std.proofs.lemmas.List.{append_cancel_left, length-append, length-drop, length-take, length-take-le, take-append-drop, take_all, take_rest, drop-drop, take_at, drop_at}
+use Rattle.std.proofs.lemmas.List.Concat.{flat_map-append}
 use Rattle.bplist_octets.specs.Octets.{part, num}
-use Rattle.bplist_octets.proofs.Spelled.{num-lt}
+use Rattle.bplist_objects.specs.Answers.{GivesFault, Never}
+use Rattle.bplist_objects.specs.declared.fault.ObjectFault.{ObjectFault}
+use Rattle.bplist_objects.specs.declared.fault.ObjectFault.TheVariants as errors
+use Rattle.bplist_cert.specs.Refusals.{GivesRefusal, refusal_of}
 use Rattle.bplist_objects.proofs.Units.{length-part}
 use Rattle.bplist_cert.specs.Lists.{Keyed, Lists, lists, AreWords, AreKeyed, HasStarts, HasCount, IsCertificate}
 use Rattle.bplist_cert.specs.Encoding.{magic, words, key_words, octets_of, height_count, Fits, IsOctetsFault}
@@ -62,43 +68,70 @@ once h i (Some j) (Some k) p q e =
 pub octets_once : (a b : Lists) → IsCertificate a → IsCertificate b → octets_of a ≡ octets_of b → a ≡ b
 octets_once a b = once a.heights b.heights a.keys b.keys
 
+starts_fit : (heights : List ℕ) (keys : Option Keyed) (count : ℕ) → length heights ≡ count → HasCount keys count → HasStarts heights keys
+starts_fit heights None count n h = tt
+starts_fit heights (Some k) count n h = h ∙ sym n
+
 -- what stands before a place, the n octets from there on, and the rest
 drop-part : (xs : List ℕ) (place n : ℕ) → drop place xs ≡ part xs place n ++ drop (place + n) xs
 drop-part xs place n = sym (take-append-drop n (drop place xs)) ∙ ap (λ ys. part xs place n ++ ys) (drop-drop n place xs)
 
--- the number of heights behind the magic
-head_of : (octets front : List ℕ) (count : ℕ) → AreBytes octets → 16 ≤ length octets → take 8 octets ≡ front → count ≡ height_count octets
-    → octets ≡ front ++ (bytes_high_first 8 count ++ drop 16 octets)
-head_of octets front count low long magic e =
-    let bytes = bytes-num 8 (part octets 8 8) (length-part octets 8 8 (omega arith)) (part-low octets 8 8 low) in
-    let spelled : bytes_high_first 8 count ≡ part octets 8 8 = ap (bytes_high_first 8) e ∙ bytes in
-    sym (take-append-drop 8 octets) ∙ ap (λ ys. ys ++ drop 8 octets) magic
-    ∙ ap (λ ys. front ++ ys) (drop-part octets 8 8 ∙ ap (λ ys. ys ++ drop 16 octets) (sym spelled))
+-- as many bytes as have room are the first 16
+pub front_is : (f room : List ℕ) (n : ℕ) → length room ≡ 16 → n ≡ min (length f) 16 → part f 0 (length (take n room)) ≡ take 16 f
+front_is f room n r e =
+    let len = length-take-le n room (omega arith) in
+    elim (cases_lt (length f) 16) [
+      | inl lt ↦ take_all (length (take n room)) f (omega (arith, len)) ∙ sym (take_all 16 f (omega arith))
+      | inr ge ↦ let all : length (take n room) ≡ 16 = omega (arith, len) in ap (λ k. take k f) all
+    ]
 
--- as many numbers as their bytes say
-pub count_of_words : (octets numbers : List ℕ) (place count : ℕ) → place + 4 * count ≤ length octets → part octets place (4 * count) ≡ words numbers → length numbers ≡ count
-count_of_words octets numbers place count fits e =
-    let l = length-part octets place (4 * count) fits in
-    let w = length-words numbers in
-    let s = ap length e in
-    omega (arith, l, w, s)
+-- the first 16 bytes, by the magic and the number of heights in them
+pub header_is : (f front magic : List ℕ) (count : ℕ) → AreBytes front → front ≡ take 16 f → 16 ≤ length front → take 8 front ≡ magic
+    → count ≡ num (part front 8 8) → take 16 f ≡ magic ++ bytes_high_first 8 count
+header_is f front magic count low e long m n =
+    let all : length front ≤ 16 = omega (arith, ap length e, length-take 16 f) in
+    let bytes = bytes-num 8 (part front 8 8) (length-part front 8 8 (omega arith)) (part-low front 8 8 low) in
+    let rest : part front 8 8 ≡ drop 8 front = take_all 8 (drop 8 front) (omega (arith, length-drop 8 front)) in
+    sym e ∙ sym (take-append-drop 8 front) ∙ ap (λ ys. ys ++ drop 8 front) m
+    ∙ ap (λ ys. magic ++ ys) (sym rest ∙ sym bytes ∙ ap (bytes_high_first 8) (sym n))
 
-pub starts_fit : (heights : List ℕ) (keys : Option Keyed) (count : ℕ) → length heights ≡ count → HasCount keys count → HasStarts heights keys
-starts_fit heights None count n h = tt
-starts_fit heights (Some k) count n h = h ∙ sym n
+-- the numbers behind those so far
+pub words_grown : (f into ys rest : List ℕ) (place done now : ℕ) → done ≤ length into → length ys ≡ now
+    → part f place (4 * done) ≡ words (take done into) → part f (place + 4 * done) (4 * now) ≡ words ys
+    → part f place (4 * (done + now)) ≡ words (take (done + now) (take done into ++ (ys ++ rest)))
+words_grown f into ys rest place done now within len before here =
+    let front : length (take done into ++ ys) ≡ done + now = omega (arith, length-append (take done into) ys, length-take-le done into within) in
+    let numbers : take (done + now) (take done into ++ (ys ++ rest)) ≡ take done into ++ ys =
+    ap (take (done + now)) (sym (append_assoc (take done into) ys rest)) ∙ take_at (take done into ++ ys) rest (done + now) front in
+    let four : 4 * (done + now) ≡ 4 * done + 4 * now = omega arith in
+    let octets : part f place (4 * (done + now)) ≡ part f place (4 * done) ++ part f (place + 4 * done) (4 * now) =
+    ap (part f place) four ∙ take-add (4 * done) (4 * now) (drop place f)
+    ∙ ap (λ ys. part f place (4 * done) ++ take (4 * now) ys) (drop-drop (4 * done) place f) in
+    octets ∙ ap (λ xs. xs ++ part f (place + 4 * done) (4 * now)) before ∙ ap (λ xs. words (take done into) ++ xs) here
+    ∙ sym (flat_map-append (bytes_high_first 4) (take done into) ys) ∙ ap words (sym numbers)
+
+-- starts and positions are all bytes from the starts on
+pub keyed_words : (f starts positions : List ℕ) (place count : ℕ) → place + 4 * count ≤ length f → (length f - (place + 4 * count)) % 4 ≡ 0
+    → part f place (4 * count) ≡ words starts → part f (place + 4 * count) (4 * ((length f - (place + 4 * count)) / 4)) ≡ words positions
+    → drop place f ≡ words starts ++ words positions
+keyed_words f starts positions place count fits whole s p =
+    let behind = place + 4 * count in
+    let all : 4 * ((length f - behind) / 4) ≡ length f - behind = omega arith in
+    drop-part f place (4 * count) ∙ ap (λ ys. ys ++ drop behind f) s
+    ∙ ap (λ ys. words starts ++ ys) (sym (take_rest f behind) ∙ ap (part f behind) (sym all) ∙ p)
 
 -- the parts of a certificate are its bytes
-pub whole : (octets heights : List ℕ) (keys : Option Keyed) (count : ℕ) → AreBytes octets → take 8 octets ≡ magic (is_some keys) → 16 + 4 * count ≤ length octets → count ≡ height_count octets
-    → AreWords heights → AreKeyed keys → HasCount keys count → part octets 16 (4 * count) ≡ words heights → drop (16 + 4 * count) octets ≡ key_words keys
-    → IsCertificate (lists heights keys) × (octets ≡ octets_of (lists heights keys))
-whole octets heights keys count low front len e p q starts w v =
-    let n = count_of_words octets heights 16 count len w in
-    let rest : drop 16 octets ≡ words heights ++ key_words keys =
-    drop-part octets 16 (4 * count) ∙ ap (λ ys. ys ++ drop (16 + 4 * count) octets) w ∙ ap (λ ys. words heights ++ ys) v in
-    let most : num (part octets 8 8) < 2 ^ 64 = rw (length-part octets 8 8 (omega arith)) at (num-lt (part octets 8 8) (part-low octets 8 8 low)) in (
-      record { count = omega (arith, n, e, most); heights = p; keys = q; starts = starts_fit heights keys count n starts },
-      head_of octets (magic (is_some keys)) count low (omega arith) front e
-          ∙ ap (λ m. magic (is_some keys) ++ (bytes_high_first 8 m ++ drop 16 octets)) (sym n)
+pub whole : (f heights : List ℕ) (keys : Option Keyed) (count : ℕ) → take 16 f ≡ magic (is_some keys) ++ bytes_high_first 8 count
+    → length heights ≡ count → count < 2 ^ 64 → AreWords heights → AreKeyed keys → HasCount keys count
+    → part f 16 (4 * count) ≡ words heights → drop (16 + 4 * count) f ≡ key_words keys
+    → IsCertificate (lists heights keys) × (f ≡ octets_of (lists heights keys))
+whole f heights keys count front n most p q starts w v =
+    let rest : drop 16 f ≡ words heights ++ key_words keys =
+    drop-part f 16 (4 * count) ∙ ap (λ ys. ys ++ drop (16 + 4 * count) f) w ∙ ap (λ ys. words heights ++ ys) v in (
+      record { count = omega (arith, n, most); heights = p; keys = q; starts = starts_fit heights keys count n starts },
+      sym (take-append-drop 16 f) ∙ ap (λ ys. ys ++ drop 16 f) front
+          ∙ append_assoc (magic (is_some keys)) (bytes_high_first 8 count) (drop 16 f)
+          ∙ ap (λ m. magic (is_some keys) ++ (bytes_high_first 8 m ++ drop 16 f)) (sym n)
           ∙ ap (λ ys. magic (is_some keys) ++ (bytes_high_first 8 (length heights) ++ ys)) rest,
     )
 
@@ -154,7 +187,8 @@ one_octets_fault octets a b (inl h) (inr k) = absurd (h.0 k.0 k.1)
 one_octets_fault octets a b (inr h) (inl k) = absurd (k.0 h.0 h.1)
 one_octets_fault octets a b (inr h) (inr k) = h.3 ∙ sym k.3
 
--- there are at least the heights
-pub long_enough : (keyed : Bool) (count len : ℕ) → Fits keyed count len → 16 + 4 * count ≤ len
-long_enough false count len h = omega arith
-long_enough true count len h = omega (arith, h.0)
+-- a header that is refused is not that of a certificate
+pub header_refused : (f : List ℕ) (c : Lists) (e : ObjectFault) → IsCertificate c → f ≡ octets_of c → GivesFault (IsOctetsFault f) e
+    → GivesRefusal Never (refusal_of e)
+header_refused f c (errors.Fault fault) p e h = octets_kept f c fault p e h
+header_refused f c (errors.Read _) p e h = tt

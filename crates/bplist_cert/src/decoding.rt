@@ -1,17 +1,29 @@
-//! Certificates from bytes.
+//! Certificates from bytes, which are read by blocks.
 
-ghost use Rattle.std.specs.Prelude.{◌≡◌, ℕ, ◌+◌, ◌*◌, ◌≤◌, ◌<◌, length, slice_index, take, drop, IfOk, MatchResult, ◌↔◌, ◌%◌, IsTrue, is_some, ⊤};
+ghost use Rattle.std.specs.Prelude.{◌≡◌, ◌≢◌, ℕ, List, ◌+◌, ◌*◌, ◌≤◌, Bool, length, take, drop, IfOk, OnOk, MatchOption, MatchResult, ◌↔◌, IsTrue, is_err, is_some, ⊤};
 ghost use Rattle.bplist_cert.specs.declared.certificate.CertRefusal.TheVariants.{Memory};
-ghost use Rattle.bplist_octets.specs.Octets.{part, num};
+ghost use Rattle.bplist_octets.specs.Octets.{part};
+ghost use Rattle.bplist_octets.specs.Meaning.{OnlyReads, Honestly};
+ghost use Rattle.bplist_objects.specs.Answers.{Gives, Never, read_failed};
+ghost use Rattle.bplist_keys.specs.Failures.{failed_to_read};
 ghost use Rattle.bplist_cert.specs.Lists.{Lists, IsCertificate, AreWords, AreKeyed, HasCount};
-ghost use Rattle.bplist_cert.specs.Encoding.{octets_of, magic, words, key_words, height_count, Fits, IsOctetsFault, IsCertRefusal};
-ghost use Rattle.bplist_cert.specs.Versions.{is_keyed};
+ghost use Rattle.bplist_cert.specs.Encoding.{octets_of, magic, words, key_words, Fits, IsOctetsFault, IsCertRefusal};
+ghost use Rattle.bplist_cert.specs.Refusals.{Judges, refused_read};
+ghost use Rattle.bplist_cert.specs.Versions.{is_keyed, header_octets};
 
 use crate::certificate::{CertRefusal, Certificate, KeyLists};
 use crate::encoding::{KEYED_MAGIC, PLAIN_MAGIC};
-use bplist_objects::{Fault, Rule};
-use bplist_octets::sized;
-use std::alloc::{AllocError, Global};
+use crate::refusal::Refusal;
+use bplist_keys::Failure;
+use bplist_objects::{Fault, ObjectFault, Rule};
+use bplist_octets::{ReadFault, SliceSource, Source, sized};
+use std::alloc::Global;
+
+/// How many bytes are read at once at most.
+const BLOCK_BYTES: usize = 16_384;
+
+/// How many numbers stand in so many bytes.
+const BLOCK: usize = BLOCK_BYTES / 4;
 
 /// The version of a certificate's bytes.
 #[derive(Clone, Copy, Debug, PartialEq, Eq, Drop)]
@@ -22,7 +34,35 @@ pub(crate) enum Version {
     Keyed,
 }
 
+/// What a certificate begins with, in 16 bytes.
+#[derive(Clone, Copy, Debug, Drop)]
+pub(crate) struct Header {
+    /// What the magic tells.
+    pub version: Version,
+    /// The number of heights.
+    pub count: usize,
+}
+
 impl Certificate {
+    /// The certificate whose bytes the source gives. Else the fault is that of rule 24, at place 0, where they begin with
+    /// no magic, and otherwise that of rule 25, at the place that is their number. `Memory` where a growth was refused,
+    /// `Read` where a read failed.
+    ///
+    /// Each byte is read once, forward, in blocks of at most 16,384 bytes.
+    pub fn from_source<S: Source>(alloc: Global, src: &mut S) -> Result<Certificate, Refusal>
+        ensures reads { OnlyReads (refused_read result) (S.means src.old) (S.means src.new) }
+        ensures yes { Honestly (S.means src.old)
+            (λ f. IfOk result (λ certificate. IsCertificate certificate × (f ≡ octets_of certificate))) }
+        ensures exact { Honestly (S.means src.old) (λ f. (certificate : Lists) → IsCertificate certificate
+            → f ≡ octets_of certificate → Judges (λ other. other ≡ certificate) Never result) }
+        ensures refused { Honestly (S.means src.old) (λ f. Judges (λ _. ⊤) (IsOctetsFault f) result) }
+    {
+        let header = header_of(src)?;
+        let heights = read_words(alloc, src, 16, header.count)?;
+        let keys = read_keys(alloc, src, header)?;
+        Ok(Certificate { heights, keys })
+    }
+
     /// The certificate whose bytes these are. Else the fault is that of rule 24, at place 0, where they begin with no
     /// magic, and otherwise that of rule 25, at the place that is their number. `Memory` where a growth was refused.
     pub fn from_octets(alloc: Global, octets: &[u8]) -> Result<Certificate, CertRefusal>
@@ -31,54 +71,73 @@ impl Certificate {
             → MatchResult result (λ other. other ≡ certificate) (λ refusal. refusal ≡ Memory) }
         ensures refused { MatchResult result (λ _. ⊤) (IsCertRefusal octets.now) }
     {
-        let version = version_of(octets)?;
-        let count = count_of(octets, version)?;
-        let heights = read_words(alloc, part_of(octets, 16, 4 * count))?;
-        let keys = read_keys(alloc, octets, version, count)?;
-        Ok(Certificate { heights, keys })
+        match Certificate::from_source(alloc, &mut SliceSource::new(octets)) {
+            Ok(certificate) => Ok(certificate),
+            Err(Refusal::Fault(fault)) => Err(CertRefusal::Fault(fault)),
+            // No read of a slice fails, so what is left is refused memory.
+            Err(Refusal::Read(_) | Refusal::Memory) => Err(CertRefusal::Memory),
+        }
     }
 }
 
-/// The version that the magic tells.
-fn version_of(octets: &[u8]) -> Result<Version, Fault>
-    ensures { MatchResult result (λ version. take 8 octets.now ≡ magic (is_keyed version)) (IsOctetsFault octets.now) }
+/// The header, where the bytes are as many as it asks for.
+fn header_of<S: Source>(src: &mut S) -> Result<Header, ObjectFault>
+    ensures reads { OnlyReads (read_failed result) (S.means src.old) (S.means src.new) }
+    ensures fits { IfOk result (λ header. Fits (is_keyed header.version) header.count (length (S.means src.old).octets)) }
+    ensures exact { Honestly (S.means src.old) (λ f. Gives (λ header. take 16 f ≡ header_octets header) (IsOctetsFault f) result) }
 {
-    if octets.starts_with(&PLAIN_MAGIC) {
-        return Ok(Version::Plain);
-    }
-    if octets.starts_with(&KEYED_MAGIC) {
-        return Ok(Version::Keyed);
-    }
-    Err(Fault {
-        rule: Rule::CertMagic,
-        object: None,
-        place: 0,
-    })
+    let len = src.len();
+    let mut octets = [0u8; 16];
+    let front = &mut octets[..len.min(16) as usize];
+    src.read_at(0, front)?;
+    Ok(header_in(front, len)?)
 }
 
-/// The number of heights, where the bytes are as many as it asks for.
-fn count_of(octets: &[u8], version: Version) -> Result<usize, Fault>
-    requires { take 8 octets.now ≡ magic (is_keyed version) }
-    ensures { MatchResult result
-        (λ count. (count ≡ height_count octets.now) × Fits (is_keyed version) count (length octets.now))
-        (IsOctetsFault octets.now) }
+/// The header of `len` bytes that begin with these.
+fn header_in(front: &[u8], len: u64) -> Result<Header, Fault>
+    ensures fits { IfOk result (λ header. Fits (is_keyed header.version) header.count len) }
+    ensures exact { (f : List ℕ) → front.now ≡ take 16 f → len ≡ length f
+        → MatchResult result (λ header. take 16 f ≡ header_octets header) (IsOctetsFault f) }
 {
-    let len = octets.len();
-    if len >= 16 {
-        let count = sized(part_of(octets, 8, 8));
+    let Some(version) = version_of(front) else {
+        return Err(Fault {
+            rule: Rule::CertMagic,
+            object: None,
+            place: 0,
+        });
+    };
+    if front.len() >= 16 {
+        let count = sized(part_of(front, 8, 8));
         if fits(version, count, len) {
-            return Ok(count as usize);
+            return Ok(Header {
+                version,
+                count: count as usize,
+            });
         }
     }
     Err(Fault {
         rule: Rule::CertLength,
         object: None,
-        place: len as u64,
+        place: len,
     })
 }
 
+/// The version that the magic tells, where there is one.
+fn version_of(octets: &[u8]) -> Option<Version>
+    ensures { MatchOption result ((keyed : Bool) → take 8 octets.now ≢ magic keyed)
+        (λ version. take 8 octets.now ≡ magic (is_keyed version)) }
+{
+    if octets.starts_with(&PLAIN_MAGIC) {
+        return Some(Version::Plain);
+    }
+    if octets.starts_with(&KEYED_MAGIC) {
+        return Some(Version::Keyed);
+    }
+    None
+}
+
 /// Whether a certificate of this version with `count` heights can have `len` bytes.
-fn fits(version: Version, count: u64, len: usize) -> bool
+fn fits(version: Version, count: u64, len: u64) -> bool
     ensures { IsTrue result ↔ Fits (is_keyed version) count len }
 {
     match version {
@@ -87,49 +146,105 @@ fn fits(version: Version, count: u64, len: usize) -> bool
     }
 }
 
-/// The key lists behind so many heights, in version 2.
-fn read_keys(
+/// The key lists behind the heights, in version 2.
+fn read_keys<S: Source>(
     alloc: Global,
-    octets: &[u8],
-    version: Version,
-    count: usize,
-) -> Result<Option<KeyLists>, AllocError>
-    requires { Fits (is_keyed version) count (length octets.now) }
-    ensures version { IfOk result (λ keys. is_some keys ≡ is_keyed version) }
-    ensures spelled { IfOk result (λ keys. drop (16 + 4 * count) octets.now ≡ key_words keys) }
+    src: &mut S,
+    header: Header,
+) -> Result<Option<KeyLists>, Failure>
+    requires { Fits (is_keyed header.version) header.count (length (S.means src.old).octets) }
+    ensures reads { OnlyReads (failed_to_read result) (S.means src.old) (S.means src.new) }
+    ensures version { IfOk result (λ keys. is_some keys ≡ is_keyed header.version) }
+    ensures starts { IfOk result (λ keys. HasCount keys header.count) }
     ensures keyed { IfOk result (λ keys. AreKeyed keys) }
-    ensures starts { IfOk result (λ keys. HasCount keys count) }
+    ensures spelled { Honestly (S.means src.old) (λ f. IfOk result (λ keys. drop (16 + 4 * header.count) f ≡ key_words keys)) }
 {
-    match version {
+    match header.version {
         Version::Plain => Ok(None),
         Version::Keyed => {
-            let starts = read_words(alloc, part_of(octets, 16 + 4 * count, 4 * count))?;
-            let positions = read_words(alloc, &octets[16 + 8 * count..])?;
+            let len = src.len();
+            let starts_at = 16 + 4 * header.count as u64;
+            let positions_at = starts_at + 4 * header.count as u64;
+            let positions = ((len - positions_at) / 4) as usize;
+            let starts = read_words(alloc, src, starts_at, header.count)?;
+            let positions = read_words(alloc, src, positions_at, positions)?;
             Ok(Some(KeyLists { starts, positions }))
         }
     }
+}
+
+/// So many numbers of 4 bytes each, from a place on.
+fn read_words<S: Source>(
+    alloc: Global,
+    src: &mut S,
+    place: u64,
+    count: usize,
+) -> Result<Vec<u32>, Failure>
+    requires { place + 4 * count ≤ length (S.means src.old).octets }
+    ensures reads { OnlyReads (failed_to_read result) (S.means src.old) (S.means src.new) }
+    ensures count { IfOk result (λ numbers. length numbers.items ≡ count) }
+    ensures words { IfOk result (λ numbers. AreWords numbers.items) }
+    ensures spelled { Honestly (S.means src.old) (λ f. IfOk result (λ numbers. part f place (4 * count) ≡ words numbers.items)) }
+{
+    let mut numbers = vec![in alloc; 0u32; count]?;
+    fill_words(src, place, &mut numbers)?;
+    are_words(&numbers);
+    Ok(numbers)
+}
+
+/// Numbers of 32 bits.
+fn are_words(numbers: &[u32])
+    ensures { AreWords numbers.now }
+{
+    let _count = numbers.len();
+}
+
+/// Fills `into` with the numbers of 4 bytes each from a place on, block by block.
+fn fill_words<S: Source>(src: &mut S, place: u64, into: &mut [u32]) -> Result<(), ReadFault>
+    requires { place + 4 * length into.old ≤ length (S.means src.old).octets }
+    ensures reads { OnlyReads (is_err result) (S.means src.old) (S.means src.new) }
+    ensures spelled { OnOk result (Honestly (S.means src.old) (λ f. part f place (4 * length into.new) ≡ words into.new)) }
+{
+    let _len = src.len();
+    let mut buffer = [0u8; BLOCK_BYTES];
+    let count = into.len();
+    let mut done = 0usize;
+    while done < count {
+        let now = (count - done).min(BLOCK);
+        let block = &mut buffer[..4 * now];
+        let at = place + 4 * done as u64;
+        read_block(src, at, block, &mut into[done..done + now])?;
+        done += now;
+    }
+    Ok(())
+}
+
+/// Fills `into` by one read of the source, which goes through `block`.
+fn read_block<S: Source>(
+    src: &mut S,
+    place: u64,
+    block: &mut [u8],
+    into: &mut [u32],
+) -> Result<(), ReadFault>
+    requires room { length block.old ≡ 4 * length into.old }
+    requires within { place + 4 * length into.old ≤ length (S.means src.old).octets }
+    ensures reads { OnlyReads (is_err result) (S.means src.old) (S.means src.new) }
+    ensures spelled { OnOk result (Honestly (S.means src.old) (λ f. part f place (4 * length into.new) ≡ words into.new)) }
+{
+    src.read_at(place, block)?;
+    spell_words(block, into);
+    Ok(())
 }
 
 /// Puts the numbers of 4 bytes each that the bytes spell in their places. Nothing else is done in the loop, so that it takes
 /// several at a time.
 fn spell_words(octets: &[u8], into: &mut [u32])
     requires { length octets.now ≡ 4 * length into.old }
-    ensures { (k : ℕ) → k < length into.new → slice_index into.new k ≡ num (part octets.now (4 * k) 4) }
+    ensures { octets.now ≡ words into.new }
 {
     for k in 0..into.len() {
         into[k] = sized(part_of(octets, 4 * k, 4)) as u32;
     }
-}
-
-/// The numbers of 4 bytes each that the bytes spell.
-fn read_words(alloc: Global, octets: &[u8]) -> Result<Vec<u32>, AllocError>
-    requires { length octets.now % 4 ≡ 0 }
-    ensures spelled { IfOk result (λ numbers. octets.now ≡ words numbers.items) }
-    ensures words { IfOk result (λ numbers. AreWords numbers.items) }
-{
-    let mut numbers = vec![in alloc; 0u32; octets.len() / 4]?;
-    spell_words(octets, &mut numbers);
-    Ok(numbers)
 }
 
 /// The `n` bytes from a place on.

@@ -4,7 +4,7 @@
 //! trusted.
 //!
 //! ```
-//! let certificate = Certificate::from_octets(alloc, octets)?;      // rules 24 and 25
+//! let certificate = Certificate::from_source(alloc, &mut cert)?;   // rules 24 and 25
 //! match check(alloc, SliceSource::new(file), certificate) {
 //!     Ok(checked) => use_it(checked),                              // exactly one value, no circle
 //!     Err((refusal, source, certificate)) => report(refusal),      // the first broken rule
@@ -13,7 +13,7 @@
 //!
 //! | what | calls |
 //! |---|---|
-//! | a certificate, and its bytes | [`Certificate`], [`KeyLists`], `to_octets`, `from_octets`, [`CertRefusal`] |
+//! | a certificate, and its bytes | [`Certificate`], [`KeyLists`], `to_octets`, `from_source`, `from_octets`, [`CertRefusal`] |
 //! | the check of a file and a certificate | [`check`], [`Refusal`] |
 //! | a source with the frame and the certificate that fit it | [`Checked`]: `frame`, `height`, `certificate`, `into_parts`, `octets` |
 //! | the objects that dictionaries name as keys, for the linter | [`vouched_keys`] |

@@ -11,7 +11,7 @@ use std::alloc::{AllocError, AllocFailed};
 /// Why a call that checks gave no yes, or a call that makes certificates none.
 #[derive(Clone, Copy, Debug, PartialEq, Eq, Drop)]
 pub enum Refusal {
-    /// A rule is broken. The place counts from the file's first byte, and for rules 26, 27 and 32 from the
+    /// A rule is broken. The place counts from the file's first byte, and for rules 24 to 27 and 32 from the
     /// certificate's.
     Fault(Fault),
     /// A read of the source failed, so nothing is said of the rules.

@@ -1,28 +1,13 @@
-use Rattle.std.proofs.lemmas.Grind.{merely}
-use Rattle.bplint_engine.specs.Certify.{CertifySays}
-use Rattle.bplint_engine.specs.Get.{GetSays}
-use Rattle.bplint_engine.proofs.LeftBytes.{sent}
+use Rattle.std.proofs.Common.{ap, ◌∙◌, []}
+use Rattle.std.specs.Prelude.{if◌then◌else◌}
+use Rattle.bplint_engine.specs.Commands.{Asked}
+use Rattle.bplint_engine.specs.Said.{takes_cert}
+use Rattle.bplint_engine.proofs.DecodedCertificates.{decoded_as, left_whole}
 use Rattle.bplint_engine.proofs.run.run_on.Goals as goal
 
-pub returns-in-Get-clause-exact : goal.returns-in-Get-clause-exact
-returns-in-Get-clause-exact g c =
-    λ honest. let is = c.in-Get.is in
-    let view = c.command.view_is in
-    let lent = c.deref.ensures.value in
-    let made = rw lent at c.get_output.ensures.exact honest in
-    rw (← view) (rw is (merely (sent (GetSays (g.S.Source.means c.args.src).octets c.args.cert.now _) 0 _ _ _ _ made c.send_made-in-Get.ensures.sent)))
-
-pub returns-in-Print-clause-exact : goal.returns-in-Print-clause-exact
-returns-in-Print-clause-exact g c =
-    λ honest. let is = c.in-Print.is in
-    let view = c.command.view_is in
-    let lent = c.deref-in-Print.ensures.value in
-    let left = rw lent at c.print_answer.ensures.exact honest in
-    rw (← view) (rw is left)
-
-pub returns-in-Certify-clause-exact : goal.returns-in-Certify-clause-exact
-returns-in-Certify-clause-exact g c =
-    λ honest. let is = c.in-Certify.is in
-    let view = c.command.view_is in
-    let made = c.certify_output.ensures.exact honest in
-    rw (← view) (rw is (merely (sent (CertifySays _ _ (g.S.Source.means c.args.src).octets) 0 _ _ _ _ made c.send_made-in-Certify.ensures.sent)))
+pub returns-clause-exact : goal.returns-clause-exact
+returns-clause-exact g c = λ honest.
+    let cert = c.args.cert.now in
+    let shown = c.looked_at.ensures ∙ ap (λ (x : Asked). if takes_cert x.verb then cert else []) c.command.view_is in
+    let decoded = rw shown at (decoded_as _ _ c.from_octets-decoded.ensures.yes c.from_octets-decoded.ensures.refused) in
+    left_whole c.args.command.now (g.S.Source.means c.args.src).octets cert _ _ _ (c.run_certified.ensures.exact honest _ decoded)

@@ -1,6 +1,6 @@
 use Rattle.std.proofs.Common.{◌*◌, ap, ◌∙◌, arith}
 use Rattle.bplist_octets.specs.Octets.{num}
-use Rattle.bplist_cert.proofs.NumberBytes.{AreBytes, word-lt}
+use Rattle.bplist_cert.proofs.NumberBytes.{AreBytes, word-lt, words_all}
 use Rattle.bplist_cert.proofs.decoding.spell_words.Goals as goal
 
 pub overflow_cast-into : goal.overflow_cast-into
@@ -8,3 +8,8 @@ overflow_cast-into c =
     let low : AreBytes c.args.octets.now = λ k. omega (arith, c.type_inv.octets k) in
     let lt = word-lt c.args.octets.now (4 * c.loop-k.k) low (omega arith) in
     omega (arith, lt, c.sized.ensures ∙ ap num c.part_of.ensures)
+
+pub returns : goal.returns
+returns c =
+    let low : AreBytes c.args.octets.now = λ k. omega (arith, c.type_inv.octets k) in
+    words_all c.args.octets.now c.loop-k.into low (omega (arith, c.loop-k.auto.into)) (λ k l. c.loop-k.invariant k (omega (arith, l, c.loop-k.auto.into)))

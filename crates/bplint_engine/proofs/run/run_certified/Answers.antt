@@ -1,0 +1,28 @@
+use Rattle.std.proofs.lemmas.Grind.{merely}
+use Rattle.bplint_engine.specs.Certify.{CertifySays}
+use Rattle.bplint_engine.specs.Get.{GetSays}
+use Rattle.bplint_engine.proofs.LeftBytes.{sent}
+use Rattle.bplint_engine.proofs.run.run_certified.Goals as goal
+
+pub returns-in-Get-clause-exact : goal.returns-in-Get-clause-exact
+returns-in-Get-clause-exact g c =
+    λ honest cert decoded. let is = c.in-Get.is in
+    let view = c.command.view_is in
+    let lent = c.deref.ensures.value in
+    let made = rw lent at (c.get_output.ensures.exact honest cert decoded) in
+    rw (← view) (rw is (merely (sent (GetSays (g.S.Source.means c.args.src).octets cert _) 0 _ _ _ _ made c.send_made-in-Get.ensures.sent)))
+
+pub returns-in-Print-clause-exact : goal.returns-in-Print-clause-exact
+returns-in-Print-clause-exact g c =
+    λ honest cert decoded. let is = c.in-Print.is in
+    let view = c.command.view_is in
+    let lent = c.deref-in-Print.ensures.value in
+    let left = rw lent at (c.print_answer.ensures.exact honest cert decoded) in
+    rw (← view) (rw is left)
+
+pub returns-in-Certify-clause-exact : goal.returns-in-Certify-clause-exact
+returns-in-Certify-clause-exact g c =
+    λ honest cert decoded. let is = c.in-Certify.is in
+    let view = c.command.view_is in
+    let made = c.certify_output.ensures.exact honest in
+    rw (← view) (rw is (merely (sent (CertifySays _ _ (g.S.Source.means c.args.src).octets) 0 _ _ _ _ made c.send_made-in-Certify.ensures.sent)))
