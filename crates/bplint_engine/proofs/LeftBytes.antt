@@ -1,6 +1,6 @@
 -- What is left with a writer.
 use Rattle.std.proofs.Common.{◌⊎◌, inl, inr, ℕ, List, [], append-nil, sym, ◌∙◌, Option, None, Some, Result, Ok, Err, refl, arith}
-use Rattle.std.specs.Io.KnownBytes.{Appends, OnlyReadsFile}
+use Rattle.std.specs.Io.KnownBytes.{Appends, Keeps}
 use Rattle.bplist_ascii.specs.Sending.{SendsSome}
 use Rattle.bplint_lines.specs.declared.fault.RunFault.{RunFault}
 use Rattle.bplint_lines.specs.declared.fault.RunFault.TheVariants as faults
@@ -10,20 +10,20 @@ use Rattle.bplint_lines.specs.Answers.{Answer, gives, refuses, BeginsAnswer, Lea
 use Rattle.bplint_engine.specs.Output.{Answers, IsRefusal, Sends}
 
 -- nothing was added
-nothing : (old new : Option (List ℕ)) → OnlyReadsFile old new → Appends old new []
+nothing : (old new : Option (List ℕ)) → Keeps old new → Appends old new []
 nothing None new h = tt
 nothing (Some xs) None h = h
 nothing (Some xs) (Some ys) h = h ∙ sym (append-nil xs)
 
-pub begins_nothing : (Says : Answer → Type 0) (most : ℕ) (old new : Option (List ℕ)) → OnlyReadsFile old new → BeginsAnswer Says most old new
+pub begins_nothing : (Says : Answer → Type 0) (most : ℕ) (old new : Option (List ℕ)) → Keeps old new → BeginsAnswer Says most old new
 begins_nothing Says most old new kept = (([], omega arith, nothing old new kept), inl kept)
 
-pub kept_self : (old : Option (List ℕ)) → OnlyReadsFile old old
+pub kept_self : (old : Option (List ℕ)) → Keeps old old
 kept_self None = tt
 kept_self (Some xs) = refl
 
 -- what was refused before anything was written
-pub refused : (Says : Answer → Type 0) (most : ℕ) (old new : Option (List ℕ)) (fault : RunFault) → IsRefusal Says fault → OnlyReadsFile old new
+pub refused : (Says : Answer → Type 0) (most : ℕ) (old new : Option (List ℕ)) (fault : RunFault) → IsRefusal Says fault → Keeps old new
     → LeavesBy Says most old new (Err fault)
 refused Says most old new (faults.Write _) h kept = absurd h
 refused Says most old new (faults.Read _) h kept = begins_nothing Says most old new kept
@@ -46,8 +46,8 @@ sent Says most old new (Ok output) (Err fault) says (n, is, cut) = rw is (output
 sent Says most old new (Err fault) result says (is, kept) = rw is (refused Says most old new fault says kept)
 
 begins_as : (P Q : Answer → Type 0) (old new : Option (List ℕ)) → ((a : Answer) → P a → Q a)
-    → OnlyReadsFile old new ⊎ ((said : Said) × (bytes : List ℕ) × P (gives said bytes) × SendsSome old new bytes)
-    → OnlyReadsFile old new ⊎ ((said : Said) × (bytes : List ℕ) × Q (gives said bytes) × SendsSome old new bytes)
+    → Keeps old new ⊎ ((said : Said) × (bytes : List ℕ) × P (gives said bytes) × SendsSome old new bytes)
+    → Keeps old new ⊎ ((said : Said) × (bytes : List ℕ) × Q (gives said bytes) × SendsSome old new bytes)
 begins_as P Q old new to (inl kept) = inl kept
 begins_as P Q old new to (inr (said, bytes, says, some)) = inr (said, bytes, to (gives said bytes) says, some)
 

@@ -1,6 +1,6 @@
 -- What a command has to write, or why not, and sending it.
 use Rattle.std.specs.Prelude.{◌≡◌, ℕ, List, Bool, Option, Result, Ok, Err}
-use Rattle.std.specs.Io.KnownBytes.{Appends, OnlyReadsFile}
+use Rattle.std.specs.Io.KnownBytes.{Appends, Keeps}
 use Rattle.bplist_ascii.specs.Sending.{IsCut}
 use Rattle.bplint_lines.specs.declared.fault.RunFault.{RunFault}
 use Rattle.bplint_lines.specs.declared.fault.RunFault.TheVariants as faults
@@ -28,4 +28,4 @@ Answers Says (Err fault) = IsRefusal Says fault
 abbrev pub Sends : Option (List ℕ) → Option (List ℕ) → Result Output RunFault → Result Said RunFault → Type 0
 Sends old new (Ok output) (Ok said) = (said ≡ output.said) × Appends old new output.bytes.items
 Sends old new (Ok output) (Err fault) = (sent : ℕ) × (fault ≡ faults.Write sent) × IsCut old new output.bytes.items sent
-Sends old new (Err fault) result = (result ≡ Err fault) × OnlyReadsFile old new
+Sends old new (Err fault) result = (result ≡ Err fault) × Keeps old new

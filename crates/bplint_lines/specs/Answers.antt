@@ -1,6 +1,6 @@
 -- Answers to a command, and what they leave with the writer. Source: profile.
 use Rattle.std.specs.Prelude.{◌≡◌, ◌⊎◌, ℕ, List, Bool, true, false, Option, Result, Ok, Err}
-use Rattle.std.specs.Io.KnownBytes.{Appends, OnlyReadsFile}
+use Rattle.std.specs.Io.KnownBytes.{Appends, Keeps}
 use Rattle.bplist_ascii.specs.Sending.{SendsSome, IsCut, AtMost}
 use Rattle.bplint_lines.specs.declared.fault.RunFault.{RunFault}
 use Rattle.bplint_lines.specs.declared.fault.RunFault.TheVariants as faults
@@ -18,7 +18,7 @@ read_failed answer = elim answer [ Err (faults.Read _) ↦ true | _ ↦ false ]
 -- nothing went out, or a first part of the answer of at most `most` bytes
 abbrev pub BeginsAnswer : (Answer → Type 0) → ℕ → Option (List ℕ) → Option (List ℕ) → Type 0
 BeginsAnswer Says most old new =
-    AtMost old new most × (OnlyReadsFile old new ⊎ ((said : Said) × (bytes : List ℕ) × Says (gives said bytes) × SendsSome old new bytes))
+    AtMost old new most × (Keeps old new ⊎ ((said : Said) × (bytes : List ℕ) × Says (gives said bytes) × SendsSome old new bytes))
 
 -- what a run leaves with the writer: all bytes of its answer, a first part after `Write`, at most one after `Read` and
 -- `Memory`, and nothing where another fault is the answer
@@ -28,7 +28,7 @@ LeavesBy Says most old new (Err (faults.Write sent)) =
     (said : Said) × (bytes : List ℕ) × Says (gives said bytes) × IsCut old new bytes sent
 LeavesBy Says most old new (Err (faults.Read _)) = BeginsAnswer Says most old new
 LeavesBy Says most old new (Err faults.Memory) = BeginsAnswer Says most old new
-LeavesBy Says most old new (Err fault) = Says (refuses fault) × OnlyReadsFile old new
+LeavesBy Says most old new (Err fault) = Says (refuses fault) × Keeps old new
 
 -- the same as a bare fact
 abbrev pub Leaves : (Answer → Type 0) → ℕ → Option (List ℕ) → Option (List ℕ) → Result Said RunFault → Type 0

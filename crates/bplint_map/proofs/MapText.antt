@@ -4,7 +4,7 @@ use Rattle.std.proofs.lemmas.Grind.{flat_map-append}
 use Rattle.std.proofs.lemmas.List.{drop_all, get_or-map, length-map}
 use Rattle.std.proofs.Math.Seq.{drop-cons}
 use Rattle.bplist_objects.specs.declared.frame.Frame.{Frame}
-use Rattle.std.specs.Io.KnownBytes.{Appends, OnlyReadsFile}
+use Rattle.std.specs.Io.KnownBytes.{Appends, Keeps}
 use Rattle.bplist_objects.specs.declared.fault.Fault.{Fault}
 use Rattle.bplist_objects.specs.FrameRules.{IsFrameFault}
 use Rattle.bplint_lines.specs.Faults.{IsExcused}
@@ -122,7 +122,7 @@ module _ (old new : Option (List ℕ)) (s : Sending) where
 abbrev LeavesMap : List ℕ → Option (List ℕ) → Option (List ℕ) → Result Said RunFault → Type 0
 LeavesMap f old new result = (most : ℕ) × LeavesBy (MapSays f) most old new result
 
-kept_self : (old : Option (List ℕ)) → OnlyReadsFile old old
+kept_self : (old : Option (List ℕ)) → Keeps old old
 kept_self None = tt
 kept_self (Some xs) = refl
 

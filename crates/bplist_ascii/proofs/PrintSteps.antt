@@ -1,7 +1,7 @@
 -- What printing answers, by what the walk and the sink answer.
 use Rattle.std.proofs.Common.{◌≡◌, ◌≢◌, inl, inr, ◌<◌, ◌≤◌, ℕ, List, [], ◌++◌, arith, length, take, refl, ap, subst, Option, Some, None, Err, append-nil}
 use Rattle.std.specs.Io.KnownBytes.{Appends}
-use Rattle.std.proofs.KnownBytes.{OnlyReadsFile-refl}
+use Rattle.std.proofs.KnownBytes.{Keeps-refl}
 use Rattle.bplist_objects.specs.declared.frame.Frame.{Frame}
 use Rattle.bplist_objects.specs.Value.{Value}
 use Rattle.bplist_cursor.specs.declared.faults.Unread.{Unread}
@@ -18,7 +18,7 @@ use Rattle.bplist_ascii.proofs.WriteSteps.{print_fault_of}
 -- a failed read before anything is put in, of a value without a text
 pub read_prints : (now : Option (List ℕ)) (s : Sending) (f : List ℕ) (F : Frame) (n : ℕ) (v : Value) (limit : ℕ) (e : Unread) → value_text v ≡ None → e ≢ unread.Changed
     → IsPut now now s s f F n v limit (Err (print_fault_of e))
-read_prints now s f F n v limit (unread.Read fault) none h = inl (none, (OnlyReadsFile-refl now, refl))
+read_prints now s f F n v limit (unread.Read fault) none h = inl (none, (Keeps-refl now, refl))
 read_prints now s f F n v limit unread.Changed none h = absurd (h refl)
 
 -- what was not put into a new sink was not written

@@ -1,6 +1,6 @@
 -- What printing the value of an object answers, and what it leaves. Source: profile.
 use Rattle.std.specs.Prelude.{◌≡◌, ◌⊎◌, ℕ, ◌<◌, ◌≤◌, List, ◌++◌, length, Option, Some, None, Result, Ok, Err}
-use Rattle.std.specs.Io.KnownBytes.{OnlyReadsFile, Appends}
+use Rattle.std.specs.Io.KnownBytes.{Keeps, Appends}
 use Rattle.bplist_objects.specs.declared.frame.Frame.{Frame}
 use Rattle.bplist_objects.specs.Value.{Value}
 use Rattle.bplist_cursor.specs.Formless.{IsFormless}
@@ -32,10 +32,10 @@ module _ (nothing : Type 0) (all some : List ℕ → Type 0) (cut : List ℕ →
 
 -- the text of the value that object n holds was written, or why not
 abbrev pub IsPrinted : Option (List ℕ) → Option (List ℕ) → List ℕ → Frame → ℕ → Value → ℕ → Result (Unit {0}) PrintFault → Type 0
-IsPrinted old new = Prints (OnlyReadsFile old new) (Appends old new) (SendsSome old new) (IsCut old new)
+IsPrinted old new = Prints (Keeps old new) (Appends old new) (SendsSome old new) (IsCut old new)
 
 module _ (old new : Option (List ℕ)) (before after : Sending) where
   -- the text of the value that object n holds was put into a sink, or why not
   abbrev pub IsPut : List ℕ → Frame → ℕ → Value → ℕ → Result (Unit {0}) PrintFault → Type 0
-  IsPut = Prints (OnlyReadsFile old new × (after ≡ before)) (Takes old new before after) (λ text. SendsSome old new (before.held ++ text))
+  IsPut = Prints (Keeps old new × (after ≡ before)) (Takes old new before after) (λ text. SendsSome old new (before.held ++ text))
       (λ text. SendsPart old new before.sent (before.held ++ text))

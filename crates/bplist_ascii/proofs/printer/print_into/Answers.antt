@@ -8,7 +8,7 @@ use Rattle.bplist_ascii.specs.Sending.{Takes}
 use Rattle.bplist_ascii.specs.Printed.{FitsLimit}
 use Rattle.bplist_ascii.proofs.SearchSteps.{no_text_of, text_of_length}
 use Rattle.bplist_ascii.proofs.PrintSteps.{read_prints, walk_fails}
-use Rattle.std.proofs.KnownBytes.{OnlyReadsFile-refl}
+use Rattle.std.proofs.KnownBytes.{Keeps-refl}
 use Rattle.bplist_ascii.proofs.printer.print_into.Goals as goal
 
 pub returns-in_err-part-in-Some-NoForm-clause-exact : goal.returns-in_err-part-in-Some-NoForm-clause-exact
@@ -24,7 +24,7 @@ returns-in_ok-part-in-Some-NoForm-clause-exact g c = λ honest vouched v h.
     let form = (c.requires.measured honest).form c.args.node.object.0 v vouched h in
     let both : Some NoForm ≡ Some (form_of v) = ap Some (sym c.in-Some-NoForm.field-0-is) ∙ c.in-Some-NoForm.ensures ∙ form in
     let none = no_text_of (value_text v) (cc both) in
-    (none, c.in_ok-part-in-Some-NoForm.ensures.exact honest v (vouched, h) none, (OnlyReadsFile-refl (g.W.Write.contents c.args.out.now), refl))
+    (none, c.in_ok-part-in-Some-NoForm.ensures.exact honest v (vouched, h) none, (Keeps-refl (g.W.Write.contents c.args.out.now), refl))
 
 pub returns-in-None-clause-exact : goal.returns-in-None-clause-exact
 returns-in-None-clause-exact g c = λ honest vouched v h.
@@ -39,7 +39,7 @@ returns-then-length-limit-clause-exact g c = λ honest vouched v h.
     let t = text_of_length (value_text v) c.in-Some-Length.length (cc both) in
     let capped = t.2 in
     let long : ¬ FitsLimit c.args.limit t.0 = λ fits. elim c.then-length-limit.either [ inl a ↦ omega (arith, a, capped, fits.0) | inr b ↦ omega (arith, b, capped, fits.1) ] in
-    (t.0, t.1, long, (OnlyReadsFile-refl (g.W.Write.contents c.args.out.now), refl))
+    (t.0, t.1, long, (Keeps-refl (g.W.Write.contents c.args.out.now), refl))
 
 pub returns-in_err-write_value-in-Some-Length-clause-exact : goal.returns-in_err-write_value-in-Some-Length-clause-exact
 returns-in_err-write_value-in-Some-Length-clause-exact g c = λ honest vouched v h.
