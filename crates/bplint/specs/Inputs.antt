@@ -1,5 +1,5 @@
 -- Inputs that are read whole, and why an input is refused. Source: profile.
-use Rattle.std.specs.Prelude.{◌≡◌, ◌≤◌, ◌⊎◌, vec_len}
+use Rattle.std.specs.Prelude.{◌≡◌, ◌≤◌, ◌⊎◌, ℕ, List, [], vec_len}
 use Rattle.bplint.specs.declared.input.Operand.{Operand}
 use Rattle.bplint.specs.declared.input.Operand.TheVariants.{File, Whole}
 use Rattle.bplist_octets.specs.declared.source.ReadFault.TheVariants.{Device, TooManyTurns}
@@ -14,7 +14,36 @@ IsWholeFault fault = (fault ≡ InputTooLong) ⊎ ((fault ≡ Memory) ⊎ ((faul
 abbrev pub IsInputFault : RunFault → Type 0
 IsInputFault fault = (fault ≡ Open) ⊎ IsWholeFault fault
 
--- FILE was read to its end, and has no more bytes than an input may that is read whole
+-- the fault is a failed read
+abbrev pub IsReadFault : RunFault → Type 0
+IsReadFault fault = elim fault [ Read _ ↦ Unit {0} | _ ↦ ⊥ ]
+
+-- the input was read to its end, and has no more bytes than an input may that is read whole
 abbrev pub IsReadWhole : Operand → Type 0
 IsReadWhole (Whole text) = vec_len text ≤ 67108864
 IsReadWhole (File _) = ⊥
+
+-- the input has so many bytes
+abbrev pub HasLength : ℕ → Operand → Type 0
+HasLength n (Whole text) = vec_len text ≡ n
+HasLength n (File file) = file.length ≡ n
+
+-- an input has no more bytes than one may that is read whole
+abbrev pub IsShort : Operand → Type 0
+IsShort (Whole text) = vec_len text ≤ 67108864
+IsShort (File file) = file.length ≤ 67108864
+
+-- the input is empty
+abbrev pub IsNothing : Operand → Type 0
+IsNothing (Whole text) = text.items ≡ []
+IsNothing (File _) = ⊥
+
+-- P holds of the bytes of an input that was read to its end
+abbrev pub OfWhole : (List ℕ → Type 0) → Operand → Type 0
+OfWhole P (Whole text) = P text.items
+OfWhole P (File _) = Unit {0}
+
+-- an input that was read to its end is as it was
+abbrev pub KeepsWhole : Operand → Operand → Type 0
+KeepsWhole (Whole text) new = new ≡ Whole text
+KeepsWhole (File _) new = Unit {0}

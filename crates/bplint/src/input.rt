@@ -1,13 +1,15 @@
-//! Inputs: FILE, which is read by place or whole, and CERT, which is read whole.
-ghost use Rattle.std.specs.Prelude.{◌≡◌, ◌≤◌, ◌<◌, [], IfErr, IfOk, IfSome, MatchResult, codes, false, length, true, vec_len};
+//! Inputs: FILE and CERT, each read by place or whole.
+ghost use Rattle.std.specs.Prelude.{◌≡◌, ◌⊎◌, ◌≤◌, ◌<◌, [], IfErr, IfOk, IfSome, MatchResult, codes, false, length, true, vec_len};
 ghost use Rattle.std.specs.Str.{bytes_eq};
-ghost use Rattle.bplint.specs.Inputs.{IsInputFault, IsReadWhole, IsWholeFault};
+ghost use Rattle.bplint.specs.Inputs.{IsInputFault, IsNothing, IsReadFault, HasLength, IsReadWhole, IsShort, IsWholeFault, KeepsWhole, OfWhole};
+ghost use Rattle.bplint_engine.specs.Check.{IsDecoded};
 ghost use Rattle.bplint_engine.specs.Said.{takes_cert};
 
 use crate::args::Run;
 use bplint_engine::Verb;
 use bplint_lines::RunFault;
-use bplist_octets::{FileSource, ReadFault};
+use bplist_cert::{CertRefusal, Certificate, Refusal};
+use bplist_octets::{FileSource, ReadFault, Source};
 use std::alloc::Global;
 use std::fs::{self, File, Files};
 use std::io::{ErrorKind, Read};
@@ -51,13 +53,72 @@ fn read_whole<R: Read>(alloc: Global, reader: &mut R) -> Result<Vec<u8>, RunFaul
     Err(RunFault::Read(ReadFault::TooManyTurns))
 }
 
-/// FILE, as far as it is read before the engine runs.
+/// An input, as far as it is read when it is opened.
 #[derive(Drop)]
 pub enum Operand {
     /// Read to its end.
     Whole(Vec<u8>),
     /// Open, and read by place.
     File(FileSource),
+}
+
+/// The inputs of a command.
+#[derive(Drop)]
+pub struct Inputs {
+    /// FILE.
+    pub file: Operand,
+    /// CERT, empty where the verb has none.
+    pub cert: Operand,
+}
+
+impl Operand {
+    /// How many bytes the input has.
+    fn len(&self) -> u64
+        ensures { HasLength result self.now }
+    {
+        match self {
+            Operand::Whole(text) => text.len() as u64,
+            Operand::File(file) => file.len(),
+        }
+    }
+
+    /// What decoding the input as a certificate gives. The fault is that of a failed read.
+    pub fn decode(&mut self, alloc: Global) -> Result<Result<Certificate, CertRefusal>, RunFault>
+        ensures whole { OfWhole (λ text. MatchResult result (IsDecoded text) (λ _. ⊥)) self.old }
+        ensures kept { KeepsWhole self.old self.new }
+        ensures faults { IfErr result IsReadFault }
+    {
+        match self {
+            Operand::Whole(text) => Ok(Certificate::from_octets(alloc, text)),
+            Operand::File(file) => match Certificate::from_source(alloc, file) {
+                Ok(certificate) => Ok(Ok(certificate)),
+                Err(Refusal::Fault(fault)) => Ok(Err(CertRefusal::Fault(fault))),
+                Err(Refusal::Memory) => Ok(Err(CertRefusal::Memory)),
+                Err(Refusal::Read(fault)) => Err(RunFault::Read(fault)),
+            },
+        }
+    }
+
+    /// All bytes of the input, by one read where it is read by place.
+    pub fn into_bytes(self, alloc: Global) -> Result<Vec<u8>, RunFault>
+        ensures whole { OfWhole (λ text. MatchResult result (λ bytes. bytes.items ≡ text) (λ _. ⊥)) self }
+        ensures faults { IfErr result (λ fault. (fault ≡ RunFault.Memory) ⊎ IsReadFault fault) }
+    {
+        match self {
+            Operand::Whole(text) => Ok(text),
+            Operand::File(file) => read_all(alloc, file),
+        }
+    }
+}
+
+/// All bytes of a file, by one read.
+fn read_all(alloc: Global, file: FileSource) -> Result<Vec<u8>, RunFault>
+    ensures { IfErr result (λ fault. (fault ≡ RunFault.Memory) ⊎ IsReadFault fault) }
+{
+    let mut file = file;
+    let mut bytes = vec![in alloc; 0u8; file.len() as usize].map_err(|_| RunFault::Memory)?;
+    file.read_at(0, &mut bytes)?;
+    Ok(bytes)
 }
 
 /// Opens FILE. Standard input, hexadecimal text, and what has no length to be trusted are read whole.
@@ -74,6 +135,19 @@ pub fn open_operand<R: Files<File = File> + Input>(
     if name == "-" {
         return Ok(Operand::Whole(read_whole(alloc, &mut rt.reader())?));
     }
+    open_file(rt, alloc, name, hex)
+}
+
+/// Opens a file. Hexadecimal text, and what has no length to be trusted, are read whole.
+fn open_file<R: Files<File = File>>(
+    rt: &R,
+    alloc: Global,
+    name: &str,
+    hex: bool,
+) -> Result<Operand, RunFault>
+    ensures hex { hex ≡ true → IfOk result IsReadWhole }
+    ensures faults { IfErr result IsInputFault }
+{
     if hex || !has_length(rt, name) {
         return Ok(Operand::Whole(read_file(rt, alloc, name)?));
     }
@@ -99,17 +173,26 @@ fn read_file<R: Files<File = File>>(rt: &R, alloc: Global, name: &str) -> Result
     read_whole(alloc, &mut file)
 }
 
-/// Reads CERT whole, where the verb has one.
-pub fn read_certificate<R: Files<File = File>>(
+/// Opens CERT, where the verb has one, as [`open_operand`] does: `-` is a file of that name. It may have no more bytes than an
+/// input that is read whole.
+pub fn open_certificate<R: Files<File = File>>(
     rt: &R,
     alloc: Global,
     run: &Run<'_>,
-) -> Result<Vec<u8>, RunFault>
-    ensures none { takes_cert run.now.command.verb ≡ false → MatchResult result (λ cert. cert.items ≡ []) (λ _. ⊥) }
+) -> Result<Operand, RunFault>
+    ensures none { takes_cert run.now.command.verb ≡ false → MatchResult result IsNothing (λ _. ⊥) }
+    ensures hex { run.now.command.hex ≡ true → IfOk result IsReadWhole }
+    ensures short { IfOk result IsShort }
     ensures faults { IfErr result IsInputFault }
 {
     match run.command.verb {
-        Verb::Lint | Verb::Certify => Ok(Vec::new(alloc)),
-        Verb::Check | Verb::Get | Verb::Print => read_file(rt, alloc, run.cert),
+        Verb::Lint | Verb::Certify => Ok(Operand::Whole(Vec::new(alloc))),
+        Verb::Check | Verb::Get | Verb::Print => {
+            let cert = open_file(rt, alloc, run.cert, run.command.hex)?;
+            if cert.len() > WHOLE_LIMIT as u64 {
+                return Err(RunFault::InputTooLong);
+            }
+            Ok(cert)
+        }
     }
 }

@@ -9,7 +9,7 @@
 //! |---|---|
 //! | `args`, `subcommands` | the command line, by clap: a function for each argument and subcommand |
 //! | `file_names` | names of files in lines |
-//! | `input` | FILE and CERT: a file through windows, or read whole |
+//! | `input` | FILE and CERT: open and read by place, or read whole |
 //! | `output` | OUT, which is created with its first byte |
 //! | here | the runs: one command over one FILE by the engine, several FILEs of `lint`, `explain` |
 //!
@@ -28,14 +28,16 @@ mod output;
 mod subcommands;
 
 use args::{Line, Lint, Look, Run, Shown};
-use bplint_engine::{Command, Verb, list_on, run_on, run_over, show_on, show_text_on, undo_hex};
+use bplint_engine::{
+    Command, Verb, list_on, run_certified, run_over, show_on, show_text_on, undo_hex,
+};
 use bplint_lines::{RunFault, Said, explain, rule_text};
 use bplint_map::map_on;
 use bplist_objects::Rule;
 use bplist_octets::{Pane, SliceSource, Source, Window, Windows};
 use clap::Error;
 use clap::error::ErrorKind;
-use input::Operand;
+use input::{Inputs, Operand};
 use output::{LineOut, NoOut, OutFile};
 use std::alloc::{AllocError, Global};
 use std::fs::{File, Files};
@@ -57,55 +59,96 @@ struct Ending {
     under: String,
 }
 
-/// Runs a command over FILE.
+/// What a run does.
+#[derive(Drop)]
+struct Job<'a> {
+    command: &'a Command,
+    /// Whether more is said under a fault's line.
+    explains: bool,
+}
+
+/// Runs a command over its inputs.
 fn run_command<W: Write>(
     alloc: Global,
-    command: &Command,
-    operand: Operand,
-    cert: &[u8],
-    explains: bool,
+    job: &Job<'_>,
+    inputs: Inputs,
     out: &mut W,
 ) -> Result<Ending, RunFault>
-    requires { PrintsOnePath command.now }
+    requires { PrintsOnePath job.now.command.now }
 {
-    match operand {
-        Operand::Whole(text) => {
-            let answer = run_over(alloc, command, &text, cert, out);
-            let under = match &answer {
-                Err(fault) if explains => under_texts(alloc, command.hex, &text, cert, fault),
-                _ => String::new(alloc),
-            };
-            Ok(Ending { answer, under })
-        }
+    let command = job.command;
+    if command.hex {
+        return run_texts(alloc, job, inputs, out);
+    }
+    let Inputs { file, cert } = inputs;
+    match file {
+        Operand::Whole(file) => run_source(alloc, job, SliceSource::new(&file), cert, out),
         Operand::File(file) => {
             let mut file = Window::new(file);
             let mut panes = vec![in alloc; Pane::EMPTY; PANES].map_err(|_| RunFault::Memory)?;
-            let source = Windows::new(&mut file, &mut panes);
-            let (answer, mut source) = run_on(alloc, command, source, cert, out);
-            let under = match &answer {
-                Err(fault) if explains => under_fault(alloc, &mut source, cert, fault),
-                _ => String::new(alloc),
-            };
-            Ok(Ending { answer, under })
+            run_source(alloc, job, Windows::new(&mut file, &mut panes), cert, out)
         }
     }
 }
 
-/// What is said under a fault's line. A failed read or refused memory leaves the line alone.
-fn under_fault<S: Source>(alloc: Global, src: &mut S, cert: &[u8], fault: &RunFault) -> String {
-    match explain(alloc, src, cert, fault) {
+/// Runs a command over a source.
+fn run_source<S: Source + Drop, W: Write>(
+    alloc: Global,
+    job: &Job<'_>,
+    src: S,
+    cert: Operand,
+    out: &mut W,
+) -> Result<Ending, RunFault>
+    requires { PrintsOnePath job.now.command.now }
+{
+    let mut cert = cert;
+    let decoded = cert.decode(alloc)?;
+    let (answer, mut src) = run_certified(alloc, job.command, src, decoded, out);
+    let under = match &answer {
+        Err(fault) if job.explains => under_fault(alloc, &mut src, cert, fault),
+        _ => String::new(alloc),
+    };
+    Ok(Ending { answer, under })
+}
+
+/// Runs a command over hexadecimal texts.
+fn run_texts<W: Write>(
+    alloc: Global,
+    job: &Job<'_>,
+    inputs: Inputs,
+    out: &mut W,
+) -> Result<Ending, RunFault>
+    requires { PrintsOnePath job.now.command.now }
+{
+    let file = inputs.file.into_bytes(alloc)?;
+    let cert = inputs.cert.into_bytes(alloc)?;
+    let answer = run_over(alloc, job.command, &file, &cert, out);
+    let under = match &answer {
+        Err(fault) if job.explains => under_texts(alloc, &file, &cert, fault),
+        _ => String::new(alloc),
+    };
+    Ok(Ending { answer, under })
+}
+
+/// What is said under a fault's line. Only here are all bytes of CERT held at once. A failed read or refused memory leaves the
+/// line alone.
+fn under_fault<S: Source>(alloc: Global, src: &mut S, cert: Operand, fault: &RunFault) -> String {
+    let Ok(cert) = cert.into_bytes(alloc) else {
+        return String::new(alloc);
+    };
+    match explain(alloc, src, &cert, fault) {
         Ok(text) => text,
         Err(_) => String::new(alloc),
     }
 }
 
-/// The same for inputs that may be hexadecimal texts.
-fn under_texts(alloc: Global, hex: bool, file: &[u8], cert: &[u8], fault: &RunFault) -> String {
-    if !hex {
-        return under_fault(alloc, &mut SliceSource::new(file), cert, fault);
-    }
+/// The same for inputs that are hexadecimal texts.
+fn under_texts(alloc: Global, file: &[u8], cert: &[u8], fault: &RunFault) -> String {
     match (undo_hex(alloc, file), undo_hex(alloc, cert)) {
-        (Ok(file), Ok(cert)) => under_fault(alloc, &mut SliceSource::new(&file), &cert, fault),
+        (Ok(file), Ok(cert)) => {
+            let mut src = SliceSource::new(&file);
+            under_fault(alloc, &mut src, Operand::Whole(cert), fault)
+        }
         _ => String::new(alloc),
     }
 }
@@ -117,11 +160,15 @@ fn run<R: Files<File = File> + Input + Print>(
 ) -> Result<Ending, RunFault>
     requires { PrintsOnePath line.now.command }
 {
-    let operand = input::open_operand(rt, alloc, line.file, line.command.hex)?;
-    let cert = input::read_certificate(rt, alloc, line)?;
-    let mut out = OutFile::new(rt, line.out);
-    let (command, explains) = (&line.command, line.explain);
-    run_command(alloc, command, operand, &cert, explains, &mut out)
+    let inputs = Inputs {
+        file: input::open_operand(rt, alloc, line.file, line.command.hex)?,
+        cert: input::open_certificate(rt, alloc, line)?,
+    };
+    let job = Job {
+        command: &line.command,
+        explains: line.explain,
+    };
+    run_command(alloc, &job, inputs, &mut OutFile::new(rt, line.out))
 }
 
 /// Writes what a rule asks.
@@ -196,12 +243,19 @@ fn lint_file<R: Files<File = File> + Input + Print>(
         hex: lint.hex,
         sorted: false,
     };
-    let operand = input::open_operand(rt, alloc, name, lint.hex)?;
+    let inputs = Inputs {
+        file: input::open_operand(rt, alloc, name, lint.hex)?,
+        cert: Operand::Whole(Vec::new(alloc)),
+    };
+    let job = Job {
+        command: &command,
+        explains: lint.explain,
+    };
     if lint.quiet {
-        return run_command(alloc, &command, operand, &[], lint.explain, &mut NoOut);
+        return run_command(alloc, &job, inputs, &mut NoOut);
     }
     let mut out = LineOut::new(rt, alloc, prefix);
-    run_command(alloc, &command, operand, &[], lint.explain, &mut out)
+    run_command(alloc, &job, inputs, &mut out)
 }
 
 /// Lints files in their order, each to its end, and gives the greatest exit status of them.
