@@ -23,8 +23,8 @@ loop-done-init g c =
       same = refl;
       reached = omega arith;
       named = c.requires.named;
-      keys = λ honest. none_yet (λ keys n. IsVouchedBy c.args.walk.now.heights.now n → HasNamedKeys m.octets (frame_in m) keys.marks.items n) c.args.named.now;
-      running = λ honest. start m.octets (frame_in m) (lists c.args.walk.now.heights.now c.args.walk.now.keys.now) Quick (c.frame-objects.ensures.framed.framed honest);
+      keys = λ honest. none_yet (λ keys n. IsVouchedBy c.args.walk.heights.now n → HasNamedKeys m.octets (frame_in m) keys.marks.items n) c.args.named.now;
+      running = λ honest. start m.octets (frame_in m) (lists c.args.walk.heights.now c.args.walk.keys.now) Quick (c.frame-objects.ensures.framed.framed honest);
     }
 
 pub name_wanted-requires-clause-all : goal.name_wanted-requires-clause-all
@@ -40,7 +40,7 @@ returns-in_err-name_wanted-clause-exact g c = λ honest.
     let run = ((rw (c.in_ok-read_offsets_in.ensures.reads, v.same) at c.in_ok-used.ensures.exact) honest) places (v.running honest) in
     let exact = (rw (c.in_ok-used.ensures.reads, c.in_ok-read_offsets_in.ensures.reads, v.same) at c.in_err-name_wanted.ensures.exact) honest in
     let p = err_from_is_err_and c.from_residual-in_err-name_wanted.result c.from_residual-in_err-name_wanted.ensures.1 in
-    rw (p.1, p.2) (never_refused (IsWalkFault m.octets (frame_in m) (lists c.args.walk.now.heights.now c.args.walk.now.keys.now) c.args.walk.now.look) c.in_err-name_wanted.field-0.0
+    rw (p.1, p.2) (never_refused (IsWalkFault m.octets (frame_in m) (lists c.args.walk.heights.now c.args.walk.keys.now) c.args.walk.look) c.in_err-name_wanted.field-0.0
     (exact places run.kept (v.keys honest)))
 
 pub loop-done-preserved : goal.loop-done-preserved
@@ -57,12 +57,12 @@ loop-done-preserved g c =
           let places = (rw v.same at c.in_ok-read_offsets_in.ensures.offsets) honest in
           let run = ((rw (c.in_ok-read_offsets_in.ensures.reads, v.same) at c.in_ok-used.ensures.exact) honest) places (v.running honest) in
           let exact = (rw (c.in_ok-used.ensures.reads, c.in_ok-read_offsets_in.ensures.reads, v.same) at c.in_ok-name_wanted.ensures.exact) honest in
-          subst (λ k. IfSome c.name_wanted.new.named (λ keys. (n : ℕ) → n < c.loop-done.done + k → IsVouchedBy c.args.walk.now.heights.now n → HasNamedKeys m.octets (frame_in m) keys.marks.items n)) all
+          subst (λ k. IfSome c.name_wanted.new.named (λ keys. (n : ℕ) → n < c.loop-done.done + k → IsVouchedBy c.args.walk.heights.now n → HasNamedKeys m.octets (frame_in m) keys.marks.items n)) all
           (exact places run.kept (v.keys honest));
       running = λ honest.
           let places = (rw v.same at c.in_ok-read_offsets_in.ensures.offsets) honest in
           let exact = (rw (c.in_ok-read_offsets_in.ensures.reads, v.same) at c.in_ok-used.ensures.exact) honest in
-          subst (λ k. AreCheckedBelow m.octets (frame_in m) (lists c.args.walk.now.heights.now c.args.walk.now.keys.now) Quick (c.loop-done.done + k) c.in_ok-used.used) all
+          subst (λ k. AreCheckedBelow m.octets (frame_in m) (lists c.args.walk.heights.now c.args.walk.keys.now) Quick (c.loop-done.done + k) c.in_ok-used.used) all
           (exact places (v.running honest));
     }
 
@@ -71,7 +71,7 @@ returns-clause-exact g c = λ honest.
     let m = g.P.Source.means c.args.src.now in
     let objects : c.frame-objects.result.objects ≡ (frame_in m).objects = ap (λ (x : Frame). x.objects) c.frame-objects.ensures.frame in
     let e : c.loop-done.done ≡ (frame_in m).objects = omega (arith, objects, c.loop-done.invariant.reached, c.loop-done-test.false) in
-    subst (λ k. AreCheckedBelow m.octets (frame_in m) (lists c.args.walk.now.heights.now c.args.walk.now.keys.now) Quick k c.loop-done.used) e
+    subst (λ k. AreCheckedBelow m.octets (frame_in m) (lists c.args.walk.heights.now c.args.walk.keys.now) Quick k c.loop-done.used) e
     (c.loop-done.invariant.running honest)
 
 pub returns-clause-keys : goal.returns-clause-keys
@@ -79,5 +79,5 @@ returns-clause-keys g c = λ honest.
     let m = g.P.Source.means c.args.src.now in
     let objects : c.frame-objects.result.objects ≡ (frame_in m).objects = ap (λ (x : Frame). x.objects) c.frame-objects.ensures.frame in
     let e : c.loop-done.done ≡ (frame_in m).objects = omega (arith, objects, c.loop-done.invariant.reached, c.loop-done-test.false) in
-    subst (λ k. IfSome c.loop-done.named (λ keys. (n : ℕ) → n < k → IsVouchedBy c.args.walk.now.heights.now n → HasNamedKeys m.octets (frame_in m) keys.marks.items n)) e
+    subst (λ k. IfSome c.loop-done.named (λ keys. (n : ℕ) → n < k → IsVouchedBy c.args.walk.heights.now n → HasNamedKeys m.octets (frame_in m) keys.marks.items n)) e
     (c.loop-done.invariant.keys honest)
