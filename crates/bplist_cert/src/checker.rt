@@ -33,8 +33,8 @@ use crate::keys_look::{KeysLook, keys_look};
 use crate::refusal::Refusal;
 use crate::vouched_prefix::VouchedPrefix;
 use bplist_objects::{
-    Fault, Frame, Framed, Head, ObjectFault, ObjectNo, Plist, Rule, check_body, frame_of, head_in,
-    read_offsets_in, refs_of, shape_in,
+    Fault, Frame, Framed, Head, ObjectFault, ObjectNo, Plist, Rule, Visit, check_body, frame_of,
+    head_in, read_offsets_in, refs_of, visit_in,
 };
 use bplist_octets::Source;
 use std::alloc::Global;
@@ -52,7 +52,7 @@ enum Look {
 }
 
 /// What a walk over the vouched objects goes by, beside the source.
-#[derive(Drop)]
+#[derive(Clone, Copy, Drop)]
 struct Walk<'a> {
     heights: &'a [u32],
     keys: &'a Option<KeyLists>,
@@ -63,16 +63,16 @@ struct Walk<'a> {
 /// by rules 20, 28 and 29 at once, since objects alone have heights. A fault does not say which of them is broken.
 fn check_contents<P: Framed>(
     src: &mut P,
-    walk: &Walk,
+    walk: Walk,
     n: ObjectNo,
     place: u64,
     head: &Head,
 ) -> Result<(), ObjectFault>
-    requires all { length walk.now.heights.now ≡ (frame_in (P.means src.old)).objects }
+    requires all { length walk.heights.now ≡ (frame_in (P.means src.old)).objects }
     requires head { IsSafeHead (frame_in (P.means src.old)) head.now }
     ensures reads { OnlyReads (read_failed result) (P.means src.old) (P.means src.new) }
     ensures kept { HonestlyIn (P.means src.old) (λ f F. place ≡ off f F n.0 → HasHead f F n.0 head.now
-        → IfOk result (λ _. KeepsAll (KeepsByObject f F n.0) body_rules × AreLower f F walk.now.heights.now n.0 head.now)) }
+        → IfOk result (λ _. KeepsAll (KeepsByObject f F n.0) body_rules × AreLower f F walk.entry.heights.now n.0 head.now)) }
 {
     let frame = src.frame();
     if refs_of(head) == 0 {
@@ -82,93 +82,59 @@ fn check_contents<P: Framed>(
     check_refs(src, walk.heights, n, head, Wanted::VouchedBelow(own))
 }
 
-/// Looks at object `n` as `check_object` does, and reads no byte twice.
-fn look_quickly<P: Framed>(
-    src: &mut P,
-    walk: &Walk,
-    n: ObjectNo,
-    place: u64,
-    used: u64,
-) -> Result<u64, Refusal>
-    requires all { length walk.now.heights.now ≡ (frame_in (P.means src.old)).objects }
-    requires within { n.0 < (frame_in (P.means src.old)).objects }
-    ensures reads { OnlyReads (refused_read result) (P.means src.old) (P.means src.new) }
-    ensures memory { IfErr result (MayRefuse walk.now.keys.now) }
-    ensures exact { HonestlyIn (P.means src.old) (λ f F. place ≡ off f F n.0
-        → IsVouchedBy walk.now.heights.now n.0 → Sums f F (IsVouchedBy walk.now.heights.now) n.0 used
-        → Judges (IsCheckedObject f F (lists walk.now.heights.now walk.now.keys.now) quick n.0)
-        (IsShownFault f F (lists walk.now.heights.now walk.now.keys.now) quick n.0) result) }
-{
-    let _frame = src.frame();
-    let head = shape_in(src, n, place)?;
-    let now = check_extent(src, n, &head, place, used)?;
-    check_contents(src, walk, n, place, &head)?;
-    Ok(now)
-}
-
-/// Looks at object `n` as `check_object` does, by the rules in their order.
-fn look_exactly<P: Framed>(
-    src: &mut P,
-    walk: &Walk,
-    n: ObjectNo,
-    place: u64,
-    used: u64,
-) -> Result<u64, Refusal>
-    requires { n.0 < (frame_in (P.means src.old)).objects }
-    ensures reads { OnlyReads (refused_read result) (P.means src.old) (P.means src.new) }
-    ensures memory { IfErr result (MayRefuse walk.now.keys.now) }
-    ensures exact { HonestlyIn (P.means src.old) (λ f F. place ≡ off f F n.0
-        → IsVouchedBy walk.now.heights.now n.0 → Sums f F (IsVouchedBy walk.now.heights.now) n.0 used
-        → Judges (IsCheckedObject f F (lists walk.now.heights.now walk.now.keys.now) quick n.0)
-        (IsShownFault f F (lists walk.now.heights.now walk.now.keys.now) exact n.0) result) }
-{
-    let _frame = src.frame();
-    let head = head_in(src, n, place)?;
-    let now = check_extent(src, n, &head, place, used)?;
-    check_heights(src, walk.heights, n, &head)?;
-    Ok(now)
-}
-
 /// Looks at object `n`, which is vouched for and stands at `place`, by the rules before those of keys, where the vouched
-/// objects before it take `used` bytes, and answers how many they take with it.
+/// objects before it take `used` bytes, and answers how many they take with it. A quick look reads no byte twice.
 fn check_object<P: Framed>(
     src: &mut P,
-    walk: &Walk,
+    walk: Walk,
     n: ObjectNo,
     place: u64,
     used: u64,
 ) -> Result<u64, Refusal>
-    requires all { length walk.now.heights.now ≡ (frame_in (P.means src.old)).objects }
+    requires all { length walk.heights.now ≡ (frame_in (P.means src.old)).objects }
     requires within { n.0 < (frame_in (P.means src.old)).objects }
     ensures reads { OnlyReads (refused_read result) (P.means src.old) (P.means src.new) }
-    ensures memory { IfErr result (MayRefuse walk.now.keys.now) }
+    ensures memory { IfErr result (MayRefuse walk.entry.keys.now) }
     ensures exact { HonestlyIn (P.means src.old) (λ f F. place ≡ off f F n.0
-        → IsVouchedBy walk.now.heights.now n.0 → Sums f F (IsVouchedBy walk.now.heights.now) n.0 used
-        → Judges (IsCheckedObject f F (lists walk.now.heights.now walk.now.keys.now) quick n.0)
-        (IsShownFault f F (lists walk.now.heights.now walk.now.keys.now) walk.now.look n.0) result) }
+        → IsVouchedBy walk.entry.heights.now n.0 → Sums f F (IsVouchedBy walk.entry.heights.now) n.0 used
+        → Judges (IsCheckedObject f F (lists walk.entry.heights.now walk.entry.keys.now) quick n.0)
+        (IsShownFault f F (lists walk.entry.heights.now walk.entry.keys.now) walk.entry.look n.0) result) }
 {
+    let _frame = src.frame();
     match walk.look {
-        Look::Quick => look_quickly(src, walk, n, place, used),
-        Look::Exact => look_exactly(src, walk, n, place, used),
+        Look::Quick => match visit_in(src, n, place)? {
+            Visit::Done(end) => Ok(check_extent(src, n, place, end, used)?),
+            Visit::Body(head) => {
+                let now = check_extent(src, n, place, head.end, used)?;
+                check_contents(src, walk, n, place, &head)?;
+                Ok(now)
+            }
+        },
+        Look::Exact => {
+            let head = head_in(src, n, place)?;
+            let now = check_extent(src, n, place, head.end, used)?;
+            check_heights(src, walk.heights, n, &head)?;
+            Ok(now)
+        }
     }
 }
 
 /// Looks at object `n`, which stands at `place`, where the vouched objects before it are as they should be.
 fn check_step<P: Framed>(
     src: &mut P,
-    walk: &Walk,
+    walk: Walk,
     n: ObjectNo,
     place: u64,
     used: u64,
 ) -> Result<u64, Refusal>
-    requires all { length walk.now.heights.now ≡ (frame_in (P.means src.old)).objects }
+    requires all { length walk.heights.now ≡ (frame_in (P.means src.old)).objects }
     requires within { n.0 < (frame_in (P.means src.old)).objects }
     ensures reads { OnlyReads (refused_read result) (P.means src.old) (P.means src.new) }
-    ensures memory { IfErr result (MayRefuse walk.now.keys.now) }
+    ensures memory { IfErr result (MayRefuse walk.entry.keys.now) }
     ensures exact { HonestlyIn (P.means src.old) (λ f F. place ≡ off f F n.0
-        → AreCheckedBelow f F (lists walk.now.heights.now walk.now.keys.now) quick n.0 used
-        → Judges (AreCheckedBelow f F (lists walk.now.heights.now walk.now.keys.now) quick (suc n.0))
-        (IsWalkFault f F (lists walk.now.heights.now walk.now.keys.now) walk.now.look) result) }
+        → AreCheckedBelow f F (lists walk.entry.heights.now walk.entry.keys.now) quick n.0 used
+        → Judges (AreCheckedBelow f F (lists walk.entry.heights.now walk.entry.keys.now) quick (suc n.0))
+        (IsWalkFault f F (lists walk.entry.heights.now walk.entry.keys.now) walk.entry.look) result) }
 {
     if height_at(walk.heights, n.0 as u64) == 0 {
         return Ok(used);
@@ -179,20 +145,20 @@ fn check_step<P: Framed>(
 /// Looks at the objects from number `from` on, which stand at these places.
 fn check_block<P: Framed>(
     src: &mut P,
-    walk: &Walk,
+    walk: Walk,
     from: u32,
     places: &[u64],
     used: u64,
 ) -> Result<u64, Refusal>
-    requires all { length walk.now.heights.now ≡ (frame_in (P.means src.old)).objects }
+    requires all { length walk.heights.now ≡ (frame_in (P.means src.old)).objects }
     requires within { from + length places.now ≤ (frame_in (P.means src.old)).objects }
     ensures reads { OnlyReads (refused_read result) (P.means src.old) (P.means src.new) }
-    ensures memory { IfErr result (MayRefuse walk.now.keys.now) }
+    ensures memory { IfErr result (MayRefuse walk.entry.keys.now) }
     ensures exact { HonestlyIn (P.means src.old) (λ f F. ((k : ℕ) → k < length places.now
         → slice_index places.now k ≡ off f F (from + k))
-        → AreCheckedBelow f F (lists walk.now.heights.now walk.now.keys.now) quick from used
-        → Judges (AreCheckedBelow f F (lists walk.now.heights.now walk.now.keys.now) quick (from + length places.now))
-        (IsWalkFault f F (lists walk.now.heights.now walk.now.keys.now) walk.now.look) result) }
+        → AreCheckedBelow f F (lists walk.entry.heights.now walk.entry.keys.now) quick from used
+        → Judges (AreCheckedBelow f F (lists walk.entry.heights.now walk.entry.keys.now) quick (from + length places.now))
+        (IsWalkFault f F (lists walk.entry.heights.now walk.entry.keys.now) walk.entry.look) result) }
 {
     let _frame = src.frame();
     let mut used = used;
@@ -205,18 +171,18 @@ fn check_block<P: Framed>(
 
 /// Looks at all vouched objects, in the order of their numbers, and at the keys of the dictionaries among them: block by block,
 /// as places and objects are at hand then. How many bytes they take.
-fn check_all<P: Framed>(src: &mut P, walk: &Walk, found: &mut KeysLook) -> Result<u64, Refusal>
-    requires all { length walk.now.heights.now ≡ (frame_in (P.means src.old)).objects }
+fn check_all<P: Framed>(src: &mut P, walk: Walk, found: &mut KeysLook) -> Result<u64, Refusal>
+    requires all { length walk.heights.now ≡ (frame_in (P.means src.old)).objects }
     requires found { IsLookOf (frame_in (P.means src.old)).objects found.old }
     ensures reads { OnlyReads (refused_read result) (P.means src.old) (P.means src.new) }
-    ensures memory { IfErr result (MayRefuse walk.now.keys.now) }
-    ensures exact { HonestlyIn (P.means src.old) (λ f F. AreSeen f F walk.now.heights.now 0 found.old
-        → Judges (AreCheckedBelow f F (lists walk.now.heights.now walk.now.keys.now) quick F.objects)
-        (IsWalkFault f F (lists walk.now.heights.now walk.now.keys.now) walk.now.look) result) }
+    ensures memory { IfErr result (MayRefuse walk.entry.keys.now) }
+    ensures exact { HonestlyIn (P.means src.old) (λ f F. AreSeen f F walk.entry.heights.now 0 found.old
+        → Judges (AreCheckedBelow f F (lists walk.entry.heights.now walk.entry.keys.now) quick F.objects)
+        (IsWalkFault f F (lists walk.entry.heights.now walk.entry.keys.now) walk.entry.look) result) }
     ensures found { IsLookOf (frame_in (P.means src.old)).objects found.new }
     ensures same { keys_of found.new ≡ keys_of found.old }
-    ensures keys { HonestlyIn (P.means src.old) (λ f F. AreSeen f F walk.now.heights.now 0 found.old
-        → Judges (λ _. AreSeen f F walk.now.heights.now F.objects found.new) (λ _. AreSeen f F walk.now.heights.now 0 found.new) result) }
+    ensures keys { HonestlyIn (P.means src.old) (λ f F. AreSeen f F walk.entry.heights.now 0 found.old
+        → Judges (λ _. AreSeen f F walk.entry.heights.now F.objects found.new) (λ _. AreSeen f F walk.entry.heights.now 0 found.new) result) }
 {
     let objects = src.frame().objects;
     let mut buffer = [0u64; BLOCK];
@@ -258,13 +224,13 @@ fn check_in_passes<P: Framed>(
         keys,
         look: Look::Quick,
     };
-    match check_all(src, &walk, found) {
+    match check_all(src, walk, found) {
         Err(Refusal::Fault(_)) => {}
         answer => return answer,
     }
     walk.look = Look::Exact;
     found.forget();
-    check_all(src, &walk, found)
+    check_all(src, walk, found)
 }
 
 /// The number of the object that a fault is of.

@@ -4,25 +4,27 @@ ghost use Rattle.std.specs.Prelude.{◌≡◌, ◌+◌, ◌-◌, ◌≤◌, ◌<
 ghost use Rattle.bplist_objects.specs.Framed.{frame_in};
 ghost use Rattle.bplist_objects.specs.declared.rule.Rule.TheVariants.{Overfull};
 
-use bplist_objects::{Fault, Framed, Head, ObjectNo, Rule};
+use bplist_objects::{Fault, Framed, ObjectNo, Rule};
 
 /// The bytes that the vouched objects take, where those before object `n` take `used` and `n` stands at
-/// `place`.
+/// `place` and ends at `end`.
+#[inline(always)]
 pub(crate) fn check_extent<P: Framed>(
     src: &P,
     n: ObjectNo,
-    head: &Head,
     place: u64,
+    end: u64,
     used: u64,
 ) -> Result<u64, Fault>
+    requires { place < «end» }
     ensures { MatchResult result
-        (λ now. (now ≡ used + (head.now.«end» - place)) × (now + 8 ≤ (frame_in (P.means src.now)).table))
+        (λ now. (now ≡ used + («end» - place)) × (now + 8 ≤ (frame_in (P.means src.now)).table))
         (λ fault. (fault.rule ≡ Overfull) × (fault.object ≡ Some n) × (fault.place ≡ place)
-        × ((frame_in (P.means src.now)).table < used + (head.now.«end» - place) + 8)) }
+        × ((frame_in (P.means src.now)).table < used + («end» - place) + 8)) }
 {
-    let extent = head.end.saturating_sub(place);
-    let left = src.frame().table.saturating_sub(used);
-    if extent >= left.saturating_sub(7) {
+    let extent = end - place;
+    let room = src.frame().table - 8;
+    if extent > room.saturating_sub(used) {
         return Err(Fault {
             rule: Rule::Overfull,
             object: Some(n),

@@ -118,7 +118,7 @@ module _ (f : List ℕ) (p : ℕ) where
       if_true _ u (long_is_found count body long)
 
   -- what is found is announced
-  found_announced : (form : Markers) → (least_marker form ≤ m) × (m ≤ greatest_marker form) → (x : ℕ × ℕ) → count_found f p form ≡ Some x → AnnouncesAs f p form x.0 x.1
+  pub found_announced : (form : Markers) → (least_marker form ≤ m) × (m ≤ greatest_marker form) → (x : ℕ × ℕ) → count_found f p form ≡ Some x → AnnouncesAs f p form x.0 x.1
   found_announced (plain low high says) marks x e =
       let r = same_Some (says m, p + 1) x e in
       (marks.0, marks.1, sym (ap (λ y. y.0) r), sym (ap (λ y. y.1) r))

@@ -30,3 +30,4 @@ pub mod SmallFiles
 pub mod ReachedObjects
 pub mod HeadAnswers
 pub mod KeptOrBroken
+pub mod VisitLaws

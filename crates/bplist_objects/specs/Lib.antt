@@ -23,3 +23,4 @@ pub mod Words
 pub mod Spelled
 pub mod SmallFiles
 pub mod Framed
+pub mod Visits

@@ -69,22 +69,21 @@ fn long_shape<S: Source>(
     })
 }
 
-/// The head of object `n`, whose place is known, by the rules of marker and count.
+/// The marker of object `n`, whose place is known.
 #[inline(always)]
-fn shape_by_rules<S: Source>(
+pub(crate) fn marker_at<S: Source>(
     src: &mut S,
     frame: &Frame,
     n: ObjectNo,
     place: u64,
-) -> Result<Head, ObjectFault>
+) -> Result<u8, ObjectFault>
     requires safe { IsSafe (length (S.means src.old).octets) frame.now }
     requires within { n.0 < frame.now.objects }
     ensures reads { OnlyReads (read_failed result) (S.means src.old) (S.means src.new) }
     ensures rules { HonestlyBy (S.means src.old) frame.now (λ f F. place ≡ off f F n.0
-        → Gives (λ head. HasHead f F n.0 head × KeepsAll (KeepsByObject f F n.0) shape_rules)
-        (IsObjectFault f F n.0 shape_rules) result) }
-    ensures safe { IfOk result (IsSafeHead frame.now) }
-    ensures behind { IfOk result (λ head. place < head.body) }
+        → Gives (λ marker. slice_index f place ≡ marker) (IsObjectFault f F n.0 shape_rules) result) }
+    ensures low { IfOk result (λ _. 8 ≤ place) }
+    ensures inside { IfOk result (λ _. place < frame.now.table) }
 {
     if place < 8 {
         return Err(broken(Rule::OffsetLow, n, entry_place(frame, n.0, src.len())));
@@ -92,7 +91,29 @@ fn shape_by_rules<S: Source>(
     if place >= frame.table {
         return Err(high_entry(frame, n, src.len()).into());
     }
-    let marker = octet_in(src, place)?;
+    Ok(octet_in(src, place)?)
+}
+
+/// The head of object `n`, whose place is known, by its marker.
+#[inline(always)]
+pub(crate) fn head_by_marker<S: Source>(
+    src: &mut S,
+    frame: &Frame,
+    n: ObjectNo,
+    place: u64,
+    marker: u8,
+) -> Result<Head, ObjectFault>
+    requires safe { IsSafe (length (S.means src.old).octets) frame.now }
+    requires low { 8 ≤ place }
+    requires inside { place < frame.now.table }
+    ensures reads { OnlyReads (read_failed result) (S.means src.old) (S.means src.new) }
+    ensures rules { HonestlyBy (S.means src.old) frame.now (λ f F. place ≡ off f F n.0
+        → slice_index f place ≡ marker
+        → Gives (λ head. HasHead f F n.0 head × KeepsAll (KeepsByObject f F n.0) shape_rules)
+        (IsObjectFault f F n.0 shape_rules) result) }
+    ensures safe { IfOk result (IsSafeHead frame.now) }
+    ensures behind { IfOk result (λ head. place < head.body) }
+{
     let Some(kind) = kind_of(marker) else {
         return Err(broken(Rule::Marker, n, place));
     };
@@ -111,6 +132,27 @@ fn shape_by_rules<S: Source>(
         body,
         end: body + size,
     })
+}
+
+/// The head of object `n`, whose place is known, by the rules of marker and count.
+#[inline(always)]
+fn shape_by_rules<S: Source>(
+    src: &mut S,
+    frame: &Frame,
+    n: ObjectNo,
+    place: u64,
+) -> Result<Head, ObjectFault>
+    requires safe { IsSafe (length (S.means src.old).octets) frame.now }
+    requires within { n.0 < frame.now.objects }
+    ensures reads { OnlyReads (read_failed result) (S.means src.old) (S.means src.new) }
+    ensures rules { HonestlyBy (S.means src.old) frame.now (λ f F. place ≡ off f F n.0
+        → Gives (λ head. HasHead f F n.0 head × KeepsAll (KeepsByObject f F n.0) shape_rules)
+        (IsObjectFault f F n.0 shape_rules) result) }
+    ensures safe { IfOk result (IsSafeHead frame.now) }
+    ensures behind { IfOk result (λ head. place < head.body) }
+{
+    let marker = marker_at(src, frame, n, place)?;
+    head_by_marker(src, frame, n, place, marker)
 }
 
 /// The head of object `n`, by marker and count alone, or the first of rules 14 to 17 that it breaks.

@@ -19,6 +19,7 @@
 //! | the order of a text and given units | [`key_cmp`] |
 //! | a source with its frame | [`Framed`], [`Plist`] |
 //! | the same calls over that | [`shape_in`], [`head_in`], [`offset_in`], [`read_offsets_in`], [`read_refs_in`], [`ref_place`] |
+//! | the first look at an object over that, which for many leaves is all of it | [`visit_in`], [`Visit`] |
 //! | broken rules, their words and numbers | [`Rule`], [`rule_name`], [`rule_number`], [`rule_of_number`], [`Fault`], [`ObjectFault`] |
 //!
 //! The laws tie the definitions: an object has at most one head and one value (`one_head`, `one_value`), rules are kept exactly
@@ -42,6 +43,7 @@ mod refs;
 mod rule;
 mod scan;
 mod text;
+mod visit;
 
 pub use body::{check_body, head_at, head_of};
 pub use fault::{Fault, ObjectFault};
@@ -62,3 +64,4 @@ pub use refs::{read_refs, ref_at, refs_of};
 pub use rule::{Rule, rule_name, rule_number, rule_of_number};
 pub use scan::first_high_in;
 pub use text::{key_cmp, read_units, unit_at};
+pub use visit::{Visit, visit_in};

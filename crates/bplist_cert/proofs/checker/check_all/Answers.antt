@@ -20,7 +20,7 @@ loop-done-init g c =
       found = c.requires.found;
       keyed = refl;
       keys = λ honest seen. seen;
-      running = λ honest. start m.octets (frame_in m) (lists c.args.walk.now.heights.now c.args.walk.now.keys.now) Quick (c.frame-objects.ensures.framed.framed honest);
+      running = λ honest. start m.octets (frame_in m) (lists c.args.walk.heights.now c.args.walk.keys.now) Quick (c.frame-objects.ensures.framed.framed honest);
     }
 
 pub look-requires-clause-all : goal.look-requires-clause-all
@@ -36,7 +36,7 @@ returns-in_err-look-clause-exact g c = λ honest seen.
     let run = ((rw (c.in_ok-read_offsets_in.ensures.reads, v.same) at c.in_ok-used.ensures.exact) honest) places (v.running honest) in
     let exact = (rw (c.in_ok-used.ensures.reads, c.in_ok-read_offsets_in.ensures.reads, v.same) at c.in_err-look.ensures.exact) honest in
     let p = err_from_is_err_and c.from_residual-in_err-look.result c.from_residual-in_err-look.ensures.1 in
-    rw (p.1, p.2) (never_refused (IsWalkFault m.octets (frame_in m) (lists c.args.walk.now.heights.now c.args.walk.now.keys.now) c.args.walk.now.look) c.in_err-look.field-0.0
+    rw (p.1, p.2) (never_refused (IsWalkFault m.octets (frame_in m) (lists c.args.walk.heights.now c.args.walk.keys.now) c.args.walk.look) c.in_err-look.field-0.0
     (exact places run.kept (v.keys honest seen)))
 
 pub returns-in_err-look-clause-keys : goal.returns-in_err-look-clause-keys
@@ -47,14 +47,14 @@ returns-in_err-look-clause-keys g c = λ honest seen.
     let run = ((rw (c.in_ok-read_offsets_in.ensures.reads, v.same) at c.in_ok-used.ensures.exact) honest) places (v.running honest) in
     let exact = (rw (c.in_ok-used.ensures.reads, c.in_ok-read_offsets_in.ensures.reads, v.same) at c.in_err-look.ensures.exact) honest in
     let p = err_from_is_err_and c.from_residual-in_err-look.result c.from_residual-in_err-look.ensures.1 in
-    rw (p.1, p.2) (never_refused (λ _. AreSeen m.octets (frame_in m) c.args.walk.now.heights.now 0 c.look.new.self) c.in_err-look.field-0.0 (exact places run.kept (v.keys honest seen)))
+    rw (p.1, p.2) (never_refused (λ _. AreSeen m.octets (frame_in m) c.args.walk.heights.now 0 c.look.new.self) c.in_err-look.field-0.0 (exact places run.kept (v.keys honest seen)))
 
 pub returns-in_err-used-clause-keys : goal.returns-in_err-used-clause-keys
 returns-in_err-used-clause-keys g c = λ honest seen.
     let m = g.P.Source.means c.args.src.now in
     let p = err_from_is_err_and c.from_residual-in_err-used.result c.from_residual-in_err-used.ensures.1 in
-    rw (p.1, p.2) (refused_always (AreSeen m.octets (frame_in m) c.args.walk.now.heights.now 0 c.loop-done.found)
-    (none_seen m.octets (frame_in m) c.args.walk.now.heights.now c.loop-done.done c.loop-done.found (c.loop-done.invariant.keys honest seen)) c.in_err-used.field-0.0)
+    rw (p.1, p.2) (refused_always (AreSeen m.octets (frame_in m) c.args.walk.heights.now 0 c.loop-done.found)
+    (none_seen m.octets (frame_in m) c.args.walk.heights.now c.loop-done.done c.loop-done.found (c.loop-done.invariant.keys honest seen)) c.in_err-used.field-0.0)
 
 pub loop-done-preserved : goal.loop-done-preserved
 loop-done-preserved g c =
@@ -71,12 +71,12 @@ loop-done-preserved g c =
           let places = (rw v.same at c.in_ok-read_offsets_in.ensures.offsets) honest in
           let run = ((rw (c.in_ok-read_offsets_in.ensures.reads, v.same) at c.in_ok-used.ensures.exact) honest) places (v.running honest) in
           let exact = (rw (c.in_ok-used.ensures.reads, c.in_ok-read_offsets_in.ensures.reads, v.same) at c.in_ok-look.ensures.exact) honest in
-          subst (λ k. AreSeen m.octets (frame_in m) c.args.walk.now.heights.now (c.loop-done.done + k) c.look.new.self) all
+          subst (λ k. AreSeen m.octets (frame_in m) c.args.walk.heights.now (c.loop-done.done + k) c.look.new.self) all
           (exact places run.kept (v.keys honest seen));
       running = λ honest.
           let places = (rw v.same at c.in_ok-read_offsets_in.ensures.offsets) honest in
           let exact = (rw (c.in_ok-read_offsets_in.ensures.reads, v.same) at c.in_ok-used.ensures.exact) honest in
-          subst (λ k. AreCheckedBelow m.octets (frame_in m) (lists c.args.walk.now.heights.now c.args.walk.now.keys.now) Quick (c.loop-done.done + k) c.in_ok-used.used) all
+          subst (λ k. AreCheckedBelow m.octets (frame_in m) (lists c.args.walk.heights.now c.args.walk.keys.now) Quick (c.loop-done.done + k) c.in_ok-used.used) all
           (exact places (v.running honest));
     }
 
@@ -85,7 +85,7 @@ returns-clause-exact g c = λ honest seen.
     let m = g.P.Source.means c.args.src.now in
     let objects : c.frame-objects.result.objects ≡ (frame_in m).objects = ap (λ (x : Frame). x.objects) c.frame-objects.ensures.frame in
     let e : c.loop-done.done ≡ (frame_in m).objects = omega (arith, objects, c.loop-done.invariant.reached, c.loop-done-test.false) in
-    subst (λ k. AreCheckedBelow m.octets (frame_in m) (lists c.args.walk.now.heights.now c.args.walk.now.keys.now) Quick k c.loop-done.used) e
+    subst (λ k. AreCheckedBelow m.octets (frame_in m) (lists c.args.walk.heights.now c.args.walk.keys.now) Quick k c.loop-done.used) e
     (c.loop-done.invariant.running honest)
 
 pub returns-clause-keys : goal.returns-clause-keys
@@ -93,5 +93,5 @@ returns-clause-keys g c = λ honest seen.
     let m = g.P.Source.means c.args.src.now in
     let objects : c.frame-objects.result.objects ≡ (frame_in m).objects = ap (λ (x : Frame). x.objects) c.frame-objects.ensures.frame in
     let e : c.loop-done.done ≡ (frame_in m).objects = omega (arith, objects, c.loop-done.invariant.reached, c.loop-done-test.false) in
-    subst (λ k. AreSeen m.octets (frame_in m) c.args.walk.now.heights.now k c.loop-done.found) e
+    subst (λ k. AreSeen m.octets (frame_in m) c.args.walk.heights.now k c.loop-done.found) e
     (c.loop-done.invariant.keys honest seen)

@@ -12,7 +12,7 @@ loop-i-init g c =
       same = refl;
       running = λ honest places run.
           let e : c.args.from ≡ c.args.from + 0 = omega arith in
-          subst (λ k. AreCheckedBelow m.octets (frame_in m) (lists c.args.walk.now.heights.now c.args.walk.now.keys.now) Quick k c.args.used) e run;
+          subst (λ k. AreCheckedBelow m.octets (frame_in m) (lists c.args.walk.heights.now c.args.walk.keys.now) Quick k c.args.used) e run;
     }
 
 pub loop-i-preserved : goal.loop-i-preserved
@@ -23,7 +23,7 @@ loop-i-preserved g c =
       running = λ honest places run.
           let exact = rw c.loop-i.invariant.same at c.in_ok-used.ensures.exact in
           let e : suc (c.args.from + c.loop-i.i) ≡ c.args.from + (c.loop-i.i + 1) = omega arith in
-          subst (λ k. AreCheckedBelow m.octets (frame_in m) (lists c.args.walk.now.heights.now c.args.walk.now.keys.now) Quick k c.in_ok-used.used) e
+          subst (λ k. AreCheckedBelow m.octets (frame_in m) (lists c.args.walk.heights.now c.args.walk.keys.now) Quick k c.in_ok-used.used) e
           (exact honest (places c.loop-i.i c.loop-i-test.true) (c.loop-i.invariant.running honest places run));
     }
 
@@ -31,5 +31,5 @@ pub returns-clause-exact : goal.returns-clause-exact
 returns-clause-exact g c = λ honest places run.
     let m = g.P.Source.means c.args.src.now in
     let e : c.args.from + c.loop-i.i ≡ c.args.from + length c.args.places.now = omega (arith, c.loop-i-test.false, c.loop-i.auto.i-end) in
-    subst (λ k. AreCheckedBelow m.octets (frame_in m) (lists c.args.walk.now.heights.now c.args.walk.now.keys.now) Quick k c.loop-i.used) e
+    subst (λ k. AreCheckedBelow m.octets (frame_in m) (lists c.args.walk.heights.now c.args.walk.keys.now) Quick k c.loop-i.used) e
     (c.loop-i.invariant.running honest places run)

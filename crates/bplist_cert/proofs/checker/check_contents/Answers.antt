@@ -13,5 +13,5 @@ pub returns-clause-kept : goal.returns-clause-kept
 returns-clause-kept g c = λ honest place has.
     let m = g.P.Source.means c.args.src.now in
     let exact = rw c.height_at-own.ensures at c.check_refs.ensures.exact in
-    refs_seen m.octets (frame_in m) c.args.walk.now.heights.now c.args.n.0 c.args.head.now has
+    refs_seen m.octets (frame_in m) c.args.walk.heights.now c.args.n.0 c.args.head.now has
     (λ none. c.if-refs_of-eq0.false (c.refs_of.ensures ∙ none)) c.requires.all _ c.check_refs.result (exact honest)

@@ -8,10 +8,10 @@ use Rattle.bplist_cert.proofs.checker.check_step.Goals as goal
 pub returns-then-height_at-eq0-clause-exact : goal.returns-then-height_at-eq0-clause-exact
 returns-then-height_at-eq0-clause-exact g c = λ honest place run.
     let m = g.P.Source.means c.args.src.now in
-    passed m.octets (frame_in m) c.args.walk.now.heights.now c.args.walk.now.keys.now c.args.n.0 Quick (sym c.height_at.ensures ∙ c.if-height_at-eq0.true) c.args.used run
+    passed m.octets (frame_in m) c.args.walk.heights.now c.args.walk.keys.now c.args.n.0 Quick (sym c.height_at.ensures ∙ c.if-height_at-eq0.true) c.args.used run
 
 pub returns-clause-exact : goal.returns-clause-exact
 returns-clause-exact g c = λ honest place run.
     let m = g.P.Source.means c.args.src.now in
-    let v : IsVouchedBy c.args.walk.now.heights.now c.args.n.0 = omega (arith, c.height_at.ensures, c.if-height_at-eq0.false) in
-    stepped m.octets (frame_in m) c.args.walk.now.heights.now c.args.walk.now.keys.now c.args.n.0 c.args.walk.now.look v c.args.used run c.check_object.result (c.check_object.ensures.exact honest place v run.sums)
+    let v : IsVouchedBy c.args.walk.heights.now c.args.n.0 = omega (arith, c.height_at.ensures, c.if-height_at-eq0.false) in
+    stepped m.octets (frame_in m) c.args.walk.heights.now c.args.walk.keys.now c.args.n.0 c.args.walk.look v c.args.used run c.check_object.result (c.check_object.ensures.exact honest place v run.sums)

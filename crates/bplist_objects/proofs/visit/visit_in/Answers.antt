@@ -1,0 +1,31 @@
+use Rattle.std.proofs.Common.{◌≡◌, ◌≤◌, ◌<◌, ◌+◌, ◌∙◌, slice_index, sym, ap, refl, arith, Some}
+use Rattle.bplist_objects.specs.declared.rule.Rule.TheVariants.{Extent}
+use Rattle.bplist_objects.specs.declared.frame.Frame.{Frame}
+use Rattle.bplist_objects.specs.Framed.{frame_in}
+use Rattle.bplist_objects.specs.Frame.{off}
+use Rattle.bplist_objects.specs.Visits.{size_said}
+use Rattle.bplist_objects.proofs.VisitLaws.{said_kept, said_late}
+use Rattle.bplist_objects.proofs.visit.visit_in.Goals as goal
+
+pub returns-then-size-frame-clause-exact : goal.returns-then-size-frame-clause-exact
+returns-then-size-frame-clause-exact g c = λ honest at.
+    let f = (g.P.Source.means c.args.src.now).octets in
+    let F : Frame = frame_in (g.P.Source.means c.args.src.now) in
+    let marked = (rw c.frame-frame.ensures.frame at c.in_ok-marker.ensures.rules) honest (c.frame-frame.ensures.framed.framed honest) at in
+    let said : size_said (slice_index f (off f F c.args.n.0)) ≡ Some c.in-Some.size = ap size_said (ap (λ p. slice_index f p) (sym at) ∙ marked) ∙ sym c.size_said.ensures ∙ c.in-Some.is in
+    let table : c.frame-frame.result.table ≡ F.table = ap (λ (x : Frame). x.table) c.frame-frame.ensures.frame in
+    let far : 8 ≤ off f F c.args.n.0 = omega (arith, at, c.in_ok-marker.ensures.low) in
+    let late : F.table < off f F c.args.n.0 + c.in-Some.size = omega (arith, table, at, c.if-size-frame.true) in
+    rw c.broken.ensures (said_late f F c.args.n.0 c.in-Some.size far said late (record { rule = Extent; object = Some c.args.n; place = c.args.place }) refl refl at)
+
+pub returns-clause-exact : goal.returns-clause-exact
+returns-clause-exact g c = λ honest at.
+    let f = (g.P.Source.means c.args.src.now).octets in
+    let F : Frame = frame_in (g.P.Source.means c.args.src.now) in
+    let marked = (rw c.frame-frame.ensures.frame at c.in_ok-marker.ensures.rules) honest (c.frame-frame.ensures.framed.framed honest) at in
+    let said : size_said (slice_index f (off f F c.args.n.0)) ≡ Some c.in-Some.size = ap size_said (ap (λ p. slice_index f p) (sym at) ∙ marked) ∙ sym c.size_said.ensures ∙ c.in-Some.is in
+    let table : c.frame-frame.result.table ≡ F.table = ap (λ (x : Frame). x.table) c.frame-frame.ensures.frame in
+    let far : 8 ≤ off f F c.args.n.0 = omega (arith, at, c.in_ok-marker.ensures.low) in
+    let inside : off f F c.args.n.0 + c.in-Some.size ≤ F.table = omega (arith, table, at, c.if-size-frame.false, c.in_ok-marker.ensures.inside) in
+    let kept = said_kept f F c.args.n.0 c.in-Some.size far said inside in
+    (kept.0, kept.1, omega (arith, kept.2, at), kept.3, kept.4)

@@ -1,0 +1,50 @@
+-- What the first look at an object finds. Source: profile.
+use Rattle.std.specs.Prelude.{◌≡◌, ℕ, ◌+◌, ◌-◌, ◌*◌, ◌<◌, ◌≤◌, Bool, true, false, nat_eq, if◌then◌else◌, List, slice_index, Option, Some, None}
+use Rattle.std.specs.Option.{option_map, option_and_then}
+use Rattle.bplist_objects.specs.declared.frame.Frame.{Frame}
+use Rattle.bplist_objects.specs.declared.kind.Kind.{Kind}
+use Rattle.bplist_objects.specs.declared.kind.Kind.TheVariants as kinds
+use Rattle.bplist_objects.specs.declared.head.Head.{Head}
+use Rattle.bplist_objects.specs.declared.visit.Visit.{Visit}
+use Rattle.bplist_objects.specs.declared.visit.Visit.TheVariants as visits
+use Rattle.bplist_objects.specs.Frame.{off}
+use Rattle.bplist_objects.specs.Rules.{KeepsAll}
+use Rattle.bplist_objects.specs.Safe.{IsSafeHead, ref_count}
+use Rattle.bplist_objects.specs.Announced.{Markers, plain, counted, markers_of, item_size, kind_at, HasHead}
+use Rattle.bplist_objects.specs.ObjectRules.{KeepsByObject, shape_rules, object_rules}
+
+-- a rule looks into bodies of this kind
+abbrev pub is_looked_into : Kind → Bool
+is_looked_into kinds.Ascii = true
+is_looked_into kinds.Uid = true
+is_looked_into kinds.Array = true
+is_looked_into kinds.Set = true
+is_looked_into kinds.Dict = true
+is_looked_into _ = false
+
+-- the count that a marker of this form holds, if it does not follow
+abbrev pub count_in : Markers → ℕ → Option ℕ
+count_in (plain low high says) marker = Some (says marker)
+count_in (counted high) marker = if nat_eq marker (16 * high + 15) then None else Some (marker - 16 * high)
+
+-- how many bytes an object of this kind takes with its marker, if the marker says so and no rule looks into the body
+abbrev pub size_of_kind : ℕ → Kind → Option ℕ
+size_of_kind marker kind =
+    if is_looked_into kind then None else option_map (λ count. 1 + count * item_size 1 kind) (count_in (markers_of kind) marker)
+
+-- the same by the marker alone
+abbrev pub size_said : ℕ → Option ℕ
+size_said marker = option_and_then (size_of_kind marker) (kind_at marker)
+
+-- a visit of object n finds this: its end, where it keeps all rules of objects by themselves and has no references, or else, where its marker does not say its size, its head
+abbrev pub IsVisited : List ℕ → Frame → ℕ → Visit → Type 0
+IsVisited f F n (visits.Done last) =
+    (head : Head) × HasHead f F n head × (head.«end» ≡ last) × (ref_count head.kind head.count ≡ 0)
+    × KeepsAll (KeepsByObject f F n) object_rules
+IsVisited f F n (visits.Body head) =
+    HasHead f F n head × KeepsAll (KeepsByObject f F n) shape_rules × (size_said (slice_index f (off f F n)) ≡ None)
+
+-- what a visit of an object at this place finds lies behind the place and before the table
+abbrev pub IsSafeVisit : Frame → ℕ → Visit → Type 0
+IsSafeVisit F place (visits.Done last) = (place < last) × (last ≤ F.table)
+IsSafeVisit F place (visits.Body head) = IsSafeHead F head × (place < head.body)

@@ -1,0 +1,84 @@
+//! The first look at an object, which for many leaves is all of it.
+
+ghost use Rattle.std.specs.Prelude.{◌≡◌, ◌<◌, IfOk};
+ghost use Rattle.bplist_octets.specs.Meaning.{OnlyReads};
+ghost use Rattle.bplist_objects.specs.Framed.{frame_in, HonestlyIn};
+ghost use Rattle.bplist_objects.specs.Frame.{off};
+ghost use Rattle.bplist_objects.specs.Answers.{Gives, read_failed};
+ghost use Rattle.bplist_objects.specs.ObjectRules.{IsObjectFault, shape_rules};
+ghost use Rattle.bplist_objects.specs.Visits.{size_said, IsVisited, IsSafeVisit};
+
+use crate::fault::{ObjectFault, broken};
+use crate::frame::ObjectNo;
+use crate::framed::Framed;
+use crate::head::{Head, head_by_marker, marker_at};
+use crate::rule::Rule;
+
+/// What a visit of an object finds.
+#[derive(Clone, Copy, Debug, PartialEq, Eq, Drop)]
+pub enum Visit {
+    /// The object's marker says its size, and no rule looks into its body: it keeps all rules of an object by itself, and refers
+    /// to nothing. The place after its last byte, from the file's first byte.
+    Done(u64),
+    /// The head of any other object. Its body is still to be looked at.
+    Body(Head),
+}
+
+/// For each marker the bytes that an object with it takes, where the marker says so and no rule looks into the body; else 0. Each
+/// row has the markers of one high half, and the last those of the high halves from 7 on.
+static SIZES: [u8; 256] = [
+    // Null, False and True.
+    1, 0, 0, 0, 0, 0, 0, 0, 1, 1, 0, 0, 0, 0, 0, 0,
+    // Int.
+    2, 3, 5, 9, 17, 0, 0, 0, 0, 0, 0, 0, 0, 0, 0, 0,
+    // Real.
+    0, 0, 5, 9, 0, 0, 0, 0, 0, 0, 0, 0, 0, 0, 0, 0,
+    // Date.
+    0, 0, 0, 9, 0, 0, 0, 0, 0, 0, 0, 0, 0, 0, 0, 0,
+    // Bytes: one with a count of 15 has its count behind the marker.
+    1, 2, 3, 4, 5, 6, 7, 8, 9, 10, 11, 12, 13, 14, 15, 0,
+    // Ascii: rule 18 looks into it.
+    0, 0, 0, 0, 0, 0, 0, 0, 0, 0, 0, 0, 0, 0, 0, 0,
+    // Wide.
+    1, 3, 5, 7, 9, 11, 13, 15, 17, 19, 21, 23, 25, 27, 29, 0,
+    // No kind, or Uid, Array, Set and Dict: rules 19 and 20 look into them.
+    0, 0, 0, 0, 0, 0, 0, 0, 0, 0, 0, 0, 0, 0, 0, 0, 0, 0, 0, 0, 0, 0, 0, 0, 0, 0, 0, 0, 0, 0, 0, 0,
+    0, 0, 0, 0, 0, 0, 0, 0, 0, 0, 0, 0, 0, 0, 0, 0, 0, 0, 0, 0, 0, 0, 0, 0, 0, 0, 0, 0, 0, 0, 0, 0,
+    0, 0, 0, 0, 0, 0, 0, 0, 0, 0, 0, 0, 0, 0, 0, 0, 0, 0, 0, 0, 0, 0, 0, 0, 0, 0, 0, 0, 0, 0, 0, 0,
+    0, 0, 0, 0, 0, 0, 0, 0, 0, 0, 0, 0, 0, 0, 0, 0, 0, 0, 0, 0, 0, 0, 0, 0, 0, 0, 0, 0, 0, 0, 0, 0,
+    0, 0, 0, 0, 0, 0, 0, 0, 0, 0, 0, 0, 0, 0, 0, 0,
+];
+
+/// How many bytes an object with this marker takes, where the marker says so and no rule looks into the body.
+#[inline(always)]
+fn size_said(marker: u8) -> Option<u8>
+    ensures { result ≡ size_said marker }
+{
+    let size = SIZES[marker as usize];
+    if size == 0 { None } else { Some(size) }
+}
+
+/// Visits object `n`, which stands at `place`: reads its marker, and its count where that is still to be looked at. Answered are
+/// the faults that `shape_in` answers, the first of rules 14 to 17, and `Read` where a read failed. Over any source and with any
+/// place what is found lies behind `place` and before the table.
+#[inline(always)]
+pub fn visit_in<P: Framed>(src: &mut P, n: ObjectNo, place: u64) -> Result<Visit, ObjectFault>
+    requires { n.0 < (frame_in (P.means src.old)).objects }
+    ensures reads { OnlyReads (read_failed result) (P.means src.old) (P.means src.new) }
+    ensures exact { HonestlyIn (P.means src.old) (λ f F. place ≡ off f F n.0
+        → Gives (IsVisited f F n.0) (IsObjectFault f F n.0 shape_rules) result) }
+    ensures safe { IfOk result (IsSafeVisit (frame_in (P.means src.old)) place) }
+{
+    let frame = src.frame();
+    let marker = marker_at(src, &frame, n, place)?;
+    let Some(size) = size_said(marker) else {
+        // The frame is asked for again, so that little of it is held while the marker is read.
+        let frame = src.frame();
+        let head = head_by_marker(src, &frame, n, place, marker)?;
+        return Ok(Visit::Body(head));
+    };
+    if size as u64 > frame.table - place {
+        return Err(broken(Rule::Extent, n, place));
+    }
+    Ok(Visit::Done(place + size as u64))
+}
