@@ -51,7 +51,7 @@ enum Look {
     Exact,
 }
 
-/// What a walk over the vouched objects goes by, beside the source.
+/// What a walk over the vouched objects goes by, beside the source. It is handed on as a copy, so that its parts stay in registers.
 #[derive(Clone, Copy, Drop)]
 struct Walk<'a> {
     heights: &'a [u32],

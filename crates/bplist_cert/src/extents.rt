@@ -24,7 +24,7 @@ pub(crate) fn check_extent<P: Framed>(
 {
     let extent = end - place;
     let room = src.frame().table - 8;
-    if extent > room.saturating_sub(used) {
+    if used > room || extent > room - used {
         return Err(Fault {
             rule: Rule::Overfull,
             object: Some(n),

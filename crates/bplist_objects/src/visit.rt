@@ -72,8 +72,6 @@ pub fn visit_in<P: Framed>(src: &mut P, n: ObjectNo, place: u64) -> Result<Visit
     let frame = src.frame();
     let marker = marker_at(src, &frame, n, place)?;
     let Some(size) = size_said(marker) else {
-        // The frame is asked for again, so that little of it is held while the marker is read.
-        let frame = src.frame();
         let head = head_by_marker(src, &frame, n, place, marker)?;
         return Ok(Visit::Body(head));
     };
