@@ -11,7 +11,7 @@ ghost use Rattle.bplint_lines.specs.Faults.{Gives};
 ghost use Rattle.bplint_engine.specs.Ls.{IsContainer, first_lines, member_line};
 ghost use Rattle.bplint_lines.specs.OutputLines.{face_line};
 
-use bplint_lines::{RunFault, add_face, add_index_name, add_key_name, add_index};
+use bplint_lines::{RunFault, add_face, add_index, add_index_name, add_key_name};
 use bplist_cert::Checked;
 use bplist_cursor::{Face, Node, face, member};
 use bplist_octets::Source;

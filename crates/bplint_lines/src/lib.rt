@@ -31,7 +31,7 @@ mod said;
 
 pub use explanation::explain;
 pub use fault::RunFault;
-pub use member_names::{add_index_name, add_key_name, add_index};
+pub use member_names::{add_index, add_index_name, add_key_name};
 pub use output_lines::{add_check, add_face, add_lint, add_missing, kind_name};
 pub use rule_lines::{rule_of_word, rule_text};
 pub use said::Said;
