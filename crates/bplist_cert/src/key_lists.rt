@@ -382,7 +382,8 @@ fn is_listed<P: Framed>(
 }
 
 /// Looks at the key lists of the vouched dictionaries among the objects from number `from` on, which stand at these places, up
-/// to the first that is not good.
+/// to the first that is not good. Not inlined either, for the loop over all objects.
+#[inline(never)]
 pub(crate) fn look_at_lists<P: Framed>(
     src: &mut P,
     heights: &[u32],
