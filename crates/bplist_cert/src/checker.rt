@@ -260,8 +260,12 @@ fn check_objects<P: Framed>(
         (IsVouchedFault f F (lists heights.now keys.now)) result) }
 {
     let objects = src.frame().objects;
-    let mut found = keys_look(alloc, objects, src.len(), keys)?;
-    match check_in_passes(src, heights, keys, &mut found) {
+    // The look is lent from where it was made: its tables are large, and a move would take as much of the stack again.
+    let mut begun = keys_look(alloc, objects, src.len(), keys);
+    let Ok(found) = &mut begun else {
+        return Err(Refusal::Memory);
+    };
+    match check_in_passes(src, heights, keys, found) {
         Ok(used) => {
             let seen = VouchedPrefix {
                 heights,
