@@ -14,5 +14,4 @@ pub mod KeyOffsets
 pub mod KeyRepeats
 pub mod KeyPairs
 pub mod LowBytes
-pub mod KeysLooks
 pub mod CertifiedFile
