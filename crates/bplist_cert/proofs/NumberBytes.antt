@@ -9,7 +9,6 @@ use Rattle.std.proofs.Math.Seq.{take-add}
 use Rattle.bplist_octets.specs.Octets.{part, num}
 use Rattle.bplist_octets.proofs.Spelled.{num-lt}
 use Rattle.bplist_objects.proofs.Units.{length-part}
-use Rattle.bplist_cert.specs.Lists.{AreWords}
 use Rattle.bplist_cert.specs.Encoding.{words}
 
 -- all octets are bytes
@@ -142,9 +141,3 @@ module _ (octets numbers : List ℕ) (low : AreBytes octets) (all : length octet
       sym (take_all (4 * length numbers) octets (omega arith))
       ∙ words_front (length numbers) (omega arith)
       ∙ ap words (take_all (length numbers) numbers (omega arith))
-
-  pub words_low : AreWords numbers
-  words_low k = elim (cases_lt k (length numbers)) [
-    | inl lt ↦ rw (each k lt) (word-lt octets (4 * k) low (omega arith))
-    | inr ge ↦ rw (get_or_past numbers k 0 ge) (omega arith)
-  ]
