@@ -87,6 +87,7 @@ fn spell_block(block: &[u8], size: usize, into: &mut [u64])
 }
 
 /// The same, where each usual size has a loop of its own, in which the size is known.
+#[inline(always)]
 fn numbers_of_block(block: &[u8], size: usize, into: &mut [u64])
     requires low { 1 ≤ size }
     requires high { size ≤ 8 }
@@ -102,6 +103,7 @@ fn numbers_of_block(block: &[u8], size: usize, into: &mut [u64])
 }
 
 /// Fills `into` by one read of the source, which goes through `block`.
+#[inline(always)]
 fn read_block<S: Source>(
     src: &mut S,
     place: u64,

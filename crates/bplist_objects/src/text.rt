@@ -20,7 +20,8 @@ const BLOCK: usize = 128;
 const KEY_BLOCK: usize = 32;
 
 /// The units that a block of bytes spells, `size` bytes each.
-fn units_of_block(block: &[u8], size: usize, into: &mut [u16])
+#[inline(always)]
+fn spell_units(block: &[u8], size: usize, into: &mut [u16])
     requires low { 1 ≤ size }
     requires high { size ≤ 2 }
     requires room { length block.now ≡ length into.old * size }
@@ -28,6 +29,19 @@ fn units_of_block(block: &[u8], size: usize, into: &mut [u16])
 {
     for k in 0..into.len() {
         into[k] = sized(part_of(block, k * size, size)) as u16;
+    }
+}
+
+/// The same, where each size has a loop of its own, in which the size is known.
+fn units_of_block(block: &[u8], size: usize, into: &mut [u16])
+    requires low { 1 ≤ size }
+    requires high { size ≤ 2 }
+    requires room { length block.now ≡ length into.old * size }
+    ensures numbers { AreNumbers block.now 0 size into.new }
+{
+    match size {
+        1 => spell_units(block, 1, into),
+        _ => spell_units(block, 2, into),
     }
 }
 

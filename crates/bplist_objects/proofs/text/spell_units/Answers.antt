@@ -2,7 +2,7 @@ use Rattle.std.proofs.Common.{arith, ◌≤◌, ◌<◌, ◌*◌, ◌^◌, lengt
 use Rattle.std.proofs.Math.Nat.{pow-le-pow_right}
 use Rattle.bplist_octets.proofs.Spelled.{num-lt}
 use Rattle.bplist_objects.proofs.Units.{part_fits}
-use Rattle.bplist_objects.proofs.text.units_of_block.Goals as goal
+use Rattle.bplist_objects.proofs.text.spell_units.Goals as goal
 
 pub overflow_cast-into : goal.overflow_cast-into
 overflow_cast-into c =

@@ -1,6 +1,6 @@
 use Rattle.std.proofs.Common.{◌≡◌, ℕ, ◌<◌, slice_index}
 use Rattle.bplist_objects.specs.Scan.{nth_number}
-use Rattle.bplist_objects.proofs.text.units_of_block.Given as goal
+use Rattle.bplist_objects.proofs.text.spell_units.Given as goal
 
 -- the numbers so far are those of the block
 abbrev pub invariant-loop-k : goal.invariant-loop-k
