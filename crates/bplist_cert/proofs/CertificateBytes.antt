@@ -1,5 +1,5 @@
 -- Laws of the bytes of certificates.
-use Rattle.std.proofs.Common.{◌≡◌, inl, inr, Bool, true, false, is_some, ℕ, suc, ◌+◌, ◌-◌, ◌*◌, ◌/◌, ◌%◌, ◌^◌, ◌<◌, ◌≤◌, min, List, [], ◌∷◌, ◌++◌, length, get_or, take, drop, Option, Some, None, refl, sym, ap, ◌∙◌, subst, arith, append_assoc}
+use Rattle.std.proofs.Common.{◌≡◌, inl, inr, Bool, true, false, is_some, ℕ, suc, ◌+◌, ◌-◌, ◌*◌, ◌/◌, ◌%◌, ◌^◌, ◌<◌, ◌≤◌, min, List, [], ◌∷◌, ◌++◌, length, get_or, take, drop, Option, Some, None, refl, sym, ap, ap₂, ◌∙◌, subst, arith, append_assoc}
 use Rattle.std.specs.Int.{bytes_high_first}
 use Rattle.std.proofs.Math.Seq.{take-add}
 use Rattle.std.proofs.lemmas.Bool.{cases_lt}
@@ -96,19 +96,13 @@ header_is f front magic count low e long m n =
     ∙ ap (λ ys. magic ++ ys) (sym rest ∙ sym bytes ∙ ap (bytes_high_first 8) (sym n))
 
 -- the numbers behind those so far
-pub words_grown : (f into ys rest : List ℕ) (place done now : ℕ) → done ≤ length into → length ys ≡ now
-    → part f place (4 * done) ≡ words (take done into) → part f (place + 4 * done) (4 * now) ≡ words ys
-    → part f place (4 * (done + now)) ≡ words (take (done + now) (take done into ++ (ys ++ rest)))
-words_grown f into ys rest place done now within len before here =
-    let front : length (take done into ++ ys) ≡ done + now = omega (arith, length-append (take done into) ys, length-take-le done into within) in
-    let numbers : take (done + now) (take done into ++ (ys ++ rest)) ≡ take done into ++ ys =
-    ap (take (done + now)) (sym (append_assoc (take done into) ys rest)) ∙ take_at (take done into ++ ys) rest (done + now) front in
-    let four : 4 * (done + now) ≡ 4 * done + 4 * now = omega arith in
-    let octets : part f place (4 * (done + now)) ≡ part f place (4 * done) ++ part f (place + 4 * done) (4 * now) =
-    ap (part f place) four ∙ take-add (4 * done) (4 * now) (drop place f)
-    ∙ ap (λ ys. part f place (4 * done) ++ take (4 * now) ys) (drop-drop (4 * done) place f) in
-    octets ∙ ap (λ xs. xs ++ part f (place + 4 * done) (4 * now)) before ∙ ap (λ xs. words (take done into) ++ xs) here
-    ∙ sym (flat_map-append (bytes_high_first 4) (take done into) ys) ∙ ap words (sym numbers)
+pub words_grown : (f xs ys : List ℕ) (place : ℕ) → part f place (4 * length xs) ≡ words xs
+    → part f (place + 4 * length xs) (4 * length ys) ≡ words ys → part f place (4 * length (xs ++ ys)) ≡ words (xs ++ ys)
+words_grown f xs ys place before here =
+    let four : 4 * length (xs ++ ys) ≡ 4 * length xs + 4 * length ys = omega (arith, length-append xs ys) in
+    ap (part f place) four ∙ take-add (4 * length xs) (4 * length ys) (drop place f)
+    ∙ ap (λ rest. part f place (4 * length xs) ++ take (4 * length ys) rest) (drop-drop (4 * length xs) place f)
+    ∙ ap₂ (λ front rest. front ++ rest) before here ∙ sym (flat_map-append (bytes_high_first 4) xs ys)
 
 -- starts and positions are all bytes from the starts on
 pub keyed_words : (f starts positions : List ℕ) (place count : ℕ) → place + 4 * count ≤ length f → (length f - (place + 4 * count)) % 4 ≡ 0

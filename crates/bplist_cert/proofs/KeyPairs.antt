@@ -13,12 +13,14 @@ use Rattle.bplist_keys.specs.Texts.{HasTextShape, text_units}
 use Rattle.bplist_keys.proofs.WeightSteps.{text_units-head}
 use Rattle.bplist_cert.specs.Heights.{ref}
 use Rattle.bplist_cert.specs.Lists.{Keyed, IsWhole}
-use Rattle.bplist_cert.specs.Looks.{KeepsBeforeKeys}
+use Rattle.bplist_cert.specs.Valid.{IsVouchedBy}
+use Rattle.bplist_cert.specs.Looks.{KeepsBeforeKeys, KeepBeforeKeysBelow}
+use Rattle.bplist_cert.specs.KeysLooks.{IsListed}
 use Rattle.bplist_cert.specs.DictKeys.{KeysAreTexts, AreInOrder}
 use Rattle.bplist_cert.specs.KeyRepeats.{KeysAreSound, HasGoodKeys}
 use Rattle.bplist_cert.specs.declared.key_lists.ReadKey.{ReadKey}
 use Rattle.bplist_cert.specs.KeyPairs.{Ascends, ArePairs, Follows, HaveTextShapes}
-use Rattle.bplist_cert.proofs.KeyRepeats.{good_low, no_keys}
+use Rattle.bplist_cert.proofs.KeyRepeats.{good_low, no_keys, keys_inside, sound_keys}
 use Rattle.bplist_cert.proofs.AllNumbers.{onto}
 use Rattle.bplist_cert.proofs.TextObjects.{text_there}
 
@@ -127,11 +129,16 @@ module _ (f : List ℕ) (F : Frame) where
       let t = shapes k low in
       (t.0, text_there f F (ref f F head k) framed (inside k low) t.0 (shape_announced f F (ref f F head k) t.0 t.1.0) (sound k low (inside k low)) t.1.1)
 
+  -- where all vouched objects are seen, keys that are texts by marker and count, in order in a key list, are good
+  pub listed_good : IsFrame f F → (heights : List ℕ) → KeepBeforeKeysBelow f F heights F.objects → (keyed : Keyed) (n : ℕ) → n < F.objects → IsVouchedBy heights n → IsListed f F keyed n → HasGoodKeys f F (Some keyed) n
+  listed_good framed heights seen keyed n within vouched listed head has dict =
+      let keys = listed head has dict in
+      (shapes_texts framed head (keys_inside f F n (seen n within vouched).own head has dict) (sound_keys f F heights seen n within vouched head has dict) keys.0, keys.1)
+
   -- a list of an object without references that starts among the positions is good
-  pub low_list : (heights : List ℕ) (n : ℕ) → KeepsBeforeKeys f F heights n → (keyed : Keyed) → slice_index heights n ≤ 1 → IsWhole keyed n 0 → HasGoodKeys f F (Some keyed) n
-  low_list heights n seen keyed least start head has dict =
-      let good = good_low f F heights n seen least head has dict in
-      (good.0, (omega (arith, start, none_at), λ j l. absurd (none_there j l)))
+  pub low_listed : (heights : List ℕ) (n : ℕ) → KeepsBeforeKeys f F heights n → (keyed : Keyed) → slice_index heights n ≤ 1 → IsWhole keyed n 0 → IsListed f F keyed n
+  low_listed heights n seen keyed least start head has dict =
+      (λ k low. absurd (none_there k low), (omega (arith, start, none_at), λ j l. absurd (none_there j l)))
     where
       none_there : (k : ℕ) → k < head.count → ⊥
       none_there = no_keys f F heights n seen head has dict least
@@ -139,9 +146,13 @@ module _ (f : List ℕ) (F : Frame) where
       none_at : head.count ≡ 0
       none_at = elim (cases_lt 0 head.count) [ inl some ↦ absurd (none_there 0 some) | inr none ↦ omega (arith, none) ]
 
+  pub low_list : (heights : List ℕ) (n : ℕ) → KeepsBeforeKeys f F heights n → (keyed : Keyed) → slice_index heights n ≤ 1 → IsWhole keyed n 0 → HasGoodKeys f F (Some keyed) n
+  low_list heights n seen keyed least start head has dict =
+      ((good_low f F heights n seen least head has dict).0, (low_listed heights n seen keyed least start head has dict).1)
+
 -- no pair is kept yet
-pub pairs_none : (f : List ℕ) (F : Frame) (slots : List ℕ) → slots ≡ replicate 4093 0 → ArePairs f F slots
-pairs_none f F slots none i a b low some is = elim (cases_lt i 4093) [
-  | inl within ↦ absurd (let z = ap (λ xs. slice_index xs i) none ∙ get_or-replicate 4093 i 0 0 within in omega (arith, z, some))
-  | inr past ↦ absurd (let z = get_or_past slots i 0 (omega (arith, past, ap length none ∙ length-replicate {A = ℕ} 4093 0)) in omega (arith, z, some))
+pub pairs_none : (f : List ℕ) (F : Frame) (slots : List ℕ) → slots ≡ replicate 2039 0 → ArePairs f F slots
+pairs_none f F slots none i a b low some is = elim (cases_lt i 2039) [
+  | inl within ↦ absurd (let z = ap (λ xs. slice_index xs i) none ∙ get_or-replicate 2039 i 0 0 within in omega (arith, z, some))
+  | inr past ↦ absurd (let z = get_or_past slots i 0 (omega (arith, past, ap length none ∙ length-replicate {A = ℕ} 2039 0)) in omega (arith, z, some))
 ]

@@ -19,4 +19,5 @@ pub mod RepeatedKeys
 pub mod DecidedKeys
 pub mod DecidedObjects
 pub mod LowBytes
+pub mod KeysLooks
 pub mod SortedKeys

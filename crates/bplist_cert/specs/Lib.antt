@@ -14,4 +14,5 @@ pub mod KeyOffsets
 pub mod KeyRepeats
 pub mod KeyPairs
 pub mod LowBytes
+pub mod KeysLooks
 pub mod CertifiedFile

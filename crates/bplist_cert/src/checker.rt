@@ -1,6 +1,6 @@
 //! The check of a certificate against a file.
 
-ghost use Rattle.std.specs.Prelude.{◌≡◌, ◌+◌, ◌≤◌, ◌<◌, ℕ, suc, length, slice_index, IfOk, IfErr, IfSome, MatchResult, Some, None};
+ghost use Rattle.std.specs.Prelude.{◌≡◌, ◌+◌, ◌≤◌, ◌<◌, ℕ, suc, length, slice_index, IfOk, IfErr, MatchResult, Some, None};
 ghost use Rattle.bplist_octets.specs.Meaning.{OnlyReads, Honestly};
 ghost use Rattle.bplist_objects.specs.Framed.{frame_in, HonestlyIn};
 ghost use Rattle.bplist_objects.specs.Frame.{off};
@@ -10,12 +10,11 @@ ghost use Rattle.bplist_objects.specs.Rules.{KeepsAll};
 ghost use Rattle.bplist_objects.specs.Announced.{HasHead};
 ghost use Rattle.bplist_objects.specs.ObjectRules.{KeepsByObject, body_rules};
 ghost use Rattle.bplist_objects.specs.declared.frame.ObjectNo.{ObjectNo as object_no};
-ghost use Rattle.bplist_keys.specs.Classes.{HasNamedKeys};
 ghost use Rattle.bplist_cert.specs.Lists.{Keyed, lists, HasStarts};
 ghost use Rattle.bplist_cert.specs.Valid.{IsVouchedBy, HoldsOneValue};
 ghost use Rattle.bplist_cert.specs.Heights.{AreLower};
-ghost use Rattle.bplist_cert.specs.Looks.{IsShownFault, KeepBeforeKeysBelow};
-ghost use Rattle.bplist_cert.specs.KeyRepeats.{HasGoodKeys, IsFirstKeysFault};
+ghost use Rattle.bplist_cert.specs.Looks.{IsShownFault};
+ghost use Rattle.bplist_cert.specs.KeysLooks.{keys_of, IsLookOf, AreSeen};
 ghost use Rattle.bplist_cert.specs.declared.checker.Look.TheVariants.{Quick as quick, Exact as exact};
 ghost use Rattle.bplist_cert.specs.PairFault.{IsCheckedObject, AreCheckedBelow, IsWalkFault, IsSeenFault, IsVouchedFault, IsCountFault, KeepsPairRules, IsPairFault};
 ghost use Rattle.bplist_cert.specs.Refusals.{Judges, GivesRefusal, is_read, refused_read, MayRefuse};
@@ -30,17 +29,15 @@ use crate::certificate::{Certificate, KeyLists};
 use crate::checked::Checked;
 use crate::extents::check_extent;
 use crate::heights::{Wanted, check_heights, check_refs, height_at};
-use crate::key_names::name_wanted;
+use crate::keys_look::{KeysLook, keys_look};
 use crate::refusal::Refusal;
 use crate::vouched_prefix::VouchedPrefix;
-use crate::{key_lists, key_repeats};
-use bplist_keys::NamedKeys;
 use bplist_objects::{
     Fault, Frame, Framed, Head, ObjectFault, ObjectNo, Plist, Rule, Visit, check_body, frame_of,
     head_in, read_offsets_in, refs_of, visit_in,
 };
 use bplist_octets::Source;
-use std::alloc::{AllocError, Global};
+use std::alloc::Global;
 
 /// How many entries of the offset table are read at once at most.
 const BLOCK: usize = 512;
@@ -172,23 +169,20 @@ fn check_block<P: Framed>(
     Ok(used)
 }
 
-/// Looks at all vouched objects, in the order of their numbers, and names the keys of the dictionaries among them, where keys
-/// are named: block by block, as places and objects are at hand then. How many bytes they take.
-fn check_all<P: Framed>(
-    src: &mut P,
-    walk: Walk,
-    named: &mut Option<NamedKeys>,
-) -> Result<u64, Refusal>
+/// Looks at all vouched objects, in the order of their numbers, and at the keys of the dictionaries among them: block by block,
+/// as places and objects are at hand then. How many bytes they take.
+fn check_all<P: Framed>(src: &mut P, walk: Walk, found: &mut KeysLook) -> Result<u64, Refusal>
     requires all { length walk.heights.now ≡ (frame_in (P.means src.old)).objects }
-    requires named { IfSome named.old (λ keys. length keys.marks.items ≡ (frame_in (P.means src.old)).objects) }
+    requires found { IsLookOf (frame_in (P.means src.old)).objects found.old }
     ensures reads { OnlyReads (refused_read result) (P.means src.old) (P.means src.new) }
     ensures memory { IfErr result (MayRefuse walk.entry.keys.now) }
-    ensures exact { HonestlyIn (P.means src.old) (λ f F.
-        Judges (AreCheckedBelow f F (lists walk.entry.heights.now walk.entry.keys.now) quick F.objects)
+    ensures exact { HonestlyIn (P.means src.old) (λ f F. AreSeen f F walk.entry.heights.now 0 found.old
+        → Judges (AreCheckedBelow f F (lists walk.entry.heights.now walk.entry.keys.now) quick F.objects)
         (IsWalkFault f F (lists walk.entry.heights.now walk.entry.keys.now) walk.entry.look) result) }
-    ensures named { IfSome named.new (λ keys. length keys.marks.items ≡ (frame_in (P.means src.old)).objects) }
-    ensures keys { HonestlyIn (P.means src.old) (λ f F. IfOk result (λ _. IfSome named.new (λ keys. (n : ℕ) → n < F.objects
-        → IsVouchedBy walk.entry.heights.now n → HasNamedKeys f F keys.marks.items n))) }
+    ensures found { IsLookOf (frame_in (P.means src.old)).objects found.new }
+    ensures same { keys_of found.new ≡ keys_of found.old }
+    ensures keys { HonestlyIn (P.means src.old) (λ f F. AreSeen f F walk.entry.heights.now 0 found.old
+        → Judges (λ _. AreSeen f F walk.entry.heights.now F.objects found.new) (λ _. AreSeen f F walk.entry.heights.now 0 found.new) result) }
 {
     let objects = src.frame().objects;
     let mut buffer = [0u64; BLOCK];
@@ -199,82 +193,44 @@ fn check_all<P: Framed>(
         let places = &mut buffer[..now as usize];
         read_offsets_in(src, done, places)?;
         used = check_block(src, walk, done, places, used)?;
-        name_wanted(src, walk.heights, done, places, named)?;
+        found.look(src, walk.heights, done, places)?;
         done += now;
     }
     Ok(used)
 }
 
 /// Looks at all vouched objects by the rules before those of keys: quickly, and where that finds a fault again, by the rules
-/// in their order. Keys are named where they are to be. How many bytes they take.
+/// in their order. What the first walk found of keys counts only where it found no fault. How many bytes they take.
 fn check_in_passes<P: Framed>(
     src: &mut P,
     heights: &[u32],
     keys: &Option<KeyLists>,
-    named: &mut Option<NamedKeys>,
+    found: &mut KeysLook,
 ) -> Result<u64, Refusal>
     requires all { length heights.now ≡ (frame_in (P.means src.old)).objects }
-    requires named { IfSome named.old (λ keys. length keys.marks.items ≡ (frame_in (P.means src.old)).objects) }
+    requires found { IsLookOf (frame_in (P.means src.old)).objects found.old }
     ensures reads { OnlyReads (refused_read result) (P.means src.old) (P.means src.new) }
     ensures memory { IfErr result (MayRefuse keys.now) }
-    ensures exact { HonestlyIn (P.means src.old) (λ f F.
-        Judges (AreCheckedBelow f F (lists heights.now keys.now) quick F.objects)
+    ensures exact { HonestlyIn (P.means src.old) (λ f F. AreSeen f F heights.now 0 found.old
+        → Judges (AreCheckedBelow f F (lists heights.now keys.now) quick F.objects)
         (IsSeenFault f F (lists heights.now keys.now)) result) }
-    ensures named { IfSome named.new (λ keys. length keys.marks.items ≡ (frame_in (P.means src.old)).objects) }
-    ensures keys { HonestlyIn (P.means src.old) (λ f F. IfOk result (λ _. IfSome named.new (λ keys. (n : ℕ) → n < F.objects
-        → IsVouchedBy heights.now n → HasNamedKeys f F keys.marks.items n))) }
+    ensures found { IsLookOf (frame_in (P.means src.old)).objects found.new }
+    ensures same { keys_of found.new ≡ keys_of found.old }
+    ensures keys { HonestlyIn (P.means src.old) (λ f F. AreSeen f F heights.now 0 found.old
+        → Judges (λ _. AreSeen f F heights.now F.objects found.new) (λ _. AreSeen f F heights.now 0 found.new) result) }
 {
     let mut walk = Walk {
         heights,
         keys,
         look: Look::Quick,
     };
-    match check_all(src, walk, named) {
+    match check_all(src, walk, found) {
         Err(Refusal::Fault(_)) => {}
         answer => return answer,
     }
     walk.look = Look::Exact;
-    check_all(src, walk, named)
-}
-
-/// No key is named yet, where keys are to be named: for version 1.
-fn none_named(
-    alloc: Global,
-    objects: u32,
-    keys: &Option<KeyLists>,
-) -> Result<Option<NamedKeys>, AllocError>
-    ensures all { IfOk result (λ named. IfSome named (λ keys. length keys.marks.items ≡ objects)) }
-    ensures memory { IfErr result (λ _. keys.now ≡ None) }
-{
-    match keys {
-        None => Ok(Some(NamedKeys::new(alloc, objects)?)),
-        Some(_) => Ok(None),
-    }
-}
-
-/// Looks at the keys of the vouched dictionaries that were seen. Which objects they name as keys is given or found.
-fn check_keys<P: Framed>(
-    alloc: Global,
-    src: &mut P,
-    seen: &VouchedPrefix,
-    keys: &Option<KeyLists>,
-    named: Option<NamedKeys>,
-) -> Result<(), Refusal>
-    requires all { length seen.now.heights.now ≡ (frame_in (P.means src.old)).objects }
-    requires starts { HasStarts seen.now.heights.now keys.now }
-    requires named { IfSome named (λ keys. length keys.marks.items ≡ (frame_in (P.means src.old)).objects) }
-    ensures reads { OnlyReads (refused_read result) (P.means src.old) (P.means src.new) }
-    ensures memory { IfErr result (MayRefuse keys.now) }
-    ensures exact { HonestlyIn (P.means src.old) (λ f F. KeepBeforeKeysBelow f F seen.now.heights.now seen.now.bound
-        → IfSome named (λ keys. (n : ℕ) → n < seen.now.bound → IsVouchedBy seen.now.heights.now n
-        → HasNamedKeys f F keys.marks.items n)
-        → Judges (λ _. (n : ℕ) → n < seen.now.bound → IsVouchedBy seen.now.heights.now n → HasGoodKeys f F keys.now n)
-        (IsFirstKeysFault f F (lists seen.now.heights.now keys.now) seen.now.bound) result) }
-{
-    match keys {
-        None => key_repeats::check_key_repeats(alloc, src, seen, named),
-        Some(keys) => Ok(key_lists::check_key_orders(src, seen, keys)?),
-    }
+    found.forget();
+    check_all(src, walk, found)
 }
 
 /// The number of the object that a fault is of.
@@ -304,14 +260,14 @@ fn check_objects<P: Framed>(
         (IsVouchedFault f F (lists heights.now keys.now)) result) }
 {
     let objects = src.frame().objects;
-    let mut named = none_named(alloc, objects, keys)?;
-    match check_in_passes(src, heights, keys, &mut named) {
+    let mut found = keys_look(alloc, objects, src.len(), keys)?;
+    match check_in_passes(src, heights, keys, &mut found) {
         Ok(used) => {
             let seen = VouchedPrefix {
                 heights,
                 bound: objects,
             };
-            check_keys(alloc, src, &seen, keys, named)?;
+            found.check(alloc, src, &seen)?;
             Ok(used)
         }
         Err(Refusal::Fault(fault)) => {
@@ -319,8 +275,8 @@ fn check_objects<P: Framed>(
                 heights,
                 bound: object_of(&fault).min(objects),
             };
-            named = None;
-            check_keys(alloc, src, &seen, keys, named)?;
+            found.forget();
+            found.check(alloc, src, &seen)?;
             Err(Refusal::Fault(fault))
         }
         Err(refusal) => Err(refusal),

@@ -1,6 +1,6 @@
 //! Certificates from bytes, which are read by blocks.
 
-ghost use Rattle.std.specs.Prelude.{◌≡◌, ◌≢◌, ℕ, List, ◌+◌, ◌*◌, ◌≤◌, Bool, length, take, drop, IfOk, OnOk, MatchOption, MatchResult, ◌↔◌, IsTrue, is_err, is_some, ⊤};
+ghost use Rattle.std.specs.Prelude.{◌≡◌, ◌≢◌, ℕ, List, ◌+◌, ◌*◌, ◌≤◌, Bool, length, take, drop, IfOk, OnOk, MatchOption, MatchResult, ◌↔◌, IsTrue, is_some, vec_len, ⊤};
 ghost use Rattle.bplist_cert.specs.declared.certificate.CertRefusal.TheVariants.{Memory};
 ghost use Rattle.bplist_octets.specs.Octets.{part};
 ghost use Rattle.bplist_octets.specs.Meaning.{OnlyReads, Honestly};
@@ -173,7 +173,7 @@ fn read_keys<S: Source>(
     }
 }
 
-/// So many numbers of 4 bytes each, from a place on.
+/// So many numbers of 4 bytes each, from a place on, block by block.
 fn read_words<S: Source>(
     alloc: Global,
     src: &mut S,
@@ -186,8 +186,15 @@ fn read_words<S: Source>(
     ensures words { IfOk result (λ numbers. AreWords numbers.items) }
     ensures spelled { Honestly (S.means src.old) (λ f. IfOk result (λ numbers. part f place (4 * count) ≡ words numbers.items)) }
 {
-    let mut numbers = vec![in alloc; 0u32; count]?;
-    fill_words(src, place, &mut numbers)?;
+    let _len = src.len();
+    let mut numbers = Vec::with_capacity(alloc, count)?;
+    let mut octets = [0u8; BLOCK_BYTES];
+    let mut block = [0u32; BLOCK];
+    while numbers.len() < count {
+        let now = (count - numbers.len()).min(BLOCK);
+        let at = place + 4 * numbers.len() as u64;
+        add_words(src, at, &mut octets[..4 * now], &mut block[..now], &mut numbers)?;
+    }
     are_words(&numbers);
     Ok(numbers)
 }
@@ -199,40 +206,26 @@ fn are_words(numbers: &[u32])
     let _count = numbers.len();
 }
 
-/// Fills `into` with the numbers of 4 bytes each from a place on, block by block.
-fn fill_words<S: Source>(src: &mut S, place: u64, into: &mut [u32]) -> Result<(), ReadFault>
-    requires { place + 4 * length into.old ≤ length (S.means src.old).octets }
-    ensures reads { OnlyReads (is_err result) (S.means src.old) (S.means src.new) }
-    ensures spelled { OnOk result (Honestly (S.means src.old) (λ f. part f place (4 * length into.new) ≡ words into.new)) }
-{
-    let _len = src.len();
-    let mut buffer = [0u8; BLOCK_BYTES];
-    let count = into.len();
-    let mut done = 0usize;
-    while done < count {
-        let now = (count - done).min(BLOCK);
-        let block = &mut buffer[..4 * now];
-        let at = place + 4 * done as u64;
-        read_block(src, at, block, &mut into[done..done + now])?;
-        done += now;
-    }
-    Ok(())
-}
-
-/// Fills `into` by one read of the source, which goes through `block`.
-fn read_block<S: Source>(
+/// Adds the numbers of 4 bytes each from a place on to those before them, by one read of the source. They go through `octets`
+/// and `block`.
+fn add_words<S: Source>(
     src: &mut S,
     place: u64,
-    block: &mut [u8],
-    into: &mut [u32],
-) -> Result<(), ReadFault>
-    requires room { length block.old ≡ 4 * length into.old }
-    requires within { place + 4 * length into.old ≤ length (S.means src.old).octets }
-    ensures reads { OnlyReads (is_err result) (S.means src.old) (S.means src.new) }
-    ensures spelled { OnOk result (Honestly (S.means src.old) (λ f. part f place (4 * length into.new) ≡ words into.new)) }
+    octets: &mut [u8],
+    block: &mut [u32],
+    numbers: &mut Vec<u32>,
+) -> Result<(), Failure>
+    requires room { length octets.old ≡ 4 * length block.old }
+    requires within { place + 4 * length block.old ≤ length (S.means src.old).octets }
+    ensures reads { OnlyReads (failed_to_read result) (S.means src.old) (S.means src.new) }
+    ensures count { OnOk result (vec_len numbers.new ≡ vec_len numbers.old + length block.old) }
+    ensures spelled { OnOk result (Honestly (S.means src.old) (λ f. (start : ℕ) → place ≡ start + 4 * length numbers.old.items
+        → part f start (4 * length numbers.old.items) ≡ words numbers.old.items
+        → part f start (4 * length numbers.new.items) ≡ words numbers.new.items)) }
 {
-    src.read_at(place, block)?;
-    spell_words(block, into);
+    src.read_at(place, octets)?;
+    spell_words(octets, block);
+    numbers.extend_from_slice(block)?;
     Ok(())
 }
 

@@ -1,8 +1,10 @@
 //! Whether the key lists of vouched dictionaries have the keys in order, which are texts: rules 21 and 32.
 
-ghost use Rattle.std.specs.Prelude.{◌≡◌, ◌≤◌, ◌<◌, ℕ, Some, IsTrue, false, IfOk, IfSome, OnOk, MatchOption, ⊤, is_err, length, slice_index};
+ghost use Rattle.std.specs.Prelude.{◌≡◌, ◌+◌, ◌≤◌, ◌<◌, ℕ, List, Some, IsTrue, false, IfOk, IfSome, OnOk, MatchOption, ⊤, is_err, length, slice_index};
 ghost use Rattle.bplist_octets.specs.Meaning.{OnlyReads};
-ghost use Rattle.bplist_objects.specs.Answers.{Gives, read_failed};
+ghost use Rattle.bplist_objects.specs.Answers.{Gives, Never, read_failed};
+ghost use Rattle.bplist_objects.specs.Frame.{off};
+ghost use Rattle.bplist_objects.specs.declared.frame.Frame.{Frame as frame};
 ghost use Rattle.bplist_objects.specs.Announced.{HasHead};
 ghost use Rattle.bplist_objects.specs.Framed.{frame_in, HonestlyIn};
 ghost use Rattle.bplist_objects.specs.Rules.{KeepsAll};
@@ -21,6 +23,7 @@ ghost use Rattle.bplist_cert.specs.KeyPairs.{AreFewKeys, HoldsOffsets, Ascends, 
 ghost use Rattle.bplist_cert.specs.LowBytes.{AreLow};
 ghost use Rattle.bplist_cert.specs.Valid.{IsVouchedBy};
 ghost use Rattle.bplist_cert.specs.Looks.{KeepBeforeKeysBelow};
+ghost use Rattle.bplist_cert.specs.KeysLooks.{IsListed, HaveGoodLists};
 
 use crate::certificate::KeyLists;
 use crate::key_kinds::check_texts;
@@ -29,7 +32,9 @@ use crate::key_pairs::OrderedPairs;
 use crate::low_bytes::LowBytes;
 use crate::vouched_prefix::VouchedPrefix;
 use bplist_keys::OffsetBlock;
-use bplist_objects::{Framed, Head, Kind, ObjectFault, ObjectNo, read_refs_in, ref_at, shape_at};
+use bplist_objects::{
+    Framed, Head, Kind, ObjectFault, ObjectNo, read_refs_in, ref_at, shape_at, shape_in,
+};
 use bplist_octets::ReadFault;
 
 /// Up to so many keys are read at once. Most dictionaries have no more.
@@ -223,12 +228,33 @@ fn key_list(keys: &KeyLists, n: u32, count: u64) -> Option<&[u32]>
     Some(part_of(&keys.positions, start as usize, count as usize))
 }
 
-/// What keys are looked up in, and the places of the dictionaries.
+/// Key lists, what their keys are looked up in, and what a walk over the vouched objects finds of them.
 #[derive(Drop)]
-struct ListLook {
-    pairs: OrderedPairs,
-    low: LowBytes,
-    places: OffsetBlock,
+pub(crate) struct ListLook<'a> {
+    pub keys: &'a KeyLists,
+    pub pairs: OrderedPairs,
+    pub low: LowBytes,
+    pub places: OffsetBlock,
+    /// The key lists that the walk came by are good.
+    pub good: bool,
+}
+
+impl ListLook<'_> {
+    ghost use Rattle.bplist_cert.specs.KeysLooks.{HaveGoodLists};
+
+    /// No key list was looked at yet, of a file of so many bytes.
+    pub(crate) fn new(keys: &KeyLists, len: u64) -> ListLook
+        ensures keys { result.keys.now ≡ keys.now }
+        ensures none { (f : List ℕ) (F : frame) (heights : List ℕ) → HaveGoodLists f F heights 0 result }
+    {
+        ListLook {
+            keys,
+            pairs: OrderedPairs::new(),
+            low: LowBytes::new(len),
+            places: OffsetBlock::new(),
+            good: true,
+        }
+    }
 }
 
 /// Whether the key list of dictionary `n` has its keys in order, which are texts by marker and count then.
@@ -319,40 +345,107 @@ fn check_dict_order<P: Framed>(
     }
 }
 
-/// Whether an object of this height may have keys, or a key list without keys that starts behind all positions. An object of
-/// height 1 has no references.
-fn may_be_wrong(keys: &KeyLists, n: u32, height: u32) -> bool
-    requires { n < length keys.now.starts }
+/// Whether an object of this height may have keys, or a key list without keys that starts behind all of so many positions. An
+/// object of height 1 has no references.
+fn may_be_wrong(height: u32, start: u32, positions: usize) -> bool
     ensures vouched { IsTrue result → 1 ≤ height }
-    ensures none { result ≡ false → 1 ≤ height → (height ≤ 1) × IsWhole keys.now n 0 }
+    ensures none { result ≡ false → 1 ≤ height → (height ≤ 1) × (start ≤ positions) }
 {
     if height != 1 {
         return height > 1;
     }
-    key_list(keys, n, 0).is_none()
+    start as usize > positions
 }
 
-/// Looks at the keys of the vouched dictionaries that were seen: they are texts, and the key lists have them in order.
+/// Whether object `n`, which stands at `place`, has its keys in order in its key list, where it is a dictionary. Not inlined,
+/// so that the loop over leaves stays in registers.
+#[inline(never)]
+fn is_listed<P: Framed>(
+    src: &mut P,
+    keys: &KeyLists,
+    n: u32,
+    place: u64,
+    pairs: &mut OrderedPairs,
+) -> Result<bool, ObjectFault>
+    requires within { n < (frame_in (P.means src.old)).objects }
+    requires starts { length keys.now.starts ≡ (frame_in (P.means src.old)).objects }
+    ensures reads { OnlyReads (read_failed result) (P.means src.old) (P.means src.new) }
+    ensures exact { HonestlyIn (P.means src.old) (λ f F. AreKnown f F pairs.old → place ≡ off f F n
+        → KeepsAll (KeepsByObject f F n) object_rules
+        → Gives (λ good. AreKnown f F pairs.new × (IsTrue good → IsListed f F keys.now n)) Never result) }
+{
+    let head = shape_in(src, ObjectNo(n), place)?;
+    match head.kind {
+        Kind::Dict => Ok(has_good_list(src, keys, ObjectNo(n), &head, pairs)?),
+        _ => Ok(true),
+    }
+}
+
+/// Looks at the key lists of the vouched dictionaries among the objects from number `from` on, which stand at these places, up
+/// to the first that is not good. Not inlined either, for the loop over all objects.
+#[inline(never)]
+pub(crate) fn look_at_lists<P: Framed>(
+    src: &mut P,
+    heights: &[u32],
+    from: u32,
+    places: &[u64],
+    look: &mut ListLook,
+) -> Result<(), ObjectFault>
+    requires heights { length heights.now ≡ (frame_in (P.means src.old)).objects }
+    requires within { from + length places.now ≤ (frame_in (P.means src.old)).objects }
+    requires starts { length look.old.keys.now.starts ≡ (frame_in (P.means src.old)).objects }
+    ensures reads { OnlyReads (read_failed result) (P.means src.old) (P.means src.new) }
+    ensures keys { look.new.keys ≡ look.old.keys }
+    ensures exact { HonestlyIn (P.means src.old) (λ f F. ((k : ℕ) → k < length places.now
+        → slice_index places.now k ≡ off f F (from + k))
+        → KeepBeforeKeysBelow f F heights.now (from + length places.now)
+        → HaveGoodLists f F heights.now from look.old
+        → Gives (λ _. HaveGoodLists f F heights.now (from + length places.now) look.new) Never result) }
+{
+    if !look.good {
+        return Ok(());
+    }
+    let _frame = src.frame();
+    let keys = look.keys;
+    let block = part_of(heights, from as usize, places.len());
+    let starts = part_of(&keys.starts, from as usize, places.len());
+    for (i, height) in block.iter().enumerate() {
+        if !may_be_wrong(*height, starts[i], keys.positions.len()) {
+            continue;
+        }
+        if !is_listed(src, keys, from + i as u32, places[i], &mut look.pairs)? {
+            look.good = false;
+            return Ok(());
+        }
+    }
+    Ok(())
+}
+
+/// Looks at the keys of the vouched dictionaries that were seen: they are texts, and the key lists have them in order. Where
+/// all vouched objects were seen, a walk that found all lists good has shown it.
 pub(crate) fn check_key_orders<P: Framed>(
     src: &mut P,
     seen: &VouchedPrefix,
-    keys: &KeyLists,
+    look: &mut ListLook,
 ) -> Result<(), ObjectFault>
     requires all { length seen.now.heights.now ≡ (frame_in (P.means src.old)).objects }
-    requires starts { length keys.now.starts ≡ (frame_in (P.means src.old)).objects }
+    requires starts { length look.old.keys.now.starts ≡ (frame_in (P.means src.old)).objects }
     ensures reads { OnlyReads (read_failed result) (P.means src.old) (P.means src.new) }
     ensures exact { HonestlyIn (P.means src.old) (λ f F. KeepBeforeKeysBelow f F seen.now.heights.now seen.now.bound
-        → Gives (λ _. (n : ℕ) → n < seen.now.bound → IsVouchedBy seen.now.heights.now n → HasGoodKeys f F (Some keys.now) n)
-        (IsFirstKeysFault f F (lists seen.now.heights.now (Some keys.now)) seen.now.bound) result) }
+        → HaveGoodLists f F seen.now.heights.now seen.now.bound look.old
+        → Gives (λ _. (n : ℕ) → n < seen.now.bound → IsVouchedBy seen.now.heights.now n
+        → HasGoodKeys f F (Some look.old.keys.now) n)
+        (IsFirstKeysFault f F (lists seen.now.heights.now (Some look.old.keys.now)) seen.now.bound) result) }
 {
-    let mut look = ListLook {
-        pairs: OrderedPairs::new(),
-        low: LowBytes::new(src.len()),
-        places: OffsetBlock::new(),
-    };
+    let _frame = src.frame();
+    if look.good && seen.is_whole() {
+        return Ok(());
+    }
+    let keys = look.keys;
     for n in 0..seen.bound {
-        if may_be_wrong(keys, n, seen.heights[n as usize]) {
-            check_dict_order(src, seen, keys, n, &mut look)?;
+        let start = keys.starts[n as usize];
+        if may_be_wrong(seen.heights[n as usize], start, keys.positions.len()) {
+            check_dict_order(src, seen, keys, n, look)?;
         }
     }
     Ok(())

@@ -6,9 +6,9 @@ ghost use Rattle.bplist_objects.specs.declared.frame.Frame.{Frame as frame};
 use bplist_keys::Runs;
 
 /// How many pairs are kept: a prime, so that pairs with near numbers have slots of their own.
-const SLOTS: usize = 4093;
+const SLOTS: usize = 2039;
 
-/// Pairs of objects that are texts, of which the first comes before the second: as many as fit a table of 32 KiB, in which a
+/// Pairs of objects that are texts, of which the first comes before the second: as many as fit a table of 16 KiB, in which a
 /// pair takes the slot of another. A pair is kept as one number, and 0 is none. Beside them the runs of texts that were compared.
 #[derive(Drop)]
 pub(crate) struct OrderedPairs {
@@ -25,7 +25,7 @@ fn pair_of(a: u32, b: u32) -> u64
 
 /// The slot of a pair.
 fn slot_of(pair: u64) -> usize
-    ensures { result < 4093 }
+    ensures { result < 2039 }
 {
     (pair % SLOTS as u64) as usize
 }

@@ -37,6 +37,7 @@ mod key_offsets;
 mod key_order;
 mod key_pairs;
 mod key_repeats;
+mod keys_look;
 mod laws;
 mod low_bytes;
 mod refusal;

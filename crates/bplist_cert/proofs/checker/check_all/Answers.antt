@@ -1,20 +1,15 @@
-use Rattle.std.proofs.Common.{◌≡◌, ◌+◌, ◌<◌, ◌∙◌, ℕ, Option, Some, None, IfSome, ap, length, refl, subst, arith}
+use Rattle.std.proofs.Common.{◌≡◌, ◌+◌, ◌∙◌, ap, length, refl, subst, arith}
 use Rattle.std.proofs.lemmas.List.{length-take-le}
 use Rattle.std.proofs.lemmas.Result.{err_from_is_err_and}
 use Rattle.bplist_objects.specs.declared.frame.Frame.{Frame}
 use Rattle.bplist_objects.specs.Framed.{frame_in}
-use Rattle.bplist_keys.specs.Classes.{HasNamedKeys}
 use Rattle.bplist_cert.specs.declared.checker.Look.TheVariants.{Quick}
 use Rattle.bplist_cert.specs.Lists.{lists}
-use Rattle.bplist_cert.specs.Valid.{IsVouchedBy}
 use Rattle.bplist_cert.specs.PairFault.{AreCheckedBelow, IsWalkFault}
+use Rattle.bplist_cert.specs.KeysLooks.{AreSeen}
 use Rattle.bplist_cert.proofs.CheckSteps.{start, never_refused}
+use Rattle.bplist_cert.proofs.KeysLooks.{none_seen, refused_always}
 use Rattle.bplist_cert.proofs.checker.check_all.Goals as goal
-
--- before the first object
-none_yet : {X : Type 0} (Q : X → ℕ → Type 0) (o : Option X) → IfSome o (λ x. (n : ℕ) → n < 0 → Q x n)
-none_yet Q None = tt
-none_yet Q (Some x) = λ n l. absurd (omega arith)
 
 pub loop-done-init : goal.loop-done-init
 loop-done-init g c =
@@ -22,26 +17,44 @@ loop-done-init g c =
     record {
       same = refl;
       reached = omega arith;
-      named = c.requires.named;
-      keys = λ honest. none_yet (λ keys n. IsVouchedBy c.args.walk.heights.now n → HasNamedKeys m.octets (frame_in m) keys.marks.items n) c.args.named.now;
+      found = c.requires.found;
+      keyed = refl;
+      keys = λ honest seen. seen;
       running = λ honest. start m.octets (frame_in m) (lists c.args.walk.heights.now c.args.walk.keys.now) Quick (c.frame-objects.ensures.framed.framed honest);
     }
 
-pub name_wanted-requires-clause-all : goal.name_wanted-requires-clause-all
-name_wanted-requires-clause-all g c =
-    rw (c.in_ok-used.ensures.reads, c.in_ok-read_offsets_in.ensures.reads, c.loop-done.invariant.same) c.loop-done.invariant.named
+pub look-requires-clause-all : goal.look-requires-clause-all
+look-requires-clause-all g c =
+    rw (c.in_ok-used.ensures.reads, c.in_ok-read_offsets_in.ensures.reads, c.loop-done.invariant.same) c.loop-done.invariant.found
 
-pub returns-in_err-name_wanted-clause-exact : goal.returns-in_err-name_wanted-clause-exact
-returns-in_err-name_wanted-clause-exact g c = λ honest.
+pub returns-in_err-look-clause-exact : goal.returns-in_err-look-clause-exact
+returns-in_err-look-clause-exact g c = λ honest seen.
     let m = g.P.Source.means c.args.src.now in
     let v = c.loop-done.invariant in
     let all : length c.read_offsets_in.new.into ≡ c.min-now.result = omega (arith, length-take-le c.min-now.result c.loop-done.buffer (omega arith)) in
     let places = (rw v.same at c.in_ok-read_offsets_in.ensures.offsets) honest in
     let run = ((rw (c.in_ok-read_offsets_in.ensures.reads, v.same) at c.in_ok-used.ensures.exact) honest) places (v.running honest) in
-    let exact = (rw (c.in_ok-used.ensures.reads, c.in_ok-read_offsets_in.ensures.reads, v.same) at c.in_err-name_wanted.ensures.exact) honest in
-    let p = err_from_is_err_and c.from_residual-in_err-name_wanted.result c.from_residual-in_err-name_wanted.ensures.1 in
-    rw (p.1, p.2) (never_refused (IsWalkFault m.octets (frame_in m) (lists c.args.walk.heights.now c.args.walk.keys.now) c.args.walk.look) c.in_err-name_wanted.field-0.0
-    (exact places run.kept (v.keys honest)))
+    let exact = (rw (c.in_ok-used.ensures.reads, c.in_ok-read_offsets_in.ensures.reads, v.same) at c.in_err-look.ensures.exact) honest in
+    let p = err_from_is_err_and c.from_residual-in_err-look.result c.from_residual-in_err-look.ensures.1 in
+    rw (p.1, p.2) (never_refused (IsWalkFault m.octets (frame_in m) (lists c.args.walk.heights.now c.args.walk.keys.now) c.args.walk.look) c.in_err-look.field-0.0
+    (exact places run.kept (v.keys honest seen)))
+
+pub returns-in_err-look-clause-keys : goal.returns-in_err-look-clause-keys
+returns-in_err-look-clause-keys g c = λ honest seen.
+    let m = g.P.Source.means c.args.src.now in
+    let v = c.loop-done.invariant in
+    let places = (rw v.same at c.in_ok-read_offsets_in.ensures.offsets) honest in
+    let run = ((rw (c.in_ok-read_offsets_in.ensures.reads, v.same) at c.in_ok-used.ensures.exact) honest) places (v.running honest) in
+    let exact = (rw (c.in_ok-used.ensures.reads, c.in_ok-read_offsets_in.ensures.reads, v.same) at c.in_err-look.ensures.exact) honest in
+    let p = err_from_is_err_and c.from_residual-in_err-look.result c.from_residual-in_err-look.ensures.1 in
+    rw (p.1, p.2) (never_refused (λ _. AreSeen m.octets (frame_in m) c.args.walk.heights.now 0 c.look.new.self) c.in_err-look.field-0.0 (exact places run.kept (v.keys honest seen)))
+
+pub returns-in_err-used-clause-keys : goal.returns-in_err-used-clause-keys
+returns-in_err-used-clause-keys g c = λ honest seen.
+    let m = g.P.Source.means c.args.src.now in
+    let p = err_from_is_err_and c.from_residual-in_err-used.result c.from_residual-in_err-used.ensures.1 in
+    rw (p.1, p.2) (refused_always (AreSeen m.octets (frame_in m) c.args.walk.heights.now 0 c.loop-done.found)
+    (none_seen m.octets (frame_in m) c.args.walk.heights.now c.loop-done.done c.loop-done.found (c.loop-done.invariant.keys honest seen)) c.in_err-used.field-0.0)
 
 pub loop-done-preserved : goal.loop-done-preserved
 loop-done-preserved g c =
@@ -50,15 +63,16 @@ loop-done-preserved g c =
     let objects : c.frame-objects.result.objects ≡ (frame_in m).objects = ap (λ (x : Frame). x.objects) c.frame-objects.ensures.frame in
     let all : length c.read_offsets_in.new.into ≡ c.min-now.result = omega (arith, length-take-le c.min-now.result c.loop-done.buffer (omega arith)) in
     record {
-      same = c.in_ok-name_wanted.ensures.reads ∙ c.in_ok-used.ensures.reads ∙ c.in_ok-read_offsets_in.ensures.reads ∙ v.same;
+      same = c.in_ok-look.ensures.reads ∙ c.in_ok-used.ensures.reads ∙ c.in_ok-read_offsets_in.ensures.reads ∙ v.same;
       reached = omega (arith, objects);
-      named = rw (c.in_ok-used.ensures.reads, c.in_ok-read_offsets_in.ensures.reads, v.same) at c.in_ok-name_wanted.ensures.all;
-      keys = λ honest.
+      found = rw (c.in_ok-used.ensures.reads, c.in_ok-read_offsets_in.ensures.reads, v.same) at c.in_ok-look.ensures.all;
+      keyed = c.in_ok-look.ensures.keys ∙ v.keyed;
+      keys = λ honest seen.
           let places = (rw v.same at c.in_ok-read_offsets_in.ensures.offsets) honest in
           let run = ((rw (c.in_ok-read_offsets_in.ensures.reads, v.same) at c.in_ok-used.ensures.exact) honest) places (v.running honest) in
-          let exact = (rw (c.in_ok-used.ensures.reads, c.in_ok-read_offsets_in.ensures.reads, v.same) at c.in_ok-name_wanted.ensures.exact) honest in
-          subst (λ k. IfSome c.name_wanted.new.named (λ keys. (n : ℕ) → n < c.loop-done.done + k → IsVouchedBy c.args.walk.heights.now n → HasNamedKeys m.octets (frame_in m) keys.marks.items n)) all
-          (exact places run.kept (v.keys honest));
+          let exact = (rw (c.in_ok-used.ensures.reads, c.in_ok-read_offsets_in.ensures.reads, v.same) at c.in_ok-look.ensures.exact) honest in
+          subst (λ k. AreSeen m.octets (frame_in m) c.args.walk.heights.now (c.loop-done.done + k) c.look.new.self) all
+          (exact places run.kept (v.keys honest seen));
       running = λ honest.
           let places = (rw v.same at c.in_ok-read_offsets_in.ensures.offsets) honest in
           let exact = (rw (c.in_ok-read_offsets_in.ensures.reads, v.same) at c.in_ok-used.ensures.exact) honest in
@@ -67,7 +81,7 @@ loop-done-preserved g c =
     }
 
 pub returns-clause-exact : goal.returns-clause-exact
-returns-clause-exact g c = λ honest.
+returns-clause-exact g c = λ honest seen.
     let m = g.P.Source.means c.args.src.now in
     let objects : c.frame-objects.result.objects ≡ (frame_in m).objects = ap (λ (x : Frame). x.objects) c.frame-objects.ensures.frame in
     let e : c.loop-done.done ≡ (frame_in m).objects = omega (arith, objects, c.loop-done.invariant.reached, c.loop-done-test.false) in
@@ -75,9 +89,9 @@ returns-clause-exact g c = λ honest.
     (c.loop-done.invariant.running honest)
 
 pub returns-clause-keys : goal.returns-clause-keys
-returns-clause-keys g c = λ honest.
+returns-clause-keys g c = λ honest seen.
     let m = g.P.Source.means c.args.src.now in
     let objects : c.frame-objects.result.objects ≡ (frame_in m).objects = ap (λ (x : Frame). x.objects) c.frame-objects.ensures.frame in
     let e : c.loop-done.done ≡ (frame_in m).objects = omega (arith, objects, c.loop-done.invariant.reached, c.loop-done-test.false) in
-    subst (λ k. IfSome c.loop-done.named (λ keys. (n : ℕ) → n < k → IsVouchedBy c.args.walk.heights.now n → HasNamedKeys m.octets (frame_in m) keys.marks.items n)) e
-    (c.loop-done.invariant.keys honest)
+    subst (λ k. AreSeen m.octets (frame_in m) c.args.walk.heights.now k c.loop-done.found) e
+    (c.loop-done.invariant.keys honest seen)
