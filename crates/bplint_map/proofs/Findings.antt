@@ -11,6 +11,7 @@ use Rattle.bplist_objects.proofs.Fronts.{one_shape}
 use Rattle.bplist_objects.proofs.FirstFaults.{no_shape, one_object_fault}
 use Rattle.bplint_map.specs.declared.rows.Finding.{Finding}
 use Rattle.bplint_map.specs.declared.rows.Finding.TheVariants.{Whole, Wrong, Lost}
+use Rattle.bplint_map.specs.declared.rows.Row.{Row}
 use Rattle.std.proofs.lemmas.Bool.Decides.{nat_tests}
 use Rattle.std.proofs.lemmas.Bool.{cases_lt}
 use Rattle.bplist_objects.specs.declared.rule.Rule.TheVariants.{OffsetLow}
@@ -19,7 +20,7 @@ use Rattle.bplist_objects.specs.Frame.{IsFrame, off}
 use Rattle.bplist_objects.proofs.KeptOrBroken.{object_kept_or_fault}
 use Rattle.bplist_objects.proofs.HeadTies.{announced_shape, kept_announces}
 use Rattle.bplint_map.specs.Rows.{AreFindings, IsFinding, left_behind, row, shown}
-use Rattle.bplint_map.specs.Layout.{end_by}
+use Rattle.bplint_map.specs.Layout.{row_end}
 
 module _ (f : List ℕ) (F : Frame) (n : ℕ) where
   pub one_finding : (a b : Finding) → IsFinding f F n a → IsFinding f F n b → a ≡ b
@@ -39,43 +40,48 @@ module _ (f : List ℕ) (F : Frame) (n : ℕ) where
       let same = one_object_fault f F n shape_rules h.0 k.0 h.1 k.1 in
       ap Lost (sym h.2 ∙ ap (λ fault. fault.rule) same ∙ k.2)
 
-  -- the finding of an object that has a head has that head
-  head_same : (head : Head) (found : Finding) → HasShape f F n head → IsFinding f F n found → (place : ℕ) → end_by place found - place ≡ head.end - place
-  head_same head (Whole x) has is place = ap (λ (h : Head). h.end - place) (one_shape f F n x head is.0 has)
-  head_same head (Wrong x rule) has is place = ap (λ (h : Head). h.end - place) (one_shape f F n x head is.0 has)
-  head_same head (Lost rule) has is place = absurd (no_shape f F n is.0 head is.1 has)
+  -- the row of the object at a place
+  abbrev found_at : ℕ → Finding → Row
+  found_at place found = record { number = n; place = place; finding = found }
 
-  shown_all : (left place : ℕ) (found : Finding) → end_by place found - place ≤ left → shown left place found ≡ found
+  -- the finding of an object that has a head has that head
+  same_end : (head : Head) (found : Finding) → HasShape f F n head → IsFinding f F n found → (place : ℕ) → row_end (found_at place found) ≡ head.end
+  same_end head (Whole x) has is place = ap (λ (h : Head). h.end) (one_shape f F n x head is.0 has)
+  same_end head (Wrong x rule) has is place = ap (λ (h : Head). h.end) (one_shape f F n x head is.0 has)
+  same_end head (Lost rule) has is place = absurd (no_shape f F n is.0 head is.1 has)
+
+  shown_all : (left place : ℕ) (found : Finding) → row_end (found_at place found) - place ≤ left → shown left place found ≡ found
   shown_all left place (Whole x) fits = refl
   shown_all left place (Wrong x rule) fits = let t : nat_le (x.end - place) left ≡ true = grind (arith, nat_tests) in rw t
   shown_all left place (Lost rule) fits = refl
 
   -- an object whose body is looked at
   pub looked : (left place : ℕ) (head : Head) (found got : Finding) → HasShape f F n head → IsFinding f F n found → IsFinding f F n got
-      → head.end - place ≤ left → (got ≡ shown left place found) × (left - (head.end - place) ≡ left_behind left place found)
+      → head.end - place ≤ left → (got ≡ shown left place found) × (left - (head.end - place) ≡ left_behind left (found_at place got))
   looked left place head found got has is given fits =
-      let e = head_same head found has is place in
-      let t : nat_le (end_by place found - place) left ≡ true = grind (arith, nat_tests) in
-      (one_finding got found given is ∙ sym (shown_all left place found (omega (arith, e, fits))), rw (t, e) refl)
+      let e = same_end head found has is place in
+      let d = same_end head got has given place in
+      let t : nat_le (row_end (found_at place got) - place) left ≡ true = grind (arith, nat_tests) in
+      (one_finding got found given is ∙ sym (shown_all left place found (omega (arith, e, fits))), rw (t, d) refl)
 
-  shown_none : (left place : ℕ) (head : Head) (found : Finding) → HasShape f F n head → IsFinding f F n found → left < end_by place found - place → Whole head ≡ shown left place found
+  shown_none : (left place : ℕ) (head : Head) (found : Finding) → HasShape f F n head → IsFinding f F n found → left < head.end - place → Whole head ≡ shown left place found
   shown_none left place head (Whole x) has is over = ap Whole (one_shape f F n head x has is.0)
   shown_none left place head (Wrong x rule) has is over =
-      let t : nat_le (x.end - place) left ≡ false = grind (arith, nat_tests) in
-      rw t (ap Whole (one_shape f F n head x has is.0))
+      let same = one_shape f F n head x has is.0 in
+      let t : nat_le (x.end - place) left ≡ false = grind (arith, nat_tests, ap (λ (h : Head). h.end) same) in
+      rw t (ap Whole same)
   shown_none left place head (Lost rule) has is over = absurd (no_shape f F n is.0 head is.1 has)
 
   -- an object whose body is not looked at
   pub passed : (left place : ℕ) (head : Head) (found : Finding) → HasShape f F n head → IsFinding f F n found
-      → left < head.end - place → (Whole head ≡ shown left place found) × (left ≡ left_behind left place found)
+      → left < head.end - place → (Whole head ≡ shown left place found) × (left ≡ left_behind left (found_at place (Whole head)))
   passed left place head found has is over =
-      let e = head_same head found has is place in
-      let t : nat_le (end_by place found - place) left ≡ false = grind (arith, nat_tests) in
-      (shown_none left place head found has is (omega (arith, e, over)), rw t refl)
+      let t : nat_le (head.end - place) left ≡ false = grind (arith, nat_tests) in
+      (shown_none left place head found has is over, rw t refl)
 
   -- an object without a head
   pub lost : (left place : ℕ) (fault : Fault) (found : Finding) → IsObjectFault f F n shape_rules fault → IsFinding f F n found
-      → (Lost fault.rule ≡ shown left place found) × (left ≡ left_behind left place found)
+      → (Lost fault.rule ≡ shown left place found) × (left ≡ left_behind left (found_at place (Lost fault.rule)))
   lost left place fault found broken is = rw (sym (one_finding (Lost fault.rule) found (fault, broken, refl) is)) (refl, go (nat_le (place - place) left))
     where
       go : (t : Bool) → left ≡ cond t (left - (place - place)) left

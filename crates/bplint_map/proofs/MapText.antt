@@ -8,7 +8,7 @@ use Rattle.std.specs.Io.KnownBytes.{Appends, Keeps}
 use Rattle.bplist_objects.specs.declared.fault.Fault.{Fault}
 use Rattle.bplist_objects.specs.FrameRules.{IsFrameFault}
 use Rattle.bplint_lines.specs.Faults.{IsExcused}
-use Rattle.bplist_objects.specs.Frame.{IsFrame, off}
+use Rattle.bplist_objects.specs.Frame.{IsFrame}
 use Rattle.bplist_ascii.specs.Sending.{Sending, SendsSome, Takes, TakesPart, IsCut, IsOut}
 use Rattle.bplist_ascii.proofs.SinkSteps.{out_end, out_part, out_start, out_takes, part_of_more, takes_then_part, takes_then_some}
 use Rattle.bplint_lines.specs.declared.fault.RunFault.{RunFault}
@@ -45,7 +45,7 @@ module _ (verdict : Verdict) (table : ℕ) where
   module _ (f : List ℕ) (F : Frame) (findings : ℕ → Finding) where
     -- one more row of a list of objects
     pub more_lines : (reached left left' i : ℕ) (order : List ℕ) (objects : List ObjectOffset) (found : Row) (o d : ObjectOffset) → objects ≡ map (placed f F) order
-        → i < length objects → o ≡ get_or objects i d → found ≡ row f F findings left o.number → left' ≡ left_behind left o.place (findings o.number)
+        → i < length objects → o ≡ get_or objects i d → found ≡ row f F findings left o.number → left' ≡ left_behind left found
         → part_lines verdict (parts table reached (rows f F findings left (drop i order)))
         ≡ part_lines verdict (before reached found ++ object found ∷ []) ++ part_lines verdict (parts table (max reached (row_end found)) (rows f F findings left' (drop (i + 1) order)))
     more_lines reached left left' i order objects found o d all low at is behind =
@@ -53,9 +53,9 @@ module _ (verdict : Verdict) (table : ℕ) where
         let n = get_or order i 0 in
         let here : o ≡ placed f F n = at ∙ ap (λ l. get_or l i d) all ∙ get_or-map (placed f F) order i 0 d (omega (arith, low, long)) in
         let r : found ≡ row f F findings left n = is ∙ ap (λ (p : ObjectOffset). row f F findings left p.number) here in
-        let b : left' ≡ left_behind left (off f F n) (findings n) = behind ∙ ap (λ (p : ObjectOffset). left_behind left p.place (findings p.number)) here in
+        let b : left' ≡ left_behind left (row f F findings left n) = behind ∙ ap (left_behind left) r in
         let e : drop i order ≡ n ∷ drop (i + 1) order = drop-cons order i 0 (omega (arith, low, long)) ∙ ap (λ k. n ∷ drop k order) (sym (add-one i)) in
-        rw (e, r, b) (row_lines reached (row f F findings left n) (rows f F findings (left_behind left (off f F n) (findings n)) (drop (i + 1) order)))
+        rw (e, r, b) (row_lines reached (row f F findings left n) (rows f F findings (left_behind left (row f F findings left n)) (drop (i + 1) order)))
 
     pub no_more_lines : (reached left i : ℕ) (order : List ℕ) (objects : List ObjectOffset) → objects ≡ map (placed f F) order → length objects ≤ i
         → part_lines verdict (parts table reached (rows f F findings left (drop i order))) ≡ region_lines reached table (codes "gap")
@@ -68,7 +68,7 @@ module _ (verdict : Verdict) (table : ℕ) where
         → objects ≡ map (placed f F) order → i < length objects
         → text ≡ done ++ part_lines verdict (parts table reached (rows f F findings left (drop i order)))
         → (get_or objects i d ≡ placed f F (get_or objects i d).number → (findings : ℕ → Finding) → AreFindings f F findings
-        → (found ≡ row f F findings left (get_or objects i d).number) × (left' ≡ left_behind left (get_or objects i d).place (findings (get_or objects i d).number)))
+        → (found ≡ row f F findings left (get_or objects i d).number) × (left' ≡ left_behind left found))
         → text ≡ done ++ (part_lines verdict (before reached found ++ object found ∷ []) ++ part_lines verdict (parts table (max reached (row_end found)) (rows f F findings left' (drop (i + 1) order))))
     stepped are text done reached left left' i order objects found d all low so_far reads =
         let long : length objects ≡ length order = ap length all ∙ length-map order (placed f F) in

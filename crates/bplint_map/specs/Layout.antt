@@ -1,7 +1,6 @@
 -- Rows of objects with the gaps and the overlaps between them. Source: profile.
 use Rattle.std.specs.Prelude.{◌≡◌, ◌⊎◌, ℕ, ◌<◌, ◌≤◌, All, max, min, cond, nat_lt, List, [], ◌∷◌, ◌++◌, codes}
 use Rattle.std.specs.List.{AllPairs, Any}
-use Rattle.bplint_map.specs.declared.rows.Finding.{Finding}
 use Rattle.bplint_map.specs.declared.rows.Finding.TheVariants.{Whole, Wrong, Lost}
 use Rattle.bplint_map.specs.declared.rows.Row.{Row}
 
@@ -11,13 +10,9 @@ pub data Part : Type 0 where
   object : Row → Part
   region : List ℕ → ℕ → ℕ → Part
 
--- where an object at this place ends; one without a head takes no bytes
-abbrev pub end_by : ℕ → Finding → ℕ
-end_by place finding = elim finding [ Whole head ↦ head.end | Wrong head rule ↦ head.end | Lost rule ↦ place ]
-
--- where the object of a row ends
+-- where the object of a row ends; one without a head takes no bytes
 abbrev pub row_end : Row → ℕ
-row_end row = end_by row.place row.finding
+row_end row = elim row.finding [ Whole head ↦ head.end | Wrong head rule ↦ head.end | Lost rule ↦ row.place ]
 
 -- the bytes of this word from here up to there, where there are any
 abbrev pub region_between : List ℕ → ℕ → ℕ → List Part

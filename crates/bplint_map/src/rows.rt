@@ -43,7 +43,7 @@ pub(crate) fn row_of<P: Framed>(
     ensures exact { HonestlyIn (P.means src.old) (λ f F. object ≡ placed f F object.number
         → (findings : ℕ → Finding) → AreFindings f F findings → IfOk result (λ found.
         (found ≡ row f F findings left.old object.number)
-        × (left.new ≡ left_behind left.old object.place (findings object.number)))) }
+        × (left.new ≡ left_behind left.old found))) }
 {
     let n = ObjectNo(object.number);
     let finding = match shape_in(src, n, object.place) {
