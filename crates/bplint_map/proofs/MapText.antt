@@ -1,10 +1,11 @@
 -- The text of a map, and its way to the writer.
-use Rattle.std.proofs.Common.{◌≡◌, inl, inr, ℕ, ◌+◌, ◌<◌, ◌≤◌, List, [], ◌∷◌, ◌++◌, max, length, map, drop, cond, nat_lt, Bool, true, false, refl, sym, ap, ◌∙◌, subst, add-one, append_assoc, append-nil, Option, None, Some, Result, Ok, Err, get_or, arith, codes}
+use Rattle.std.proofs.Common.{◌≡◌, inl, inr, ℕ, ◌+◌, ◌<◌, ◌≤◌, List, [], ◌∷◌, ◌++◌, max, min, length, map, drop, cond, nat_lt, Bool, true, false, refl, sym, ap, ◌∙◌, subst, add-one, append_assoc, append-nil, Option, None, Some, Result, Ok, Err, get_or, arith, codes}
 use Rattle.std.proofs.lemmas.Grind.{flat_map-append}
 use Rattle.std.proofs.lemmas.List.{drop_all, get_or-map, length-map}
 use Rattle.std.proofs.Math.Seq.{drop-cons}
 use Rattle.bplist_objects.specs.declared.frame.Frame.{Frame}
 use Rattle.std.specs.Io.KnownBytes.{Appends, Keeps}
+use Rattle.std.specs.Prelude.{OnOk}
 use Rattle.bplist_objects.specs.declared.fault.Fault.{Fault}
 use Rattle.bplist_objects.specs.FrameRules.{IsFrameFault}
 use Rattle.bplint_lines.specs.Faults.{IsExcused}
@@ -21,12 +22,38 @@ use Rattle.bplint_lines.specs.declared.said.Said.TheVariants.{All}
 use Rattle.bplint_lines.specs.declared.said.Said.{Said}
 use Rattle.bplint_lines.specs.Answers.{BeginsAnswer, LeavesBy, gives}
 use Rattle.bplint_map.proofs.Findings.{findings_of}
-use Rattle.bplint_map.specs.Layout.{object, region, before, parts, row_end}
+use Rattle.bplint_map.specs.Layout.{object, region, region_between, before, parts, row_end}
 use Rattle.bplint_map.specs.Lines.{region_line, region_lines, part_line, part_lines}
 use Rattle.bplint_map.specs.Map.{IsVerdict, MapSays, PutsSome, map_text}
 use Rattle.bplint_map.specs.Rows.{AreFindings, IsByPlace, left_behind, placed, row, rows}
 
 -- ---- the text
+module _ (verdict : Verdict) where
+  any_lines : (word : List ℕ) (from to : ℕ) → part_lines verdict (region_between word from to) ≡ region_lines from to word
+  any_lines word from to = go (nat_lt from to)
+    where
+      go : (t : Bool) → part_lines verdict (cond t (region word from to ∷ []) []) ≡ cond t (region_line from to word) []
+      go true = append-nil (region_line from to word)
+      go false = refl
+
+  -- the lines of a row and of what lies before it
+  pub lines_of_row : (reached : ℕ) (row : Row) → part_lines verdict (before reached row ++ object row ∷ [])
+      ≡ (region_lines reached row.place (codes "gap") ++ region_lines row.place (min reached (row_end row)) (codes "overlap")) ++ part_line verdict (object row)
+  lines_of_row reached row =
+      let gap = any_lines (codes "gap") reached row.place in
+      let overlap = any_lines (codes "overlap") row.place (min reached (row_end row)) in
+      let regions = flat_map-append (part_line verdict) (region_between (codes "gap") reached row.place) (region_between (codes "overlap") row.place (min reached (row_end row))) in
+      flat_map-append (part_line verdict) (before reached row) (object row ∷ [])
+      ∙ ap (λ l. l ++ part_lines verdict (object row ∷ [])) (regions ∙ (λ i. gap i ++ overlap i))
+      ∙ ap (λ l. (region_lines reached row.place (codes "gap") ++ region_lines row.place (min reached (row_end row)) (codes "overlap")) ++ l) (append-nil (part_line verdict (object row)))
+
+-- a line behind two texts that were added
+pub behind_two : {E : Type 0} (result : Result (Unit {0}) E) (old one two new a b line text : List ℕ) → one ≡ old ++ a → two ≡ one ++ b
+    → OnOk result (new ≡ two ++ line) → text ≡ (a ++ b) ++ line → OnOk result (new ≡ old ++ text)
+behind_two (Err e) old one two new a b line text first second third is = tt
+behind_two (Ok x) old one two new a b line text first second third is =
+    rw (is, third, second, first) (ap (λ l. l ++ line) (append_assoc old a b) ∙ append_assoc old (a ++ b) line)
+
 module _ (verdict : Verdict) (table : ℕ) where
   row_lines : (reached : ℕ) (first : Row) (others : List Row) → part_lines verdict (parts table reached (first ∷ others))
       ≡ part_lines verdict (before reached first ++ object first ∷ []) ++ part_lines verdict (parts table (max reached (row_end first)) others)
@@ -36,11 +63,7 @@ module _ (verdict : Verdict) (table : ℕ) where
       ∙ flat_map-append (part_line verdict) (before reached first ++ object first ∷ []) rest
 
   pub last_lines : (reached : ℕ) → part_lines verdict (parts table reached []) ≡ region_lines reached table (codes "gap")
-  last_lines reached = go (nat_lt reached table)
-    where
-      go : (t : Bool) → part_lines verdict (cond t (region (codes "gap") reached table ∷ []) []) ≡ cond t (region_line reached table (codes "gap")) []
-      go true = append-nil (region_line reached table (codes "gap"))
-      go false = refl
+  last_lines reached = any_lines verdict (codes "gap") reached table
 
   module _ (f : List ℕ) (F : Frame) (findings : ℕ → Finding) where
     -- one more row of a list of objects

@@ -14,8 +14,8 @@ use Rattle.bplint_lines.specs.declared.said.Said.TheVariants.{All}
 use Rattle.bplint_map.specs.declared.verdict.Verdict.{Verdict}
 use Rattle.bplint_map.specs.declared.verdict.Verdict.TheVariants as verdicts
 use Rattle.bplint_lines.specs.Answers.{Answer, gives, refuses}
-use Rattle.bplint_map.specs.Layout.{parts}
-use Rattle.bplint_map.specs.Lines.{region_line, part_line}
+use Rattle.bplint_map.specs.Layout.{parts, region}
+use Rattle.bplint_map.specs.Lines.{part_line}
 use Rattle.bplint_map.specs.Rows.{AreFindings, IsByPlace, rows}
 
 -- ---- the text
@@ -25,14 +25,15 @@ IsVerdict f (verdicts.Heights heights) = (lint : Lint) × IsLinted f lint × (he
 IsVerdict f (verdicts.Fault fault) = IsFileFault f fault
 IsVerdict f verdicts.Circle = (circle : List ℕ) × IsFileCircle f circle
 
--- all lines of a map: the names of the columns, the header, the objects and what lies between them, the offset table and the
--- trailer; of bodies 16 times the bytes before the offset table are looked at
+-- all lines of a map: the names of the columns, and the parts of the file: header, objects and what lies between them, offset
+-- table and trailer; of bodies 16 times the bytes before the offset table are looked at
 abbrev pub map_text : List ℕ → Frame → Verdict → (ℕ → Finding) → List ℕ → List ℕ
 map_text f F verdict findings order =
-    let front = codes "place\tend\tobject\tkind\tcount\theight\n" ++ region_line 0 8 (codes "header") in
-    let lines = flat_map (part_line verdict) (parts F.table 8 (rows f F findings (16 * F.table) order)) in
+    let line = part_line verdict in
+    let between = flat_map line (parts F.table 8 (rows f F findings (16 * F.table) order)) in
     let table_end = F.table + F.objects * F.offset_size in
-    front ++ (lines ++ (region_line F.table table_end (codes "table") ++ region_line table_end (length f) (codes "trailer")))
+    let front = codes "place\tend\tobject\tkind\tcount\theight\n" ++ line (region (codes "header") 0 8) in
+    front ++ (between ++ (line (region (codes "table") F.table table_end) ++ line (region (codes "trailer") table_end (length f))))
 
 -- the answer of `map`, of a file that keeps rules 1 to 13: what `lint` says of it and what is found of each object, in byte
 -- order; of any other file the first of these rules that it breaks

@@ -1,11 +1,10 @@
 //! The lines of a map.
 //!
 //! Each call adds its lines to the text. The one refusal is that of a growth.
-ghost use Rattle.std.specs.Prelude.{◌≡◌, ◌++◌, [], ◌∷◌, OnOk, string_bytes};
-ghost use Rattle.bplist_objects.specs.declared.head.Head.{Head as head_type};
+ghost use Rattle.std.specs.Prelude.{◌≡◌, ◌++◌, [], ◌∷◌, List, ℕ, OnOk, string_bytes};
 ghost use Rattle.bplist_objects.specs.Words.{word_of as word_of_rule};
 ghost use Rattle.bplint_map.specs.Layout.{before, object, row_end};
-ghost use Rattle.bplint_map.specs.Lines.{region_line, region_lines, found_line, head_columns, note, part_lines};
+ghost use Rattle.bplint_map.specs.Lines.{head_line, note, part_line, part_lines, region_line, region_lines};
 
 use crate::rows::{Finding, Row};
 use crate::verdict::Verdict;
@@ -62,18 +61,17 @@ pub(crate) fn end_of(row: &Row) -> u64
 
 /// Adds the line of an object.
 fn add_object(line: &mut String, row: &Row, verdict: &Verdict) -> Result<(), AllocError>
-    ensures { OnOk result (string_bytes line.new ≡ string_bytes line.old
-        ++ found_line verdict.now row.now.place row.now.number row.now.finding) }
+    ensures { OnOk result (string_bytes line.new ≡ string_bytes line.old ++ part_line verdict.now (object row.now)) }
 {
     let (place, number) = (row.place, row.number);
     match &row.finding {
         Finding::Whole(head) => {
-            add_head(line, place, number, head)?;
+            add_head(line, row, head)?;
             add_note(line, verdict, number)?;
             line.push('\n')
         }
         Finding::Wrong(head, rule) => {
-            add_head(line, place, number, head)?;
+            add_head(line, row, head)?;
             line.push_str(rule_name(*rule))?;
             line.push('\n')
         }
@@ -85,9 +83,11 @@ fn add_object(line: &mut String, row: &Row, verdict: &Verdict) -> Result<(), All
 }
 
 /// Adds the columns of an object with this head but the last.
-fn add_head(line: &mut String, place: u64, number: u32, head: &Head) -> Result<(), AllocError>
-    ensures { OnOk result (string_bytes line.new ≡ string_bytes line.old ++ head_columns place number head.now) }
+fn add_head(line: &mut String, row: &Row, head: &Head) -> Result<(), AllocError>
+    ensures { OnOk result ((last : List ℕ)
+        → string_bytes line.new ++ (last ++ 10 ∷ []) ≡ string_bytes line.old ++ head_line row.now head.now last) }
 {
+    let (place, number) = (row.place, row.number);
     let (end, kind, count) = (head.end, kind_name(head.kind), head.count);
     write!(line, "{place}\t{end}\t{number}\t{kind}\t{count}\t")
 }
