@@ -3,6 +3,7 @@ use Rattle.std.specs.Prelude.{◌≡◌, ℕ, suc, ◌<◌, ◌≤◌, List, ◌
 use Rattle.std.specs.Global.{Global}
 use denote.Enum.Declared.{tag_of}
 use Rattle.bplist_c.specs.declared.status.Status.{Status}
+use Rattle.bplist_c.specs.declared.status.Status.TheVariants as statuses
 use Rattle.bplist_c.specs.contracts.status.Status.{the_type}
 
 -- the number of a status in the header: its place among the statuses, from 1
@@ -17,7 +18,7 @@ Tells answer old new status = MatchResult answer (λ x. (status ≡ 0) × (new �
 pub record PutsAll {X : Type 0} (items old new : List X) (total status : ℕ) : Type 0 where
   pub count : total ≡ length items
   pub put : length items ≤ length old → (status ≡ 0) × (new ≡ items ++ drop (length items) old)
-  pub short : length old < length items → (status ≡ 14) × (new ≡ old)
+  pub short : length old < length items → (status ≡ number_of statuses.Short) × (new ≡ old)
 
 -- the items are put, or the status says why not and all is unchanged
 abbrev pub Puts : {X : Type 0} → Result (Vec X Global) Status → List X → List X → ℕ → ℕ → ℕ → Type 0

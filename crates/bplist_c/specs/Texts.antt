@@ -47,9 +47,11 @@ IsTextOf f F n v room (Ok (TooLong told)) =
 IsTextOf f F n v room (Ok (Formless part)) = (value_text v ≡ None) × IsFormless f F n v part.0
 IsTextOf f F n v room (Err why) = why ≡ statuses.Memory
 
--- buffer, output and status tell the answer
-abbrev pub TellsText : Result Text Status → List ℕ → List ℕ → BplistWritten → BplistWritten → ℕ → Type 0
-TellsText (Ok (Fits text)) old new was out status = PutsAll text.items old new out.length status × (out.object ≡ 0)
-TellsText (Ok (TooLong n)) old new was out status = (status ≡ 14) × (new ≡ old) × (out ≡ record { length = n; object = 0 })
-TellsText (Ok (Formless part)) old new was out status = (status ≡ 15) × (new ≡ old) × (out ≡ record { length = 0; object = part.0 })
-TellsText (Err why) old new was out status = (status ≡ number_of why) × (new ≡ old) × (out ≡ was)
+module _ (old new : List ℕ) (was out : BplistWritten) (status : ℕ) where
+  -- buffer, output and status tell the answer
+  abbrev pub TellsText : Result Text Status → Type 0
+  TellsText (Ok (Fits text)) = PutsAll text.items old new out.length status × (out.object ≡ 0)
+  TellsText (Ok (TooLong n)) = (status ≡ number_of statuses.Short) × (new ≡ old) × (out ≡ record { length = n; object = 0 })
+  TellsText (Ok (Formless part)) =
+      (status ≡ number_of statuses.NoText) × (new ≡ old) × (out ≡ record { length = 0; object = part.0 })
+  TellsText (Err why) = (status ≡ number_of why) × (new ≡ old) × (out ≡ was)

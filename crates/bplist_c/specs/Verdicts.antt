@@ -19,7 +19,7 @@ use Rattle.bplist_c.specs.declared.verdict.TheConstants.{NO_VERDICT}
 use Rattle.bplist_c.specs.Objects.{kind_number}
 use Rattle.bplist_objects.specs.Words.{number_of as number_of_rule, word_of}
 use Rattle.bplist_lint.specs.Trail.{number}
-use Rattle.bplist_c.specs.Statuses.{PutsAll}
+use Rattle.bplist_c.specs.Statuses.{PutsAll, number_of}
 
 -- the verdict on a file with this fault
 abbrev pub fault_verdict : Fault → BplistVerdict
@@ -40,15 +40,15 @@ ShowsTop f F lint verdict = (head : Head) → IsHeadOf f F F.top.0 head
 -- status and verdict show that answer
 abbrev pub ShowsLint : List ℕ → Result Lint LintRefusal → BplistVerdict → ℕ → Type 0
 ShowsLint f (Ok lint) verdict status = (status ≡ 0) × ((F : Frame) → IsFrame f F → ShowsTop f F lint verdict)
-ShowsLint f (Err (refusals.Fault fault)) verdict status = (status ≡ 1) × (verdict ≡ fault_verdict fault)
-ShowsLint f (Err (refusals.Circle circle)) verdict status = (status ≡ 1) × (verdict ≡ circle_verdict circle)
-ShowsLint f (Err _) verdict status = (status ≡ 2) × (verdict ≡ NO_VERDICT)
+ShowsLint f (Err (refusals.Fault fault)) verdict status = (status ≡ number_of statuses.Fault) × (verdict ≡ fault_verdict fault)
+ShowsLint f (Err (refusals.Circle circle)) verdict status = (status ≡ number_of statuses.Fault) × (verdict ≡ circle_verdict circle)
+ShowsLint f (Err _) verdict status = (status ≡ number_of statuses.Memory) × (verdict ≡ NO_VERDICT)
 
 -- the word of the rule with this number is put, or there is none and all is unchanged
 abbrev pub NamesRule : ℕ → List ℕ → List ℕ → ℕ → ℕ → ℕ → Type 0
 NamesRule n old new was count status =
     ((rule : Rule) × (number_of_rule rule ≡ n) × PutsAll (word_of rule) old new count status)
-    ⊎ (((n ≡ 0) ⊎ (32 < n)) × (status ≡ 16) × (new ≡ old) × (count ≡ was))
+    ⊎ (((n ≡ 0) ⊎ (32 < n)) × (status ≡ number_of statuses.NoRule) × (new ≡ old) × (count ≡ was))
 
 -- the objects of the linter's circle, or refused memory, or that there is none
 abbrev pub CircleSays : Result Lint LintRefusal → Result (Vec ℕ Global) Status → Type 0

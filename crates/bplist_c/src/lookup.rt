@@ -1,15 +1,14 @@
 //! Where paths lead.
 
 ghost use Rattle.std.specs.Prelude.{◌≡◌, ◌∷◌, [], ℕ, Result};
-ghost use Rattle.bplist_c.specs.declared.lookup.Lead.{Lead as lead};
 ghost use Rattle.bplist_c.specs.declared.status.Status.{Status as status};
 ghost use Rattle.bplist_objects.specs.Holds.{Holds};
 ghost use Rattle.bplist_cursor.specs.Found.{IsFound};
 ghost use Rattle.bplist_cursor.specs.declared.found.Found.{Found as place};
-ghost use Rattle.bplist_c.specs.Lookup.{FindSays, TellsLead, lead_of, step_answer, why_status};
+ghost use Rattle.bplist_c.specs.Lookup.{FindSays, told_found, step_answer, why_status};
 ghost use Rattle.bplist_c.specs.Objects.{OnObject};
 ghost use Rattle.bplist_c.specs.Sessions.{IsFileOf, IsSame, OnHandle};
-ghost use Rattle.bplist_c.specs.Statuses.{Tells, number_of};
+ghost use Rattle.bplist_c.specs.Statuses.{Tells};
 
 use crate::handle::BplistHandle;
 use crate::loan::{give_back, lend};
@@ -30,35 +29,6 @@ pub struct BplistFound {
     pub step: u64,
 }
 
-/// Where a path leads, with its status.
-#[derive(Clone, Copy, Debug, Drop)]
-pub(crate) struct Lead {
-    pub(crate) status: u32,
-    pub(crate) found: BplistFound,
-}
-
-impl Lead {
-    /// To an object.
-    fn at(object: u32) -> Lead
-        ensures { result ≡ record { status = 0; found = record { object = object; step = 0 } } }
-    {
-        Lead {
-            status: 0,
-            found: BplistFound { object, step: 0 },
-        }
-    }
-
-    /// Nowhere, for this step or place.
-    fn nowhere(why: Status, step: u64) -> Lead
-        ensures { result ≡ record { status = number_of why; found = record { object = 0; step = step } } }
-    {
-        Lead {
-            status: why.number(),
-            found: BplistFound { object: 0, step },
-        }
-    }
-}
-
 /// Why a step can't be taken.
 fn status_of(why: Why) -> Status
     ensures { result ≡ why_status why }
@@ -70,18 +40,12 @@ fn status_of(why: Why) -> Status
     }
 }
 
-/// What C is told of a place.
-fn show(place: Found) -> Lead
-    ensures { result ≡ lead_of place }
-{
-    match place {
-        Found::At(node) => Lead::at(node.object.0),
-        Found::Missing { step, why } => Lead::nowhere(status_of(why), step),
-    }
-}
-
-/// Where a path text leads.
-fn find(alloc: Global, checked: &mut Checked<SliceSource<'_>>, path: &[u8]) -> Result<Lead, Status>
+/// Where a path text leads, or the place at which it is wrong.
+fn find(
+    alloc: Global,
+    checked: &mut Checked<SliceSource<'_>>,
+    path: &[u8],
+) -> Result<Result<Found, u64>, Status>
     ensures same { checked.new ≡ checked.old }
     ensures exact { FindSays checked.old path.now result }
 {
@@ -89,23 +53,24 @@ fn find(alloc: Global, checked: &mut Checked<SliceSource<'_>>, path: &[u8]) -> R
         return Err(Status::NotUtf8);
     };
     match Path::parse(alloc, text) {
-        Ok(path) => Ok(show(locate_in_slice(checked, &path))),
-        Err(PathFault::Text { place }) => Ok(Lead::nowhere(Status::PathText, place as u64)),
+        Ok(path) => Ok(Ok(locate_in_slice(checked, &path))),
+        Err(PathFault::Text { place }) => Ok(Err(place as u64)),
         Err(PathFault::Memory) => Err(Status::Memory),
     }
 }
 
 /// Tells C where a path leads.
-fn tell_lead(answer: Result<Lead, Status>, out: &mut BplistFound) -> u32
-    ensures { TellsLead answer out.old out.new result }
+fn tell_found(answer: Result<Result<Found, u64>, Status>, out: &mut BplistFound) -> u32
+    ensures { (result, out.new) ≡ told_found answer out.old }
 {
-    match answer {
-        Ok(lead) => {
-            *out = lead.found;
-            lead.status
-        }
-        Err(status) => status.number(),
-    }
+    let (status, object, step) = match answer {
+        Ok(Ok(Found::At(node))) => (0, node.object.0, 0),
+        Ok(Ok(Found::Missing { step, why })) => (status_of(why).number(), 0, step),
+        Ok(Err(place)) => (Status::PathText.number(), 0, place),
+        Err(status) => return status.number(),
+    };
+    *out = BplistFound { object, step };
+    status
 }
 
 /// Where a path leads from the top.
@@ -119,7 +84,7 @@ pub extern "C" fn bplist_find(
 ) -> u32
     requires same { IsFileOf file.now handle.old }
     ensures kept { IsSame handle.old handle.new }
-    ensures exact { (answer : Result lead status) × TellsLead answer out.old out.new result
+    ensures exact { (answer : Result (Result place ℕ) status) × ((result, out.new) ≡ told_found answer out.old)
         × OnHandle file.entry handle.old (λ checked. FindSays checked path.now) answer }
 {
     let answer = match lend(alloc, handle, file) {
@@ -131,7 +96,7 @@ pub extern "C" fn bplist_find(
         }
         Err(status) => Err(status),
     };
-    tell_lead(answer, out)
+    tell_found(answer, out)
 }
 
 /// Where one step leads from an object.

@@ -95,7 +95,7 @@ fn length_of(measures: &Measures, n: ObjectNo) -> u64
 
 /// Tells C what became of a text, and puts it into the buffer where it fits.
 fn tell_text(answer: Result<Text, Status>, buffer: &mut [u8], out: &mut BplistWritten) -> u32
-    ensures { TellsText answer buffer.old buffer.new out.old out.new result }
+    ensures { TellsText buffer.old buffer.new out.old out.new result answer }
 {
     match answer {
         Ok(Text::Fits(text)) => put(&text, buffer, out),
@@ -135,7 +135,7 @@ pub extern "C" fn bplist_text(
 ) -> u32
     requires same { IsFileOf file.now handle.old }
     ensures kept { IsSame handle.old handle.new }
-    ensures exact { (answer : Result text status) × TellsText answer buffer.old buffer.new out.old out.new result
+    ensures exact { (answer : Result text status) × TellsText buffer.old buffer.new out.old out.new result answer
         × OnHandle file.entry handle.old (λ checked. OnObject checked object Holds
         (λ v. IsTextOf checked.source.octets checked.frame object v (length buffer.old))) answer }
 {
