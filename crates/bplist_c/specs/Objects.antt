@@ -44,6 +44,6 @@ uid_answer content = elim content [ leaf (uid x) ↦ Ok (x % 2 ^ 32) | _ ↦ Err
 
 -- the text's units from one on, as many as fit, are at the front of the buffer, and the answer is their count; or OtherKind
 pub record UnitsSay (f : List ℕ) (from : ℕ) (old new : List ℕ) (head : Head) (answer : Result ℕ Status) : Type 0 where
-  pub text : IsTextKind head.kind → (count : ℕ) × (answer ≡ Ok count) × (count ≡ min (head.count - from) (length old))
-      × (new ≡ part (units_of f head) from count ++ drop count old)
+  pub text : IsTextKind head.kind → let count = min (head.count - from) (length old) in
+      (answer ≡ Ok count) × (new ≡ part (units_of f head) from count ++ drop count old)
   pub other : (IsTextKind head.kind → ⊥) → answer ≡ Err statuses.OtherKind

@@ -1,4 +1,4 @@
-use Rattle.std.proofs.Common.{rules, arith, ◌≡◌, ◌⊎◌, ◌++◌, ◌∙◌, ℕ, List, Ok, inl, inr, length, take, drop, refl, sym, ap, subst}
+use Rattle.std.proofs.Common.{rules, arith, ◌≡◌, ◌⊎◌, ◌++◌, ◌∙◌, ◌-◌, min, ℕ, List, Ok, inl, inr, length, take, drop, refl, sym, ap, subst}
 use Rattle.std.proofs.lemmas.Bool.{cases_lt}
 use Rattle.std.proofs.lemmas.List.{length-take-le}
 use Rattle.bplist_octets.specs.Octets.{part}
@@ -26,13 +26,15 @@ returns-in-Ascii-clause-exact c =
     let filled : c.read_part.new.into ≡ part (units_of f head) c.args.from c.min-now.result =
     rw (c.octets-file.ensures.octets, few) at c.read_part.ensures ∙ same_part (units_of f head) c.min-from.result c.args.from c.min-now.result begin in
     let rest = drop c.min-now.result c.args.into.now in
+    let count : c.min-now.result ≡ min (head.count - c.args.from) (length c.args.into.now) =
+    omega (arith, c.min-from.ensures, c.min-now.ensures) in
     record {
       none = λ unvouched. let e = exact.none unvouched in cc;
       said = λ vouched y has.
           let e = exact.said vouched y has in
           let same : head ≡ y = cc in
           subst (λ (x : Head). UnitsSay f c.args.from c.args.into.now (c.read_part.new.into ++ rest) x (Ok c.min-now.result)) same (record {
-            text = λ text. (c.min-now.result, refl, omega (arith, c.min-from.ensures, c.min-now.ensures), ap (λ us. us ++ rest) filled);
+            text = λ text. rw (← count) (refl, ap (λ us. us ++ rest) filled);
             other = λ no_text. absurd (no_text (search rules));
           });
     }
