@@ -1,9 +1,10 @@
 -- Gaps and overlaps of a map.
-use Rattle.std.proofs.Common.{◌≡◌, ◌⊎◌, All, ap, codes, length, refl, subst, sym, slice_index_or, zero, suc, ℕ, ◌<◌, ◌≤◌, List, [], ◌∷◌, ◌++◌, inl, inr, max, min, cond, nat_lt, Bool, true, false, arith}
+use Rattle.std.proofs.Common.{◌≡◌, ◌∙◌, ◌⊎◌, All, ap, codes, length, refl, subst, sym, slice_index_or, zero, suc, ℕ, ◌+◌, ◌&&◌, nat_le, ◌<◌, ◌≤◌, List, [], ◌∷◌, ◌++◌, inl, inr, max, min, cond, nat_lt, Bool, true, false, arith}
 use Rattle.std.proofs.lemmas.Bool.{cases_lt}
+use Rattle.std.proofs.lemmas.List.Sums.{sum_by-cons}
 use Rattle.std.proofs.lemmas.Bool.Decides.{nat_tests}
 use Rattle.bplint_map.specs.declared.rows.Row.{Row}
-use Rattle.bplint_map.specs.Layout.{Part, region, AreInOrder, Covers, IsRegion, IsCoveredTwice, region_between, before, parts, row_end}
+use Rattle.bplint_map.specs.Layout.{Part, region, AreInOrder, IsRegion, objects_at, region_between, before, parts, row_end}
 use Rattle.std.specs.List.{Any}
 
 -- ---- one of several
@@ -11,6 +12,15 @@ use Rattle.std.specs.List.{Any}
 abbrev pub IsAmong : {X : Type 0} → (X → Type 0) → List X → Type 0
 IsAmong P [] = ⊥
 IsAmong P (x ∷ xs) = P x ⊎ IsAmong P xs
+
+-- place x lies in the object of this row
+abbrev pub Covers : ℕ → Row → Type 0
+Covers x row = (row.place ≤ x) × (x < row_end row)
+
+-- place x lies in the objects of two of these rows
+abbrev pub IsCoveredTwice : ℕ → List Row → Type 0
+IsCoveredTwice x [] = ⊥
+IsCoveredTwice x (row ∷ rows) = (Covers x row × IsAmong (Covers x) rows) ⊎ IsCoveredTwice x rows
 
 module _ {X : Type 0} (P : X → Type 0) where
   pub any_of : (xs : List X) → IsAmong P xs → Any P xs
@@ -147,7 +157,7 @@ module _ (table x : ℕ) where
   overlaps_all reached (row ∷ rows) (inl (low, inr other)) =
       among_right (IsRegion (codes "overlap") x) (before reached row) _ (inr (overlaps_all (max reached (row_end row)) rows (inl (grind (arith, nat_tests), other))))
   overlaps_all reached (row ∷ rows) (inr (inl (own, other))) =
-      among_right (IsRegion (codes "overlap") x) (before reached row) _ (inr (overlaps_all (max reached (row_end row)) rows (inl (grind (arith, nat_tests, own.1), among_of (Covers x) rows other))))
+      among_right (IsRegion (codes "overlap") x) (before reached row) _ (inr (overlaps_all (max reached (row_end row)) rows (inl (grind (arith, nat_tests, own.1), other))))
   overlaps_all reached (row ∷ rows) (inr (inr twice)) =
       among_right (IsRegion (codes "overlap") x) (before reached row) _ (inr (overlaps_all (max reached (row_end row)) rows (inr twice)))
 
@@ -169,9 +179,56 @@ module _ (table x : ℕ) where
       later : ((x < max reached (row_end row)) × IsAmong (Covers x) rows) ⊎ IsCoveredTwice x rows → ((x < reached) × IsAmong (Covers x) (row ∷ rows)) ⊎ IsCoveredTwice x (row ∷ rows)
       later (inl (low, other)) = elim (below_max x reached (row_end row) low) [
         | inl l ↦ inl (l, inr other)
-        | inr l ↦ inr (inl ((stand_covered row.place x rows (all_later row rows order) other, l), any_of (Covers x) rows other))
+        | inr l ↦ inr (inl ((stand_covered row.place x rows (all_later row rows order) other, l), other))
       ]
       later (inr twice) = inr (inr twice)
+
+-- ---- how many objects have a place
+module _ (x : ℕ) where
+  -- the first row has it, and there is one more, or not
+  abbrev IsCounted : Row → List Row → Type 0
+  IsCounted row rows = (Covers x row × (objects_at x (row ∷ rows) ≡ 1 + objects_at x rows))
+      ⊎ ((Covers x row → ⊥) × (objects_at x (row ∷ rows) ≡ objects_at x rows))
+
+  one_more : (row : Row) (rows : List Row) (own : Bool) → (nat_le row.place x && nat_lt x (row_end row)) ≡ own → objects_at x (row ∷ rows) ≡ cond own 1 0 + objects_at x rows
+  one_more row rows own is = sum_by-cons (λ (r : Row). cond (nat_le r.place x && nat_lt x (row_end r)) 1 0) row rows ∙ ap (λ b. cond b 1 0 + objects_at x rows) is
+
+  counted : (row : Row) (rows : List Row) → IsCounted row rows
+  counted row rows = elim (cases_lt x row.place) [
+    | inl low ↦ inr (λ c. omega (arith, c.0, low), omega (arith, one_more row rows false (grind (arith, nat_tests))))
+    | inr high ↦ elim (cases_lt x (row_end row)) [
+      | inl within ↦ inl ((high, within), one_more row rows true (grind (arith, nat_tests)))
+      | inr past ↦ inr (λ c. omega (arith, c.1, past), omega (arith, one_more row rows false (grind (arith, nat_tests))))
+    ]
+  ]
+
+  pub some_at : (rows : List Row) → IsAmong (Covers x) rows → 0 < objects_at x rows
+  some_at [] h = absurd h
+  some_at (row ∷ rows) h = elim (counted row rows) [
+    | inl own ↦ omega (arith, own.1)
+    | inr other ↦ elim h [ inl c ↦ absurd (other.0 c) | inr c ↦ omega (arith, other.1, some_at rows c) ]
+  ]
+
+  of_some : (rows : List Row) → 0 < objects_at x rows → IsAmong (Covers x) rows
+  of_some [] h = absurd (omega (arith, h))
+  of_some (row ∷ rows) h = elim (counted row rows) [ inl own ↦ inl own.0 | inr other ↦ inr (of_some rows (omega (arith, other.1, h))) ]
+
+  pub none_at : (rows : List Row) → (IsAmong (Covers x) rows → ⊥) → objects_at x rows ≡ 0
+  none_at rows none = elim (cases_lt 0 (objects_at x rows)) [ inl some ↦ absurd (none (of_some rows some)) | inr least ↦ omega (arith, least) ]
+
+  pub twice_at : (rows : List Row) → IsCoveredTwice x rows → 1 < objects_at x rows
+  twice_at [] h = absurd h
+  twice_at (row ∷ rows) (inl (own, other)) =
+      elim (counted row rows) [ inl is ↦ omega (arith, is.1, some_at rows other) | inr is ↦ absurd (is.0 own) ]
+  twice_at (row ∷ rows) (inr twice) =
+      elim (counted row rows) [ inl is ↦ omega (arith, is.1, twice_at rows twice) | inr is ↦ omega (arith, is.1, twice_at rows twice) ]
+
+  pub of_twice : (rows : List Row) → 1 < objects_at x rows → IsCoveredTwice x rows
+  of_twice [] h = absurd (omega (arith, h))
+  of_twice (row ∷ rows) h = elim (counted row rows) [
+    | inl own ↦ inl (own.0, of_some rows (omega (arith, own.1, h)))
+    | inr other ↦ inr (of_twice rows (omega (arith, other.1, h)))
+  ]
 
 -- no object takes a byte before place 8
 from_8 : (x : ℕ) (rows : List Row) → AreInOrder rows → IsAmong (Covers x) rows → 8 ≤ x

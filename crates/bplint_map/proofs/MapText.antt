@@ -111,15 +111,7 @@ module _ (old mid new : Option (List ℕ)) (s t : Sending) where
       ended : Takes old mid s t xs → SendsSome mid new (t.held ++ ys) → SendsSome old new (s.held ++ (xs ++ ys))
       ended takes some = subst (λ l. SendsSome old new (s.held ++ (xs ++ l))) (append-nil ys) (takes_then_some old mid new ys [] takes some)
   then_some text xs ys faults.Memory takes some e = rw e (subst (λ l. SendsSome old new (s.held ++ (xs ++ l))) (append-nil ys) (takes_then_some old mid new ys [] takes some))
-  then_some text xs ys (faults.Fault _) takes some e = absurd some
-  then_some text xs ys (faults.Circle _) takes some e = absurd some
-  then_some text xs ys (faults.Path _) takes some e = absurd some
-  then_some text xs ys (faults.NoAsciiForm _) takes some e = absurd some
-  then_some text xs ys faults.TooLong takes some e = absurd some
-  then_some text xs ys faults.Hex takes some e = absurd some
-  then_some text xs ys faults.Changed takes some e = absurd some
-  then_some text xs ys faults.Open takes some e = absurd some
-  then_some text xs ys faults.InputTooLong takes some e = absurd some
+  then_some text xs ys _ takes some e = absurd some
 
 module _ (old new : Option (List ℕ)) (s : Sending) where
   -- what is not put in of a text is not put in of a longer one
@@ -130,15 +122,7 @@ module _ (old new : Option (List ℕ)) (s : Sending) where
       longer : SendsSome old new (s.held ++ xs) → SendsSome old new (s.held ++ (xs ++ ys))
       longer p = (p.0, p.1 ++ ys, p.2, sym (append_assoc s.held xs ys) ∙ ap (λ l. l ++ ys) p.3 ∙ append_assoc p.0 p.1 ys)
   some_of_more text xs ys faults.Memory p e = rw e (p.0, p.1 ++ ys, p.2, sym (append_assoc s.held xs ys) ∙ ap (λ l. l ++ ys) p.3 ∙ append_assoc p.0 p.1 ys)
-  some_of_more text xs ys (faults.Fault _) some e = absurd some
-  some_of_more text xs ys (faults.Circle _) some e = absurd some
-  some_of_more text xs ys (faults.Path _) some e = absurd some
-  some_of_more text xs ys (faults.NoAsciiForm _) some e = absurd some
-  some_of_more text xs ys faults.TooLong some e = absurd some
-  some_of_more text xs ys faults.Hex some e = absurd some
-  some_of_more text xs ys faults.Changed some e = absurd some
-  some_of_more text xs ys faults.Open some e = absurd some
-  some_of_more text xs ys faults.InputTooLong some e = absurd some
+  some_of_more text xs ys _ some e = absurd some
 
 -- ---- what is left with the writer
 -- what a run leaves with the writer, where after a failed read or refused memory any first part of the map may be out
@@ -181,15 +165,7 @@ module _ (f : List ℕ) (F : Frame) (frame : IsFrame f F) (verdict : Verdict) (l
       (0, (All, the_map, says, out_part old old new s [] the_map k (out_start old s (ap (λ x. x.sent) start) (ap (λ x. x.held) start)) part))
   map_cut old new s (faults.Read _) start some = begun old new (subst (λ l. SendsSome old new (l ++ the_map)) (ap (λ x. x.held) start) some)
   map_cut old new s faults.Memory start some = begun old new (subst (λ l. SendsSome old new (l ++ the_map)) (ap (λ x. x.held) start) some)
-  map_cut old new s (faults.Fault _) start some = absurd some
-  map_cut old new s (faults.Circle _) start some = absurd some
-  map_cut old new s (faults.Path _) start some = absurd some
-  map_cut old new s (faults.NoAsciiForm _) start some = absurd some
-  map_cut old new s faults.TooLong start some = absurd some
-  map_cut old new s faults.Hex start some = absurd some
-  map_cut old new s faults.Changed start some = absurd some
-  map_cut old new s faults.Open start some = absurd some
-  map_cut old new s faults.InputTooLong start some = absurd some
+  map_cut old new s _ start some = absurd some
 
   module _ (old mid new : Option (List ℕ)) (s t u : Sending) (start : s ≡ record { sent = 0; held = [] }) (takes : Takes old mid s t the_map) where
     held : IsOut old mid t ([] ++ the_map)

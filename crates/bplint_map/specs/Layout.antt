@@ -1,6 +1,6 @@
 -- Rows of objects with the gaps and the overlaps between them. Source: profile.
-use Rattle.std.specs.Prelude.{◌≡◌, ◌⊎◌, ℕ, ◌<◌, ◌≤◌, All, max, min, cond, nat_lt, List, [], ◌∷◌, ◌++◌, codes}
-use Rattle.std.specs.List.{AllPairs, Any}
+use Rattle.std.specs.Prelude.{◌≡◌, ℕ, ◌<◌, ◌≤◌, ◌&&◌, All, max, min, cond, nat_le, nat_lt, List, [], ◌∷◌, ◌++◌, codes, count_by}
+use Rattle.std.specs.List.{AllPairs}
 use Rattle.bplint_map.specs.declared.rows.Finding.TheVariants.{Whole, Wrong, Lost}
 use Rattle.bplint_map.specs.declared.rows.Row.{Row}
 
@@ -28,14 +28,9 @@ abbrev pub parts : ℕ → ℕ → List Row → List Part
 parts table reached [] = region_between (codes "gap") reached table
 parts table reached (row ∷ rows) = before reached row ++ (object row ∷ parts table (max reached (row_end row)) rows)
 
--- place x lies in the object of this row
-abbrev pub Covers : ℕ → Row → Type 0
-Covers x row = (row.place ≤ x) × (x < row_end row)
-
--- place x lies in the objects of two of these rows
-abbrev pub IsCoveredTwice : ℕ → List Row → Type 0
-IsCoveredTwice x [] = ⊥
-IsCoveredTwice x (row ∷ rows) = (Covers x row × Any (Covers x) rows) ⊎ IsCoveredTwice x rows
+-- in how many objects of these rows place x lies
+abbrev pub objects_at : ℕ → List Row → ℕ
+objects_at x rows = count_by (λ row. nat_le row.place x && nat_lt x (row_end row)) rows
 
 -- place x lies in this part, which has this word and is no object
 abbrev pub IsRegion : List ℕ → ℕ → Part → Type 0

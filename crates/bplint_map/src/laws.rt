@@ -1,20 +1,20 @@
 //! Laws of the definitions: each is the contract of a function that does nothing.
 
-ghost use Rattle.std.specs.Prelude.{◌⊎◌, ◌↔◌, ◌≤◌, ◌<◌, ℕ, List, codes};
+ghost use Rattle.std.specs.Prelude.{◌≡◌, ◌⊎◌, ◌↔◌, ◌≤◌, ◌<◌, ℕ, List, codes};
 ghost use Rattle.std.specs.List.{Any};
-ghost use Rattle.bplint_map.specs.Layout.{AreInOrder, Covers, IsRegion, IsCoveredTwice, parts};
+ghost use Rattle.bplint_map.specs.Layout.{AreInOrder, IsRegion, objects_at, parts};
 ghost use Rattle.bplint_map.specs.declared.rows.Row.{Row as row};
 
 /// Gaps are all bytes from place 8 up to the offset table that lie in no object, and no others.
 pub fn gaps_are_all()
     ensures all { (table : ℕ) (rows : List row) (x : ℕ) → 8 ≤ x → x < table
-        → Any (Covers x) rows ⊎ Any (IsRegion (codes "gap") x) (parts table 8 rows) }
+        → (0 < objects_at x rows) ⊎ Any (IsRegion (codes "gap") x) (parts table 8 rows) }
     ensures alone { (table : ℕ) (rows : List row) → AreInOrder rows → (x : ℕ)
-        → Any (IsRegion (codes "gap") x) (parts table 8 rows) → Any (Covers x) rows → ⊥ }
+        → Any (IsRegion (codes "gap") x) (parts table 8 rows) → objects_at x rows ≡ 0 }
 {}
 
 /// Overlaps are all bytes that lie in several objects, and no others.
 pub fn overlaps_are_all()
     ensures { (table : ℕ) (rows : List row) → AreInOrder rows → (x : ℕ)
-        → IsCoveredTwice x rows ↔ Any (IsRegion (codes "overlap") x) (parts table 8 rows) }
+        → (1 < objects_at x rows) ↔ Any (IsRegion (codes "overlap") x) (parts table 8 rows) }
 {}
