@@ -30,9 +30,9 @@ use Rattle.bplint_engine.specs.Output.{Answers, IsRefusal}
 use Rattle.bplint_engine.specs.PathTexts.{IsAskingFault, IsWrongAmong, OnPath}
 use Rattle.bplint_lines.specs.Faults.{Gives, IsExcused}
 use Rattle.bplint_engine.proofs.LowerFaults.{lint_fault}
-use Rattle.bplint_engine.specs.Get.{GetSays, replies_said, reply_line}
+use Rattle.bplint_engine.specs.Get.{GetSays, replies_said, reply_line, said_of}
 use Rattle.bplint_engine.specs.Lint.{LintSays}
-use Rattle.bplint_engine.specs.Ls.{ListGives, ListSays}
+use Rattle.bplint_engine.specs.Ls.{ListSays, listed}
 use Rattle.bplint_engine.specs.Print.{PathSays, PrintSays}
 use Rattle.bplint_engine.specs.Show.{IsLeastFor, LeastLeads}
 use Rattle.bplint_engine.proofs.GetAnswers.{excused_refused, file_fault, told_of}
@@ -104,21 +104,12 @@ show_says f texts paths queries F lists (Err fault) are asked least told = excus
 excused_there : {X : Type 0} (fault : RunFault) → ∥ X ∥₁ → (X → IsExcused fault) → IsExcused fault
 excused_there (faults.Read _) there told = tt
 excused_there faults.Memory there told = tt
-excused_there (faults.Fault _) there told = not_there there told
-excused_there (faults.Circle _) there told = not_there there told
-excused_there (faults.Path _) there told = not_there there told
-excused_there (faults.NoAsciiForm _) there told = not_there there told
-excused_there faults.TooLong there told = not_there there told
-excused_there faults.Hex there told = not_there there told
-excused_there faults.Changed there told = not_there there told
-excused_there (faults.Write _) there told = not_there there told
-excused_there faults.Open there told = not_there there told
-excused_there faults.InputTooLong there told = not_there there told
+excused_there _ there told = not_there there told
 
 -- the members under the path of `ls` were listed
 pub list_says : (f text : List ℕ) (steps : List (List ℕ)) (F : Frame) (lists : Lists) (made : Result Output RunFault)
     → AllZip IsPathOf (text ∷ []) (steps ∷ []) → IsLeastFor f F lists → ∥ ((v : Value) × Holds f F F.top.0 v) ∥₁
-    → ((v : Value) → Holds f F F.top.0 v → Gives (λ output. ListGives text (look v steps) output.said output.bytes.items) made)
+    → ((v : Value) → Holds f F F.top.0 v → Gives (λ output. (output.said ≡ said_of (look v steps ∷ [])) × (output.bytes.items ≡ listed text (look v steps))) made)
     → Answers (ListSays f text) made
 list_says f text steps F lists (Ok output) are least value told = (steps, F, least.lint, are.0, least.frame, least.linted, told)
 list_says f text steps F lists (Err fault) are least value told =

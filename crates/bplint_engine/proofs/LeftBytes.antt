@@ -28,15 +28,7 @@ pub refused : (Says : Answer → Type 0) (most : ℕ) (old new : Option (List �
 refused Says most old new (faults.Write _) h kept = absurd h
 refused Says most old new (faults.Read _) h kept = begins_nothing Says most old new kept
 refused Says most old new faults.Memory h kept = begins_nothing Says most old new kept
-refused Says most old new (faults.Fault _) h kept = (h, kept)
-refused Says most old new (faults.Circle _) h kept = (h, kept)
-refused Says most old new (faults.Path _) h kept = (h, kept)
-refused Says most old new (faults.NoAsciiForm _) h kept = (h, kept)
-refused Says most old new faults.TooLong h kept = (h, kept)
-refused Says most old new faults.Hex h kept = (h, kept)
-refused Says most old new faults.Changed h kept = (h, kept)
-refused Says most old new faults.Open h kept = (h, kept)
-refused Says most old new faults.InputTooLong h kept = (h, kept)
+refused Says most old new _ h kept = (h, kept)
 
 -- what was made was sent
 pub sent : (Says : Answer → Type 0) (most : ℕ) (old new : Option (List ℕ)) (made : Result Output RunFault) (result : Result Said RunFault)

@@ -1,5 +1,5 @@
 -- The lines of the members of containers.
-use Rattle.std.proofs.Common.{◌≡◌, ◌<◌, ◌+◌, ◌-◌, ◌*◌, ◌++◌, ◌∷◌, [], ◌∙◌, ℕ, zero, suc, List, length, slice_get, Some, ap, append_assoc, append-nil, arith, refl, sym}
+use Rattle.std.proofs.Common.{◌≡◌, ◌<◌, ◌+◌, ◌-◌, ◌*◌, ◌++◌, ◌∷◌, [], ◌∙◌, ℕ, zero, suc, List, length, slice_get, Some, Ok, ap, append_assoc, append-nil, arith, refl, sym}
 use Rattle.bplist_objects.specs.Value.{Value, leaf, array, set, dict, text, Values, no_values, value, Pairs, no_pairs, pair, keys}
 use Rattle.bplist_cursor.specs.declared.faces.Face.{Face}
 use Rattle.bplist_cursor.specs.declared.faults.CursorFault.{CursorFault}
@@ -166,7 +166,7 @@ dict_lines path ps =
 
 -- all lines of a container
 pub container_listed : (members : Members) (n : ℕ) (path : List ℕ) (w : Value) → IsContainer members n w
-    → first_lines path w n ≡ listed path w
+    → first_lines path w n ≡ listed path (Ok w)
 container_listed Array n path (array vs) is = ap (first_lines path (array vs)) (sym is) ∙ array_lines path vs
 container_listed Set n path (set vs) is = ap (first_lines path (set vs)) (sym is) ∙ set_lines path vs
 container_listed Dict n path (dict ps) is = ap (first_lines path (dict ps)) (sym is) ∙ dict_lines path ps
@@ -181,11 +181,9 @@ container_listed Dict n path (array vs) is = absurd is
 container_listed Dict n path (set vs) is = absurd is
 
 -- the line of a leaf
-pub leaf_listed : (path : List ℕ) (w : Value) → IsLeaf w → named_line path w ≡ listed path w
+pub leaf_listed : (path : List ℕ) (w : Value) → IsLeaf w → named_line path w ≡ listed path (Ok w)
 leaf_listed path (leaf x) is = refl
-leaf_listed path (array vs) is = absurd is
-leaf_listed path (set vs) is = absurd is
-leaf_listed path (dict ps) is = absurd is
+leaf_listed path _ is = absurd is
 
 -- the cursor met a failed read or a refused growth
 pub cursor_excused : (fault : CursorFault) → cursor.IsExcused fault → IsExcused (cursor_fault fault)

@@ -9,16 +9,13 @@ use Rattle.bplist_cursor.specs.declared.found.Why.{Why}
 use Rattle.bplist_cursor.specs.Look.{look}
 use Rattle.bplist_cursor.specs.Members.{entries, members, member_of}
 use Rattle.bplist_cursor.specs.Path.{IsPathOf}
-use Rattle.bplist_cursor.specs.Replies.{face}
 use Rattle.bplist_lint.specs.declared.answer.Lint.{Lint}
 use Rattle.bplist_lint.specs.Linted.{IsLintedBy}
 use Rattle.bplint_engine.specs.declared.member_lines.Members.{Members}
 use Rattle.bplint_engine.specs.declared.member_lines.Members.TheVariants.{Array, Set, Dict}
-use Rattle.bplint_lines.specs.declared.said.Said.{Said}
-use Rattle.bplint_lines.specs.declared.said.Said.TheVariants.{All, SomeMissing}
 use Rattle.bplint_lines.specs.Answers.{Answer, gives, refuses}
 use Rattle.bplint_lines.specs.MemberNames.{bracketed, index_name, key_name}
-use Rattle.bplint_lines.specs.OutputLines.{face_line, missing_line}
+use Rattle.bplint_engine.specs.Get.{found_line, said_of}
 use Rattle.bplint_engine.specs.Lint.{LintSays}
 use Rattle.bplint_engine.specs.PathTexts.{IsAskingFault}
 
@@ -36,7 +33,7 @@ IsContainer _ n w = ⊥
 
 -- a value's line: name, tab, line of `get`
 abbrev pub named_line : List ℕ → Value → List ℕ
-named_line name w = name ++ 9 ∷ (face_line (face w) ++ 10 ∷ [])
+named_line name w = name ++ 9 ∷ found_line (Ok w)
 
 -- the line of a member, if there is one
 abbrev pub line_of_member : List ℕ → Option Value → List ℕ
@@ -60,21 +57,17 @@ abbrev pub first_lines : List ℕ → Value → ℕ → List ℕ
 first_lines path w zero = []
 first_lines path w (suc n) = first_lines path w n ++ member_line path w n
 
--- all lines of a value: of its members, or of the leaf
-abbrev pub listed : List ℕ → Value → List ℕ
-listed path (leaf l) = named_line path (leaf l)
-listed path (array vs) = flat_map (λ e. named_line (index_name path e.0) e.1) (enumerate_from 0 (members vs))
-listed path (set vs) = flat_map (λ e. named_line (bracketed e.0) e.1) (enumerate_from 0 (members vs))
-listed path (dict ps) = flat_map (λ e. named_line (key_name path e.0 e.1.0) e.1.1) (enumerate_from 0 (entries ps))
-
--- what `ls` writes of a found value, or of a path that leads nowhere
-abbrev pub ListGives : List ℕ → Result Value (ℕ × Why) → Said → List ℕ → Type 0
-ListGives path (Ok w) said bytes = (said ≡ All) × (bytes ≡ listed path w)
-ListGives path (Err missing) said bytes = (said ≡ SomeMissing) × (bytes ≡ missing_line missing.0 missing.1 ++ 10 ∷ [])
+-- all lines of a found value, of its members or of the leaf, or that of a path that leads nowhere
+abbrev pub listed : List ℕ → Result Value (ℕ × Why) → List ℕ
+listed path (Ok (leaf l)) = named_line path (leaf l)
+listed path (Ok (array vs)) = flat_map (λ e. named_line (index_name path e.0) e.1) (enumerate_from 0 (members vs))
+listed path (Ok (set vs)) = flat_map (λ e. named_line (bracketed e.0) e.1) (enumerate_from 0 (members vs))
+listed path (Ok (dict ps)) = flat_map (λ e. named_line (key_name path e.0 e.1.0) e.1.1) (enumerate_from 0 (entries ps))
+listed path (Err missing) = found_line (Err missing)
 
 -- `ls` answers the members under a path of the file's value
 abbrev pub ListSays : List ℕ → List ℕ → Answer → Type 0
 ListSays f path (gives said bytes) =
     (steps : List (List ℕ)) × (F : Frame) × (lint : Lint) × IsPathOf path steps × IsFrame f F × IsLintedBy f F lint
-    × ((v : Value) → Holds f F F.top.0 v → ListGives path (look v steps) said bytes)
+    × ((v : Value) → Holds f F F.top.0 v → (said ≡ said_of (look v steps ∷ [])) × (bytes ≡ listed path (look v steps)))
 ListSays f path (refuses fault) = IsAskingFault (LintSays f) (path ∷ []) fault

@@ -1,5 +1,5 @@
 -- What `print` says. Source: profile.
-use Rattle.std.specs.Prelude.{◌≡◌, ◌∷◌, ◌++◌, ◌⊎◌, ℕ, List, [], None, Some, MatchResult}
+use Rattle.std.specs.Prelude.{◌≡◌, ◌∷◌, ◌++◌, ◌⊎◌, ℕ, List, [], None, Some, Err, MatchResult}
 use Rattle.std.specs.List.{AllZip}
 use Rattle.bplist_objects.specs.declared.frame.Frame.{Frame}
 use Rattle.bplist_objects.specs.Value.{Value}
@@ -16,8 +16,8 @@ use Rattle.bplint_lines.specs.declared.said.Said.TheVariants.{All, SomeMissing}
 use Rattle.bplint_lines.specs.declared.fault.RunFault.{RunFault}
 use Rattle.bplint_lines.specs.declared.fault.RunFault.TheVariants as faults
 use Rattle.bplint_lines.specs.Answers.{Answer, gives, refuses}
-use Rattle.bplint_lines.specs.OutputLines.{missing_line}
 use Rattle.bplint_engine.specs.Check.{CheckSays}
+use Rattle.bplint_engine.specs.Get.{found_line}
 use Rattle.bplint_engine.specs.PathTexts.{IsAskingFault}
 
 -- the text of the value that object n holds, or why it is not printed: a part of it has no form, or the text is too long
@@ -31,7 +31,7 @@ NodeSays f F limit n w (refuses _) = ⊥
 abbrev pub PathSays : List ℕ → Frame → ℕ → List (List ℕ) → Value → Answer → Type 0
 PathSays f F limit steps v answer = MatchResult (look v steps)
     (λ w. (n : ℕ) × LeadTo f F F.top.0 steps n × NodeSays f F limit n w answer)
-    (λ missing. answer ≡ gives SomeMissing (missing_line missing.0 missing.1 ++ 10 ∷ []))
+    (λ missing. answer ≡ gives SomeMissing (found_line (Err missing)))
 
 -- the first fault of what is asked, or the answer of `print` for the file's value and one path text
 abbrev pub PrintSays : ℕ → List ℕ → List ℕ → List (List ℕ) → Answer → Type 0

@@ -25,13 +25,8 @@ abbrev pub Says : Asked → List ℕ → List ℕ → Answer → Type 0
 Says command f cert answer = SaysBy command.verb command f cert answer
 
 -- how many bytes may go out before a failed read or refused memory: the limit of Print, else none
-abbrev pub most_by : Verb → ℕ → ℕ
-most_by Print limit = limit
-most_by _ limit = 0
-
--- the same of a command
 abbrev pub most : Asked → ℕ
-most command = most_by command.verb command.limit
+most command = elim command.verb [ Print ↦ command.limit | _ ↦ 0 ]
 
 -- the verb looks at the certificate
 abbrev pub takes_cert : Verb → Bool

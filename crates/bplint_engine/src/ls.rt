@@ -1,5 +1,5 @@
 //! The members of a value in a file, with no certificate at hand.
-ghost use Rattle.std.specs.Prelude.{◌≡◌, ◌*◌, ◌^◌, ◌<◌, IfSome, IsTrue, MatchOption};
+ghost use Rattle.std.specs.Prelude.{◌≡◌, ◌∷◌, [], ◌*◌, ◌^◌, ◌<◌, Ok, IfSome, IsTrue, MatchOption};
 ghost use Rattle.bplist_octets.specs.Meaning.{OnlyReads};
 ghost use Rattle.bplist_objects.specs.Holds.{Holds};
 ghost use Rattle.bplist_objects.specs.Value.{Value};
@@ -11,7 +11,8 @@ ghost use Rattle.bplist_cursor.specs.Shown.{HasRoom};
 ghost use Rattle.bplint_lines.specs.Answers.{Leaves, read_failed};
 ghost use Rattle.bplint_engine.specs.Output.{Answers};
 ghost use Rattle.bplint_lines.specs.Faults.{Gives};
-ghost use Rattle.bplint_engine.specs.Ls.{IsContainer, IsLeaf, ListGives, ListSays, listed};
+ghost use Rattle.bplint_engine.specs.Get.{said_of};
+ghost use Rattle.bplint_engine.specs.Ls.{IsContainer, IsLeaf, ListSays, listed};
 
 use crate::certified_file::check_least;
 use crate::delivery::send_made;
@@ -73,7 +74,8 @@ fn list_checked<S: Source>(
     ensures source { OnlyReads (read_failed result.0) checked.source (S.means result.1) }
     ensures exact { IsTrue checked.source.honest → (v : Value)
         → Holds checked.source.octets checked.frame checked.frame.top.0 v
-        → Gives (λ output. ListGives text.now (look v path.now) output.said output.bytes.items) result.0 }
+        → Gives (λ output. (output.said ≡ said_of (look v path.now ∷ []))
+        × (output.bytes.items ≡ listed text.now (look v path.now))) result.0 }
 {
     let mut checked = checked;
     let made = list_path(alloc, &mut checked, path, text);
@@ -90,7 +92,8 @@ fn list_path<S: Source>(
     ensures reads { OnlyReadsFile (read_failed result) checked.old checked.new }
     ensures exact { IsTrue checked.old.source.honest → (v : Value)
         → Holds checked.old.source.octets checked.old.frame checked.old.frame.top.0 v
-        → Gives (λ output. ListGives text.now (look v path.now) output.said output.bytes.items) result }
+        → Gives (λ output. (output.said ≡ said_of (look v path.now ∷ []))
+        × (output.bytes.items ≡ listed text.now (look v path.now))) result }
 {
     match locate(checked, path)? {
         Found::At(node) => {
@@ -114,7 +117,7 @@ fn lines_at<S: Source>(
     ensures reads { OnlyReadsFile (read_failed result) checked.old checked.new }
     ensures exact { IsTrue checked.old.source.honest → IsVouchedBy checked.old.certificate.heights node.object.0 → (w : Value)
         → Holds checked.old.source.octets checked.old.frame node.object.0 w
-        → Gives (λ lines. lines.items ≡ listed path.now w) result }
+        → Gives (λ lines. lines.items ≡ listed path.now (Ok w)) result }
 {
     let length = checked.len();
     let shown = face(alloc, checked, node)?;

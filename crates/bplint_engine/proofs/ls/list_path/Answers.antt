@@ -1,7 +1,8 @@
-use Rattle.std.proofs.Common.{refl, subst, sym}
+use Rattle.std.proofs.Common.{◌≡◌, ◌∷◌, [], refl, subst, sym}
 use Rattle.std.proofs.lemmas.Result.{err_from_is_err_and}
 use Rattle.bplint_lines.specs.declared.said.Said.TheVariants.{All}
-use Rattle.bplint_engine.specs.Ls.{ListGives}
+use Rattle.bplint_engine.specs.Get.{said_of}
+use Rattle.bplint_engine.specs.Ls.{listed}
 use Rattle.bplint_engine.proofs.ls.list_path.Goals as goal
 
 pub returns-in_err-bytes-in-At-clause-exact : goal.returns-in_err-bytes-in-At-clause-exact
@@ -15,4 +16,4 @@ pub returns-in_ok-bytes-in-At-clause-exact : goal.returns-in_ok-bytes-in-At-clau
 returns-in_ok-bytes-in-At-clause-exact g c =
     λ honest v holds. let found = rw c.in-At.is at (c.in_ok-node.ensures.exact honest v holds) in
     let lists = rw c.in_ok-node.ensures.reads at c.in_ok-bytes-in-At.ensures.exact in
-    subst (λ r. ListGives c.args.text.now r All c.in_ok-bytes-in-At.bytes.items) (sym found.1.1) (refl, lists honest found.1.2.0 found.1.0 found.1.2.1)
+    subst (λ r. (All ≡ said_of (r ∷ [])) × (c.in_ok-bytes-in-At.bytes.items ≡ listed c.args.text.now r)) (sym found.1.1) (refl, lists honest found.1.2.0 found.1.0 found.1.2.1)

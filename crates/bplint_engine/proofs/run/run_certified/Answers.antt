@@ -1,6 +1,10 @@
+use Rattle.std.proofs.Common.{subst}
 use Rattle.std.proofs.lemmas.Grind.{merely}
+use Rattle.bplint_lines.specs.Answers.{Leaves}
 use Rattle.bplint_engine.specs.Certify.{CertifySays}
+use Rattle.bplint_engine.specs.Commands.{Asked}
 use Rattle.bplint_engine.specs.Get.{GetSays}
+use Rattle.bplint_engine.specs.Said.{Says, most}
 use Rattle.bplint_engine.proofs.LeftBytes.{sent}
 use Rattle.bplint_engine.proofs.run.run_certified.Goals as goal
 
@@ -15,10 +19,10 @@ returns-in-Get-clause-exact g c =
 pub returns-in-Print-clause-exact : goal.returns-in-Print-clause-exact
 returns-in-Print-clause-exact g c =
     λ honest cert decoded. let is = c.in-Print.is in
-    let view = c.command.view_is in
     let lent = c.deref-in-Print.ensures.value in
     let left = rw lent at (c.print_answer.ensures.exact honest cert decoded) in
-    rw (← view) (rw is left)
+    subst (λ (x : Asked). Leaves (Says x (g.S.Source.means c.args.src).octets cert) (most x)
+    (g.W.Write.contents c.args.out.now) (g.W.Write.contents c.print_answer.new.out) c.print_answer.result.0) c.command.view_is (rw is left)
 
 pub returns-in-Certify-clause-exact : goal.returns-in-Certify-clause-exact
 returns-in-Certify-clause-exact g c =
