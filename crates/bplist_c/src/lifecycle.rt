@@ -16,12 +16,12 @@ ghost use Rattle.bplist_lint.specs.FileFault.{IsFileFault, IsFileCircle};
 ghost use Rattle.bplist_lint.specs.Linted.{IsLinted};
 ghost use Rattle.bplist_lint.specs.Refusals.{Lints, no_circle};
 ghost use Rattle.bplist_c.specs.declared.status.Status.{Status as status};
-ghost use Rattle.bplist_c.specs.declared.status.Status.TheVariants.{Memory};
+ghost use Rattle.bplist_c.specs.declared.status.Status.TheVariants.{Closed, Memory, Opened};
 ghost use Rattle.bplist_c.specs.Lifecycle.{CertificateSays, IsAcceptedFor, IsCheckedFor, IsSessionFor, IsOpened, IsPair};
 ghost use Rattle.bplist_c.specs.Lifecycle.{certified};
 ghost use Rattle.bplist_c.specs.Objects.{kind_number};
 ghost use Rattle.bplist_c.specs.Sessions.{IsSame, IsSessionOf};
-ghost use Rattle.bplist_c.specs.Statuses.{Puts};
+ghost use Rattle.bplist_c.specs.Statuses.{Puts, number_of as number};
 ghost use Rattle.bplist_c.specs.declared.verdict.TheConstants.{NO_VERDICT};
 ghost use Rattle.bplist_c.specs.Verdicts.{ShowsLint, ShowsTop};
 
@@ -129,7 +129,7 @@ pub extern "C" fn bplist_open(
     sorted: bool,
     out: &mut BplistVerdict,
 ) -> u32
-    ensures opened { handle.old.length ≢ 0 → IsSame handle.old handle.new × (out.new ≡ NO_VERDICT) × (result ≡ 4) }
+    ensures opened { handle.old.length ≢ 0 → IsSame handle.old handle.new × (out.new ≡ NO_VERDICT) × (result ≡ number Opened) }
     ensures exact { handle.old.length ≡ 0 → (answer : Result lint_answer lint_refusal)
         × Lints (IsLinted file.now) (IsFileFault file.now) (IsFileCircle file.now) answer
         × ShowsLint file.now answer out.new result
@@ -211,7 +211,7 @@ pub extern "C" fn bplist_open_certified(
     sorted: bool,
     out: &mut BplistVerdict,
 ) -> u32
-    ensures opened { handle.old.length ≢ 0 → IsSame handle.old handle.new × (out.new ≡ NO_VERDICT) × (result ≡ 4) }
+    ensures opened { handle.old.length ≢ 0 → IsSame handle.old handle.new × (out.new ≡ NO_VERDICT) × (result ≡ number Opened) }
     ensures exact { handle.old.length ≡ 0 → (answer : Result lint_answer lint_refusal)
         × Lints (IsPair file.now certificate.now) (IsVouchingFault file.now certificate.now) no_circle answer
         × ShowsLint file.now answer out.new result
@@ -241,7 +241,7 @@ pub extern "C" fn bplist_open_certified(
 #[unsafe(no_mangle)]
 pub extern "C" fn bplist_close(alloc: Global, handle: &mut BplistHandle) -> u32
     ensures closed { handle.new.length ≡ 0 }
-    ensures none { handle.old.length ≡ 0 → IsSame handle.old handle.new × (result ≡ 3) }
+    ensures none { handle.old.length ≡ 0 → IsSame handle.old handle.new × (result ≡ number Closed) }
     ensures freed { handle.old.length ≢ 0 → (handle.new.held.value ≡ None) × (result ≡ 0) }
 {
     if handle.length == 0 {
