@@ -1,5 +1,5 @@
 -- What a run says. Source: profile.
-use Rattle.std.specs.Prelude.{◌≡◌, ℕ, List, [], Bool, true, false, MatchBool, MatchResult, if◌then◌else◌}
+use Rattle.std.specs.Prelude.{◌≡◌, ℕ, List, [], Bool, true, false, MatchResult, if◌then◌else◌}
 use Rattle.bplint_engine.specs.declared.command.Verb.{Verb}
 use Rattle.bplint_engine.specs.declared.command.Verb.TheVariants.{Lint, Check, Get, Certify, Print}
 use Rattle.bplint_lines.specs.declared.fault.RunFault.TheVariants.{Hex}
@@ -38,5 +38,5 @@ Spells P text answer = MatchResult (spelled text) (λ bytes. P bytes answer) (λ
 
 -- a command's answer for inputs; with `hex` for the bytes that they spell, of the certificate where it is looked at
 abbrev pub SaysOver : Bool → Asked → List ℕ → List ℕ → Answer → Type 0
-SaysOver hex c file cert answer = MatchBool hex
-    (Spells (λ f. Spells (Says c f) (if takes_cert c.verb then cert else [])) file answer) (Says c file cert answer)
+SaysOver true c file cert answer = Spells (λ f. Spells (Says c f) (if takes_cert c.verb then cert else [])) file answer
+SaysOver false c file cert answer = Says c file cert answer

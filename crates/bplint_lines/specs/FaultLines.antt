@@ -1,5 +1,6 @@
 -- The lines of faults, without line feeds, and the exit statuses. Source: profile.
-use Rattle.std.specs.Prelude.{ℕ, ◌==◌, List, [], ◌∷◌, ◌++◌, codes, get_or, if◌then◌else◌, Option, None, flat_map, option_map, unwrap_or}
+use Rattle.std.specs.Prelude.{ℕ, ◌==◌, List, [], ◌∷◌, ◌++◌, codes, get_or, if◌then◌else◌, Option, None, flat_map}
+use Rattle.std.specs.Option.{option_map_or}
 use Rattle.std.specs.Fmt.{decimal}
 use denote.Enum.Declared.{tag_of}
 use Rattle.bplist_octets.specs.contracts.source.ReadFault.{the_type}
@@ -13,7 +14,7 @@ use Rattle.bplint_lines.specs.declared.fault.RunFault.TheVariants.{Fault as is_f
 -- `fault WORD object N place P`, with `none` for N where there is no object
 abbrev pub fault_line : Rule → Option ObjectNo → ℕ → List ℕ
 fault_line rule object place =
-    let number = unwrap_or (option_map (λ (n : ObjectNo). decimal n.0) object) (codes "none") in
+    let number = option_map_or (λ (n : ObjectNo). decimal n.0) object (codes "none") in
     codes "fault " ++ (word_of rule ++ (codes " object " ++ (number ++ (codes " place " ++ decimal place))))
 
 -- what is reported of a fault: its line; and the exit status, 1 what the file or its text is, 2 a wrong path text, 4 refused memory,

@@ -18,10 +18,7 @@ texts =
     ∷ ("A reference has 1 to 8 bytes.", "byte 7 of the trailer is 0 or 9")
     ∷ ("Offset table and trailer go exactly to the end of the file.", "two entries of one byte each in a table of three bytes")
     ∷ ("A reference has bytes enough to hold the number of objects.", "256 objects and references of one byte")
-    ∷ (
-      "An entry of the offset table has bytes enough to hold the place of the table.",
-      "a table at place 256 and entries of one byte",
-    )
+    ∷ ("An entry of the offset table has bytes enough to hold the place of the table.", "a table at place 256 and entries of one byte")
     ∷ ("Each entry of the offset table leads to a place before the table.", "a table at place 9 and an entry 9")
     ∷ ("An object begins at place 8 or later, behind the header.", "an entry 7")
     ∷ ("An object begins with a byte that marks a kind.", "an object that begins with 0f or 70")
@@ -44,10 +41,7 @@ texts =
       "The objects that count take no more bytes in all than lie between the header and the offset table. For lint the reached ones count, for check those of height 1 or more.",
       "two objects that lie over one another and fill the file",
     )
-    ∷ (
-      "The key list of a dictionary is wholly there, and names the dictionary's keys in ascending order.",
-      "the key list 1 0 for the keys a and b",
-    )
+    ∷ ("The key list of a dictionary is wholly there, and names the dictionary's keys in ascending order.", "the key list 1 0 for the keys a and b")
     ∷ []
 
 -- what the rule asks, and something that breaks it
