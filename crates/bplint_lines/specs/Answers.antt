@@ -1,5 +1,5 @@
 -- Answers to a command, and what they leave with the writer. Source: profile.
-use Rattle.std.specs.Prelude.{◌≡◌, ◌⊎◌, ℕ, List, Bool, true, false, Option, Result, Ok, Err}
+use Rattle.std.specs.Prelude.{◌⊎◌, ℕ, List, Bool, true, false, Option, Result, Ok, Err}
 use Rattle.std.specs.Io.KnownBytes.{Appends, Keeps}
 use Rattle.bplist_ascii.specs.Sending.{SendsSome, IsCut, AtMost}
 use Rattle.bplint_lines.specs.declared.fault.RunFault.{RunFault}

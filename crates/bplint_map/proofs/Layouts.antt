@@ -1,5 +1,5 @@
 -- Gaps and overlaps of a map.
-use Rattle.std.proofs.Common.{◌≡◌, ◌∙◌, ◌⊎◌, All, ap, codes, length, refl, subst, sym, slice_index_or, zero, suc, ℕ, ◌+◌, ◌&&◌, nat_le, ◌<◌, ◌≤◌, List, [], ◌∷◌, ◌++◌, inl, inr, max, min, cond, nat_lt, Bool, true, false, arith}
+use Rattle.std.proofs.Common.{◌≡◌, ◌∙◌, ◌⊎◌, All, ap, codes, length, refl, subst, sym, zero, suc, ℕ, ◌+◌, ◌&&◌, nat_le, ◌<◌, ◌≤◌, List, [], ◌∷◌, ◌++◌, inl, inr, max, min, cond, nat_lt, Bool, true, false, arith}
 use Rattle.std.proofs.lemmas.Bool.{cases_lt}
 use Rattle.std.proofs.lemmas.List.Sums.{sum_by-cons}
 use Rattle.std.proofs.lemmas.Bool.Decides.{nat_tests}
