@@ -92,10 +92,8 @@ pub show_says : (f : List ℕ) (texts : List (List ℕ)) (paths : List (List (Li
     → Answers (LeastLeads GetSays f texts) made
 show_says f texts paths queries F lists (Ok output) are asked least told =
     inr (
-      F,
       least.lint,
-      least.frame,
-      least.linted,
+      (F, least.frame, least.linted),
       (paths, F, lists, are, least.vouched, λ v holds. told_of v paths queries output.said output.bytes.items asked (told v holds)),
     )
 show_says f texts paths queries F lists (Err fault) are asked least told = excused_refused (LeastLeads GetSays f texts) fault told
@@ -120,7 +118,7 @@ path_to_text : (f text : List ℕ) (limit : ℕ) (steps : List (List ℕ)) (F : 
     → AllZip IsPathOf (text ∷ []) (steps ∷ []) → IsLeastFor f F lists → Holds f F F.top.0 v
     → (a : Answer) → PathSays f F limit steps v a → LeastLeads (PrintSays limit) f (text ∷ []) a
 path_to_text f text limit steps F lists v are l holds a h =
-    inr (F, l.lint, l.frame, l.linted, path_to_print f (octets_of l.lint.certificate) (text ∷ []) limit steps F lists v are l.vouched holds a h)
+    inr (l.lint, (F, l.frame, l.linted), path_to_print f (octets_of l.lint.certificate) (text ∷ []) limit steps F lists v are l.vouched holds a h)
 
 pub text_leaves : (f text : List ℕ) (limit : ℕ) (steps : List (List ℕ)) (F : Frame) (lists : Lists) (old new : Option (List ℕ))
     (result : Result Said RunFault) → AllZip IsPathOf (text ∷ []) (steps ∷ []) → IsLeastFor f F lists

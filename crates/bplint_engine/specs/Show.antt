@@ -6,7 +6,7 @@ use Rattle.bplist_cert.specs.CertifiedFile.{IsVouchedFor}
 use Rattle.bplist_cert.specs.Encoding.{octets_of}
 use Rattle.bplist_cert.specs.Lists.{Lists}
 use Rattle.bplist_lint.specs.declared.answer.Lint.{Lint}
-use Rattle.bplist_lint.specs.Linted.{IsLintedBy}
+use Rattle.bplist_lint.specs.Linted.{IsLinted, IsLintedBy}
 use Rattle.bplint_lines.specs.declared.fault.RunFault.{RunFault}
 use Rattle.bplint_lines.specs.Answers.{Answer, refuses}
 use Rattle.bplint_engine.specs.PathTexts.{IsAskingFault}
@@ -24,4 +24,4 @@ pub record IsLeastFor (f : List ℕ) (F : Frame) (lists : Lists) : Type 0 where
 abbrev pub LeastLeads : (List ℕ → List ℕ → List (List ℕ) → Answer → Type 0) → List ℕ → List (List ℕ) → Answer → Type 0
 LeastLeads Says f texts answer =
     ((fault : RunFault) × (answer ≡ refuses fault) × IsAskingFault (LintSays f) texts fault)
-    ⊎ ((F : Frame) × (lint : Lint) × IsFrame f F × IsLintedBy f F lint × Says f (octets_of lint.certificate) texts answer)
+    ⊎ ((lint : Lint) × IsLinted f lint × Says f (octets_of lint.certificate) texts answer)

@@ -13,7 +13,7 @@ use Rattle.bplist_ascii.specs.Printed.{FitsLimit}
 use Rattle.bplist_ascii.specs.declared.print_fault.PrintFault.{PrintFault}
 use Rattle.bplist_ascii.specs.declared.print_fault.PrintFault.TheVariants as faults
 use Rattle.bplist_c.specs.declared.status.Status.{Status}
-use Rattle.bplist_c.specs.declared.status.Status.TheVariants as statuses
+use Rattle.bplist_c.specs.declared.status.Status.TheVariants.{Memory, NoText, Short}
 use Rattle.bplist_c.specs.declared.text.BplistWritten.{BplistWritten}
 use Rattle.bplist_c.specs.declared.text.Text.{Text}
 use Rattle.bplist_c.specs.declared.text.Text.TheVariants.{Fits, TooLong, Formless}
@@ -34,10 +34,10 @@ abbrev pub printed_as : Result (Unit {0}) PrintFault → Vec ℕ Global → ℕ 
 printed_as (Ok _) text told = Ok (Fits text)
 printed_as (Err (faults.NoAsciiForm part)) text told = Ok (Formless part)
 printed_as (Err faults.TooLong) text told = Ok (TooLong told)
-printed_as (Err (faults.Write _)) text told = Err statuses.Memory
-printed_as (Err (faults.Read _)) text told = Err statuses.Memory
-printed_as (Err faults.Changed) text told = Err statuses.Memory
-printed_as (Err faults.Memory) text told = Err statuses.Memory
+printed_as (Err (faults.Write _)) text told = Err Memory
+printed_as (Err (faults.Read _)) text told = Err Memory
+printed_as (Err faults.Changed) text told = Err Memory
+printed_as (Err faults.Memory) text told = Err Memory
 
 -- the text of v if it fits `room`, else its length; or the first part without a text, or refused memory
 abbrev pub IsTextOf : List ℕ → Frame → ℕ → Value → ℕ → Result Text Status → Type 0
@@ -45,13 +45,12 @@ IsTextOf f F n v room (Ok (Fits text)) = (value_text v ≡ Some text.items) × F
 IsTextOf f F n v room (Ok (TooLong told)) =
     (text : List ℕ) × (value_text v ≡ Some text) × (¬ FitsLimit room text) × (told ≡ cap (length text))
 IsTextOf f F n v room (Ok (Formless part)) = (value_text v ≡ None) × IsFormless f F n v part.0
-IsTextOf f F n v room (Err why) = why ≡ statuses.Memory
+IsTextOf f F n v room (Err why) = why ≡ Memory
 
 module _ (old new : List ℕ) (was out : BplistWritten) (status : ℕ) where
   -- buffer, output and status tell the answer
   abbrev pub TellsText : Result Text Status → Type 0
   TellsText (Ok (Fits text)) = PutsAll text.items old new out.length status × (out.object ≡ 0)
-  TellsText (Ok (TooLong n)) = (status ≡ number_of statuses.Short) × (new ≡ old) × (out ≡ record { length = n; object = 0 })
-  TellsText (Ok (Formless part)) =
-      (status ≡ number_of statuses.NoText) × (new ≡ old) × (out ≡ record { length = 0; object = part.0 })
+  TellsText (Ok (TooLong n)) = (status ≡ number_of Short) × (new ≡ old) × (out ≡ record { length = n; object = 0 })
+  TellsText (Ok (Formless part)) = (status ≡ number_of NoText) × (new ≡ old) × (out ≡ record { length = 0; object = part.0 })
   TellsText (Err why) = (status ≡ number_of why) × (new ≡ old) × (out ≡ was)
