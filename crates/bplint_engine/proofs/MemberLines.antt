@@ -49,9 +49,7 @@ pub array_member : (n i : ℕ) (w : Value) → IsContainer Array n w → i < n
 array_member n i (array vs) is l =
     let there = item_there vs n i is l in
     (there.0, there.1, λ path. ap (line_of_member (index_name path i)) there.1)
-array_member n i (leaf x) is l = absurd is
-array_member n i (set vs) is l = absurd is
-array_member n i (dict ps) is l = absurd is
+array_member n i _ is l = absurd is
 
 -- a member of a set, and its line
 pub set_member : (n i : ℕ) (w : Value) → IsContainer Set n w → i < n
@@ -59,9 +57,7 @@ pub set_member : (n i : ℕ) (w : Value) → IsContainer Set n w → i < n
 set_member n i (set vs) is l =
     let there = item_there vs n i is l in
     (there.0, there.1, λ path. ap (line_of_member (bracketed i)) there.1)
-set_member n i (leaf x) is l = absurd is
-set_member n i (array vs) is l = absurd is
-set_member n i (dict ps) is l = absurd is
+set_member n i _ is l = absurd is
 
 -- a pair of a dictionary, and its line
 pub dict_member : (n i : ℕ) (w : Value) → IsContainer Dict n w → i < n
@@ -77,9 +73,7 @@ dict_member n i (dict ps) is l =
       λ path. ap (λ k. line_of_pair path i k (slice_get (in_turn ps) (2 * i + 1))) key.1
           ∙ ap (λ m. line_of_pair path i (Some (leaf (text key.0))) m) there.1,
     )
-dict_member n i (leaf x) is l = absurd is
-dict_member n i (array vs) is l = absurd is
-dict_member n i (set vs) is l = absurd is
+dict_member n i _ is l = absurd is
 
 -- a name and what a member shows were added
 pub added : (lines name mid new : List ℕ) (shown : Face) (m : Value) → mid ≡ lines ++ name
@@ -170,15 +164,7 @@ pub container_listed : (members : Members) (n : ℕ) (path : List ℕ) (w : Valu
 container_listed Array n path (array vs) is = ap (first_lines path (array vs)) (sym is) ∙ array_lines path vs
 container_listed Set n path (set vs) is = ap (first_lines path (set vs)) (sym is) ∙ set_lines path vs
 container_listed Dict n path (dict ps) is = ap (first_lines path (dict ps)) (sym is) ∙ dict_lines path ps
-container_listed Array n path (leaf x) is = absurd is
-container_listed Array n path (set vs) is = absurd is
-container_listed Array n path (dict ps) is = absurd is
-container_listed Set n path (leaf x) is = absurd is
-container_listed Set n path (array vs) is = absurd is
-container_listed Set n path (dict ps) is = absurd is
-container_listed Dict n path (leaf x) is = absurd is
-container_listed Dict n path (array vs) is = absurd is
-container_listed Dict n path (set vs) is = absurd is
+container_listed _ n path _ is = absurd is
 
 -- the line of a leaf
 pub leaf_listed : (path : List ℕ) (w : Value) → IsLeaf w → named_line path w ≡ listed path (Ok w)

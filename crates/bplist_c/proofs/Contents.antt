@@ -15,34 +15,12 @@ module _ (f : List ℕ) (F : Frame) where
   is_int kind count body e = rw e
 
   pub other_int : (kind : Kind) (count body : ℕ) → (kind ≡ kinds.Int → ⊥) → Err statuses.OtherKind ≡ int_answer (content_of f F kind count body)
-  other_int kinds.Null count body other = refl
-  other_int kinds.False count body other = refl
-  other_int kinds.True count body other = refl
   other_int kinds.Int count body other = absurd (other refl)
-  other_int kinds.Real count body other = refl
-  other_int kinds.Date count body other = refl
-  other_int kinds.Bytes count body other = refl
-  other_int kinds.Ascii count body other = refl
-  other_int kinds.Wide count body other = refl
-  other_int kinds.Uid count body other = refl
-  other_int kinds.Array count body other = refl
-  other_int kinds.Set count body other = refl
-  other_int kinds.Dict count body other = refl
+  other_int _ count body other = refl
 
   pub is_uid : (kind : Kind) (count body : ℕ) → kind ≡ kinds.Uid → Ok (num_at f body count % 2 ^ 32) ≡ uid_answer (content_of f F kind count body)
   is_uid kind count body e = rw e
 
   pub other_uid : (kind : Kind) (count body : ℕ) → (kind ≡ kinds.Uid → ⊥) → Err statuses.OtherKind ≡ uid_answer (content_of f F kind count body)
-  other_uid kinds.Null count body other = refl
-  other_uid kinds.False count body other = refl
-  other_uid kinds.True count body other = refl
-  other_uid kinds.Int count body other = refl
-  other_uid kinds.Real count body other = refl
-  other_uid kinds.Date count body other = refl
-  other_uid kinds.Bytes count body other = refl
-  other_uid kinds.Ascii count body other = refl
-  other_uid kinds.Wide count body other = refl
   other_uid kinds.Uid count body other = absurd (other refl)
-  other_uid kinds.Array count body other = refl
-  other_uid kinds.Set count body other = refl
-  other_uid kinds.Dict count body other = refl
+  other_uid _ count body other = refl

@@ -25,7 +25,4 @@ text_said f F n v room told text (Ok _) (t, is, fits, added) length =
     (is ∙ ap (λ x. Some x) (sym added), subst (FitsLimit room) (sym added) fits)
 text_said f F n v room told text (Err (faults.NoAsciiForm part)) (none, formless, kept) length = (none, formless)
 text_said f F n v room told text (Err faults.TooLong) (t, is, long, kept) length = (t, is, long, length t is)
-text_said f F n v room told text (Err (faults.Write _)) printed length = refl
-text_said f F n v room told text (Err (faults.Read _)) printed length = refl
-text_said f F n v room told text (Err faults.Changed) printed length = refl
-text_said f F n v room told text (Err faults.Memory) printed length = refl
+text_said f F n v room told text (Err _) printed length = refl

@@ -19,8 +19,7 @@ use Rattle.bplist_c.specs.Statuses.{number_of}
 abbrev pub why_status : Why → Status
 why_status why = elim why [ NoKey ↦ statuses.NoKey | NoIndex ↦ statuses.NoIndex | NotSteppable ↦ statuses.NotSteppable ]
 
--- the place that these bytes lead to as a path from the top, or the place at which they are no path; they may not be UTF-8, and
--- memory may be refused
+-- where these bytes lead as a path from the top, or where they are wrong as one; or that they are no UTF-8, or refused memory
 abbrev pub FindSays : CheckedFile → List ℕ → Result (Result Found ℕ) Status → Type 0
 FindSays checked bytes (Ok (Ok found)) = IsUtf8 bytes × ((steps : List (List ℕ)) × IsPathOf bytes steps × ((v : Value)
     → Holds checked.source.octets checked.frame checked.frame.top.0 v → IsFound checked checked.frame.top.0 v steps found))

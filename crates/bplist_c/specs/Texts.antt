@@ -34,10 +34,7 @@ abbrev pub printed_as : Result (Unit {0}) PrintFault → Vec ℕ Global → ℕ 
 printed_as (Ok _) text told = Ok (Fits text)
 printed_as (Err (faults.NoAsciiForm part)) text told = Ok (Formless part)
 printed_as (Err faults.TooLong) text told = Ok (TooLong told)
-printed_as (Err (faults.Write _)) text told = Err Memory
-printed_as (Err (faults.Read _)) text told = Err Memory
-printed_as (Err faults.Changed) text told = Err Memory
-printed_as (Err faults.Memory) text told = Err Memory
+printed_as (Err _) text told = Err Memory
 
 -- the text of v if it fits `room`, else its length; or the first part without a text, or refused memory
 abbrev pub IsTextOf : List ℕ → Frame → ℕ → Value → ℕ → Result Text Status → Type 0
