@@ -15,7 +15,7 @@ use Rattle.bplist_cursor.specs.Texts.{text_of_units, text_of_bytes}
 abbrev pub kind_word : Kind → List ℕ
 kind_word kind =
     let words = "null" ∷ "false" ∷ "true" ∷ "int" ∷ "real" ∷ "date" ∷ "data" ∷ "text" ∷ "text" ∷ "uid"
-        ∷ "array" ∷ "set" ∷ "dict" ∷ [] in codes (get_or words (tag_of kinds kind) "")
+    ∷ "array" ∷ "set" ∷ "dict" ∷ [] in codes (get_or words (tag_of kinds kind) "")
 
 -- the line of `lint`
 abbrev pub lint_line : ℕ → ℕ → List ℕ → List ℕ
