@@ -1,5 +1,5 @@
 -- The subcommands of the program and their arguments, as clap reads them. Source: profile.
-use Rattle.std.specs.Prelude.{◌≡◌, ◌∷◌, ◌^◌, ◌-◌, ℕ, true, false, List, [], Some, codes}
+use Rattle.std.specs.Prelude.{◌≡◌, ◌∷◌, ◌++◌, ◌^◌, ◌-◌, ℕ, true, false, List, [], Some, codes}
 use Rattle.clap.specs.Words.{App, Rule, Shape, app_of, found_of, new_app, new_rule, rows_of, rule_of, subcommand_of}
 use Rattle.clap.specs.declared.builder.ArgAction.TheVariants.{Append, SetTrue}
 use Rattle.clap.specs.declared.builder.ValueParser.TheVariants.{Unsigned}
@@ -89,13 +89,16 @@ explain_shape = subcommand (codes "explain") (operand (codes "WORD") ∷ [])
 abbrev pub without_subcommands : App
 without_subcommands = record { top = record ((new_app (codes "bplint")).top) { has_version = true; subcommand_required = true }; subs = [] }
 
+-- the same with the subcommands that take no certificate
+abbrev pub without_certificates : App
+without_certificates = record {
+  top = record without_subcommands.top { is_leaf = false };
+  subs = lint_shape ∷ show_shape ∷ ls_shape ∷ map_shape ∷ explain_shape ∷ [];
+}
+
 -- the program's command line
 abbrev pub usage : App
-usage = record {
-  top = record without_subcommands.top { is_leaf = false };
-  subs = lint_shape ∷ show_shape ∷ ls_shape ∷ map_shape ∷ explain_shape ∷ certify_shape ∷ check_shape ∷ get_shape
-      ∷ print_shape ∷ [];
-}
+usage = record without_certificates { subs = without_certificates.subs ++ certify_shape ∷ check_shape ∷ get_shape ∷ print_shape ∷ [] }
 
 -- the line is of the subcommand that the words name, and has what they give its arguments
 abbrev pub IsLineIn : List (List ℕ) → Line → Type 0

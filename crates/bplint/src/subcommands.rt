@@ -301,16 +301,23 @@ fn without_subcommands<'a>(alloc: Global) -> Command<'a>
         .subcommand_required(true)
 }
 
-/// The command line of the program.
-pub fn bplint<'a>(alloc: Global) -> Result<Command<'a>, AllocError>
-    ensures { IfOk result (λ command. app_of command ≡ usage.usage) }
+/// The command of the program with the subcommands that take no certificate.
+fn without_certificates<'a>(alloc: Global) -> Result<Command<'a>, AllocError>
+    ensures { IfOk result (λ command. app_of command ≡ usage.without_certificates) }
 {
     without_subcommands(alloc)
         .subcommand(lint(alloc)?)?
         .subcommand(show(alloc)?)?
         .subcommand(ls(alloc)?)?
         .subcommand(map(alloc)?)?
-        .subcommand(explain(alloc)?)?
+        .subcommand(explain(alloc)?)
+}
+
+/// The command line of the program.
+pub fn bplint<'a>(alloc: Global) -> Result<Command<'a>, AllocError>
+    ensures { IfOk result (λ command. app_of command ≡ usage.usage) }
+{
+    without_certificates(alloc)?
         .subcommand(certify(alloc)?)?
         .subcommand(check(alloc)?)?
         .subcommand(get(alloc)?)?

@@ -90,16 +90,35 @@ fn add_member<S: Source>(
             add_index(alloc, i, lines)?;
             Ok(add_value(alloc, &shown, lines)?)
         }
-        Members::Dict => {
-            let key = member_face(alloc, checked, container.node, 2 * i)?;
-            let Face::Text(units) = &key else {
-                return Err(RunFault::Changed);
-            };
-            let shown = member_face(alloc, checked, container.node, 2 * i + 1)?;
-            add_key_name(alloc, container.path, i, units.as_slice(), lines)?;
-            Ok(add_value(alloc, &shown, lines)?)
-        }
+        Members::Dict => add_pair(alloc, checked, container, i, lines),
     }
+}
+
+/// Adds the line of pair `i` of a dictionary.
+fn add_pair<S: Source>(
+    alloc: Global,
+    checked: &mut Checked<S>,
+    container: &Container<'_>,
+    i: u64,
+    lines: &mut Vec<u8>,
+) -> Result<(), RunFault>
+    requires dict { container.now.members ≡ Members.Dict }
+    requires few { 2 * container.now.count < 2 ^ 64 }
+    requires within { i < container.now.count }
+    ensures reads { OnlyReadsFile (read_failed result) checked.old checked.new }
+    ensures exact { IsTrue checked.old.source.honest
+        → IsVouchedBy checked.old.certificate.heights container.now.node.object.0 → (w : Value)
+        → Holds checked.old.source.octets checked.old.frame container.now.node.object.0 w
+        → IsContainer container.now.members container.now.count w
+        → Gives (λ _. lines.new.items ≡ lines.old.items ++ member_line container.now.path.now w i) result }
+{
+    let key = member_face(alloc, checked, container.node, 2 * i)?;
+    let Face::Text(units) = &key else {
+        return Err(RunFault::Changed);
+    };
+    let shown = member_face(alloc, checked, container.node, 2 * i + 1)?;
+    add_key_name(alloc, container.path, i, units.as_slice(), lines)?;
+    Ok(add_value(alloc, &shown, lines)?)
 }
 
 /// The face of member `i` of a node's value.

@@ -5,12 +5,7 @@ use Rattle.bplint.proofs.subcommands.bplint.Goals as goal
 
 pub returns : goal.returns
 returns c =
-    let lint = entered c.without_subcommands.ensures c.in_ok-lint.ensures refl c.in_ok-subcommand.ensures in
-    let show = entered lint c.in_ok-show.ensures refl c.in_ok-subcommand-2.ensures in
-    let ls = entered show c.in_ok-ls.ensures refl c.in_ok-subcommand-3.ensures in
-    let map = entered ls c.in_ok-map.ensures refl c.in_ok-subcommand-4.ensures in
-    let explain = entered map c.in_ok-explain.ensures refl c.in_ok-subcommand-5.ensures in
-    let certify = entered explain c.in_ok-certify.ensures refl c.in_ok-subcommand-6.ensures in
-    let check = entered certify c.in_ok-check.ensures refl c.in_ok-subcommand-7.ensures in
-    let get = entered check c.in_ok-get.ensures refl c.in_ok-subcommand-8.ensures in
-    IfOk-weaker c.subcommand-9.result _ _ (λ command step. entered get c.in_ok-print.ensures refl step) c.subcommand-9.ensures
+    let certify = entered c.in_ok-without_certificates.ensures c.in_ok-certify.ensures refl c.in_ok-subcommand.ensures in
+    let check = entered certify c.in_ok-check.ensures refl c.in_ok-subcommand-2.ensures in
+    let get = entered check c.in_ok-get.ensures refl c.in_ok-subcommand-3.ensures in
+    IfOk-weaker c.subcommand-4.result _ _ (λ command step. entered get c.in_ok-print.ensures refl step) c.subcommand-4.ensures

@@ -1,7 +1,7 @@
 use Rattle.std.proofs.Common.{◌≡◌, ◌∙◌, ◌++◌, ap, sym}
 use Rattle.std.proofs.lemmas.Result.{err_from_is_err_and}
 use Rattle.bplist_objects.specs.Value.{leaf, text}
-use Rattle.bplint_engine.proofs.MemberLines.{added, array_member, dict_member, set_member}
+use Rattle.bplint_engine.proofs.MemberLines.{added, array_member, set_member}
 use Rattle.bplint_engine.proofs.member_lines.add_member.Goals as goal
 
 pub returns-in_err-shown-in-Array-clause-exact : goal.returns-in_err-shown-in-Array-clause-exact
@@ -16,27 +16,6 @@ returns-in_err-shown-in-Set-clause-exact g c =
     let p = err_from_is_err_and c.from_residual-in_err-shown-in-Set.result c.from_residual-in_err-shown-in-Set.ensures.1 in
     rw (p.1, p.2) (c.in_err-shown-in-Set.ensures.exact honest vouched w there.0 holds there.1)
 
-pub returns-in_err-key-in-Dict-clause-exact : goal.returns-in_err-key-in-Dict-clause-exact
-returns-in_err-key-in-Dict-clause-exact g c =
-    λ honest vouched w holds is. let there = dict_member _ c.args.i w (rw c.in-Dict.is at is) c.requires.within in
-    let p = err_from_is_err_and c.from_residual-in_err-key-in-Dict.result c.from_residual-in_err-key-in-Dict.ensures.1 in
-    rw (p.1, p.2) (c.in_err-key-in-Dict.ensures.exact honest vouched w (leaf (text there.0)) holds there.2)
-
-pub returns-in_default : goal.returns-in_default
-returns-in_default g c = record {
-  reads = c.in_ok-key-in-Dict.ensures.reads;
-  exact = λ honest vouched w holds is.
-      let there = dict_member _ c.args.i w (rw c.in-Dict.is at is) c.requires.within in
-      c.in_default.not-Text there.0 (c.in_ok-key-in-Dict.ensures.exact honest vouched w (leaf (text there.0)) holds there.2);
-}
-
-pub returns-in_err-shown-in-Dict-clause-exact : goal.returns-in_err-shown-in-Dict-clause-exact
-returns-in_err-shown-in-Dict-clause-exact g c =
-    λ honest vouched w holds is. let there = dict_member _ c.args.i w (rw c.in-Dict.is at is) c.requires.within in
-    let p = err_from_is_err_and c.from_residual-in_err-shown-in-Dict.result c.from_residual-in_err-shown-in-Dict.ensures.1 in
-    let stops = rw c.in_ok-key-in-Dict.ensures.reads at c.in_err-shown-in-Dict.ensures.exact in
-    rw (p.1, p.2) (stops honest vouched w there.1 holds there.3)
-
 pub returns-in_ok-add_value-in-Array-clause-exact : goal.returns-in_ok-add_value-in-Array-clause-exact
 returns-in_ok-add_value-in-Array-clause-exact g c =
     λ honest vouched w holds is. let there = array_member _ c.args.i w (rw c.in-Array.is at is) c.requires.within in
@@ -50,13 +29,3 @@ returns-in_ok-add_value-in-Set-clause-exact g c =
     let shown = c.in_ok-shown-in-Set.ensures.exact honest vouched w there.0 holds there.1 in
     added _ _ _ _ _ there.0 c.in_ok-add_index-in-Set.ensures c.in_ok-add_value-in-Set.ensures shown
     ∙ ap (λ x. c.args.lines.now.items ++ x) (sym (there.2 c.args.container.now.path.now))
-
-pub returns-in_ok-add_value-in-Dict-clause-exact : goal.returns-in_ok-add_value-in-Dict-clause-exact
-returns-in_ok-add_value-in-Dict-clause-exact g c =
-    λ honest vouched w holds is. let there = dict_member _ c.args.i w (rw c.in-Dict.is at is) c.requires.within in
-    let key = c.in_ok-key-in-Dict.ensures.exact honest vouched w (leaf (text there.0)) holds there.2 in
-    let same : c.as_slice.result.now ≡ there.0 = cc (c.as_slice.ensures, c.in-Text.is, key) in
-    let shows = rw c.in_ok-key-in-Dict.ensures.reads at c.in_ok-shown-in-Dict.ensures.exact in
-    let named = rw same at c.in_ok-add_key_name-in-Dict.ensures in
-    added _ _ _ _ _ there.1 named c.in_ok-add_value-in-Dict.ensures (shows honest vouched w there.1 holds there.3)
-    ∙ ap (λ x. c.args.lines.now.items ++ x) (sym (there.4 c.args.container.now.path.now))
