@@ -169,26 +169,35 @@ fn node(n: u32) -> Node {
     }
 }
 
-/// Calls of each kind, with paths, nodes and limits that fit some of the tested files.
-pub fn all_calls(alloc: Global) -> Result<Vec<Call>, PathFault> {
-    let mut calls = vec![in alloc;
+/// The calls that ask for no node and no path of their own, but one query of many.
+fn calls_at_large(alloc: Global) -> Result<Vec<Call>, PathFault> {
+    let queries = queries(alloc)?;
+    let calls = vec![in alloc;
         Call::Lint,
         Call::Upgrade,
         Call::Octets,
         Call::Measure,
         Call::Print(node(0), u64::MAX),
         Call::Print(node(62), 13),
-        Call::AnswerAll(queries(alloc)?),
+        Call::AnswerAll(queries),
         Call::Parse("/a~1b/0"),
         Call::TextOfUnits(&[0xd83d, 0x22]),
         Call::TextOfBytes(&[0, 0xff]),
     ]?;
+    Ok(calls)
+}
+
+fn add_nodes(calls: &mut Vec<Call>) -> Result<(), AllocError> {
     for n in 0..9 {
         calls.push(Call::Face(node(n)))?;
         for i in 0..7 {
             calls.push(Call::Member(node(n), i))?;
         }
     }
+    Ok(())
+}
+
+fn add_paths(alloc: Global, calls: &mut Vec<Call>) -> Result<(), PathFault> {
     for text in PATHS {
         calls.push(Call::Locate(Path::parse(alloc, text)?))?;
         calls.push(Call::LocateCounted(Path::parse(alloc, text)?))?;
@@ -196,5 +205,13 @@ pub fn all_calls(alloc: Global) -> Result<Vec<Call>, PathFault> {
     for query in queries(alloc)? {
         calls.push(Call::Answer(query))?;
     }
+    Ok(())
+}
+
+/// Calls of each kind, with paths, nodes and limits that fit some of the tested files.
+pub fn all_calls(alloc: Global) -> Result<Vec<Call>, PathFault> {
+    let mut calls = calls_at_large(alloc)?;
+    add_nodes(&mut calls)?;
+    add_paths(alloc, &mut calls)?;
     Ok(calls)
 }

@@ -1,8 +1,8 @@
 //! Files with certificates.
 
 use crate::files::{
-    A_TO_ONE, PRINTABLE_DICT, THREE_KEYS, TWO_TRUES, UNPRINTABLE_DICT, doubling, keys_by_number,
-    small,
+    A_TO_ONE, PRINTABLE_DICT, Parts, THREE_KEYS, TWO_TRUES, UNPRINTABLE_DICT, doubling,
+    keys_by_number, small,
 };
 use bplist_cert::{CertRefusal, Certificate, Checked, check};
 use bplist_lint::{lint, upgrade};
@@ -28,6 +28,11 @@ impl Row {
             octets,
             certificate,
         })
+    }
+
+    /// A small file with the certificate that `lint` gives it.
+    pub fn small(alloc: Global, name: &'static str, (objects, table): Parts) -> Result<Row, Fail> {
+        Row::new(alloc, name, small(alloc, objects, table)?)
     }
 
     /// The same file with its certificate of version 2.
@@ -69,14 +74,14 @@ pub fn tested_rows(alloc: Global) -> Result<Vec<Row>, Fail> {
     ] {
         rows.push(Row::new(alloc, name, doubling(alloc, leaf)?)?)?;
     }
-    for (name, (objects, table)) in [
+    for (name, parts) in [
         ("two-trues", TWO_TRUES),
         ("three-keys", THREE_KEYS),
         ("printable-dict", PRINTABLE_DICT),
         ("unprintable-dict", UNPRINTABLE_DICT),
         ("a-to-one", A_TO_ONE),
     ] {
-        rows.push(Row::new(alloc, name, small(alloc, objects, table)?)?)?;
+        rows.push(Row::small(alloc, name, parts)?)?;
     }
     Ok(rows)
 }
