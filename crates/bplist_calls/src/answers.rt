@@ -1,9 +1,10 @@
 //! The answers to the calls about one file.
 
+use crate::checks::accepted;
 use crate::lines::{bytes_of_hex, words_of};
 use crate::requests::{Request, request_of};
 use anyhow::{Result, anyhow, bail, ensure};
-use bplist_cert::{Certificate, Checked, check};
+use bplist_cert::{Certificate, Checked};
 use bplist_cursor::{Form, List, Measures, Node, Query, Reply, answer, bytes_of, measure, member};
 use bplist_lint::lint;
 use bplist_objects::shape_of;
@@ -46,10 +47,7 @@ fn checked_of<'a>(
     let certificate = Certificate::from_octets(alloc, &octets).map_err(|refusal| anyhow!(
         "from_octets: {refusal:?}"
     ))?;
-    match check(alloc, SliceSource::new(file), certificate) {
-        Ok(checked) => Ok(checked),
-        Err((refusal, _, _)) => bail!("check: {refusal:?}"),
-    }
+    accepted(alloc, SliceSource::new(file), certificate)
 }
 
 fn answer_to(
@@ -58,7 +56,17 @@ fn answer_to(
     measures: &Measures,
     line: &str,
 ) -> Result<String> {
-    match &request_of(alloc, words_of(line)?)? {
+    let request = request_of(alloc, words_of(line)?)?;
+    answer_text(alloc, checked, measures, &request)
+}
+
+fn answer_text(
+    alloc: Global,
+    checked: &mut Checked<SliceSource<'_>>,
+    measures: &Measures,
+    request: &Request,
+) -> Result<String> {
+    match request {
         Request::Answer(query) => reply_text(alloc, checked, query),
         Request::Nodes(n) => optional(alloc, measures.nodes(*n)),
         Request::Form(n) => form_text(alloc, measures.form(*n)),

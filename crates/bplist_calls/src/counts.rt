@@ -1,8 +1,9 @@
 //! How much the calls that look at a whole file read of it.
 
-use anyhow::{Result, anyhow, bail};
-use bplist_cert::check;
-use bplist_lint::{lint, upgrade};
+use crate::checks::{accepted, upgraded};
+use anyhow::Result;
+use bplist_cert::{Certificate, Checked};
+use bplist_lint::lint;
 use bplist_samples::{CountingSource, Counts};
 use std::alloc::Global;
 use std::cell::Cell;
@@ -15,21 +16,36 @@ pub(crate) fn write_counts<W: Write>(alloc: Global, file: &[u8], out: &mut W) ->
     let mut source = CountingSource::new(file, &counts);
     let linted = lint(alloc, &mut source);
     write_line("lint", &counts, out)?;
-    let Ok(lint) = linted else {
-        return Ok(());
-    };
-    let mut checked = match check(alloc, source, lint.certificate) {
-        Ok(checked) => checked,
-        Err((refusal, _, _)) => bail!("check: {refusal:?}"),
-    };
-    write_line("check-1", &counts, out)?;
-    let sorted = upgrade(alloc, &mut checked).map_err(|fault| anyhow!("upgrade: {fault:?}"))?;
-    write_line("upgrade", &counts, out)?;
-    let (source, _) = checked.into_parts();
-    match check(alloc, source, sorted) {
-        Ok(_) => write_line("check-2", &counts, out),
-        Err((refusal, _, _)) => bail!("check: {refusal:?}"),
+    match linted {
+        Ok(lint) => write_checks(alloc, source, lint.certificate, &counts, out),
+        Err(_) => Ok(()),
     }
+}
+
+/// Writes the lines behind the first, by the certificate that `lint` gave.
+fn write_checks<W: Write>(
+    alloc: Global,
+    source: CountingSource<'_>,
+    certificate: Certificate,
+    counts: &Cell<Counts>,
+    out: &mut W,
+) -> Result<()> {
+    let checked = accepted(alloc, source, certificate)?;
+    write_line("check-1", counts, out)?;
+    let (source, sorted) = upgraded_parts(alloc, checked)?;
+    write_line("upgrade", counts, out)?;
+    accepted(alloc, source, sorted)?;
+    write_line("check-2", counts, out)
+}
+
+/// The source, and its certificate of version 2.
+fn upgraded_parts<'a>(
+    alloc: Global,
+    mut checked: Checked<CountingSource<'a>>,
+) -> Result<(CountingSource<'a>, Certificate)> {
+    let sorted = upgraded(alloc, &mut checked)?;
+    let (source, _) = checked.into_parts();
+    Ok((source, sorted))
 }
 
 /// Writes a line, and begins to count anew.

@@ -15,11 +15,12 @@
 //! | `bytes_of N` | the place of the bytes, and the bytes in hexadecimal, `-` for no byte; or `none` |
 //! | `references` | how many references the linter counts |
 //!
-//! With the word `twice` standard input is a file, and every call is made twice on it (twice.rt); with `counts` too, and
+//! With the word `twice` standard input is a file, and every call is made twice on it (repeated_calls.rt); with `counts` too, and
 //! what `lint`, `check` and `upgrade` read of it is counted (counts.rt).
 #![tactic(auto)]
 
 mod answers;
+mod checks;
 mod counts;
 mod lines;
 mod repeated_calls;

@@ -1,8 +1,9 @@
 //! Each call of the library made twice, so that a growth can be refused in the first and the second show what is left.
 
+use crate::checks::{accepted, upgraded};
 use anyhow::{Result, anyhow, bail};
 use bplist_cert::{CertRefusal, Certificate, Checked, Refusal, check};
-use bplist_lint::{lint, upgrade};
+use bplist_lint::lint;
 use bplist_octets::SliceSource;
 use bplist_samples::{Call, all_calls};
 use std::alloc::Global;
@@ -15,16 +16,51 @@ const MADE: &[u8] = b"made\n";
 ///
 /// The lines of a call are `call` with its name, `made`, its first answer, and that of the same call on the same value.
 pub(crate) fn make_twice<W: Write>(alloc: Global, file: &[u8], out: &mut W) -> Result<()> {
-    let certificate = match lint(alloc, &mut SliceSource::new(file)) {
-        Ok(lint) => lint.certificate.to_octets(alloc)?,
-        Err(refusal) => bail!("lint: {refusal:?}"),
-    };
     let calls = all_calls(alloc).map_err(|fault| anyhow!("all_calls: {fault:?}"))?;
-    let mut checked = check_twice(alloc, file, &certificate, "check-1", out)?;
-    calls_twice(alloc, &mut checked, &calls, out)?;
-    let sorted = upgrade(alloc, &mut checked).map_err(|fault| anyhow!("upgrade: {fault:?}"))?;
-    let mut checked = check_twice(alloc, file, &sorted.to_octets(alloc)?, "check-2", out)?;
-    calls_twice(alloc, &mut checked, &calls, out)
+    by_both_versions(alloc, file, &calls, out)
+}
+
+fn by_both_versions<W: Write>(
+    alloc: Global,
+    file: &[u8],
+    calls: &[Call],
+    out: &mut W,
+) -> Result<()> {
+    let octets = linted(alloc, file)?;
+    let checked = all_twice(alloc, file, &octets, "check-1", calls, out)?;
+    let octets = sorted(alloc, checked)?;
+    all_twice(alloc, file, &octets, "check-2", calls, out)?;
+    Ok(())
+}
+
+/// The bytes of the certificate that `lint` gives.
+fn linted(alloc: Global, file: &[u8]) -> Result<Vec<u8>> {
+    match lint(alloc, &mut SliceSource::new(file)) {
+        Ok(lint) => Ok(lint.certificate.to_octets(alloc)?),
+        Err(refusal) => bail!("lint: {refusal:?}"),
+    }
+}
+
+/// The bytes of the certificate of version 2.
+fn sorted(alloc: Global, mut checked: Checked<SliceSource<'_>>) -> Result<Vec<u8>> {
+    let certificate = upgraded(alloc, &mut checked)?;
+    Ok(certificate.to_octets(alloc)?)
+}
+
+/// Reads this certificate, checks the file with it, and makes the calls on that, each of them twice.
+fn all_twice<'a, W: Write>(
+    alloc: Global,
+    file: &'a [u8],
+    octets: &[u8],
+    name: &str,
+    calls: &[Call],
+    out: &mut W,
+) -> Result<Checked<SliceSource<'a>>> {
+    let certificate = read_twice(alloc, octets, out)?;
+    writeln!(out, "call {name}")?;
+    let mut checked = check_twice(alloc, SliceSource::new(file), certificate, out)?;
+    calls_twice(alloc, &mut checked, calls, out)?;
+    Ok(checked)
 }
 
 /// Reads a certificate twice.
@@ -43,23 +79,27 @@ fn read_twice<W: Write>(alloc: Global, octets: &[u8], out: &mut W) -> Result<Cer
 /// Checks the file with a certificate twice: the second time with what the first handed back.
 fn check_twice<'a, W: Write>(
     alloc: Global,
-    file: &'a [u8],
-    octets: &[u8],
-    name: &str,
+    source: SliceSource<'a>,
+    certificate: Certificate,
     out: &mut W,
 ) -> Result<Checked<SliceSource<'a>>> {
-    let certificate = read_twice(alloc, octets, out)?;
-    writeln!(out, "call {name}")?;
-    let first = check(alloc, SliceSource::new(file), certificate);
+    let first = check(alloc, source, certificate);
     out.write_all(MADE)?;
-    let (said, (source, certificate)) = match first {
-        Ok(checked) => ("Ok", checked.into_parts()),
-        Err((Refusal::Memory, source, certificate)) => ("Err(Memory)", (source, certificate)),
-        Err((refusal, _, _)) => bail!("check: {refusal:?}"),
-    };
+    let (said, source, certificate) = handed_back(first)?;
     writeln!(out, "{said}\nOk")?;
-    match check(alloc, source, certificate) {
-        Ok(checked) => Ok(checked),
+    accepted(alloc, source, certificate)
+}
+
+/// What a check says, with the source and the certificate.
+fn handed_back<'a>(
+    first: Result<Checked<SliceSource<'a>>, (Refusal, SliceSource<'a>, Certificate)>,
+) -> Result<(&'static str, SliceSource<'a>, Certificate)> {
+    match first {
+        Ok(checked) => {
+            let (source, certificate) = checked.into_parts();
+            Ok(("Ok", source, certificate))
+        }
+        Err((Refusal::Memory, source, certificate)) => Ok(("Err(Memory)", source, certificate)),
         Err((refusal, _, _)) => bail!("check: {refusal:?}"),
     }
 }
