@@ -193,7 +193,13 @@ fn read_words<S: Source>(
     while numbers.len() < count {
         let now = (count - numbers.len()).min(BLOCK);
         let at = place + 4 * numbers.len() as u64;
-        add_words(src, at, &mut octets[..4 * now], &mut block[..now], &mut numbers)?;
+        add_words(
+            src,
+            at,
+            &mut octets[..4 * now],
+            &mut block[..now],
+            &mut numbers,
+        )?;
     }
     are_words(&numbers);
     Ok(numbers)
