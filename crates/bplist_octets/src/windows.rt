@@ -17,6 +17,9 @@ const PANE: usize = 16_384;
 /// Panes begin at multiples of this, and a pane that does not go on where another ends takes no more bytes.
 const BLOCK: usize = 8192;
 
+/// For so many blocks the pane that was taken last is known.
+const LIKELY: usize = 16;
+
 /// Room for 16,384 bytes of a source, which `Windows` is lent.
 #[derive(Clone, Copy, Debug, Drop)]
 pub struct Pane {
@@ -107,13 +110,17 @@ fn oldest(panes: &[Pane], at: u64) -> (usize, usize)
 }
 
 /// A pane that has `count` bytes from place `at` on, and where none has them the one that moves there, with the bytes that it
-/// takes.
-fn choose(panes: &[Pane], at: u64, count: usize) -> (usize, usize)
-    requires { 0 < length panes.now }
+/// takes. The likely one is asked first.
+fn choose(panes: &[Pane], likely: usize, at: u64, count: usize) -> (usize, usize)
+    requires { likely < length panes.now }
     ensures inside { result.0 < length panes.now }
     ensures whole { 8192 ≤ result.1 }
     ensures fits { result.1 ≤ 16384 }
 {
+    let pane = &panes[likely];
+    if offset_in(pane.start, pane.filled, at, count).is_some() {
+        return (likely, BLOCK);
+    }
     for (k, pane) in panes.iter().enumerate() {
         if offset_in(pane.start, pane.filled, at, count).is_some() {
             return (k, BLOCK);
@@ -148,11 +155,15 @@ pub struct Windows<'a, S: Source> {
     panes: &'a mut [Pane],
     /// The pane that was taken last.
     last: usize,
+    /// The pane that was taken last for a multiple of 8,192, by its number modulo 16, so that a reader which alternates between
+    /// a few places finds their panes at once.
+    likely: [usize; LIKELY],
     /// How many panes were taken.
     turn: u64,
     ghost panes_hold: { All (IsPane (S.means source.now).octets (S.means source.now).honest) panes.now },
     ghost whole: { len ≡ length (S.means source.now).octets },
     ghost last_inside: { last < length panes.now },
+    ghost likely_inside: { All (λ pane. pane < length panes.now) likely },
 }
 
 impl<'a, S: Source> Windows<'a, S> {
@@ -169,6 +180,7 @@ impl<'a, S: Source> Windows<'a, S> {
             len,
             panes,
             last: 0,
+            likely: [0; LIKELY],
             turn: 0,
         }
     }
@@ -183,7 +195,9 @@ impl<'a, S: Source> Windows<'a, S> {
             → into.new ≡ part (S.means self.old.source.now).octets at (length into.old)) }
     {
         let panes = &mut *self.panes;
-        let (chosen, room) = choose(panes, at, into.len());
+        let block = (at / BLOCK as u64) as usize % LIKELY;
+        let (chosen, room) = choose(panes, self.likely[block], at, into.len());
+        self.likely[block] = chosen;
         self.last = chosen;
         self.turn = self.turn.wrapping_add(1);
         let pane = &mut panes[self.last];
