@@ -1,5 +1,5 @@
 -- A rule that is kept is not broken, a first fault is one, and where there is one the definitions say no.
-use Rattle.std.proofs.Common.{◌≡◌, ℕ, ◌<◌, ◌≤◌, ◌+◌, ◌*◌, inl, inr, List, [], ◌∷◌, slice_index, Option, Some, sym, ap, ◌∙◌, subst, arith}
+use Rattle.std.proofs.Common.{◌≡◌, ℕ, ◌<◌, ◌+◌, ◌*◌, inl, inr, List, [], ◌∷◌, slice_index, Option, Some, sym, ap, ◌∙◌, subst, arith}
 use Rattle.bplist_objects.specs.declared.rule.Rule.{Rule}
 use Rattle.bplist_objects.specs.declared.rule.Rule.TheVariants as rules
 use Rattle.bplist_objects.specs.declared.fault.Fault.{Fault}

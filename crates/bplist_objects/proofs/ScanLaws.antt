@@ -6,7 +6,7 @@ use Rattle.std.proofs.lemmas.Bool.{cases_lt}
 use Rattle.std.proofs.lemmas.List.{length-append, length-take-le, get_or_append_left, get_or-append_right}
 use Rattle.bplist_octets.specs.Octets.{part, num, AreLow, IsFirstHigh}
 use Rattle.bplist_objects.specs.Numbers.{num_at}
-use Rattle.bplist_objects.specs.Scan.{nth_number, AreNumbers, AreBelow, IsFirstNotBelow}
+use Rattle.bplist_objects.specs.Scan.{nth_number, MeanNumbers, AreBelow, IsFirstNotBelow}
 use Rattle.bplist_objects.proofs.Parts.{part-part, num-part_one}
 use Rattle.bplist_objects.proofs.ClaimLaws.{first_failure, fails_there}
 
@@ -39,17 +39,18 @@ nth_number-part f block place size now e k h =
     ∙ ap num (part-part f place (now * size) (0 + k * size) size (place + k * size) (let r = row_fits k size now size h (omega arith) in omega arith) (omega arith))
 
 -- numbers that are put behind those before them
-pub numbers_grown : (f into ys rest : List ℕ) (place size done k : ℕ) → done ≤ length into → ((j : ℕ) → j < done → get_or into j 0 ≡ nth_number f place size j) → AreNumbers f (place + done * size) size ys → k < done + length ys → get_or (take done into ++ (ys ++ rest)) k 0 ≡ nth_number f place size k
-numbers_grown f into ys rest place size done k within before here h =
+pub numbers_grown : {T : Type 0} (means : T → ℕ) (f : List ℕ) (into ys rest : List T) (place size done k : ℕ) (d : T) → done ≤ length into
+    → ((j : ℕ) (e : T) → j < done → means (get_or into j e) ≡ nth_number f place size j) → MeanNumbers means f (place + done * size) size ys → k < done + length ys
+    → means (get_or (take done into ++ (ys ++ rest)) k d) ≡ nth_number f place size k
+numbers_grown means f into ys rest place size done k d within before here h =
     let len : length (take done into) ≡ done = length-take-le done into within in
     elim (cases_lt k done) [
       | inl a ↦
-          get_or_append_left (take done into) (ys ++ rest) 0 k (omega arith) ∙ get_or-take done into k 0 a ∙ before k a
+          ap means (get_or_append_left (take done into) (ys ++ rest) d k (omega arith) ∙ get_or-take done into k d a) ∙ before k d a
       | inr b ↦
           let same : done + (k - done) ≡ k = omega arith in
-          get_or-append_right (take done into) (ys ++ rest) done k 0 len b
-          ∙ get_or_append_left ys rest 0 (k - done) (omega arith)
-          ∙ here (k - done) (omega arith)
+          ap means (get_or-append_right (take done into) (ys ++ rest) done k d len b ∙ get_or_append_left ys rest d (k - done) (omega arith))
+          ∙ here (k - done) d (omega arith)
           ∙ nth_number-behind f place size done (k - done)
           ∙ ap (nth_number f place size) same
     ]

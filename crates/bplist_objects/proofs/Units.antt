@@ -1,7 +1,6 @@
 -- The units of a text by index: unit k is the number k of those that stand in the body.
-use Rattle.std.proofs.Common.{◌≡◌, ℕ, ◌+◌, ◌*◌, ◌<◌, ◌≤◌, List, length, get_or, slice_index, drop, sym, ap, ◌∙◌, arith, inl, inr, ◌⊎◌}
-use Rattle.std.proofs.lemmas.List.{ext_get_or, get_or_past, length-take, length-take-le, length-drop}
-use Rattle.std.proofs.lemmas.Bool.{cases_lt}
+use Rattle.std.proofs.Common.{◌≡◌, ℕ, ◌+◌, ◌*◌, ◌<◌, ◌≤◌, List, length, slice_index, drop, sym, ap, ◌∙◌, arith, inl, inr, ◌⊎◌}
+use Rattle.std.proofs.lemmas.List.{ext_get_or, length-take-le, length-drop}
 use Rattle.bplist_octets.specs.Octets.{part}
 use Rattle.bplist_objects.specs.declared.kind.Kind.{Kind}
 use Rattle.bplist_objects.specs.declared.kind.Kind.TheVariants as kinds
@@ -23,14 +22,6 @@ pub length-part : (xs : List ℕ) (place n : ℕ) → place + n ≤ length xs �
 length-part xs place n h =
     let left = length-drop place xs in
     length-take-le n (drop place xs) (omega (arith, left))
-
--- what bounds the bytes of a list bounds those of a part
-pub part_fits : (xs : List ℕ) (place n : ℕ) → ((k : ℕ) → get_or xs k 0 < 256) → (k : ℕ) → get_or (part xs place n) k 0 < 256
-part_fits xs place n h k =
-    elim (cases_lt k n) [
-      | inl l ↦ rw (get_or-part xs place n k 0 l) (h (place + k))
-      | inr l ↦ rw (get_or_past (part xs place n) k 0 (omega (arith, length-take n (drop place xs)))) (omega arith)
-    ]
 
 module _ (f : List ℕ) where
   pub length-units_at : (kind : Kind) (count at : ℕ) → IsTextKind kind → at + count * item_size 1 kind ≤ length f → length (units_at f kind count at) ≡ count

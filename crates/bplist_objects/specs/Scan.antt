@@ -1,5 +1,5 @@
 -- Numbers of one size that stand one behind the other, and the first of them that is too large. Source: profile.
-use Rattle.std.specs.Prelude.{◌≡◌, ℕ, ◌+◌, ◌*◌, ◌<◌, List, length, slice_index}
+use Rattle.std.specs.Prelude.{◌≡◌, ℕ, ◌+◌, ◌*◌, ◌<◌, List, length, slice_index, slice_index_or}
 use Rattle.bplist_objects.specs.Numbers.{num_at}
 use Rattle.bplist_objects.specs.Claims.{FailsAt}
 
@@ -10,6 +10,10 @@ nth_number f place size k = num_at f (place + k * size) size
 -- these are consecutive numbers of one size
 abbrev pub AreNumbers : List ℕ → ℕ → ℕ → List ℕ → Type 0
 AreNumbers f place size xs = (k : ℕ) → k < length xs → slice_index xs k ≡ nth_number f place size k
+
+-- these values mean consecutive numbers of one size
+abbrev pub MeanNumbers : {T : Type 0} → (T → ℕ) → List ℕ → ℕ → ℕ → List T → Type 0
+MeanNumbers means f place size xs = (k : ℕ) (d : _) → k < length xs → means (slice_index_or xs k d) ≡ nth_number f place size k
 
 -- the first `count` of these numbers are below a bound
 abbrev pub AreBelow : List ℕ → ℕ → ℕ → ℕ → ℕ → Type 0

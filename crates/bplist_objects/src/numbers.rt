@@ -1,10 +1,10 @@
 //! Numbers of one to sixteen bytes at a place of a source.
 
-ghost use Rattle.std.specs.Prelude.{◌≡◌, ◌+◌, ◌*◌, ◌≤◌, ◌<◌, length, IfOk, OnOk, is_err, slice_index};
-ghost use Rattle.bplist_octets.specs.Octets.{part};
+ghost use Rattle.std.specs.Prelude.{◌≡◌, ℕ, ◌+◌, ◌*◌, ◌≤◌, ◌<◌, length, IfOk, OnOk, is_err, slice_index};
+ghost use Rattle.bplist_octets.specs.Octets.{part, num};
 ghost use Rattle.bplist_octets.specs.Meaning.{OnlyReads, Honestly};
 ghost use Rattle.bplist_objects.specs.Numbers.{num_at};
-ghost use Rattle.bplist_objects.specs.Scan.{AreNumbers};
+ghost use Rattle.bplist_objects.specs.Scan.{AreNumbers, MeanNumbers};
 
 use bplist_octets::{ReadFault, Source, sized, wide};
 
@@ -73,26 +73,63 @@ pub(crate) fn part_of(l: &[u8], place: usize, n: usize) -> &[u8]
     &l[place..place + n]
 }
 
+/// A type of numbers that bytes spell: `u64` for places and references, `u16` for the units of texts.
+pub(crate) trait Spelled: Copy {
+    /// How many bytes spell one at most.
+    ghost most: { ℕ };
+
+    /// The number that a value is.
+    ghost means: { Self → ℕ };
+
+    /// The number that these bytes spell.
+    fn spelled(l: &[u8]) -> Self
+        requires low { 1 ≤ length l.now }
+        requires high { length l.now ≤ most }
+        ensures { means result ≡ num l.now };
+}
+
+impl Spelled for u64 {
+    ghost most = { 8 };
+
+    ghost means = { λ x. x };
+
+    #[inline(always)]
+    fn spelled(l: &[u8]) -> u64 {
+        sized(l)
+    }
+}
+
+impl Spelled for u16 {
+    ghost most = { 2 };
+
+    ghost means = { λ x. x };
+
+    #[inline(always)]
+    fn spelled(l: &[u8]) -> u16 {
+        sized(l) as u16
+    }
+}
+
 /// The numbers that a block of bytes spells, `size` bytes each.
 #[inline(always)]
-fn spell_block(block: &[u8], size: usize, into: &mut [u64])
+fn spell_block<T: Spelled>(block: &[u8], size: usize, into: &mut [T])
     requires low { 1 ≤ size }
-    requires high { size ≤ 8 }
+    requires high { size ≤ T.most }
     requires room { length block.now ≡ length into.old * size }
-    ensures numbers { AreNumbers block.now 0 size into.new }
+    ensures numbers { MeanNumbers T.means block.now 0 size into.new }
 {
     for k in 0..into.len() {
-        into[k] = sized(part_of(block, k * size, size));
+        into[k] = T::spelled(part_of(block, k * size, size));
     }
 }
 
 /// The same, where each usual size has a loop of its own, in which the size is known.
 #[inline(always)]
-fn numbers_of_block(block: &[u8], size: usize, into: &mut [u64])
+fn numbers_of_block<T: Spelled>(block: &[u8], size: usize, into: &mut [T])
     requires low { 1 ≤ size }
-    requires high { size ≤ 8 }
+    requires high { size ≤ T.most }
     requires room { length block.now ≡ length into.old * size }
-    ensures numbers { AreNumbers block.now 0 size into.new }
+    ensures numbers { MeanNumbers T.means block.now 0 size into.new }
 {
     match size {
         1 => spell_block(block, 1, into),
@@ -104,19 +141,19 @@ fn numbers_of_block(block: &[u8], size: usize, into: &mut [u64])
 
 /// Fills `into` by one read of the source, which goes through `block`.
 #[inline(always)]
-fn read_block<S: Source>(
+fn read_block<T: Spelled, S: Source>(
     src: &mut S,
     place: u64,
     size: u8,
     block: &mut [u8],
-    into: &mut [u64],
+    into: &mut [T],
 ) -> Result<(), ReadFault>
     requires low { 1 ≤ size }
-    requires high { size ≤ 8 }
+    requires high { size ≤ T.most }
     requires room { length block.old ≡ length into.old * size }
     requires within { place + length into.old * size ≤ length (S.means src.old).octets }
     ensures reads { OnlyReads (is_err result) (S.means src.old) (S.means src.new) }
-    ensures numbers { OnOk result (Honestly (S.means src.old) (λ f. AreNumbers f place size into.new)) }
+    ensures numbers { OnOk result (Honestly (S.means src.old) (λ f. MeanNumbers T.means f place size into.new)) }
 {
     src.read_at(place, block)?;
     numbers_of_block(block, size as usize, into);
@@ -143,21 +180,24 @@ fn read_few<const ROOM: usize, S: Source>(
     read_block(src, place, size, block, into)
 }
 
-/// Fills `into` with many numbers, block by block.
-fn read_many<S: Source>(
+/// Fills `into` with many numbers, block by block: `BLOCK` of them at once, by way of a buffer of `ROOM` bytes.
+pub(crate) fn read_many<const BLOCK: usize, const ROOM: usize, T: Spelled, S: Source>(
     src: &mut S,
     place: u64,
     size: u8,
-    into: &mut [u64],
+    into: &mut [T],
 ) -> Result<(), ReadFault>
     requires low { 1 ≤ size }
-    requires high { size ≤ 8 }
+    requires high { size ≤ T.most }
+    requires some { 1 ≤ BLOCK }
+    requires room { BLOCK * T.most ≤ ROOM }
+    requires small { ROOM ≤ 4096 }
     requires within { place + length into.old * size ≤ length (S.means src.old).octets }
     ensures reads { OnlyReads (is_err result) (S.means src.old) (S.means src.new) }
-    ensures numbers { OnOk result (Honestly (S.means src.old) (λ f. AreNumbers f place size into.new)) }
+    ensures numbers { OnOk result (Honestly (S.means src.old) (λ f. MeanNumbers T.means f place size into.new)) }
 {
     let _len = src.len();
-    let mut buffer = [0u8; BLOCK_BYTES];
+    let mut buffer = [0u8; ROOM];
     let count = into.len();
     let mut done = 0usize;
     while done < count {
@@ -188,7 +228,7 @@ pub(crate) fn numbers_in<S: Source>(
         return Ok(());
     }
     if count > FEW as usize {
-        return read_many(src, place, size, into);
+        return read_many::<BLOCK, BLOCK_BYTES, u64, S>(src, place, size, into);
     }
     if count * size as usize <= FEWEST_BYTES {
         return read_few::<FEWEST_BYTES, S>(src, place, size, into);

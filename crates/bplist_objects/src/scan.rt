@@ -4,7 +4,7 @@ ghost use Rattle.std.specs.Prelude.{◌≡◌, ◌+◌, ◌*◌, ◌≤◌, ◌<
 ghost use Rattle.bplist_octets.specs.Meaning.{OnlyReads, Honestly};
 ghost use Rattle.bplist_objects.specs.Scan.{AreBelow, IsFirstNotBelow};
 
-use crate::numbers::{BLOCK, BLOCK_BYTES, FEW, FEW_BYTES, part_of};
+use crate::numbers::{BLOCK_BYTES, FEW, FEW_BYTES, part_of};
 use bplist_octets::{ReadFault, Source, first_high, sized};
 
 /// Whether each number of a block is below the bound. There is no way out of the loop, so that it takes several at a time.
@@ -57,37 +57,8 @@ fn first_in_block(block: &[u8], size: usize, count: usize, bound: u64) -> Option
     None
 }
 
-/// The first number of a block of them, where those before the block are below the bound.
-fn search_block<S: Source>(
-    src: &mut S,
-    place: u64,
-    size: u8,
-    count: u64,
-    bound: u64,
-    done: u64,
-    now: u64,
-    block: &mut [u8],
-) -> Result<Option<u64>, ReadFault>
-    requires low { 1 ≤ size }
-    requires high { size ≤ 8 }
-    requires within { place + count * size ≤ length (S.means src.old).octets }
-    requires part { done + now ≤ count }
-    requires room { length block.old ≡ now * size }
-    ensures reads { OnlyReads (is_err result) (S.means src.old) (S.means src.new) }
-    ensures found { IfOk result (λ found. Honestly (S.means src.old) (λ f. AreBelow f place size done bound
-        → MatchOption found (AreBelow f place size (done + now) bound) (IsFirstNotBelow f place size count bound))) }
-    ensures inside { IfOk result (λ found. IfSome found (λ i. i < count)) }
-{
-    let _len = src.len();
-    src.read_at(place + done * size as u64, block)?;
-    match first_in_block(block, size as usize, now as usize, bound) {
-        Some(i) => Ok(Some(done + i as u64)),
-        None => Ok(None),
-    }
-}
-
-/// The first of many numbers that is not below the bound, block by block.
-fn first_of_many<S: Source>(
+/// The first of `count` numbers that is not below the bound, by blocks that have room in a buffer of so many bytes.
+fn first_by_blocks<const ROOM: usize, S: Source>(
     src: &mut S,
     place: u64,
     size: u8,
@@ -96,19 +67,23 @@ fn first_of_many<S: Source>(
 ) -> Result<Option<u64>, ReadFault>
     requires low { 1 ≤ size }
     requires high { size ≤ 8 }
+    requires some { 8 ≤ ROOM }
+    requires fits { ROOM ≤ 4096 }
     requires within { place + count * size ≤ length (S.means src.old).octets }
     ensures reads { OnlyReads (is_err result) (S.means src.old) (S.means src.new) }
     ensures found { IfOk result (λ found. Honestly (S.means src.old)
         (λ f. MatchOption found (AreBelow f place size count bound) (IsFirstNotBelow f place size count bound))) }
     ensures inside { IfOk result (λ found. IfSome found (λ i. i < count)) }
 {
-    let mut buffer = [0u8; BLOCK_BYTES];
+    let _len = src.len();
+    let mut buffer = [0u8; ROOM];
     let mut done = 0u64;
     while done < count {
-        let now = (count - done).min(BLOCK as u64);
+        let now = (count - done).min(ROOM as u64 / 8);
         let block = &mut buffer[..now as usize * size as usize];
-        if let Some(i) = search_block(src, place, size, count, bound, done, now, block)? {
-            return Ok(Some(i));
+        src.read_at(place + done * size as u64, block)?;
+        if let Some(i) = first_in_block(block, size as usize, now as usize, bound) {
+            return Ok(Some(done + i as u64));
         }
         done += now;
     }
@@ -135,11 +110,9 @@ pub(crate) fn first_not_below<S: Source>(
         return Ok(None);
     }
     if count > FEW {
-        return first_of_many(src, place, size, count, bound);
+        return first_by_blocks::<BLOCK_BYTES, S>(src, place, size, count, bound);
     }
-    let mut buffer = [0u8; FEW_BYTES];
-    let block = &mut buffer[..count as usize * size as usize];
-    search_block(src, place, size, count, bound, 0, count, block)
+    first_by_blocks::<FEW_BYTES, S>(src, place, size, count, bound)
 }
 
 /// How many bytes of a text are read at once at most.

@@ -1,91 +1,25 @@
 //! The units of texts, read and compared at a head.
 
-ghost use Rattle.std.specs.Prelude.{◌≡◌, ◌+◌, ◌*◌, ◌≤◌, ◌<◌, length, slice_index, min, IfOk, OnOk, is_err};
+ghost use Rattle.std.specs.Prelude.{◌≡◌, ◌+◌, ◌≤◌, ◌<◌, length, slice_index, min, IfOk, OnOk, is_err};
 ghost use Rattle.bplist_octets.specs.Octets.{part};
 ghost use Rattle.bplist_octets.specs.Meaning.{OnlyReads, last_count, Honestly};
-ghost use Rattle.bplist_objects.specs.Scan.{AreNumbers};
 ghost use Rattle.bplist_objects.specs.Safe.{IsSafeBody};
 ghost use Rattle.bplist_objects.specs.Units.{IsTextKind, units_of, compare_units};
 
 use crate::head::Head;
 use crate::kind::item_size;
-use crate::numbers::part_of;
-use bplist_octets::{ReadFault, Source, sized};
+use crate::numbers::read_many;
+use bplist_octets::{ReadFault, Source};
 use std::cmp::Ordering;
 
 /// How many units are read at once at most.
 const BLOCK: usize = 128;
 
+/// How many bytes a block of units has at most.
+const BLOCK_BYTES: usize = 256;
+
 /// How many units of a key are read at once at most.
 const KEY_BLOCK: usize = 32;
-
-/// The units that a block of bytes spells, `size` bytes each.
-#[inline(always)]
-fn spell_units(block: &[u8], size: usize, into: &mut [u16])
-    requires low { 1 ≤ size }
-    requires high { size ≤ 2 }
-    requires room { length block.now ≡ length into.old * size }
-    ensures numbers { AreNumbers block.now 0 size into.new }
-{
-    for k in 0..into.len() {
-        into[k] = sized(part_of(block, k * size, size)) as u16;
-    }
-}
-
-/// The same, where each size has a loop of its own, in which the size is known.
-fn units_of_block(block: &[u8], size: usize, into: &mut [u16])
-    requires low { 1 ≤ size }
-    requires high { size ≤ 2 }
-    requires room { length block.now ≡ length into.old * size }
-    ensures numbers { AreNumbers block.now 0 size into.new }
-{
-    match size {
-        1 => spell_units(block, 1, into),
-        _ => spell_units(block, 2, into),
-    }
-}
-
-/// Fills `into` by one read of the source, which goes through `block`.
-fn read_block<S: Source>(
-    src: &mut S,
-    place: u64,
-    size: u8,
-    block: &mut [u8],
-    into: &mut [u16],
-) -> Result<(), ReadFault>
-    requires low { 1 ≤ size }
-    requires high { size ≤ 2 }
-    requires room { length block.old ≡ length into.old * size }
-    requires within { place + length into.old * size ≤ length (S.means src.old).octets }
-    ensures reads { OnlyReads (is_err result) (S.means src.old) (S.means src.new) }
-    ensures numbers { OnOk result (Honestly (S.means src.old) (λ f. AreNumbers f place size into.new)) }
-{
-    src.read_at(place, block)?;
-    units_of_block(block, size as usize, into);
-    Ok(())
-}
-
-/// Fills `into` with units of `size` bytes each that stand one behind the other from `place` on.
-fn units_in<S: Source>(src: &mut S, place: u64, size: u8, into: &mut [u16]) -> Result<(), ReadFault>
-    requires low { 1 ≤ size }
-    requires high { size ≤ 2 }
-    requires within { place + length into.old * size ≤ length (S.means src.old).octets }
-    ensures reads { OnlyReads (is_err result) (S.means src.old) (S.means src.new) }
-    ensures numbers { OnOk result (Honestly (S.means src.old) (λ f. AreNumbers f place size into.new)) }
-{
-    let _len = src.len();
-    let mut buffer = [0u8; 2 * BLOCK];
-    let count = into.len();
-    let mut done = 0usize;
-    while done < count {
-        let now = (count - done).min(BLOCK);
-        let block = &mut buffer[..now * size as usize];
-        let at = place + done as u64 * size as u64;
-        read_block(src, at, size, block, &mut into[done..done + now])?;
-        done += now;
-    }
-    Ok(())
-}
 
 /// Fills `into` with the units of a text from its unit `from` on.
 ///
@@ -105,7 +39,7 @@ pub fn read_units<S: Source>(
         (λ f. into.new ≡ part (units_of f head.now) from (length into.old))) }
 {
     let size = item_size(head.kind, 1);
-    units_in(src, head.body + from * size as u64, size, into)
+    read_many::<BLOCK, BLOCK_BYTES, u16, S>(src, head.body + from * size as u64, size, into)
 }
 
 /// Unit `i` of a text.

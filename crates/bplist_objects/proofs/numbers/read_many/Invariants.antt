@@ -1,4 +1,4 @@
-use Rattle.std.proofs.Common.{◌≡◌, ℕ, ◌≤◌, ◌<◌, ◌-◌, slice_index, IsTrue}
+use Rattle.std.proofs.Common.{◌≡◌, ℕ, ◌≤◌, ◌<◌, ◌-◌, get_or, IsTrue}
 use Rattle.bplist_objects.specs.Scan.{nth_number}
 use Rattle.bplist_objects.proofs.numbers.read_many.Given as goal
 
@@ -9,8 +9,8 @@ invariant-loop-done g l =
     record {
       same : means l.src ≡ means l.fn.src;
       reached : l.done ≤ l.count;
-      so_far : IsTrue (means l.fn.src).honest → (k : ℕ) → k < l.done
-          → slice_index l.into k ≡ nth_number (means l.fn.src).octets l.place l.size k;
+      so_far : IsTrue (means l.fn.src).honest → (k : ℕ) (d : _) → k < l.done
+          → g.T.Spelled.means (get_or l.into k d) ≡ nth_number (means l.fn.src).octets l.place l.size k;
     }
 
 abbrev pub decreases-loop-done : goal.decreases-loop-done
