@@ -17,7 +17,6 @@ none_seen f F heights bound (Named (Some keys)) h = λ n low. absurd (omega (ari
 none_seen f F heights bound (Listed look) h = record {
   pairs = h.pairs;
   low = h.low;
-  places = h.places;
   good = λ good n low. absurd (omega (arith, low));
 }
 

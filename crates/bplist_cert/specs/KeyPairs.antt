@@ -5,8 +5,6 @@ use Rattle.bplist_objects.specs.declared.frame.Frame.{Frame}
 use Rattle.bplist_objects.specs.declared.head.Head.{Head}
 use Rattle.bplist_objects.specs.Units.{IsTextKind, compare_units}
 use Rattle.bplist_keys.specs.Runs.{AreRuns}
-use Rattle.bplist_keys.specs.Offsets.{AreOffsetsFrom}
-use Rattle.bplist_keys.specs.declared.offset_block.OffsetBlock.{OffsetBlock}
 use Rattle.bplist_cert.specs.declared.key_lists.ReadKey.{ReadKey}
 use Rattle.bplist_cert.specs.declared.key_pairs.OrderedPairs.{OrderedPairs}
 use Rattle.bplist_keys.specs.Texts.{HasTextShape, IsTextHead, text_units}
@@ -47,7 +45,3 @@ module _ (f : List ℕ) (F : Frame) where
   -- where a dictionary has at most 32 keys, these numbers begin with the references to them
   abbrev pub AreFewKeys : Head → List ℕ → Type 0
   AreFewKeys head numbers = head.count ≤ 32 → (k : ℕ) → k < head.count → slice_index numbers k ≡ ref f F head k
-
-  -- the places that are held are those of their objects
-  abbrev pub HoldsOffsets : OffsetBlock → Type 0
-  HoldsOffsets places = AreOffsetsFrom f F places.first places.count places.places

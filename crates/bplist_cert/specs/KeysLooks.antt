@@ -11,7 +11,7 @@ use Rattle.bplist_cert.specs.declared.keys_look.KeysLook.TheVariants.{Named, Lis
 use Rattle.bplist_cert.specs.Lists.{Keyed}
 use Rattle.bplist_cert.specs.Valid.{IsVouchedBy}
 use Rattle.bplist_cert.specs.CheckRules.{HasOrder}
-use Rattle.bplist_cert.specs.KeyPairs.{AreKnown, HaveTextShapes, HoldsOffsets}
+use Rattle.bplist_cert.specs.KeyPairs.{AreKnown, HaveTextShapes}
 use Rattle.bplist_cert.specs.LowBytes.{AreLow}
 
 -- object n, if it is a dictionary, has keys that are texts by marker and count, and a key list with them in order
@@ -22,7 +22,6 @@ IsListed f F keyed n = (head : Head) → HasHead f F n head → head.kind ≡ Di
 pub record HaveGoodLists (f : List ℕ) (F : Frame) (heights : List ℕ) (bound : ℕ) (look : ListLook) : Type 0 where
   pub pairs : AreKnown f F look.pairs
   pub low : AreLow f look.low.slots
-  pub places : HoldsOffsets f F look.places
   pub good : IsTrue look.good → (n : ℕ) → n < bound → IsVouchedBy heights n → IsListed f F look.keys.now n
 
 -- the key lists that are looked at, if some are

@@ -32,9 +32,10 @@ use crate::heights::{Wanted, check_heights, check_refs, height_at};
 use crate::keys_look::{KeysLook, keys_look};
 use crate::refusal::Refusal;
 use crate::vouched_prefix::VouchedPrefix;
+use bplist_keys::{OffsetReader, Offsets};
 use bplist_objects::{
-    Fault, Frame, Framed, Head, ObjectFault, ObjectNo, Plist, Rule, Visit, check_body, frame_of,
-    head_in, read_offsets_in, refs_of, visit_in,
+    Fault, Frame, Framed, Head, ObjectFault, ObjectNo, Rule, Visit, check_body, frame_of, head_in,
+    read_offsets_in, refs_of, visit_in,
 };
 use bplist_octets::Source;
 use std::alloc::Global;
@@ -171,7 +172,7 @@ fn check_block<P: Framed>(
 
 /// Looks at all vouched objects, in the order of their numbers, and at the keys of the dictionaries among them: block by block,
 /// as places and objects are at hand then. How many bytes they take.
-fn check_all<P: Framed>(src: &mut P, walk: Walk, found: &mut KeysLook) -> Result<u64, Refusal>
+fn check_all<P: Offsets>(src: &mut P, walk: Walk, found: &mut KeysLook) -> Result<u64, Refusal>
     requires all { length walk.heights.now ≡ (frame_in (P.means src.old)).objects }
     requires found { IsLookOf (frame_in (P.means src.old)).objects found.old }
     ensures reads { OnlyReads (refused_read result) (P.means src.old) (P.means src.new) }
@@ -201,7 +202,7 @@ fn check_all<P: Framed>(src: &mut P, walk: Walk, found: &mut KeysLook) -> Result
 
 /// Looks at all vouched objects by the rules before those of keys: quickly, and where that finds a fault again, by the rules
 /// in their order. What the first walk found of keys counts only where it found no fault. How many bytes they take.
-fn check_in_passes<P: Framed>(
+fn check_in_passes<P: Offsets>(
     src: &mut P,
     heights: &[u32],
     keys: &Option<KeyLists>,
@@ -245,7 +246,7 @@ fn object_of(fault: &Fault) -> u32
 
 /// Looks at all vouched objects, and then at the keys of the dictionaries among them, up to the first object that breaks a
 /// rule before those of keys. How many bytes they take.
-fn check_objects<P: Framed>(
+fn check_objects<P: Offsets>(
     alloc: Global,
     src: &mut P,
     heights: &[u32],
@@ -317,7 +318,7 @@ fn check_lists<S: Source>(alloc: Global, src: &mut S, cert: &Certificate) -> Res
 {
     let frame = frame_of(src)?;
     check_count(&frame, &cert.heights)?;
-    let mut plist = Plist::new(src, frame);
+    let mut plist = OffsetReader::new(src, frame);
     check_objects(alloc, &mut plist, &cert.heights, &cert.keys)?;
     Ok(frame)
 }

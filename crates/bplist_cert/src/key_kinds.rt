@@ -19,6 +19,7 @@ ghost use Rattle.bplist_cert.specs.KeyOffsets.{IsOffsetOf, AreOffsetsOf, ReferTo
 
 use crate::key_offsets::{BLOCK, read_ahead};
 use crate::low_bytes::LowBytes;
+use bplist_keys::Offsets;
 use bplist_objects::{Fault, Framed, Head, Kind, ObjectFault, ObjectNo, Rule, ref_place, shape_at};
 use bplist_octets::ReadFault;
 
@@ -77,7 +78,7 @@ fn first_other<P: Framed>(
 }
 
 /// The first key of a dictionary that is no text.
-fn first_keyless<P: Framed>(
+fn first_keyless<P: Offsets>(
     src: &mut P,
     low: &mut LowBytes,
     head: &Head,
@@ -111,7 +112,7 @@ fn first_keyless<P: Framed>(
 
 /// Looks for a key of dictionary `n`, whose head this is, that is no text: rule 21. The fault is that of the first such
 /// key, at its reference, counted from the file's first byte. `Read` where a read failed.
-pub(crate) fn check_texts<P: Framed>(
+pub(crate) fn check_texts<P: Offsets>(
     src: &mut P,
     low: &mut LowBytes,
     n: ObjectNo,

@@ -19,7 +19,7 @@ ghost use Rattle.bplist_cert.specs.Lists.{lists, IsWhole, list_of};
 ghost use Rattle.bplist_cert.specs.CheckRules.{HasOrder, IsKeysFault};
 ghost use Rattle.bplist_cert.specs.DictKeys.{KeysAreTexts, AreInOrder};
 ghost use Rattle.bplist_cert.specs.KeyRepeats.{KeysAreSound, HasGoodKeys, BreaksKeys, IsFirstKeysFault};
-ghost use Rattle.bplist_cert.specs.KeyPairs.{AreFewKeys, HoldsOffsets, Ascends, AreKnown, HaveTextShapes, Follows, IsReadKey, IsSafeKey};
+ghost use Rattle.bplist_cert.specs.KeyPairs.{AreFewKeys, Ascends, AreKnown, HaveTextShapes, Follows, IsReadKey, IsSafeKey};
 ghost use Rattle.bplist_cert.specs.LowBytes.{AreLow};
 ghost use Rattle.bplist_cert.specs.Valid.{IsVouchedBy};
 ghost use Rattle.bplist_cert.specs.Looks.{KeepBeforeKeysBelow};
@@ -31,7 +31,7 @@ use crate::key_order::{check_order, comes_after, part_of, text_of};
 use crate::key_pairs::OrderedPairs;
 use crate::low_bytes::LowBytes;
 use crate::vouched_prefix::VouchedPrefix;
-use bplist_keys::OffsetBlock;
+use bplist_keys::Offsets;
 use bplist_objects::{
     Framed, Head, Kind, ObjectFault, ObjectNo, read_refs_in, ref_at, shape_at, shape_in,
 };
@@ -48,7 +48,7 @@ struct ReadKey {
 }
 
 /// The head of a key, where its marker and count are those of a text. It is not read a second time.
-fn head_of<P: Framed>(src: &mut P, key: &ReadKey) -> Result<Option<Head>, ReadFault>
+fn head_of<P: Offsets>(src: &mut P, key: &ReadKey) -> Result<Option<Head>, ReadFault>
     requires within { key.now.object < (frame_in (P.means src.old)).objects }
     requires head { IsSafeKey (length (P.means src.old).octets) key.now }
     ensures reads { OnlyReads (is_err result) (P.means src.old) (P.means src.new) }
@@ -63,7 +63,7 @@ fn head_of<P: Framed>(src: &mut P, key: &ReadKey) -> Result<Option<Head>, ReadFa
 }
 
 /// Object `m` as a key, where it and the key before are texts by marker and count, of which that one comes before it.
-fn ascend<P: Framed>(
+fn ascend<P: Offsets>(
     src: &mut P,
     last: &ReadKey,
     m: u32,
@@ -101,7 +101,7 @@ fn ascend<P: Framed>(
 }
 
 /// Object `m` as a key, where it is a text by marker and count, and comes after the key before it, if there is one.
-fn follows<P: Framed>(
+fn follows<P: Offsets>(
     src: &mut P,
     before: &Option<ReadKey>,
     m: u32,
@@ -130,7 +130,7 @@ fn follows<P: Framed>(
 }
 
 /// Reads the references to the keys of a dictionary where they are few.
-fn read_few<P: Framed>(src: &mut P, head: &Head, into: &mut [u64]) -> Result<(), ReadFault>
+fn read_few<P: Offsets>(src: &mut P, head: &Head, into: &mut [u64]) -> Result<(), ReadFault>
     requires head { IsSafeHead (frame_in (P.means src.old)) head.now }
     requires dict { head.now.kind ≡ Dict }
     requires room { length into.old ≡ 32 }
@@ -144,7 +144,7 @@ fn read_few<P: Framed>(src: &mut P, head: &Head, into: &mut [u64]) -> Result<(),
 }
 
 /// The number of the reference to key `i`, which is among these where the keys are few.
-fn ref_among<P: Framed>(src: &mut P, head: &Head, few: &[u64], i: u64) -> Result<u64, ReadFault>
+fn ref_among<P: Offsets>(src: &mut P, head: &Head, few: &[u64], i: u64) -> Result<u64, ReadFault>
     requires head { IsSafeHead (frame_in (P.means src.old)) head.now }
     requires dict { head.now.kind ≡ Dict }
     requires room { length few.now ≡ 32 }
@@ -161,7 +161,7 @@ fn ref_among<P: Framed>(src: &mut P, head: &Head, few: &[u64], i: u64) -> Result
 }
 
 /// The object that the key at a position of a dictionary names, where there are such a key and such an object.
-fn key_at<P: Framed>(
+fn key_at<P: Offsets>(
     src: &mut P,
     head: &Head,
     few: &[u64],
@@ -187,7 +187,7 @@ fn key_at<P: Framed>(
 }
 
 /// Whether the keys at the positions of a key list are texts by marker and count that ascend.
-fn is_ascending<P: Framed>(
+fn is_ascending<P: Offsets>(
     src: &mut P,
     head: &Head,
     list: &[u32],
@@ -234,7 +234,6 @@ pub(crate) struct ListLook<'a> {
     pub keys: &'a KeyLists,
     pub pairs: OrderedPairs,
     pub low: LowBytes,
-    pub places: OffsetBlock,
     /// The key lists that the walk came by are good.
     pub good: bool,
 }
@@ -251,14 +250,13 @@ impl ListLook<'_> {
             keys,
             pairs: OrderedPairs::new(),
             low: LowBytes::new(len),
-            places: OffsetBlock::new(),
             good: true,
         }
     }
 }
 
 /// Whether the key list of dictionary `n` has its keys in order, which are texts by marker and count then.
-fn has_good_list<P: Framed>(
+fn has_good_list<P: Offsets>(
     src: &mut P,
     keys: &KeyLists,
     n: ObjectNo,
@@ -281,8 +279,8 @@ fn has_good_list<P: Framed>(
 }
 
 /// Looks at the keys of dictionary `n` and at its key list. Where all vouched objects were seen, keys that are texts by marker
-/// and count are texts.
-fn check_list<P: Framed>(
+/// and count are texts. The key lists are a parameter of their own, since `look`, which lends them, changes meanwhile.
+fn check_list<P: Offsets>(
     src: &mut P,
     seen: &VouchedPrefix,
     keys: &KeyLists,
@@ -296,7 +294,6 @@ fn check_list<P: Framed>(
     requires within { n.0 < (frame_in (P.means src.old)).objects }
     requires starts { length keys.now.starts ≡ (frame_in (P.means src.old)).objects }
     ensures reads { OnlyReads (read_failed result) (P.means src.old) (P.means src.new) }
-    ensures places { look.new.places ≡ look.old.places }
     ensures known { HonestlyIn (P.means src.old) (λ f F. AreKnown f F look.old.pairs → AreLow f look.old.low.slots
         → OnOk result (AreKnown f F look.new.pairs × AreLow f look.new.low.slots)) }
     ensures exact { HonestlyIn (P.means src.old) (λ f F. AreKnown f F look.old.pairs → AreLow f look.old.low.slots
@@ -316,7 +313,7 @@ fn check_list<P: Framed>(
 }
 
 /// Looks at the keys of vouched object `n`, where it is a dictionary.
-fn check_dict_order<P: Framed>(
+fn check_dict_order<P: Offsets>(
     src: &mut P,
     seen: &VouchedPrefix,
     keys: &KeyLists,
@@ -329,15 +326,13 @@ fn check_dict_order<P: Framed>(
     ensures reads { OnlyReads (read_failed result) (P.means src.old) (P.means src.new) }
     ensures known { HonestlyIn (P.means src.old) (λ f F. AreKnown f F look.old.pairs → AreLow f look.old.low.slots
         → OnOk result (AreKnown f F look.new.pairs × AreLow f look.new.low.slots)) }
-    ensures placed { HonestlyIn (P.means src.old) (λ f F. HoldsOffsets f F look.old.places → OnOk result (HoldsOffsets f F look.new.places)) }
     ensures exact { HonestlyIn (P.means src.old) (λ f F. AreKnown f F look.old.pairs → AreLow f look.old.low.slots
-        → HoldsOffsets f F look.old.places
         → KeepsAll (KeepsByObject f F n) object_rules
         → ((head : head) → HasHead f F n head → head.kind ≡ Dict → seen.now.bound ≡ F.objects → KeysAreSound f F head)
         → Gives (λ _. HasGoodKeys f F (Some keys.now) n) (BreaksKeys f F F.objects (Some keys.now) n) result) }
 {
     let frame = src.frame();
-    let place = look.places.offset(src, n)?;
+    let place = src.offset(n)?;
     let head = shape_at(src, &frame, ObjectNo(n), place)?;
     match head.kind {
         Kind::Dict => check_list(src, seen, keys, ObjectNo(n), &head, look),
@@ -360,7 +355,7 @@ fn may_be_wrong(height: u32, start: u32, positions: usize) -> bool
 /// Whether object `n`, which stands at `place`, has its keys in order in its key list, where it is a dictionary. Not inlined,
 /// so that the loop over leaves stays in registers.
 #[inline(never)]
-fn is_listed<P: Framed>(
+fn is_listed<P: Offsets>(
     src: &mut P,
     keys: &KeyLists,
     n: u32,
@@ -384,7 +379,7 @@ fn is_listed<P: Framed>(
 /// Looks at the key lists of the vouched dictionaries among the objects from number `from` on, which stand at these places, up
 /// to the first that is not good. Not inlined either, for the loop over all objects.
 #[inline(never)]
-pub(crate) fn look_at_lists<P: Framed>(
+pub(crate) fn look_at_lists<P: Offsets>(
     src: &mut P,
     heights: &[u32],
     from: u32,
@@ -423,7 +418,7 @@ pub(crate) fn look_at_lists<P: Framed>(
 
 /// Looks at the keys of the vouched dictionaries that were seen: they are texts, and the key lists have them in order. Where
 /// all vouched objects were seen, a walk that found all lists good has shown it.
-pub(crate) fn check_key_orders<P: Framed>(
+pub(crate) fn check_key_orders<P: Offsets>(
     src: &mut P,
     seen: &VouchedPrefix,
     look: &mut ListLook,

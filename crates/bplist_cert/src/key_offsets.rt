@@ -9,7 +9,8 @@ ghost use Rattle.bplist_objects.specs.Framed.{frame_in, HonestlyIn};
 ghost use Rattle.bplist_objects.specs.Safe.{IsSafeHead, ref_count};
 ghost use Rattle.bplist_cert.specs.KeyOffsets.{AreOffsetsOf, AreRefs};
 
-use bplist_objects::{Framed, Head, ObjectNo, offset_of, read_refs};
+use bplist_keys::Offsets;
+use bplist_objects::{Framed, Head, read_refs};
 use bplist_octets::ReadFault;
 
 /// How many keys are read ahead at most.
@@ -17,7 +18,7 @@ pub(crate) const BLOCK: usize = 256;
 
 /// Fills `refs` with the numbers of references from number `from` on, and `found` with the places of the
 /// objects that they name, and 0 for a number that names no object. The frame is copied once for all of them.
-pub(crate) fn read_ahead<P: Framed>(
+pub(crate) fn read_ahead<P: Offsets>(
     src: &mut P,
     head: &Head,
     from: u64,
@@ -36,7 +37,7 @@ pub(crate) fn read_ahead<P: Framed>(
     for k in 0..refs.len() {
         let m = refs[k];
         if m < frame.objects as u64 {
-            found[k] = offset_of(src, &frame, ObjectNo(m as u32))?;
+            found[k] = src.offset(m as u32)?;
         } else {
             found[k] = 0;
         }

@@ -18,7 +18,6 @@ ghost use Rattle.bplist_cert.specs.Lists.{lists};
 ghost use Rattle.bplist_cert.specs.Valid.{IsVouchedBy};
 ghost use Rattle.bplist_cert.specs.DictKeys.{KeysAreTexts, KeysDiffer, IsTwiceFault};
 ghost use Rattle.bplist_cert.specs.Looks.{KeepBeforeKeysBelow};
-ghost use Rattle.bplist_cert.specs.KeyPairs.{HoldsOffsets};
 ghost use Rattle.bplist_cert.specs.LowBytes.{AreLow};
 ghost use Rattle.bplist_cert.specs.CheckRules.{IsKeysFault};
 ghost use Rattle.bplist_cert.specs.KeyRepeats.{KeysAreSound, HasGoodKeys, BreaksKeys, IsFirstKeysFault};
@@ -30,22 +29,21 @@ use crate::low_bytes::LowBytes;
 use crate::refusal::Refusal;
 use crate::vouched_prefix::VouchedPrefix;
 use bplist_keys::{
-    ClassTable, Failure, KeyDefect, NamedKeys, OffsetBlock, OffsetTable, Offsets, Ranks,
-    classes_of, offsets_of, ranks_of,
+    ClassTable, Failure, KeyDefect, NamedKeys, OffsetTable, Offsets, Ranks, classes_of, offsets_of,
+    ranks_of,
 };
-use bplist_objects::{Fault, Framed, Head, Kind, ObjectNo, Plist, Rule, ref_place, shape_at};
+use bplist_objects::{Fault, Framed, Head, Kind, ObjectNo, Rule, ref_place, shape_at};
 use bplist_octets::ReadFault;
 use std::alloc::Global;
 
-/// From one in so many objects on the keys are many, and a table of all places is worth its memory.
-const MANY: u32 = 16;
+/// A table of all places is worth its memory where one or more in so many objects is a key.
+const OBJECTS_FOR_A_KEY: u32 = 16;
 
-/// What keys are looked up in, and the places of the dictionaries.
+/// What keys are looked up in.
 #[derive(Drop)]
 struct ClassLook {
     table: ClassTable,
     low: LowBytes,
-    places: OffsetBlock,
 }
 
 /// The classes of the keys. Where not all vouched objects were seen the texts may lie in one another: then they are not read
@@ -103,7 +101,7 @@ fn class_fault<P: Framed>(
 }
 
 /// Looks at the keys of dictionary `n`. Where all vouched objects were seen their classes tell whether they are texts.
-fn check_classes<P: Framed>(
+fn check_classes<P: Offsets>(
     src: &mut P,
     seen: &VouchedPrefix,
     n: ObjectNo,
@@ -116,7 +114,6 @@ fn check_classes<P: Framed>(
     requires within { n.0 < (frame_in (P.means src.old)).objects }
     ensures reads { OnlyReads (refused_read result) (P.means src.old) (P.means src.new) }
     ensures same { look.new.table.classes.table.items ≡ look.old.table.classes.table.items }
-    ensures places { look.new.places ≡ look.old.places }
     ensures low { IsTrue (P.means src.old).honest → AreLow (P.means src.old).octets look.old.low.slots
         → AreLow (P.means src.old).octets look.new.low.slots }
     ensures stamped { IsStamped n.0 look.old.table.seen.items look.new.table.seen.items }
@@ -139,7 +136,7 @@ fn check_classes<P: Framed>(
 }
 
 /// Looks at the keys of vouched object `n`, where it is a dictionary.
-fn check_dict_repeats<P: Framed>(
+fn check_dict_repeats<P: Offsets>(
     src: &mut P,
     seen: &VouchedPrefix,
     n: u32,
@@ -151,16 +148,15 @@ fn check_dict_repeats<P: Framed>(
     ensures same { look.new.table.classes.table.items ≡ look.old.table.classes.table.items }
     ensures low { IsTrue (P.means src.old).honest → AreLow (P.means src.old).octets look.old.low.slots
         → AreLow (P.means src.old).octets look.new.low.slots }
-    ensures placed { HonestlyIn (P.means src.old) (λ f F. HoldsOffsets f F look.old.places → OnOk result (HoldsOffsets f F look.new.places)) }
     ensures stamped { IsStamped n look.old.table.seen.items look.new.table.seen.items }
     ensures exact { HonestlyIn (P.means src.old) (λ f F. KeepsAll (KeepsByObject f F n) object_rules → IsNew look.old.table.seen.items n
-        → AreLow f look.old.low.slots → HoldsOffsets f F look.old.places
+        → AreLow f look.old.low.slots
         → ((head : head) → HasHead f F n head → head.kind ≡ Dict
         → AreClassed f F look.old.table.classes.table.items head × (seen.now.bound ≡ F.objects → KeysAreSound f F head))
         → Judges (λ _. HasGoodKeys f F None n) (BreaksKeys f F F.objects None n) result) }
 {
     let frame = src.frame();
-    let place = look.places.offset(src, n)?;
+    let place = src.offset(n)?;
     let head = shape_at(src, &frame, ObjectNo(n), place)?;
     match head.kind {
         Kind::Dict => check_classes(src, seen, ObjectNo(n), &head, look),
@@ -189,7 +185,6 @@ fn check_named<P: Offsets>(
     let mut look = ClassLook {
         table: ClassTable::new(alloc, classes)?,
         low: LowBytes::new(src.len()),
-        places: OffsetBlock::new(),
     };
     for n in 0..seen.bound {
         if seen.heights[n as usize] > 1 {
@@ -225,9 +220,8 @@ fn named_keys<P: Framed>(
 /// Looks at the keys of the vouched dictionaries that were seen: they are texts that differ. With all vouched objects seen
 /// each text that is named as a key is read once to find its class, and again only where another has the same fingerprint.
 /// Where no object is named as a key, as in a file without dictionaries, neither places nor classes are worth their memory and
-/// their passes over all objects: no dictionary has a key that could be wrong. Where few are, a table of all places is not, and
-/// the entries of these few are read.
-pub(crate) fn check_key_repeats<P: Framed>(
+/// their passes over all objects: no dictionary has a key that could be wrong. Where few are, a table of all places is not.
+pub(crate) fn check_key_repeats<P: Offsets>(
     alloc: Global,
     src: &mut P,
     seen: &VouchedPrefix,
@@ -248,8 +242,8 @@ pub(crate) fn check_key_repeats<P: Framed>(
     if keys == 0 {
         return Ok(());
     }
-    if keys < (frame.objects / MANY) as usize {
-        return check_named(alloc, &mut Plist::new(src, frame), seen, named);
+    if keys < (frame.objects / OBJECTS_FOR_A_KEY) as usize {
+        return check_named(alloc, src, seen, named);
     }
     let places = offsets_of(alloc, src, &frame)?;
     check_named(

@@ -11,8 +11,8 @@ use crate::key_names::name_wanted;
 use crate::key_repeats::check_key_repeats;
 use crate::refusal::Refusal;
 use crate::vouched_prefix::VouchedPrefix;
-use bplist_keys::NamedKeys;
-use bplist_objects::{Framed, ObjectFault};
+use bplist_keys::{NamedKeys, Offsets};
+use bplist_objects::ObjectFault;
 use std::alloc::{AllocError, Global};
 
 /// What a walk over the vouched objects finds of the keys of dictionaries.
@@ -69,7 +69,7 @@ impl KeysLook<'_> {
     }
 
     /// Looks at the keys of the vouched dictionaries among the objects from number `from` on, which stand at these places.
-    pub(crate) fn look<P: Framed>(
+    pub(crate) fn look<P: Offsets>(
         &mut self,
         src: &mut P,
         heights: &[u32],
@@ -95,7 +95,7 @@ impl KeysLook<'_> {
     }
 
     /// Looks at the keys of the vouched dictionaries that were seen, where what was found does not show that they are good.
-    pub(crate) fn check<P: Framed>(
+    pub(crate) fn check<P: Offsets>(
         &mut self,
         alloc: Global,
         src: &mut P,

@@ -7,7 +7,7 @@ ghost use Rattle.bplist_keys.specs.Weights.{AreWeighed};
 ghost use Rattle.bplist_keys.specs.Failures.{failed_to_read};
 
 use crate::failure::Failure;
-use crate::offset_block::OffsetBlock;
+use crate::offsets::Offsets;
 use crate::weight::{Weight, weigh};
 use bplist_objects::Framed;
 
@@ -41,7 +41,7 @@ impl Weighing {
 }
 
 /// Weighs the objects that are named, and lists those that are texts by marker and count.
-pub(crate) fn weigh_keys<P: Framed>(src: &mut P, keys: &mut Weighing) -> Result<(), Failure>
+pub(crate) fn weigh_keys<P: Offsets>(src: &mut P, keys: &mut Weighing) -> Result<(), Failure>
     requires named { length keys.old.weights.items ≡ (frame_in (P.means src.old)).objects }
     requires none { length keys.old.texts.items ≡ 0 }
     ensures reads { OnlyReads (failed_to_read result) (P.means src.old) (P.means src.new) }
@@ -54,10 +54,9 @@ pub(crate) fn weigh_keys<P: Framed>(src: &mut P, keys: &mut Weighing) -> Result<
         AreWeighed f F keys.old.by keys.old.weights.items keys.new.weights.items)) }
 {
     let objects = src.frame().objects;
-    let mut places = OffsetBlock::new();
     for m in 0..objects {
         if keys.weights[m as usize] != 0 {
-            let place = places.offset(src, m)?;
+            let place = src.offset(m)?;
             let weight = weigh(src, m, place, keys.by)?;
             keys.put(m, weight)?;
         }

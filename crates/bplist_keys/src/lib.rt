@@ -11,7 +11,7 @@
 //! | what | calls |
 //! |---|---|
 //! | the objects that are named as keys | [`NamedKeys::new`], `insert` |
-//! | a source with its frame that tells the places of its objects, and what stands there | [`offsets_of`], [`OffsetTable`], [`Offsets`], [`object_shape`] |
+//! | a source with its frame that tells the places of its objects, and what stands there | [`offsets_of`], [`OffsetTable`], [`OffsetReader`], [`Offsets`], [`object_shape`] |
 //! | a class for each: equal exactly where the units are equal | [`classes_of`], [`Ranks`] |
 //! | a rank for each: ordered as the units are | [`ranks_of`], [`Ranks`] |
 //! | a failed read or refused memory | [`Failure`] |
@@ -27,7 +27,7 @@ mod merge_sort;
 mod named_keys;
 mod notes;
 mod numbers;
-mod offset_block;
+mod offset_reader;
 mod offsets;
 mod ordered;
 mod ranks;
@@ -39,7 +39,7 @@ mod weight_order;
 pub use class_table::{ClassTable, KeyDefect};
 pub use failure::Failure;
 pub use named_keys::{NamedKeys, name_keys, numbers_of};
-pub use offset_block::OffsetBlock;
+pub use offset_reader::OffsetReader;
 pub use offsets::{OffsetTable, Offsets, object_shape, offsets_of};
 pub use ranks::{Ranks, classes_of, ranks_of};
 pub use runs::Runs;

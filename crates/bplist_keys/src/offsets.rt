@@ -16,9 +16,7 @@ ghost use Rattle.bplist_keys.specs.Offsets.{IsOffset32, AreOffsets32};
 ghost use Rattle.bplist_keys.specs.Texts.{AreOffsets};
 
 use crate::failure::Failure;
-use bplist_objects::{
-    Frame, Framed, Head, ObjectFault, ObjectNo, Plist, offset_in, read_offsets, shape_in,
-};
+use bplist_objects::{Frame, Framed, Head, ObjectFault, ObjectNo, read_offsets, shape_in};
 use bplist_octets::{ReadFault, Source};
 use std::alloc::Global;
 
@@ -83,8 +81,8 @@ pub fn offsets_of<S: Source>(alloc: Global, src: &mut S, frame: &Frame) -> Resul
 
 /// A source that knows its frame and tells the places of its objects.
 ///
-/// What walks over the objects in any order keeps their places, 4 bytes an object (`OffsetTable`). Where memory is short the
-/// entries are read again instead (`Plist`).
+/// What walks over the objects in any order keeps their places, 4 bytes an object (`OffsetTable`). Where memory is short, or few
+/// places are asked for, their entries are read instead (`OffsetReader`).
 pub trait Offsets: Framed {
     /// The place of object `n`.
     fn offset(&mut self, n: u32) -> Result<u64, ReadFault>
@@ -107,12 +105,6 @@ pub fn object_shape<P: Offsets>(src: &mut P, n: u32) -> Result<Head, ObjectFault
 {
     let place = src.offset(n)?;
     shape_in(src, ObjectNo(n), place)
-}
-
-impl<S: Source> Offsets for Plist<'_, S> {
-    fn offset(&mut self, n: u32) -> Result<u64, ReadFault> {
-        offset_in(self, ObjectNo(n))
-    }
 }
 
 /// A source that is lent, with its frame and its offset table as numbers, so that a place costs no read.

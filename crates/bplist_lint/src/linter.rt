@@ -35,8 +35,10 @@ use crate::reach_rules::check_reached;
 use crate::refusal::LintRefusal;
 use crate::walk::{Reached, walk};
 use bplist_cert::Certificate;
-use bplist_keys::{Failure, NamedKeys, OffsetTable, Offsets, object_shape, offsets_of};
-use bplist_objects::{Fault, Framed, Kind, ObjectNo, Plist, Rule, trailer_of};
+use bplist_keys::{
+    Failure, NamedKeys, OffsetReader, OffsetTable, Offsets, object_shape, offsets_of,
+};
+use bplist_objects::{Fault, Framed, Kind, ObjectNo, Rule, trailer_of};
 use bplist_octets::Source;
 use std::alloc::Global;
 
@@ -271,7 +273,7 @@ pub fn lint_with_kind<S: Source>(alloc: Global, src: &mut S) -> Result<(Lint, Ki
     let frame = trailer_of(src)?;
     let places = offsets_of(alloc, src, &frame)?;
     check_offsets(&frame, &places, src.len())?;
-    let mut plist = Plist::new(src, frame);
+    let mut plist = OffsetReader::new(src, frame);
     let answer = lint_objects(alloc, &mut plist, places)?;
     Ok(answer)
 }

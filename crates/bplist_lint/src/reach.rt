@@ -44,6 +44,28 @@ struct Search {
 }
 
 impl Search {
+    /// The search in which the top alone was found.
+    fn from_top<P: Framed>(alloc: Global, src: &P) -> Result<Search, AllocError>
+        requires { (frame_in (P.means src.now)).table < 2 ^ 32 }
+        ensures ready { IfOk result (IsReady (frame_in (P.means src.now))) }
+        ensures searching { HonestlyIn (P.means src.now) (λ f F. IfOk result (λ search. Searching f F search.stack.items search)) }
+    {
+        let frame = src.frame();
+        let objects = frame.objects as usize;
+        let mut marks = vec![in alloc; false; objects]?;
+        marks[frame.top.0 as usize] = true;
+        let mut stack = Vec::with_capacity(alloc, objects)?;
+        stack.push(frame.top.0)?;
+        let size = frame.ref_size as u64;
+        let numbers = (frame.table / size + 1) * size;
+        Ok(Search {
+            marks,
+            stack,
+            good: BitSet::new(alloc, numbers)?,
+            followed: BitSet::new(alloc, numbers)?,
+        })
+    }
+
     /// Marks object `m`, and puts it on the stack where it was not marked.
     fn mark(&mut self, m: u32) -> Result<(), AllocError>
         requires within { m < vec_len self.old.marks }
@@ -174,22 +196,8 @@ pub fn mark_reached<P: Offsets>(alloc: Global, src: &mut P) -> Result<Marked, Fa
     ensures childless { IfOk result (λ marked. (n : ℕ) → IsMarked marked.childless.items n → ⊥) }
     ensures named { IfOk result (λ marked. marked.named.marks.items ≡ replicate (frame_in (P.means src.old)).objects true) }
 {
-    let frame = src.frame();
-    let objects = frame.objects as usize;
-    let mut marks = vec![in alloc; false; objects]?;
-    marks[frame.top.0 as usize] = true;
-    let mut stack = Vec::with_capacity(alloc, objects)?;
-    stack.push(frame.top.0)?;
-    let size = frame.ref_size as u64;
-    let numbers = (frame.table / size + 1) * size;
-    let good = BitSet::new(alloc, numbers)?;
-    let followed = BitSet::new(alloc, numbers)?;
-    let mut search = Search {
-        marks,
-        stack,
-        good,
-        followed,
-    };
+    let objects = src.frame().objects as usize;
+    let mut search = Search::from_top(alloc, src)?;
     while let Some(n) = search.stack.pop() {
         look_at(src, n, &mut search)?;
     }

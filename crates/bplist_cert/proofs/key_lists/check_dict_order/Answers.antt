@@ -4,7 +4,6 @@ use Rattle.bplist_objects.specs.declared.frame.Frame.{Frame}
 use Rattle.bplist_objects.specs.declared.head.Head.{Head}
 use Rattle.bplist_objects.specs.Framed.{frame_in}
 use Rattle.bplist_objects.proofs.BodyLaws.{HasHead-unique}
-use Rattle.bplist_cert.specs.KeyPairs.{HoldsOffsets}
 use Rattle.bplist_cert.proofs.TextObjects.{shape_kept}
 use Rattle.bplist_cert.proofs.CheckSteps.{given_weaker}
 use Rattle.bplist_cert.proofs.KeyRepeats.{keys_inside, keys_given, on_ok_always}
@@ -12,10 +11,10 @@ use Rattle.bplist_cert.proofs.KeyPairs.{shapes_texts}
 use Rattle.bplist_cert.proofs.key_lists.check_dict_order.Goals as goal
 
 pub returns-in_err-head-clause-exact : goal.returns-in_err-head-clause-exact
-returns-in_err-head-clause-exact g c = λ honest known low next kept sound.
+returns-in_err-head-clause-exact g c = λ honest known low kept sound.
     let m = g.P.Source.means c.args.src.now in
     let p = err_from_is_err_and c.from_residual-in_err-head.result c.from_residual-in_err-head.ensures.1 in
-    let place = c.in_ok-place.ensures.value honest next in
+    let place = c.in_ok-place.ensures.value honest in
     let rules = (rw (c.in_ok-place.ensures.reads, c.frame-frame.ensures.frame) at c.in_err-head.ensures.rules) honest (c.frame-frame.ensures.framed.framed honest) place in
     rw (p.1, p.2) (given_weaker _ _ c.in_err-head.field-0.0 (λ fault h. absurd (shape_kept m.octets (frame_in m) c.args.n fault kept h)) rules)
 
@@ -23,32 +22,25 @@ pub returns-in-Dict-clause-known : goal.returns-in-Dict-clause-known
 returns-in-Dict-clause-known g c = λ honest known low.
     (rw (c.in_ok-head.ensures.reads, c.in_ok-place.ensures.reads) at c.check_list.ensures.known) honest known low
 
-pub returns-in-Dict-clause-placed : goal.returns-in-Dict-clause-placed
-returns-in-Dict-clause-placed g c = λ honest next.
-    let f = (g.P.Source.means c.args.src.now).octets in
-    let F : Frame = frame_in (g.P.Source.means c.args.src.now) in
-    on_ok_always _ c.check_list.result (subst (HoldsOffsets f F) (sym c.check_list.ensures.places) (c.in_ok-place.ensures.places honest next))
-
 pub returns-in_default : goal.returns-in_default
 returns-in_default g c = record {
   reads = c.in_ok-head.ensures.reads ∙ c.in_ok-place.ensures.reads;
   known = λ honest known low. (known, low);
-  placed = λ honest next. c.in_ok-place.ensures.places honest next;
-  exact = λ honest known low next kept sound other has dict.
+  exact = λ honest known low kept sound other has dict.
       let f = (g.P.Source.means c.args.src.now).octets in
       let F : Frame = frame_in (g.P.Source.means c.args.src.now) in
-      let place = c.in_ok-place.ensures.value honest next in
+      let place = c.in_ok-place.ensures.value honest in
       let here = ((rw (c.in_ok-place.ensures.reads, c.frame-frame.ensures.frame) at c.in_ok-head.ensures.rules) honest (c.frame-frame.ensures.framed.framed honest) place).0 in
       absurd (c.in_default.not-Dict (ap (λ (x : Head). x.kind) (HasHead-unique f F c.args.n c.in_ok-head.head other here has) ∙ dict));
 }
 
 pub returns-in-Dict-clause-exact : goal.returns-in-Dict-clause-exact
-returns-in-Dict-clause-exact g c = λ honest known low next kept sound.
+returns-in-Dict-clause-exact g c = λ honest known low kept sound.
     let f = (g.P.Source.means c.args.src.now).octets in
     let F : Frame = frame_in (g.P.Source.means c.args.src.now) in
     let framed = c.frame-frame.ensures.framed.framed honest in
     let head = c.in_ok-head.head in
-    let place = c.in_ok-place.ensures.value honest next in
+    let place = c.in_ok-place.ensures.value honest in
     let has = ((rw (c.in_ok-place.ensures.reads, c.frame-frame.ensures.frame) at c.in_ok-head.ensures.rules) honest framed place).0 in
     let inside = keys_inside f F c.args.n kept head has c.in-Dict.is in
     keys_given f F F.objects (Some c.args.keys.now) c.args.n head has c.check_list.result

@@ -18,7 +18,6 @@ pub loop-n-init : goal.loop-n-init
 loop-n-init g c = record {
   reads = refl;
   known = λ honest lists. (lists.pairs, lists.low);
-  placed = λ honest lists. lists.places;
   exact = λ honest seen lists k low. absurd (omega (arith, low));
 }
 
@@ -41,7 +40,7 @@ returns-in_err-check_dict_order-clause-exact g c = λ honest seen lists.
     let within : n < F.objects = omega (arith, c.loop-n-test.true, c.args.seen.now.within, c.requires.all) in
     let here : IsVouchedBy heights n = c.may_be_wrong.ensures.vouched c.if-may_be_wrong.true in
     let known = v.known honest lists in
-    let given = (rw v.reads at c.in_err-check_dict_order.ensures.exact) honest known.0 known.1 (v.placed honest lists) (seen n c.loop-n-test.true here).own
+    let given = (rw v.reads at c.in_err-check_dict_order.ensures.exact) honest known.0 known.1 (seen n c.loop-n-test.true here).own
     (λ head has dict whole. sound_keys f F heights (subst (KeepBeforeKeysBelow f F heights) whole seen) n within here head has dict) in
     let p = err_from_is_err_and c.from_residual.result c.from_residual.ensures.1 in
     rw (p.1, p.2) (given_weaker _ _ c.in_err-check_dict_order.field-0.0 (λ fault h. record {
@@ -64,12 +63,11 @@ loop-n-preserved g c =
       | then-may_be_wrong+in_ok-check_dict_order w ↦ record {
         reads = rw w.src-is (w.in_ok-check_dict_order.ensures.reads ∙ v.reads);
         known = λ honest lists. let known = v.known honest lists in rw w.look-is ((rw v.reads at w.in_ok-check_dict_order.ensures.known) honest known.0 known.1);
-        placed = λ honest lists. rw w.look-is ((rw v.reads at w.in_ok-check_dict_order.ensures.placed) honest (v.placed honest lists));
         exact = λ honest seen lists m low vouched. elim (cases_eq m n) [
           | inl e ↦
               let here = subst (IsVouchedBy heights) e vouched in
               let known = v.known honest lists in
-              let good = (rw v.reads at w.in_ok-check_dict_order.ensures.exact) honest known.0 known.1 (v.placed honest lists) (seen n c.loop-n-test.true here).own
+              let good = (rw v.reads at w.in_ok-check_dict_order.ensures.exact) honest known.0 known.1 (seen n c.loop-n-test.true here).own
               (λ head has dict whole. sound_keys f F heights (subst (KeepBeforeKeysBelow f F heights) whole seen) n within here head has dict) in
               subst (HasGoodKeys f F (Some c.args.look.now.keys.now)) (sym e) good
           | inr d ↦ v.exact honest seen lists m (omega (arith, low, d)) vouched
@@ -78,7 +76,6 @@ loop-n-preserved g c =
       | else-may_be_wrong w ↦ record {
         reads = rw w.src-is v.reads;
         known = λ honest lists. rw w.look-is (v.known honest lists);
-        placed = λ honest lists. rw w.look-is (v.placed honest lists);
         exact = λ honest seen lists m low vouched. elim (cases_eq m n) [
           | inl e ↦
               let here = subst (IsVouchedBy heights) e vouched in

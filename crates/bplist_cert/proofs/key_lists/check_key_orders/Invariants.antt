@@ -3,7 +3,7 @@ use Rattle.bplist_objects.specs.Framed.{HonestlyIn}
 use Rattle.bplist_cert.specs.Valid.{IsVouchedBy}
 use Rattle.bplist_cert.specs.Looks.{KeepBeforeKeysBelow}
 use Rattle.bplist_cert.specs.LowBytes.{AreLow}
-use Rattle.bplist_cert.specs.KeyPairs.{AreKnown, HoldsOffsets}
+use Rattle.bplist_cert.specs.KeyPairs.{AreKnown}
 use Rattle.bplist_cert.specs.KeyRepeats.{HasGoodKeys}
 use Rattle.bplist_cert.specs.KeysLooks.{HaveGoodLists}
 use Rattle.bplist_cert.proofs.key_lists.check_key_orders.Given as goal
@@ -15,7 +15,6 @@ invariant-loop-n g l =
     record {
       reads : g.P.Source.means l.src ≡ m;
       known : HonestlyIn m (λ f F. HaveGoodLists f F l.seen.heights.now l.seen.bound l.fn.look → AreKnown f F l.look.pairs × AreLow f l.look.low.slots);
-      placed : HonestlyIn m (λ f F. HaveGoodLists f F l.seen.heights.now l.seen.bound l.fn.look → HoldsOffsets f F l.look.places);
       exact : HonestlyIn m (λ f F. KeepBeforeKeysBelow f F l.seen.heights.now l.seen.bound
           → HaveGoodLists f F l.seen.heights.now l.seen.bound l.fn.look
           → (k : ℕ) → k < l.n → IsVouchedBy l.seen.heights.now k → HasGoodKeys f F (Some l.fn.look.keys.now) k);

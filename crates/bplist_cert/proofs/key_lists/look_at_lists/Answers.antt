@@ -31,7 +31,6 @@ loop-i-preserved-then-not-may_be_wrong g c =
           record {
             pairs = before.pairs;
             low = before.low;
-            places = before.places;
             good = λ good m low vouched. elim (cases_eq m n) [
               | inl e ↦
                   let here = subst (IsVouchedBy heights) e vouched in
@@ -67,7 +66,7 @@ returns-then-not-branch-clause-exact g c = λ honest places seen lists.
     let here : IsVouchedBy c.args.heights.now n = omega (arith, height, vouched) in
     let before = v.lists honest places seen lists in
     let found = (rw v.same at c.in_ok-is_listed.ensures.exact) honest before.pairs (places c.loop-i.i under) (seen n (omega (arith, under)) here).own in
-    record { pairs = found.0; low = before.low; places = before.places; good = λ never. absurd (false≢true never) }
+    record { pairs = found.0; low = before.low; good = λ never. absurd (false≢true never) }
 
 pub loop-i-preserved : goal.loop-i-preserved
 loop-i-preserved g c =
@@ -89,7 +88,6 @@ loop-i-preserved g c =
           record {
             pairs = found.0;
             low = before.low;
-            places = before.places;
             good = λ good m low vouched. elim (cases_eq m n) [
               | inl e ↦ rw v.keys (subst (IsListed f F c.args.look.now.keys.now) (sym e) (found.1 c.if-not-branch.false))
               | inr d ↦ before.good good m (omega (arith, low, d)) vouched

@@ -14,7 +14,7 @@ loop-k-preserved g c =
       | then-m-frame+in_ok-found w ↦ record {
         same = rw w.src-is (w.in_ok-found.ensures.reads ∙ v.same);
         placed = λ honest. rw w.found-is (offsets_more m.octets F c.read_refs.new.into c.loop-k.found c.loop-k.k w.in_ok-found.field-0 (omega arith) (v.placed honest)
-            (λ _. (rw (v.same, c.frame-frame.ensures.frame) at w.in_ok-found.ensures.value) honest));
+            (λ _. (rw v.same at w.in_ok-found.ensures.value) honest));
       }
       | else-m-frame w ↦ record {
         same = rw w.src-is v.same;

@@ -1,28 +1,27 @@
-use Rattle.std.proofs.Common.{None, sym, subst}
+use Rattle.std.proofs.Common.{None}
 use Rattle.std.proofs.lemmas.Result.{err_from_is_err_and}
 use Rattle.bplist_objects.specs.declared.frame.Frame.{Frame}
 use Rattle.bplist_objects.specs.Framed.{frame_in}
-use Rattle.bplist_cert.specs.KeyPairs.{HoldsOffsets}
 use Rattle.bplist_cert.proofs.TextObjects.{shape_kept}
 use Rattle.bplist_cert.proofs.CheckSteps.{object_refused}
-use Rattle.bplist_cert.proofs.KeyRepeats.{keys_inside, keys_judged, on_ok_always}
+use Rattle.bplist_cert.proofs.KeyRepeats.{keys_inside, keys_judged}
 use Rattle.bplist_cert.proofs.key_repeats.check_dict_repeats.Goals as goal
 
 pub returns-in_err-head-clause-exact : goal.returns-in_err-head-clause-exact
-returns-in_err-head-clause-exact g c = λ honest kept stamps low next keys.
+returns-in_err-head-clause-exact g c = λ honest kept stamps low keys.
     let m = g.P.Source.means c.args.src.now in
     let p = err_from_is_err_and c.from_residual-in_err-head.result c.from_residual-in_err-head.ensures.1 in
-    let place = c.in_ok-place.ensures.value honest next in
+    let place = c.in_ok-place.ensures.value honest in
     let rules = (rw (c.in_ok-place.ensures.reads, c.frame-frame.ensures.frame) at c.in_err-head.ensures.rules) honest (c.frame-frame.ensures.framed.framed honest) place in
     rw (p.1, p.2) (object_refused _ _ c.in_err-head.field-0.0 (λ fault h. absurd (shape_kept m.octets (frame_in m) c.args.n fault kept h)) rules)
 
 pub returns-in-Dict-clause-exact : goal.returns-in-Dict-clause-exact
-returns-in-Dict-clause-exact g c = λ honest kept stamps low next keys.
+returns-in-Dict-clause-exact g c = λ honest kept stamps low keys.
     let f = (g.P.Source.means c.args.src.now).octets in
     let F : Frame = frame_in (g.P.Source.means c.args.src.now) in
     let framed = c.frame-frame.ensures.framed.framed honest in
     let head = c.in_ok-head.head in
-    let place = c.in_ok-place.ensures.value honest next in
+    let place = c.in_ok-place.ensures.value honest in
     let has = ((rw (c.in_ok-place.ensures.reads, c.frame-frame.ensures.frame) at c.in_ok-head.ensures.rules) honest framed place).0 in
     let known = keys head has c.in-Dict.is in
     let inside = keys_inside f F c.args.n kept head has c.in-Dict.is in
@@ -31,9 +30,3 @@ returns-in-Dict-clause-exact g c = λ honest kept stamps low next keys.
 
 pub returns-in-Dict-clause-low : goal.returns-in-Dict-clause-low
 returns-in-Dict-clause-low g c = rw (c.in_ok-head.ensures.reads, c.in_ok-place.ensures.reads) at c.check_classes.ensures.low
-
-pub returns-in-Dict-clause-placed : goal.returns-in-Dict-clause-placed
-returns-in-Dict-clause-placed g c = λ honest next.
-    let f = (g.P.Source.means c.args.src.now).octets in
-    let F : Frame = frame_in (g.P.Source.means c.args.src.now) in
-    on_ok_always _ c.check_classes.result (subst (HoldsOffsets f F) (sym c.check_classes.ensures.places) (c.in_ok-place.ensures.places honest next))

@@ -12,8 +12,8 @@ returns-then-keys-eq0-clause-exact g c = λ honest seen given n low vouched.
 
 pub returns-then-keys-frame-clause-exact : goal.returns-then-keys-frame-clause-exact
 returns-then-keys-frame-clause-exact g c = λ honest seen given.
-    (rw (c.new.ensures.means, c.new.ensures.frame, c.frame-frame.ensures.frame, c.in_ok-named.ensures.reads) at c.check_named.ensures.exact) honest seen (c.in_ok-named.ensures.exact honest seen given)
+    (rw c.in_ok-named.ensures.reads at c.check_named.ensures.exact) honest seen (c.in_ok-named.ensures.exact honest seen given)
 
 pub returns-clause-exact : goal.returns-clause-exact
 returns-clause-exact g c = λ honest seen given.
-    (rw (c.new-2.ensures.means, c.new-2.ensures.frame, c.frame-frame.ensures.frame, c.in_ok-places.ensures.reads, c.in_ok-named.ensures.reads) at c.check_named-2.ensures.exact) honest seen (c.in_ok-named.ensures.exact honest seen given)
+    (rw (c.new.ensures.means, c.new.ensures.frame, c.frame-frame.ensures.frame, c.in_ok-places.ensures.reads, c.in_ok-named.ensures.reads) at c.check_named-2.ensures.exact) honest seen (c.in_ok-named.ensures.exact honest seen given)

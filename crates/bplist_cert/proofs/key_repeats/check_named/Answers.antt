@@ -24,7 +24,7 @@ returns-in_err-check_dict_repeats-clause-exact g c = λ honest seen all_named.
     let here : IsVouchedBy heights n = omega (arith, c.if-seen-n-gt1.true) in
     let named = all_named n c.loop-n-test.true here in
     let classes = c.in_ok-classes.ensures.exact honest in
-    let judged = (rw (v.reads, table_is) at c.in_err-check_dict_repeats.ensures.exact) honest (seen n c.loop-n-test.true here).own (new_low n _ (v.stamps honest)) (v.low honest) (v.placed honest)
+    let judged = (rw (v.reads, table_is) at c.in_err-check_dict_repeats.ensures.exact) honest (seen n c.loop-n-test.true here).own (new_low n _ (v.stamps honest)) (v.low honest)
     (λ head has dict. (keys_classed f F _ c.in_ok-classes.classes.table.items n classes named head has dict, λ whole. sound_keys f F heights (subst (KeepBeforeKeysBelow f F heights) whole seen) n within here head has dict)) in
     let p = err_from_is_err_and c.from_residual-in_err-check_dict_repeats.result c.from_residual-in_err-check_dict_repeats.ensures.1 in
     rw (p.1, p.2) (refused_weaker _ _ c.in_err-check_dict_repeats.field-0.0 (λ fault h. record {
@@ -51,13 +51,12 @@ loop-n-preserved g c =
             same = rw w.look-is (w.in_ok-check_dict_repeats.ensures.same ∙ v.same);
             stamps = λ honest. rw w.look-is (stamped_low n _ _ w.check_dict_repeats.ensures.stamped (v.stamps honest));
             low = λ honest. rw w.look-is ((rw v.reads at w.in_ok-check_dict_repeats.ensures.low) honest (v.low honest));
-            placed = λ honest. rw w.look-is ((rw v.reads at w.in_ok-check_dict_repeats.ensures.placed) honest (v.placed honest));
             exact = λ honest seen all_named m low vouched. elim (cases_eq m n) [
               | inl e ↦
                   let here = subst (IsVouchedBy heights) e vouched in
                   let named = all_named n c.loop-n-test.true here in
                   let classes = c.in_ok-classes.ensures.exact honest in
-                  let good = (rw (v.reads, table_is) at w.in_ok-check_dict_repeats.ensures.exact) honest (seen n c.loop-n-test.true here).own (new_low n _ (v.stamps honest)) (v.low honest) (v.placed honest)
+                  let good = (rw (v.reads, table_is) at w.in_ok-check_dict_repeats.ensures.exact) honest (seen n c.loop-n-test.true here).own (new_low n _ (v.stamps honest)) (v.low honest)
                   (λ head has dict. (keys_classed f F _ c.in_ok-classes.classes.table.items n classes named head has dict, λ whole. sound_keys f F heights (subst (KeepBeforeKeysBelow f F heights) whole seen) n within here head has dict)) in
                   subst (HasGoodKeys f F None) (sym e) good
               | inr d ↦ v.exact honest seen all_named m (omega (arith, low, d)) vouched
@@ -68,7 +67,6 @@ loop-n-preserved g c =
         same = rw w.look-is v.same;
         stamps = λ honest x. rw w.look-is (let l = v.stamps honest x in omega (arith, l));
         low = λ honest. rw w.look-is (v.low honest);
-        placed = λ honest. rw w.look-is (v.placed honest);
         exact = λ honest seen all_named m low vouched. elim (cases_eq m n) [
           | inl e ↦ good_low f F heights m (seen m (omega (arith, e, c.loop-n-test.true)) vouched) (rw e (omega (arith, w.if-seen-n-gt1.false)))
           | inr d ↦ v.exact honest seen all_named m (omega (arith, low, d)) vouched

@@ -4,7 +4,6 @@ use Rattle.bplist_keys.specs.Classes.{HasNamedKeys}
 use Rattle.bplist_cert.specs.Valid.{IsVouchedBy}
 use Rattle.bplist_cert.specs.Looks.{KeepBeforeKeysBelow}
 use Rattle.bplist_cert.specs.LowBytes.{AreLow}
-use Rattle.bplist_cert.specs.KeyPairs.{HoldsOffsets}
 use Rattle.bplist_cert.specs.KeyRepeats.{HasGoodKeys}
 use Rattle.bplist_cert.proofs.key_repeats.check_named.Given as goal
 
@@ -17,7 +16,6 @@ invariant-loop-n g l =
       same : l.look.table.classes.table.items ≡ l.initial.look.table.classes.table.items;
       stamps : IsTrue m.honest → (x : ℕ) → slice_index l.look.table.seen.items x ≤ l.n;
       low : IsTrue m.honest → AreLow m.octets l.look.low.slots;
-      placed : HonestlyIn m (λ f F. HoldsOffsets f F l.look.places);
       exact : HonestlyIn m (λ f F. KeepBeforeKeysBelow f F l.seen.heights.now l.seen.bound
           → ((n : ℕ) → n < l.seen.bound → IsVouchedBy l.seen.heights.now n → HasNamedKeys f F l.fn.named.marks.items n)
           → (k : ℕ) → k < l.n → IsVouchedBy l.seen.heights.now k → HasGoodKeys f F None k);

@@ -29,8 +29,7 @@ loop-m-preserved g c =
             listed = rw (w.keys-is, w.in_ok-put.ensures.weights) (listed_put n named weights texts v.listed room some weight _ w.in_ok-put.ensures.other w.in_ok-put.ensures.text);
             exact = λ honest. rw (w.keys-is, w.in_ok-put.ensures.weights)
                 (weigh_more f F by named n weight weights room
-                ((rw (w.in_ok-place.ensures.reads, v.same, v.by) at w.in_ok-weight.ensures.exact) honest ((rw v.same at w.in_ok-place.ensures.value) honest (v.places honest))) (v.exact honest));
-            places = λ honest. rw w.places-is ((rw v.same at w.in_ok-place.ensures.places) honest (v.places honest));
+                ((rw (w.in_ok-place.ensures.reads, v.same, v.by) at w.in_ok-weight.ensures.exact) honest ((rw v.same at w.in_ok-place.ensures.value) honest)) (v.exact honest));
           }
       | else-index-ne0 w ↦
           let none : slice_index weights n ≡ 0 = omega (arith, read, w.if-index-ne0.false) in
@@ -40,7 +39,6 @@ loop-m-preserved g c =
             all = rw w.keys-is v.all;
             listed = rw w.keys-is (listed_over n named weights texts v.listed none);
             exact = λ honest. rw w.keys-is (weigh_over f F by named n weights texts v.listed none (v.exact honest));
-            places = λ honest. rw w.places-is (v.places honest);
           }
     ]
 

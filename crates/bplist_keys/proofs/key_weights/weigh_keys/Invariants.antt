@@ -1,6 +1,5 @@
 use Rattle.std.proofs.Common.{◌≡◌, length}
 use Rattle.bplist_objects.specs.Framed.{frame_in, HonestlyIn}
-use Rattle.bplist_keys.specs.Offsets.{AreOffsetsFrom}
 use Rattle.bplist_keys.proofs.ListedObjects.{AreListed, WeighBelow}
 use Rattle.bplist_keys.proofs.key_weights.weigh_keys.Given as goal
 
@@ -13,5 +12,4 @@ invariant-loop-m g l =
       all : length l.keys.weights.items ≡ (frame_in (means l.fn.src)).objects;
       listed : AreListed l.m l.fn.keys.weights.items l.keys.weights.items l.keys.texts.items;
       exact : HonestlyIn (means l.fn.src) (λ f F. WeighBelow f F l.fn.keys.by l.fn.keys.weights.items l.m l.keys.weights.items);
-      places : HonestlyIn (means l.fn.src) (λ f F. AreOffsetsFrom f F l.places.first l.places.count l.places.places);
     }

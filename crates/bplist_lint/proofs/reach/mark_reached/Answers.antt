@@ -1,20 +1,7 @@
-use Rattle.std.proofs.Common.{◌≡◌, [], false, replicate, arith, rules, ◌∙◌}
+use Rattle.std.proofs.Common.{◌≡◌, [], arith, ◌∙◌}
 use Rattle.std.proofs.lemmas.Grind.{common_steps, elements}
-use Rattle.bplist_objects.specs.declared.frame.Frame.{Frame}
-use Rattle.bplist_objects.specs.Framed.{frame_in}
-use Rattle.bplist_lint.proofs.ReachSteps.{searching_start, searching_end}
+use Rattle.bplist_lint.proofs.ReachSteps.{searching_end}
 use Rattle.bplist_lint.proofs.reach.mark_reached.Goals as goal
-
-pub loop-n-init : goal.loop-n-init
-loop-n-init g c = record {
-  reads = cc;
-  ready = search rules;
-  searching = λ honest.
-      let f = (g.P.Source.means c.args.src.now).octets in
-      let F : Frame = frame_in (g.P.Source.means c.args.src.now) in
-      let marks_new : c.in_ok-marks.marks.items ≡ replicate c.frame-frame.result.objects false = search rules in
-      rw (marks_new, c.in_ok-push.ensures.items, c.in_ok-stack.ensures.items, c.frame-frame.ensures.frame) (searching_start f F _ _ c.frame-frame.ensures.framed.safe.top c.in_ok-good.ensures.empty c.in_ok-followed.ensures.empty);
-}
 
 pub look_at-requires-clause-within : goal.look_at-requires-clause-within
 look_at-requires-clause-within g c =

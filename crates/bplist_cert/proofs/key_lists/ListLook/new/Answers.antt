@@ -5,6 +5,5 @@ pub returns-clause-none : goal.returns-clause-none
 returns-clause-none c = λ f F heights. record {
   pairs = c.new.ensures f F;
   low = c.new-2.ensures f;
-  places = c.new-3.ensures f F;
   good = λ good n low. absurd (omega (arith, low));
 }
