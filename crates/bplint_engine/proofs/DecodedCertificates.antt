@@ -10,7 +10,7 @@ use Rattle.bplint_lines.specs.declared.said.Said.{Said}
 use Rattle.bplint_lines.specs.Answers.{Answer, Leaves}
 use Rattle.bplint_engine.specs.Check.{IsDecoded}
 use Rattle.bplint_engine.specs.Commands.{Asked}
-use Rattle.bplint_engine.specs.Said.{Says, SaysBy, most, takes_cert}
+use Rattle.bplint_engine.specs.Said.{Says, most, takes_cert}
 use Rattle.bplint_engine.specs.declared.command.Verb.{Verb}
 use Rattle.bplint_engine.specs.declared.command.Verb.TheVariants.{Lint, Check, Get, Certify, Print}
 use Rattle.bplint_engine.proofs.LeftBytes.{said_as}
@@ -22,7 +22,8 @@ decoded_as cert (Ok lists) spelled refused = spelled
 decoded_as cert (Err refusal) spelled refused = refused
 
 -- an answer with what is looked at of a certificate is one with all of it
-by_verb : (verb : Verb) (command : Asked) (f cert : List ℕ) (a : Answer) → SaysBy verb command f (if takes_cert verb then cert else []) a → SaysBy verb command f cert a
+by_verb : (verb : Verb) (command : Asked) (f cert : List ℕ) (a : Answer)
+    → Says (record command { verb = verb }) f (if takes_cert verb then cert else []) a → Says (record command { verb = verb }) f cert a
 by_verb Lint command f cert a h = h
 by_verb Check command f cert a h = h
 by_verb Get command f cert a h = h

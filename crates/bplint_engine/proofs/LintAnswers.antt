@@ -1,14 +1,14 @@
 -- What `lint` says, from the answer of the linter.
-use Rattle.std.proofs.Common.{◌≡◌, ℕ, List, [], ◌∷◌, ◌++◌, refl}
+use Rattle.std.proofs.Common.{◌≡◌, ℕ, List, ◌++◌, codes, refl}
 use Rattle.bplist_objects.specs.declared.kind.Kind.{Kind}
 use Rattle.bplist_lint.specs.declared.answer.Lint.{Lint}
 use Rattle.bplist_lint.specs.Linted.{IsLintedWithKind}
 use Rattle.bplint_lines.specs.declared.said.Said.TheVariants.{All}
 use Rattle.bplint_lines.specs.Answers.{gives}
 use Rattle.bplint_engine.specs.Lint.{LintSays}
-use Rattle.bplint_lines.specs.OutputLines.{lint_line, kind_word}
+use Rattle.bplint_lines.specs.OutputLines.{lint_line}
 
 -- the file holds a value, and the kind is that of its top
 pub lint_says : (f : List ℕ) (found : Lint) (top : Kind) (bytes : List ℕ) → IsLintedWithKind f found top
-    → bytes ≡ lint_line found.reached found.height (kind_word top) ++ 10 ∷ [] → LintSays f (gives All bytes)
+    → bytes ≡ lint_line found.reached found.height top ++ codes "\n" → LintSays f (gives All bytes)
 lint_says f found top bytes is made = (found, top, is, refl, made)

@@ -1,5 +1,5 @@
 -- The lines of the members of containers.
-use Rattle.std.proofs.Common.{◌≡◌, ◌<◌, ◌+◌, ◌-◌, ◌*◌, ◌++◌, ◌∷◌, [], ◌∙◌, ℕ, zero, suc, List, length, slice_get, Some, Ok, ap, append_assoc, append-nil, arith, refl, sym}
+use Rattle.std.proofs.Common.{◌≡◌, ◌<◌, ◌+◌, ◌-◌, ◌*◌, ◌++◌, [], ◌∙◌, ℕ, zero, suc, List, codes, length, slice_get, Some, Ok, ap, append_assoc, append-nil, arith, refl, sym}
 use Rattle.bplist_objects.specs.Value.{Value, leaf, array, set, dict, text, Values, no_values, value, Pairs, no_pairs, pair, keys}
 use Rattle.bplist_cursor.specs.declared.faces.Face.{Face}
 use Rattle.bplist_cursor.specs.declared.faults.CursorFault.{CursorFault}
@@ -77,10 +77,8 @@ dict_member n i _ is l = absurd is
 
 -- a name and what a member shows were added
 pub added : (lines name mid new : List ℕ) (shown : Face) (m : Value) → mid ≡ lines ++ name
-    → new ≡ mid ++ 9 ∷ (face_line shown ++ 10 ∷ []) → shown ≡ face m → new ≡ lines ++ named_line name m
-added lines name mid new shown m named behind is =
-    behind ∙ ap (λ xs. xs ++ 9 ∷ (face_line shown ++ 10 ∷ [])) named ∙ append_assoc lines name (9 ∷ (face_line shown ++ 10 ∷ []))
-    ∙ ap (λ x. lines ++ (name ++ 9 ∷ (face_line x ++ 10 ∷ []))) is
+    → new ≡ mid ++ codes "\t" ++ face_line shown ++ codes "\n" → shown ≡ face m → new ≡ lines ++ named_line name m
+added lines name mid new shown m named behind is = rw (behind, named, is) (simp append_assoc)
 
 -- ---- all lines, one after the other
 -- the lines of values from number i on, with these names

@@ -6,7 +6,7 @@ use Rattle.bplint_lines.specs.declared.fault.RunFault.TheVariants as faults
 use Rattle.bplint_lines.specs.Answers.{Answer, refuses}
 use Rattle.bplint_engine.specs.Commands.{Asked}
 use Rattle.bplint_engine.specs.Hexadecimal.{spelled}
-use Rattle.bplint_engine.specs.Said.{Says, SaysBy, SaysOver, Spells, takes_cert}
+use Rattle.bplint_engine.specs.Said.{Says, SaysOver, Spells, takes_cert}
 use Rattle.bplint_engine.specs.declared.command.Verb.{Verb}
 use Rattle.bplint_engine.specs.declared.command.Verb.TheVariants as verbs
 use Rattle.bplint_engine.proofs.OneLint.{one_lint}
@@ -16,7 +16,8 @@ use Rattle.bplint_engine.proofs.OnePrint.{one_print}
 use Rattle.bplint_engine.proofs.OneCertify.{one_certified}
 
 -- ---- a command
-one_by : (verb : Verb) (command : Asked) (f cert : List ℕ) (a b : Answer) → SaysBy verb command f cert a → SaysBy verb command f cert b → a ≡ b
+one_by : (verb : Verb) (command : Asked) (f cert : List ℕ) (a b : Answer)
+    → Says (record command { verb = verb }) f cert a → Says (record command { verb = verb }) f cert b → a ≡ b
 one_by verbs.Lint command f cert a b h k = one_lint f a b h k
 one_by verbs.Check command f cert a b h k = one_check f cert a b h k
 one_by verbs.Certify command f cert a b h k = one_certified command.sorted command.hex f a b h k

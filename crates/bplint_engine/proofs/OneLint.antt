@@ -1,5 +1,5 @@
 -- What `lint` says is one, and so is the first fault of a file.
-use Rattle.std.proofs.Common.{◌≡◌, ℕ, ◌++◌, List, [], ◌∷◌, map, slice_index, count_by, nat_lt, sym, ap, ◌∙◌, subst}
+use Rattle.std.proofs.Common.{◌≡◌, ℕ, ◌++◌, List, codes, map, slice_index, count_by, nat_lt, sym, ap, ◌∙◌, subst}
 use Rattle.bplist_objects.specs.declared.frame.Frame.{Frame}
 use Rattle.bplist_objects.specs.Heads.{HasShape}
 use Rattle.bplist_objects.proofs.Fronts.{one_shape}
@@ -12,7 +12,7 @@ use Rattle.bplint_lines.specs.declared.fault.RunFault.{RunFault}
 use Rattle.bplint_lines.specs.declared.fault.RunFault.TheVariants as faults
 use Rattle.bplint_lines.specs.Answers.{Answer, gives, refuses}
 use Rattle.bplint_engine.specs.Lint.{LintSays}
-use Rattle.bplint_lines.specs.OutputLines.{kind_word, lint_line}
+use Rattle.bplint_lines.specs.OutputLines.{lint_line}
 use Rattle.bplint_engine.proofs.EqualAnswers.{same_gives, same_numbers}
 
 module _ (f : List ℕ) where
@@ -43,8 +43,8 @@ module _ (f : List ℕ) where
       let reached : x.reached ≡ y.reached = l.reached ∙ ap (count_by (nat_lt 0)) heights ∙ sym n.reached in
       let height : x.height ≡ y.height = l.height ∙ ap (λ hs. slice_index hs F.top.0) heights ∙ sym n.height in
       let heads : head ≡ head' = one_shape f F F.top.0 head head' has (subst (λ X. HasShape f X X.top.0 head') same has') in
-      let word = ap kind_word (kind ∙ ap (λ h. h.kind) heads ∙ sym kind') in
-      same_gives s t xs ys (all ∙ sym all') (line ∙ (λ i. lint_line (reached i) (height i) (word i) ++ 10 ∷ []) ∙ sym line')
+      let kinds = kind ∙ ap (λ h. h.kind) heads ∙ sym kind' in
+      same_gives s t xs ys (all ∙ sym all') (line ∙ (λ i. lint_line (reached i) (height i) (kinds i) ++ codes "\n") ∙ sym line')
   one_lint (gives s xs) (refuses b) h k = absurd (not_linted h.2.0 h.0 b h.2.2 k)
   one_lint (refuses a) (gives t ys) h k = absurd (not_linted k.2.0 k.0 a k.2.2 h)
   one_lint (refuses a) (refuses b) h k = ap refuses (one_lint_fault a b h k)

@@ -1,5 +1,5 @@
 -- What `certify` says. Source: profile.
-use Rattle.std.specs.Prelude.{◌≡◌, ◌∷◌, ◌++◌, ℕ, List, [], Bool, MatchBool, if◌then◌else◌}
+use Rattle.std.specs.Prelude.{◌≡◌, ◌++◌, ℕ, List, codes, Bool, MatchBool, if◌then◌else◌}
 use Rattle.hex.specs.Hex.{encode_lower}
 use Rattle.bplist_objects.specs.declared.frame.Frame.{Frame}
 use Rattle.bplist_objects.specs.Frame.{IsFrame}
@@ -14,7 +14,7 @@ use Rattle.bplint_engine.specs.Lint.{LintSays}
 
 -- a certificate's bytes, or their hexadecimal text with a line feed
 abbrev pub written : Bool → List ℕ → List ℕ
-written hex octets = if hex then encode_lower octets ++ 10 ∷ [] else octets
+written hex octets = if hex then encode_lower octets ++ codes "\n" else octets
 
 -- `certify` answers the certificate of the least heights, or with `sorted` one with these heights and key lists
 abbrev pub CertifySays : Bool → Bool → List ℕ → Answer → Type 0

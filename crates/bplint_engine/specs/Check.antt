@@ -1,5 +1,5 @@
 -- What `check` says. Source: profile.
-use Rattle.std.specs.Prelude.{◌≡◌, ◌∷◌, ◌++◌, ℕ, List, [], slice_index, Result, MatchResult}
+use Rattle.std.specs.Prelude.{◌≡◌, ◌++◌, ℕ, List, codes, slice_index, Result, MatchResult}
 use Rattle.bplist_objects.specs.declared.frame.Frame.{Frame}
 use Rattle.bplist_cert.specs.CertifiedFile.{IsVouchedFor, IsVouchingFault}
 use Rattle.bplist_cert.specs.Encoding.{octets_of, IsCertRefusal}
@@ -16,7 +16,6 @@ IsDecoded cert decoded = MatchResult decoded (λ lists. IsCertificate lists × (
 
 -- `check` answers the number of objects and the top's height, or the first fault of certificate bytes and file
 abbrev pub CheckSays : List ℕ → List ℕ → Answer → Type 0
-CheckSays f cert (gives said bytes) =
-    (F : Frame) × (lists : Lists) × IsVouchedFor f cert F lists
-    × (said ≡ All) × (bytes ≡ check_line F.objects (slice_index lists.heights F.top.0) ++ 10 ∷ [])
+CheckSays f cert (gives said bytes) = (F : Frame) × (lists : Lists) × IsVouchedFor f cert F lists × (said ≡ All)
+    × (bytes ≡ check_line F.objects (slice_index lists.heights F.top.0) ++ codes "\n")
 CheckSays f cert (refuses fault) = elim fault [ Fault x ↦ IsVouchingFault f cert x | _ ↦ ⊥ ]

@@ -1,5 +1,5 @@
 -- What `get` says. Source: profile.
-use Rattle.std.specs.Prelude.{◌≡◌, ◌∷◌, ◌++◌, ℕ, List, [], map, Bool, true, false, if◌then◌else◌, Result, Ok, Err, is_err}
+use Rattle.std.specs.Prelude.{◌≡◌, ◌++◌, ℕ, List, [], codes, map, Bool, true, false, if◌then◌else◌, Result, Ok, Err, is_err}
 use Rattle.std.specs.List.{AllZip, flat_map, list_any}
 use Rattle.bplist_objects.specs.declared.frame.Frame.{Frame}
 use Rattle.bplist_objects.specs.Value.{Value}
@@ -21,8 +21,8 @@ use Rattle.bplint_engine.specs.PathTexts.{IsAskingFault}
 
 -- the line of the value that a path leads to, or of a path that leads nowhere
 abbrev pub found_line : Result Value (ℕ × Why) → List ℕ
-found_line (Ok w) = face_line (face w) ++ 10 ∷ []
-found_line (Err missing) = missing_line missing.0 missing.1 ++ 10 ∷ []
+found_line (Ok w) = face_line (face w) ++ codes "\n"
+found_line (Err (step, why)) = missing_line step why ++ codes "\n"
 
 -- whether a path leads nowhere
 abbrev pub said_of : List (Result Value (ℕ × Why)) → Said
@@ -39,8 +39,8 @@ GetSays f cert texts (refuses fault) = IsAskingFault (CheckSays f cert) texts fa
 -- ---- replies
 -- the line of a reply to a path
 abbrev pub reply_line : Reply → List ℕ
-reply_line (Face face) = face_line face ++ 10 ∷ []
-reply_line (Missing step why) = missing_line step why ++ 10 ∷ []
+reply_line (Face face) = face_line face ++ codes "\n"
+reply_line (Missing step why) = missing_line step why ++ codes "\n"
 reply_line _ = []
 
 -- the reply says that the path leads nowhere

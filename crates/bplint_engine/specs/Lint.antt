@@ -1,5 +1,5 @@
 -- What `lint` says. Source: profile.
-use Rattle.std.specs.Prelude.{◌≡◌, ◌∷◌, ◌++◌, ℕ, List, [], map}
+use Rattle.std.specs.Prelude.{◌≡◌, ◌++◌, ℕ, List, codes, map}
 use Rattle.bplist_objects.specs.declared.kind.Kind.{Kind}
 use Rattle.bplist_lint.specs.declared.answer.Lint.{Lint}
 use Rattle.bplist_lint.specs.FileFault.{IsFileFault, IsFileCircle}
@@ -8,11 +8,10 @@ use Rattle.bplist_lint.specs.Trail.{number}
 use Rattle.bplint_lines.specs.declared.said.Said.TheVariants.{All}
 use Rattle.bplint_lines.specs.declared.fault.RunFault.TheVariants.{Circle, Fault}
 use Rattle.bplint_lines.specs.Answers.{Answer, gives, refuses}
-use Rattle.bplint_lines.specs.OutputLines.{lint_line, kind_word}
+use Rattle.bplint_lines.specs.OutputLines.{lint_line}
 
 -- `lint` answers the number of reached objects, the top's least height and its kind, or the first broken rule or the circle
 abbrev pub LintSays : List ℕ → Answer → Type 0
-LintSays f (gives said bytes) =
-    (lint : Lint) × (kind : Kind) × IsLintedWithKind f lint kind
-    × (said ≡ All) × (bytes ≡ lint_line lint.reached lint.height (kind_word kind) ++ 10 ∷ [])
+LintSays f (gives said bytes) = (lint : Lint) × (kind : Kind) × IsLintedWithKind f lint kind × (said ≡ All)
+    × (bytes ≡ lint_line lint.reached lint.height kind ++ codes "\n")
 LintSays f (refuses fault) = elim fault [ Fault x ↦ IsFileFault f x | Circle ns ↦ IsFileCircle f (map number ns) | _ ↦ ⊥ ]

@@ -1,5 +1,5 @@
 -- What `ls` says: the members of a value, one line each. Source: the path texts RFC 6901; the lines profile.
-use Rattle.std.specs.Prelude.{◌≡◌, ◌∷◌, ◌++◌, ℕ, zero, suc, ◌+◌, ◌*◌, length, List, [], Option, None, Some, Result, Ok, Err, ⊤}
+use Rattle.std.specs.Prelude.{◌≡◌, ◌∷◌, ◌++◌, ℕ, zero, suc, ◌+◌, ◌*◌, length, List, [], codes, Option, None, Some, Result, Ok, Err, ⊤}
 use Rattle.std.specs.List.{enumerate_from, flat_map}
 use Rattle.bplist_objects.specs.declared.frame.Frame.{Frame}
 use Rattle.bplist_objects.specs.Frame.{IsFrame}
@@ -33,7 +33,7 @@ IsContainer _ n w = ⊥
 
 -- a value's line: name, tab, line of `get`
 abbrev pub named_line : List ℕ → Value → List ℕ
-named_line name w = name ++ 9 ∷ found_line (Ok w)
+named_line name w = name ++ codes "\t" ++ found_line (Ok w)
 
 -- the line of a member, if there is one
 abbrev pub line_of_member : List ℕ → Option Value → List ℕ

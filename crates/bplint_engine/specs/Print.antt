@@ -1,5 +1,5 @@
 -- What `print` says. Source: profile.
-use Rattle.std.specs.Prelude.{◌≡◌, ◌∷◌, ◌++◌, ◌⊎◌, ℕ, List, [], None, Some, Err, MatchResult}
+use Rattle.std.specs.Prelude.{◌≡◌, ◌∷◌, ◌++◌, ◌⊎◌, ℕ, List, [], codes, None, Some, Err, MatchResult}
 use Rattle.std.specs.List.{AllZip}
 use Rattle.bplist_objects.specs.declared.frame.Frame.{Frame}
 use Rattle.bplist_objects.specs.Value.{Value}
@@ -22,7 +22,7 @@ use Rattle.bplint_engine.specs.PathTexts.{IsAskingFault}
 
 -- the text of the value that object n holds, or why it is not printed: a part of it has no form, or the text is too long
 abbrev pub NodeSays : List ℕ → Frame → ℕ → ℕ → Value → Answer → Type 0
-NodeSays f F limit n w (gives said bytes) = HasText w limit (λ text. (said ≡ All) × (bytes ≡ text ++ 10 ∷ []))
+NodeSays f F limit n w (gives said bytes) = HasText w limit (λ text. (said ≡ All) × (bytes ≡ text ++ codes "\n"))
 NodeSays f F limit n w (refuses (faults.NoAsciiForm part)) = (value_text w ≡ None) × IsFormless f F n w part.0
 NodeSays f F limit n w (refuses faults.TooLong) = (text : List ℕ) × (value_text w ≡ Some text) × (¬ FitsLimit limit text)
 NodeSays f F limit n w (refuses _) = ⊥

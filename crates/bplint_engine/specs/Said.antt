@@ -12,17 +12,15 @@ use Rattle.bplint_engine.specs.Hexadecimal.{spelled}
 use Rattle.bplint_engine.specs.Lint.{LintSays}
 use Rattle.bplint_engine.specs.Print.{PrintSays}
 
--- the answer of each verb
-abbrev pub SaysBy : Verb → Asked → List ℕ → List ℕ → Answer → Type 0
-SaysBy Lint command f cert answer = LintSays f answer
-SaysBy Check command f cert answer = CheckSays f cert answer
-SaysBy Certify command f cert answer = CertifySays command.sorted command.hex f answer
-SaysBy Get command f cert answer = GetSays f cert command.paths answer
-SaysBy Print command f cert answer = PrintSays command.limit f cert command.paths answer
-
 -- a command's answer for a file and certificate bytes
 abbrev pub Says : Asked → List ℕ → List ℕ → Answer → Type 0
-Says command f cert answer = SaysBy command.verb command f cert answer
+Says command f cert answer = elim command.verb [
+  | Lint ↦ LintSays f answer
+  | Check ↦ CheckSays f cert answer
+  | Certify ↦ CertifySays command.sorted command.hex f answer
+  | Get ↦ GetSays f cert command.paths answer
+  | Print ↦ PrintSays command.limit f cert command.paths answer
+]
 
 -- how many bytes may go out before a failed read or refused memory: the limit of Print, else none
 abbrev pub most : Asked → ℕ

@@ -1,5 +1,5 @@
 //! The answer of `check`.
-ghost use Rattle.std.specs.Prelude.{◌≡◌, ◌∷◌, ◌++◌, ℕ, List, [], IfErr, IfOk, IsTrue, slice_index};
+ghost use Rattle.std.specs.Prelude.{◌≡◌, ◌++◌, ℕ, List, IfErr, IfOk, IsTrue, codes, slice_index};
 ghost use Rattle.bplist_octets.specs.Meaning.{OnlyReads};
 ghost use Rattle.bplint_lines.specs.Answers.{read_failed};
 ghost use Rattle.bplint_engine.specs.Output.{Answers};
@@ -34,7 +34,7 @@ pub(crate) fn check_output<S: Source>(
 
 fn yes_of<S: Source>(alloc: Global, checked: &Checked<S>) -> Result<Output, RunFault>
     ensures made { IfOk result (λ output. (output.said ≡ Said.All) × (output.bytes.items
-        ≡ check_line checked.now.frame.objects (slice_index checked.now.certificate.heights checked.now.frame.top.0) ++ 10 ∷ [])) }
+        ≡ check_line checked.now.frame.objects (slice_index checked.now.certificate.heights checked.now.frame.top.0) ++ codes "\n")) }
     ensures refused { IfErr result (λ fault. fault ≡ RunFault.Memory) }
 {
     let frame = checked.frame();

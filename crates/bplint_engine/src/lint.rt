@@ -1,10 +1,10 @@
 //! The answer of `lint`.
-ghost use Rattle.std.specs.Prelude.{◌≡◌, ◌∷◌, ◌++◌, [], IfOk, IsTrue};
+ghost use Rattle.std.specs.Prelude.{◌≡◌, ◌++◌, IfOk, IsTrue, codes};
 ghost use Rattle.bplist_octets.specs.Meaning.{OnlyReads};
 ghost use Rattle.bplint_lines.specs.Answers.{read_failed};
 ghost use Rattle.bplint_engine.specs.Output.{Answers};
 ghost use Rattle.bplint_engine.specs.Lint.{LintSays};
-ghost use Rattle.bplint_lines.specs.OutputLines.{kind_word, lint_line};
+ghost use Rattle.bplint_lines.specs.OutputLines.{lint_line};
 
 use crate::output::Output;
 use bplint_lines::{RunFault, Said, add_lint};
@@ -37,7 +37,7 @@ fn line_of<S: Source>(alloc: Global, src: &mut S) -> Result<Output, RunFault>
 }
 
 fn yes_of(alloc: Global, reached: u64, height: u32, top: Kind) -> Result<Vec<u8>, AllocError>
-    ensures { IfOk result (λ line. line.items ≡ lint_line reached height (kind_word top) ++ 10 ∷ []) }
+    ensures { IfOk result (λ line. line.items ≡ lint_line reached height top ++ codes "\n") }
 {
     let mut line = Vec::new(alloc);
     add_lint(alloc, reached, height, top, &mut line)?;

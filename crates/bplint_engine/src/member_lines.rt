@@ -1,5 +1,5 @@
 //! The lines of the members of containers.
-ghost use Rattle.std.specs.Prelude.{◌≡◌, ◌++◌, ◌∷◌, [], ◌*◌, ◌^◌, ◌<◌, IsTrue, OnOk, Some};
+ghost use Rattle.std.specs.Prelude.{◌≡◌, ◌++◌, ◌*◌, ◌^◌, ◌<◌, IsTrue, OnOk, Some, codes};
 ghost use Rattle.bplist_objects.specs.Holds.{Holds};
 ghost use Rattle.bplist_objects.specs.Value.{Value};
 ghost use Rattle.bplist_cert.specs.Valid.{IsVouchedBy};
@@ -141,7 +141,7 @@ fn member_face<S: Source>(
 
 /// Adds a tab, the line of `get` for what a value shows, and a line feed.
 pub(crate) fn add_value(alloc: Global, shown: &Face, lines: &mut Vec<u8>) -> Result<(), AllocError>
-    ensures { OnOk result (lines.new.items ≡ lines.old.items ++ 9 ∷ (face_line shown.now ++ 10 ∷ [])) }
+    ensures { OnOk result (lines.new.items ≡ lines.old.items ++ codes "\t" ++ face_line shown.now ++ codes "\n") }
 {
     lines.push(b'\t')?;
     add_face(alloc, shown, lines)?;

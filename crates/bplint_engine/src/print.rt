@@ -1,5 +1,5 @@
 //! The answer of `print`.
-ghost use Rattle.std.specs.Prelude.{◌≡◌, ◌∷◌, ◌++◌, ℕ, List, [], IfErr, IfOk, IsTrue, OnOk, length, map, string_bytes};
+ghost use Rattle.std.specs.Prelude.{◌≡◌, ◌∷◌, ◌++◌, ℕ, List, [], IfErr, IfOk, IsTrue, OnOk, codes, length, map, string_bytes};
 ghost use Rattle.bplist_octets.specs.Meaning.{OnlyReads};
 ghost use Rattle.bplist_objects.specs.Holds.{Holds};
 ghost use Rattle.bplist_objects.specs.Value.{Value};
@@ -24,7 +24,7 @@ use std::alloc::Global;
 use std::io::Write;
 
 /// Writes the text of the value under a path and a line feed, or the line for a path that leads nowhere, and hands
-/// the source back.
+/// the source back. It has six parameters as `print` has.
 pub(crate) fn print_answer<S: Source, W: Write>(
     alloc: Global,
     src: S,
@@ -90,7 +90,7 @@ fn print_path<S: Source, W: Write>(
 
 pub(crate) fn missing_output(alloc: Global, step: u64, why: Why) -> Result<Output, RunFault>
     ensures made { IfOk result (λ output. (output.said ≡ Said.SomeMissing)
-        × (output.bytes.items ≡ missing_line step why ++ 10 ∷ [])) }
+        × (output.bytes.items ≡ missing_line step why ++ codes "\n")) }
     ensures refused { IfErr result (λ fault. fault ≡ RunFault.Memory) }
 {
     let mut bytes = Vec::new(alloc);
@@ -125,9 +125,9 @@ fn print_node<S: Source, W: Write>(
 
 /// Puts a line feed in, and sends what the sink holds.
 fn end_line<W: Write>(sink: &mut Sink, out: &mut W) -> Result<(), WriteFault>
-    ensures taken { OnOk result (Takes (W.contents out.old) (W.contents out.new) sink.old sink.new (10 ∷ [])) }
+    ensures taken { OnOk result (Takes (W.contents out.old) (W.contents out.new) sink.old sink.new (codes "\n")) }
     ensures empty { OnOk result (sink.new.held ≡ []) }
-    ensures part { IfErr result (λ fault. TakesPart (W.contents out.old) (W.contents out.new) sink.old (10 ∷ []) fault.sent) }
+    ensures part { IfErr result (λ fault. TakesPart (W.contents out.old) (W.contents out.new) sink.old (codes "\n") fault.sent) }
 {
     sink.put(out, b"\n")?;
     sink.flush(out)

@@ -1,5 +1,5 @@
 -- What is said of a rule under a fault's line. Source: profile.
-use Rattle.std.specs.Prelude.{◌≡◌, ℕ, List, [], ◌∷◌, ◌++◌, codes, Option, None, Some, MatchOption}
+use Rattle.std.specs.Prelude.{◌≡◌, ℕ, List, [], ◌++◌, codes, Option, None, Some, MatchOption}
 use Rattle.std.specs.Fmt.{decimal}
 use Rattle.bplist_objects.specs.declared.rule.Rule.{Rule}
 use Rattle.bplist_objects.specs.declared.rule.Rule.TheVariants as rules
@@ -10,12 +10,12 @@ use Rattle.bplint_lines.specs.RuleTexts.{text_of}
 
 -- the rule's line under a fault
 abbrev pub rule_line : Rule → List ℕ
-rule_line rule = codes "  rule " ++ (decimal (number_of rule) ++ (codes ": " ++ (codes (text_of rule).0 ++ 10 ∷ [])))
+rule_line rule = codes "  rule " ++ decimal (number_of rule) ++ codes ": " ++ codes (text_of rule).0 ++ codes "\n"
 
 -- what `explain` writes: number, word, what the rule asks, what breaks it
 abbrev pub rule_page : Rule → List ℕ
-rule_page rule =
-    codes "rule " ++ (decimal (number_of rule) ++ (codes " " ++ (word_of rule ++ (codes ": " ++ (codes (text_of rule).0 ++ (codes "\nbroken by: " ++ (codes (text_of rule).1 ++ 10 ∷ [])))))))
+rule_page rule = codes "rule " ++ decimal (number_of rule) ++ codes " " ++ word_of rule ++ codes ": " ++ codes (text_of rule).0
+    ++ codes "\nbroken by: " ++ codes (text_of rule).1 ++ codes "\n"
 
 -- the rule that a fault is about, if it is about one
 abbrev pub rule_of : RunFault → Option Rule

@@ -1,32 +1,28 @@
 -- The lines of faults, without line feeds, and the exit statuses. Source: profile.
-use Rattle.std.specs.Prelude.{ℕ, ◌==◌, List, [], ◌∷◌, ◌++◌, codes, get_or, if◌then◌else◌, Option, None, flat_map}
-use Rattle.std.specs.Option.{option_map_or}
+use Rattle.std.specs.Prelude.{ℕ, List, ◌++◌, codes, Option, None, Some, flat_map}
 use Rattle.std.specs.Fmt.{decimal}
-use denote.Enum.Declared.{tag_of}
-use Rattle.bplist_octets.specs.contracts.source.ReadFault.{the_type}
+use Rattle.bplist_octets.specs.declared.source.ReadFault.TheVariants.{Device, Ended, TooManyTurns}
 use Rattle.bplist_objects.specs.declared.frame.ObjectNo.{ObjectNo}
 use Rattle.bplist_objects.specs.declared.rule.Rule.{Rule}
 use Rattle.bplist_objects.specs.declared.rule.Rule.TheVariants.{PathText}
-use Rattle.bplist_objects.specs.Words.{number_of, word_of}
+use Rattle.bplist_objects.specs.Words.{word_of}
 use Rattle.bplint_lines.specs.declared.fault.RunFault.{RunFault}
 use Rattle.bplint_lines.specs.declared.fault.RunFault.TheVariants.{Fault as is_fault, Circle as is_circle, Path, NoAsciiForm, TooLong, Read, Hex, Changed, Write, Memory, Open, InputTooLong}
 
 -- `fault WORD object N place P`, with `none` for N where there is no object
 abbrev pub fault_line : Rule → Option ObjectNo → ℕ → List ℕ
-fault_line rule object place =
-    let number = option_map_or (λ (n : ObjectNo). decimal n.0) object (codes "none") in
-    codes "fault " ++ (word_of rule ++ (codes " object " ++ (number ++ (codes " place " ++ decimal place))))
+fault_line rule None p = codes "fault " ++ word_of rule ++ codes " object none place " ++ decimal p
+fault_line rule (Some n) p = codes "fault " ++ word_of rule ++ codes " object " ++ decimal n.0 ++ codes " place " ++ decimal p
 
--- what is reported of a fault: its line; and the exit status, 1 what the file or its text is, 2 a wrong path text, 4 refused memory,
--- 3 all else
+-- what is reported of a fault: its line; and the exit status, 1 what the file or its text is, 2 a wrong path text, 4 refused
+-- memory, 3 all else
 abbrev pub report_of : RunFault → List ℕ × ℕ
-report_of (is_fault fault) =
-    (fault_line fault.rule fault.object fault.place, if number_of fault.rule == number_of PathText then 2 else 1)
-report_of (is_circle objects) = (codes "circle" ++ flat_map (λ (n : ObjectNo). 32 ∷ decimal n.0) objects, 1)
+report_of (is_fault fault) = (fault_line fault.rule fault.object fault.place, elim fault.rule [ PathText ↦ 2 | _ ↦ 1 ])
+report_of (is_circle objects) = (codes "circle" ++ flat_map (λ (n : ObjectNo). codes " " ++ decimal n.0) objects, 1)
 report_of (Path place) = (fault_line PathText None place, 2)
 report_of (NoAsciiForm n) = (codes "form NoAsciiForm object " ++ decimal n.0, 1)
 report_of TooLong = (codes "form TooLong", 1)
-report_of (Read fault) = (codes "read " ++ codes (get_or ("Device" ∷ "Ended" ∷ "TooManyTurns" ∷ []) (tag_of the_type fault) ""), 3)
+report_of (Read x) = (codes (elim x [ Device ↦ "read Device" | Ended ↦ "read Ended" | TooManyTurns ↦ "read TooManyTurns" ]), 3)
 report_of Hex = (codes "read Hex", 3)
 report_of Changed = (codes "changed", 3)
 report_of (Write sent) = (codes "write " ++ decimal sent, 3)

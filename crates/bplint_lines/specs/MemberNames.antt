@@ -1,5 +1,5 @@
 -- The names that lines have for the members of containers. Source: the path texts RFC 6901; the indexes profile.
-use Rattle.std.specs.Prelude.{◌∷◌, ◌++◌, ℕ, ◌==◌, ◌||◌, ◌&&◌, not, nat_lt, List, [], Bool, if◌then◌else◌, encode_utf8_all}
+use Rattle.std.specs.Prelude.{◌++◌, ℕ, ◌==◌, ◌||◌, ◌&&◌, not, nat_lt, List, Bool, if◌then◌else◌, codes, encode_utf8_all}
 use Rattle.std.specs.List.{flat_map, list_any}
 use Rattle.std.specs.Fmt.{decimal}
 use Rattle.std.specs.Char.Utf16.{has_unpaired_surrogate, utf16_lossy_chars}
@@ -11,13 +11,13 @@ has_path_text units = not (list_any (λ u. nat_lt u 0x20 || u == 0x7F) units) &&
 
 -- an index among the members, in brackets
 abbrev pub bracketed : ℕ → List ℕ
-bracketed i = 0x5B ∷ (decimal i ++ 0x5D ∷ [])
+bracketed i = codes "[" ++ decimal i ++ codes "]"
 
 -- the name of member i of an array
 abbrev pub index_name : List ℕ → ℕ → List ℕ
-index_name path i = path ++ 0x2F ∷ decimal i
+index_name path i = path ++ codes "/" ++ decimal i
 
 -- the name of value i: its container's path text, `/` and the escaped key, or its index if that cannot be shown
 abbrev pub key_name : List ℕ → ℕ → List ℕ → List ℕ
-key_name path i units =
-    if has_path_text units then path ++ 0x2F ∷ flat_map escaped (encode_utf8_all (utf16_lossy_chars units)) else bracketed i
+key_name path i key =
+    if has_path_text key then path ++ codes "/" ++ flat_map escaped (encode_utf8_all (utf16_lossy_chars key)) else bracketed i

@@ -7,8 +7,8 @@ use Rattle.bplist_objects.specs.contracts.kind.Kind.{the_type as kinds}
 use Rattle.bplist_objects.specs.declared.kind.Kind.{Kind}
 use Rattle.bplist_cursor.specs.declared.faces.Face.{Face}
 use Rattle.bplist_cursor.specs.declared.faces.Face.TheVariants as faces
-use Rattle.bplist_cursor.specs.contracts.found.Why.{the_type as reasons}
 use Rattle.bplist_cursor.specs.declared.found.Why.{Why}
+use Rattle.bplist_cursor.specs.declared.found.Why.TheVariants.{NoKey, NoIndex, NotSteppable}
 use Rattle.bplist_cursor.specs.Texts.{text_of_units, text_of_bytes}
 
 -- the words of the kinds, in the order in which they are declared
@@ -18,13 +18,12 @@ kind_word kind =
     ∷ "array" ∷ "set" ∷ "dict" ∷ [] in codes (get_or words (tag_of kinds kind) "")
 
 -- the line of `lint`
-abbrev pub lint_line : ℕ → ℕ → List ℕ → List ℕ
-lint_line reached height word =
-    codes "ok reached " ++ (decimal reached ++ (codes " height " ++ (decimal height ++ (codes " top " ++ word))))
+abbrev pub lint_line : ℕ → ℕ → Kind → List ℕ
+lint_line n h kind = codes "ok reached " ++ decimal n ++ codes " height " ++ decimal h ++ codes " top " ++ kind_word kind
 
 -- the line of `check`
 abbrev pub check_line : ℕ → ℕ → List ℕ
-check_line objects height = codes "ok objects " ++ (decimal objects ++ (codes " height " ++ decimal height))
+check_line n h = codes "ok objects " ++ decimal n ++ codes " height " ++ decimal h
 
 -- the line of `get`: a kind, and a leaf's value or a container's count
 abbrev pub face_line : Face → List ℕ
@@ -41,10 +40,10 @@ face_line (faces.Array count) = codes "array " ++ decimal count
 face_line (faces.Set count) = codes "set " ++ decimal count
 face_line (faces.Dict count) = codes "dict " ++ decimal count
 
--- why a step can't be taken, in the order in which the reasons are declared
+-- why a step can't be taken
 abbrev pub why_word : Why → List ℕ
-why_word why = codes (get_or ("NoKey" ∷ "NoIndex" ∷ "NotSteppable" ∷ []) (tag_of reasons why) "")
+why_word why = codes (elim why [ NoKey ↦ "NoKey" | NoIndex ↦ "NoIndex" | NotSteppable ↦ "NotSteppable" ])
 
 -- the line for a path that leads nowhere
 abbrev pub missing_line : ℕ → Why → List ℕ
-missing_line step why = codes "missing " ++ (decimal step ++ (codes " " ++ why_word why))
+missing_line step why = codes "missing " ++ decimal step ++ codes " " ++ why_word why

@@ -20,7 +20,7 @@ pub fn add_lint(
     top: Kind,
     lines: &mut Vec<u8>,
 ) -> Result<(), AllocError>
-    ensures { OnOk result (lines.new.items ≡ lines.old.items ++ lint_line reached height (kind_word top)) }
+    ensures { OnOk result (lines.new.items ≡ lines.old.items ++ lint_line reached height top) }
 {
     let word = kind_name(top);
     let line = format!(in alloc; "ok reached {reached} height {height} top {word}")?;

@@ -1,5 +1,5 @@
 -- The text of a map, and its way to the writer.
-use Rattle.std.proofs.Common.{◌≡◌, inl, inr, ℕ, ◌+◌, ◌<◌, ◌≤◌, List, [], ◌∷◌, ◌++◌, max, min, length, map, drop, cond, nat_lt, Bool, true, false, refl, sym, ap, ◌∙◌, subst, add-one, append_assoc, append-nil, Option, None, Some, Result, Ok, Err, get_or, arith, codes}
+use Rattle.std.proofs.Common.{◌≡◌, inl, inr, ℕ, ◌+◌, ◌*◌, ◌<◌, ◌≤◌, List, [], ◌∷◌, ◌++◌, max, min, length, map, drop, cond, nat_lt, Bool, true, false, refl, sym, ap, ◌∙◌, subst, add-one, append_assoc, append-nil, Option, None, Some, Result, Ok, Err, get_or, arith, codes}
 use Rattle.std.proofs.lemmas.Grind.{flat_map-append}
 use Rattle.std.proofs.lemmas.List.{drop_all, get_or-map, length-map}
 use Rattle.std.proofs.Math.Seq.{drop-cons}
@@ -100,6 +100,26 @@ module _ (verdict : Verdict) (table : ℕ) where
         let own : get_or objects i d ≡ placed f F (get_or objects i d).number = here ∙ ap (λ (p : ObjectOffset). placed f F p.number) (sym here) in
         let r = reads own findings are in
         so_far ∙ ap (λ l. done ++ l) (more_lines reached left left' i order objects found (get_or objects i d) d all low refl r.0 r.1)
+
+-- the lines before those of the objects
+abbrev pub front_text : List ℕ
+front_text = codes "place\tend\tobject\tkind\tcount\theight\n" ++ region_line 0 8 (codes "header")
+
+-- the lines behind those of the objects, in a file of so many bytes
+abbrev pub back_text : Frame → ℕ → List ℕ
+back_text F length =
+    let end = F.table + F.objects * F.offset_size in region_line F.table end (codes "table") ++ region_line end length (codes "trailer")
+
+-- the text of a map: the lines before those of the objects, these, and the lines behind them
+pub in_pieces : (f : List ℕ) (F : Frame) (verdict : Verdict) (findings : ℕ → Finding) (order : List ℕ) → map_text f F verdict findings order
+    ≡ front_text ++ (part_lines verdict (parts F.table 8 (rows f F findings (16 * F.table) order)) ++ back_text F (length f))
+unfolding map_text
+in_pieces f F verdict findings order =
+    let end = F.table + F.objects * F.offset_size in
+    let between = parts F.table 8 (rows f F findings (16 * F.table) order) in
+    let back = region (codes "table") F.table end ∷ region (codes "trailer") end (length f) ∷ [] in
+    ap (λ l. front_text ++ l) (flat_map-append (part_line verdict) between back
+    ∙ ap (λ l. part_lines verdict between ++ (region_line F.table end (codes "table") ++ l)) (append-nil (region_line end (length f) (codes "trailer"))))
 
 -- ---- the sink
 module _ (old mid new : Option (List ℕ)) (s t : Sending) where

@@ -1,5 +1,5 @@
 -- Rows of objects with the gaps and the overlaps between them. Source: profile.
-use Rattle.std.specs.Prelude.{◌≡◌, ℕ, ◌<◌, ◌≤◌, ◌&&◌, All, max, min, cond, nat_le, nat_lt, List, [], ◌∷◌, ◌++◌, codes, count_by}
+use Rattle.std.specs.Prelude.{◌≡◌, ℕ, ◌<◌, ◌≤◌, ◌&&◌, All, max, min, if◌then◌else◌, nat_le, nat_lt, List, [], ◌∷◌, ◌++◌, codes, count_by}
 use Rattle.std.specs.List.{AllPairs}
 use Rattle.bplint_map.specs.declared.rows.Finding.TheVariants.{Whole, Wrong, Lost}
 use Rattle.bplint_map.specs.declared.rows.Row.{Row}
@@ -16,7 +16,7 @@ row_end row = elim row.finding [ Whole head ↦ head.end | Wrong head rule ↦ h
 
 -- the bytes of this word from here up to there, where there are any
 abbrev pub region_between : List ℕ → ℕ → ℕ → List Part
-region_between word from to = cond (nat_lt from to) (region word from to ∷ []) []
+region_between word from to = if nat_lt from to then region word from to ∷ [] else []
 
 -- the gap and the overlap before a row, where the objects so far reach up to `reached`
 abbrev pub before : ℕ → Row → List Part
@@ -26,7 +26,7 @@ before reached row =
 -- the parts from `reached` up to the offset table
 abbrev pub parts : ℕ → ℕ → List Row → List Part
 parts table reached [] = region_between (codes "gap") reached table
-parts table reached (row ∷ rows) = before reached row ++ (object row ∷ parts table (max reached (row_end row)) rows)
+parts table reached (row ∷ rows) = before reached row ++ object row ∷ parts table (max reached (row_end row)) rows
 
 -- in how many objects of these rows place x lies
 abbrev pub objects_at : ℕ → List Row → ℕ

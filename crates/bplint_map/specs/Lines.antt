@@ -1,9 +1,7 @@
 -- The lines of `map`, with their line feeds: six columns, tabs between them. Source: profile.
-use Rattle.std.specs.Prelude.{ℕ, ◌==◌, List, [], ◌∷◌, ◌++◌, codes, false, if◌then◌else◌, nat_lt, slice_index}
-use Rattle.std.specs.Option.{option_map_or}
+use Rattle.std.specs.Prelude.{ℕ, ◌==◌, List, [], ◌∷◌, ◌++◌, codes, Some, None, if◌then◌else◌, nat_lt, slice_index}
 use Rattle.std.specs.Fmt.{decimal}
-use Rattle.std.specs.List.{flat_map}
-use Rattle.bplist_objects.specs.declared.frame.ObjectNo.{ObjectNo}
+use Rattle.std.specs.List.{flat_map, join_with_byte}
 use Rattle.bplist_objects.specs.declared.head.Head.{Head}
 use Rattle.bplist_objects.specs.Words.{word_of}
 use Rattle.bplint_map.specs.declared.verdict.Verdict.{Verdict}
@@ -13,30 +11,28 @@ use Rattle.bplint_map.specs.declared.rows.Row.{Row}
 use Rattle.bplint_map.specs.Layout.{Part, object, region}
 use Rattle.bplint_lines.specs.OutputLines.{kind_word}
 
--- a line with these six columns
-abbrev pub line_of : List ℕ → List ℕ → List ℕ → List ℕ → List ℕ → List ℕ → List ℕ
-line_of place end number kind count height =
-    place ++ 9 ∷ (end ++ 9 ∷ (number ++ 9 ∷ (kind ++ 9 ∷ (count ++ 9 ∷ (height ++ 10 ∷ [])))))
+-- a line with these columns, tabs between them
+abbrev pub line_of : List (List ℕ) → List ℕ
+line_of columns = join_with_byte 9 columns ++ codes "\n"
 
 -- the last column of an object that breaks no rule by itself: its height, or the rule by which `lint` refuses it
 abbrev pub note : Verdict → ℕ → List ℕ
-note (verdicts.Heights heights) n =
-    let height = slice_index heights.items n in if height == 0 then codes "unreached" else decimal height
-note (verdicts.Fault fault) n = if option_map_or (λ (m : ObjectNo). m.0 == n) fault.object false then word_of fault.rule else codes "-"
+note (verdicts.Heights heights) n = let h = slice_index heights.items n in if h == 0 then codes "unreached" else decimal h
+note (verdicts.Fault x) n = elim x.object [ Some m ↦ if m.0 == n then word_of x.rule else codes "-" | None ↦ codes "-" ]
 note verdicts.Circle n = codes "-"
 
 -- the line of an object with this head and this last column
 abbrev pub head_line : Row → Head → List ℕ → List ℕ
 head_line row head last =
-    line_of (decimal row.place) (decimal head.end) (decimal row.number) (kind_word head.kind) (decimal head.count) last
+    line_of (decimal row.place ∷ decimal head.end ∷ decimal row.number ∷ kind_word head.kind ∷ decimal head.count ∷ last ∷ [])
 
 -- the line of a part: what an object breaks by itself stands in the last column, else its note
 abbrev pub part_line : Verdict → Part → List ℕ
-part_line verdict (region word from to) = line_of (decimal from) (decimal to) (codes "-") word (codes "-") (codes "-")
+part_line verdict (region word from to) = line_of (decimal from ∷ decimal to ∷ codes "-" ∷ word ∷ codes "-" ∷ codes "-" ∷ [])
 part_line verdict (object row) = elim row.finding [
   | Whole head ↦ head_line row head (note verdict row.number)
   | Wrong head rule ↦ head_line row head (word_of rule)
-  | Lost rule ↦ line_of (decimal row.place) (codes "-") (decimal row.number) (codes "-") (codes "-") (word_of rule)
+  | Lost rule ↦ line_of (decimal row.place ∷ codes "-" ∷ decimal row.number ∷ codes "-" ∷ codes "-" ∷ word_of rule ∷ [])
 ]
 
 -- ---- parts of a map

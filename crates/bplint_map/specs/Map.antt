@@ -1,5 +1,5 @@
 -- What `map` says, and what it leaves with the writer. Source: profile.
-use Rattle.std.specs.Prelude.{◌≡◌, ℕ, ◌+◌, ◌*◌, List, ◌++◌, codes, flat_map, length, Option, Result, Ok, Err}
+use Rattle.std.specs.Prelude.{◌≡◌, ℕ, ◌+◌, ◌*◌, List, [], ◌∷◌, ◌++◌, codes, flat_map, length, Option, Result, Ok, Err}
 use Rattle.bplist_objects.specs.declared.frame.Frame.{Frame}
 use Rattle.bplist_objects.specs.Frame.{IsFrame}
 use Rattle.bplist_objects.specs.FrameRules.{IsFrameFault}
@@ -27,13 +27,12 @@ IsVerdict f verdicts.Circle = (circle : List ℕ) × IsFileCircle f circle
 
 -- all lines of a map: the names of the columns, and the parts of the file: header, objects and what lies between them, offset
 -- table and trailer; of bodies 16 times the bytes before the offset table are looked at
-abbrev pub map_text : List ℕ → Frame → Verdict → (ℕ → Finding) → List ℕ → List ℕ
+unfoldable pub map_text : List ℕ → Frame → Verdict → (ℕ → Finding) → List ℕ → List ℕ
 map_text f F verdict findings order =
-    let line = part_line verdict in
-    let between = flat_map line (parts F.table 8 (rows f F findings (16 * F.table) order)) in
-    let table_end = F.table + F.objects * F.offset_size in
-    let front = codes "place\tend\tobject\tkind\tcount\theight\n" ++ line (region (codes "header") 0 8) in
-    front ++ (between ++ (line (region (codes "table") F.table table_end) ++ line (region (codes "trailer") table_end (length f))))
+    let front = region (codes "header") 0 8 ∷ parts F.table 8 (rows f F findings (16 * F.table) order) in
+    let end = F.table + F.objects * F.offset_size in
+    let back = region (codes "table") F.table end ∷ region (codes "trailer") end (length f) ∷ [] in
+    codes "place\tend\tobject\tkind\tcount\theight\n" ++ flat_map (part_line verdict) (front ++ back)
 
 -- the answer of `map`, of a file that keeps rules 1 to 13: what `lint` says of it and what is found of each object, in byte
 -- order; of any other file the first of these rules that it breaks

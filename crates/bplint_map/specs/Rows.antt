@@ -1,5 +1,5 @@
 -- The objects of a file in byte order, and what is found of each by itself. Source: profile.
-use Rattle.std.specs.Prelude.{◌≡◌, ℕ, ◌-◌, ◌<◌, cond, nat_le, List, [], ◌∷◌}
+use Rattle.std.specs.Prelude.{◌≡◌, ℕ, ◌-◌, ◌<◌, if◌then◌else◌, nat_le, List, [], ◌∷◌}
 use Rattle.std.specs.List.{range_with_len}
 use Rattle.std.specs.List.Sorted.{IsPermutation, IsSorted}
 use Rattle.std.specs.Ordering.{nat_cmp, ordering_then}
@@ -17,12 +17,12 @@ use Rattle.bplint_map.specs.Layout.{row_end}
 
 -- what is shown of the finding at a place: where fewer bytes are left than the object takes, no broken rule of a body
 abbrev pub shown : ℕ → ℕ → Finding → Finding
-shown left place (Wrong head rule) = cond (nat_le (head.end - place) left) (Wrong head rule) (Whole head)
+shown left place (Wrong head rule) = if nat_le (head.end - place) left then Wrong head rule else Whole head
 shown left place finding = finding
 
 -- how many bytes of bodies are left to look at behind a row: its object's are taken off, where there are as many
 abbrev pub left_behind : ℕ → Row → ℕ
-left_behind left row = let taken = row_end row - row.place in cond (nat_le taken left) (left - taken) left
+left_behind left row = let taken = row_end row - row.place in if nat_le taken left then left - taken else left
 
 module _ (f : List ℕ) (F : Frame) where
   -- what rules 14 to 20 say of object n by itself: none is broken, or one of a body, or one of marker and count

@@ -1,7 +1,7 @@
 //! The lines of a map.
 //!
 //! Each call adds its lines to the text. The one refusal is that of a growth.
-ghost use Rattle.std.specs.Prelude.{◌≡◌, ◌++◌, [], ◌∷◌, List, ℕ, OnOk, string_bytes};
+ghost use Rattle.std.specs.Prelude.{◌≡◌, ◌++◌, [], ◌∷◌, List, ℕ, OnOk, codes, string_bytes};
 ghost use Rattle.bplist_objects.specs.Words.{word_of as word_of_rule};
 ghost use Rattle.bplint_map.specs.Layout.{before, object, row_end};
 ghost use Rattle.bplint_map.specs.Lines.{head_line, note, part_line, part_lines, region_line, region_lines};
@@ -85,7 +85,7 @@ fn add_object(line: &mut String, row: &Row, verdict: &Verdict) -> Result<(), All
 /// Adds the columns of an object with this head but the last.
 fn add_head(line: &mut String, row: &Row, head: &Head) -> Result<(), AllocError>
     ensures { OnOk result ((last : List ℕ)
-        → string_bytes line.new ++ (last ++ 10 ∷ []) ≡ string_bytes line.old ++ head_line row.now head.now last) }
+        → string_bytes line.new ++ last ++ codes "\n" ≡ string_bytes line.old ++ head_line row.now head.now last) }
 {
     let (place, number) = (row.place, row.number);
     let (end, kind, count) = (head.end, kind_name(head.kind), head.count);

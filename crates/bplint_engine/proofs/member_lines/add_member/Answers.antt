@@ -1,6 +1,5 @@
-use Rattle.std.proofs.Common.{◌≡◌, ◌∙◌, ◌++◌, ap, sym}
+use Rattle.std.proofs.Common.{◌∙◌, ◌++◌, ap, sym}
 use Rattle.std.proofs.lemmas.Result.{err_from_is_err_and}
-use Rattle.bplist_objects.specs.Value.{leaf, text}
 use Rattle.bplint_engine.proofs.MemberLines.{added, array_member, set_member}
 use Rattle.bplint_engine.proofs.member_lines.add_member.Goals as goal
 

@@ -1,24 +1,15 @@
-use Rattle.std.proofs.Common.{◌≡◌, ◌∙◌, ◌+◌, ◌*◌, ◌++◌, ℕ, List, ap, append_assoc, codes, length, refl, sym}
+use Rattle.std.proofs.Common.{◌≡◌, ◌∙◌, ◌*◌, ◌++◌, ap, append_assoc, length, refl, sym}
 use Rattle.std.proofs.lemmas.Result.{err_from_is_err_and}
 use Rattle.bplist_objects.specs.Framed.{frame_in}
 use Rattle.bplist_objects.specs.declared.frame.Frame.{Frame}
 use Rattle.bplist_ascii.proofs.SinkSteps.{some_of_takes, takes_more, takes_nothing}
 use Rattle.bplint_lines.specs.declared.fault.RunFault.TheVariants as faults
 use Rattle.bplint_map.specs.Layout.{parts}
-use Rattle.bplint_map.specs.Lines.{region_line, part_lines}
+use Rattle.bplint_map.specs.Lines.{part_lines}
 use Rattle.bplint_map.specs.Map.{map_text}
 use Rattle.bplint_map.specs.Rows.{rows}
-use Rattle.bplint_map.proofs.MapText.{some_of_more, then_some}
+use Rattle.bplint_map.proofs.MapText.{back_text, front_text, in_pieces, some_of_more, then_some}
 use Rattle.bplint_map.proofs.map.put_map.Goals as goal
-
--- the lines before those of the objects
-abbrev front_text : List ℕ
-front_text = codes "place\tend\tobject\tkind\tcount\theight\n" ++ region_line 0 8 (codes "header")
-
--- the lines behind those of the objects, in a file of so many bytes
-abbrev back_text : Frame → ℕ → List ℕ
-back_text F length =
-    let end = F.table + F.objects * F.offset_size in region_line F.table end (codes "table") ++ region_line end length (codes "trailer")
 
 pub returns-in_err-front-clause-exact : goal.returns-in_err-front-clause-exact
 returns-in_err-front-clause-exact g c = λ honest order all findings are.
@@ -35,7 +26,7 @@ returns-in_err-put-clause-exact g c = λ honest order all findings are.
     let p = err_from_is_err_and c.from_residual-in_err-put.result c.from_residual-in_err-put.ensures.1 in
     let line : c.as_bytes.result.now ≡ front_text = c.as_bytes.ensures.value ∙ c.in_ok-front.ensures in
     let part = rw line at c.in_err-put.ensures.part in
-    rw (p.1, p.2) (some_of_more _ _ _ _ front_text _ (faults.Write _) part refl)
+    rw (p.1, p.2) (some_of_more _ _ _ _ front_text _ (faults.Write _) part (in_pieces (g.P.Source.means c.args.src.now).octets (frame_in (g.P.Source.means c.args.src.now)) c.args.map.now.verdict findings order))
 
 pub returns-in_err-put_rows-clause-exact : goal.returns-in_err-put_rows-clause-exact
 returns-in_err-put_rows-clause-exact g c = λ honest order all findings are.
@@ -48,7 +39,7 @@ returns-in_err-put_rows-clause-exact g c = λ honest order all findings are.
     let taken = rw line at c.in_ok-put.ensures.taken in
     let some = c.in_err-put_rows.ensures.exact honest order all findings are in
     rw (p.1, p.2) (then_some _ _ _ _ _ _ front_text (lines ++ back) _ taken
-    (some_of_more (g.W.Write.contents c.put.new.out) (g.W.Write.contents c.put_rows.new.out) c.put.new.self (lines ++ back) lines back _ some refl) refl)
+    (some_of_more (g.W.Write.contents c.put.new.out) (g.W.Write.contents c.put_rows.new.out) c.put.new.self (lines ++ back) lines back _ some refl) (in_pieces f F c.args.map.now.verdict findings order))
 
 pub returns-in_err-put-2-clause-exact : goal.returns-in_err-put-2-clause-exact
 returns-in_err-put-2-clause-exact g c = λ honest order all findings are.
@@ -62,7 +53,7 @@ returns-in_err-put-2-clause-exact g c = λ honest order all findings are.
     let taken = rw line at c.in_ok-put.ensures.taken in
     let part = rw end at c.in_err-put-2.ensures.part in
     rw (p.1, p.2) (then_some _ _ _ _ _ _ (front_text ++ lines) back (faults.Write _) (takes_more taken (c.in_ok-put_rows.ensures.exact honest order all findings are)) part
-    (sym (append_assoc front_text lines back)))
+    (in_pieces f F c.args.map.now.verdict findings order ∙ sym (append_assoc front_text lines back)))
 
 pub returns-clause-exact : goal.returns-clause-exact
 returns-clause-exact g c = λ honest order all findings are.
@@ -74,4 +65,4 @@ returns-clause-exact g c = λ honest order all findings are.
     let end : c.as_bytes-2.result.now ≡ back = c.as_bytes-2.ensures.value ∙ c.in_ok-back.ensures ∙ ap (λ (G : Frame). back_text G c.len.result) c.frame.ensures.frame ∙ ap (back_text F) c.len.ensures in
     let taken = rw line at c.in_ok-put.ensures.taken in
     let last = rw end at c.in_ok-put-2.ensures.taken in
-    takes_more taken (takes_more (c.in_ok-put_rows.ensures.exact honest order all findings are) last)
+    rw (in_pieces f F c.args.map.now.verdict findings order) (takes_more taken (takes_more (c.in_ok-put_rows.ensures.exact honest order all findings are) last))
