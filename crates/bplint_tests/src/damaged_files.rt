@@ -5,7 +5,7 @@ ghost use Rattle.bplint_engine.specs.Commands.{PrintsOnePath};
 use crate::runs::{certificate_of, outcome, plain, with_path};
 use bplint_engine::{Command, Verb, run_on, run_over};
 use bplist_octets::ShiftingSource;
-use bplist_samples::{SMALLEST_FILE, TWO_TRUES, small, tested_rows};
+use bplist_samples::{Row, SMALLEST_FILE, TWO_TRUES, small, tested_rows};
 use std::alloc::Global;
 use std::test::Fail;
 
@@ -115,45 +115,47 @@ fn changes_of_one_byte_by_counts(rt: HostRuntime) -> Result<(), Fail> {
     Ok(())
 }
 
-/// Runs a command over a file that after so many reads is another one of its length.
+/// Runs a command over the row's file, which after so many reads is another one of its length.
 fn outcome_of_shifting(
     alloc: Global,
     command: &Command,
-    file: &[u8],
+    row: &Row,
     other: &[u8],
     reads: u64,
-    cert: &[u8],
 ) -> Result<String, Fail>
     requires { PrintsOnePath command.now }
 {
-    if file.len() != other.len() {
+    if row.octets.len() != other.len() {
         return Err(Fail::from("a file of another length"));
     }
-    let source = ShiftingSource::new(file, other, reads);
+    let source = ShiftingSource::new(&row.octets, other, reads);
     let mut out = Vec::new(alloc);
-    let (answer, _source) = run_on(alloc, command, source, cert, &mut out);
+    let (answer, _source) = run_on(alloc, command, source, &row.certificate, &mut out);
     outcome(alloc, answer, &out)
 }
 
 #[test]
 fn file_that_changes(rt: HostRuntime) -> Result<(), Fail> {
     let alloc = rt.alloc();
-    let (objects, table) = TWO_TRUES;
-    let file = small(alloc, objects, table)?;
-    let other = small(alloc, objects, &[0, 11])?;
-    let Some(cert) = certificate_of(alloc, &file) else {
-        return Err(Fail::from("no certificate"));
-    };
+    let row = Row::small(alloc, "two-trues", TWO_TRUES)?;
+    let other = small(alloc, TWO_TRUES.0, &[0, 11])?;
     let command = with_path(alloc, Verb::Get, "/0")?;
+    assert!(rt; changes_seen(alloc, &command, &row, &other)? > 0);
+    let line = outcome_of_shifting(alloc, &command, &row, &other, 100)?;
+    assert_eq!(rt; line.as_str(), "0 true\n");
+    Ok(())
+}
+
+/// At how many of the first hundred reads the command sees the change of the file.
+fn changes_seen(alloc: Global, command: &Command, row: &Row, other: &[u8]) -> Result<u32, Fail>
+    requires { PrintsOnePath command.now }
+{
     let mut changes = 0u32;
     for reads in 0..100 {
-        let line = outcome_of_shifting(alloc, &command, &file, &other, reads, &cert)?;
+        let line = outcome_of_shifting(alloc, command, row, other, reads)?;
         if line.as_str() == "3 changed\n" {
             changes = changes.saturating_add(1);
         }
     }
-    assert!(rt; changes > 0);
-    let line = outcome_of_shifting(alloc, &command, &file, &other, 100, &cert)?;
-    assert_eq!(rt; line.as_str(), "0 true\n");
-    Ok(())
+    Ok(changes)
 }

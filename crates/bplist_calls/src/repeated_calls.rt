@@ -47,7 +47,8 @@ fn sorted(alloc: Global, mut checked: Checked<SliceSource<'_>>) -> Result<Vec<u8
     Ok(certificate.to_octets(alloc)?)
 }
 
-/// Reads this certificate, checks the file with it, and makes the calls on that, each of them twice.
+/// Reads this certificate, checks the file with it, and makes the calls on that, each of them twice. It has six parameters, since
+/// `alloc` and `out` go through every step.
 fn all_twice<'a, W: Write>(
     alloc: Global,
     file: &'a [u8],

@@ -30,21 +30,23 @@ impl Read for Slow {
     }
 }
 
+/// How often a reader is interrupted, how five bytes are read of it then, and in how many reads.
+const INTERRUPTED: &[(u64, Result<(), ReadFault>, u64)] = &[
+    (0, Ok(()), 5),
+    (64, Ok(()), 69),
+    (65, Err(ReadFault::TooManyTurns), 69),
+    (u64::MAX, Err(ReadFault::TooManyTurns), 69),
+];
+
 #[test]
 fn a_reader_that_is_interrupted(rt: HostRuntime) {
-    for (interrupts, want, reads) in [
-        (0, Ok(()), 5),
-        (64, Ok(()), 69),
-        (65, Err(ReadFault::TooManyTurns), 69),
-        (u64::MAX, Err(ReadFault::TooManyTurns), 69),
-    ] {
+    for (interrupts, want, reads) in INTERRUPTED {
         let mut reader = Slow {
-            interrupts,
+            interrupts: *interrupts,
             reads: 0,
         };
-        let mut into = [0; 5];
-        assert_eq!(rt; fill_from(&mut reader, &mut into), want, "at {interrupts}");
-        assert_eq!(rt; reader.reads, reads, "at {interrupts}");
+        let answer = fill_from(&mut reader, &mut [0; 5]);
+        assert_eq!(rt; (answer, reader.reads), (*want, *reads), "at {interrupts}");
     }
 }
 

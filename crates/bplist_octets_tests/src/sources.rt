@@ -1,5 +1,7 @@
 //! Sources over memory: a plain one, one with a read that fails, and one whose bytes change.
 
+ghost use Rattle.std.specs.Prelude.{◌+◌, ◌≤◌, length};
+
 use bplist_octets::{FaultySource, ReadFault, ShiftingSource, SliceSource, Source};
 use std::process::Abort;
 
@@ -10,13 +12,21 @@ pub(crate) type Read = (u64, usize, Result<(), ReadFault>);
 pub(crate) fn answers<S: Source>(rt: &impl Abort, source: &mut S, bytes: &[u8], read: Read) {
     let (at, count, want) = read;
     let from = at as usize;
-    let mut into = [0; 9_000];
     assert_eq!(rt; source.len(), bytes.len() as u64);
     assert!(rt; from <= bytes.len() && count <= bytes.len() - from && count <= 9_000);
-    let part = &mut into[..count];
-    assert_eq!(rt; source.read_at(at, part), want, "at {at}");
-    let stand = &bytes[from..from + count];
-    assert_eq!(rt; *part == *stand, want.is_ok(), "at {at}");
+    let answer = answer_of(source, at, &bytes[from..from + count]);
+    assert_eq!(rt; answer, (want, want.is_ok()), "at {at}");
+}
+
+/// What a read at this place answers, and whether it gives the bytes that stand there.
+fn answer_of<S: Source>(source: &mut S, at: u64, stand: &[u8]) -> (Result<(), ReadFault>, bool)
+    requires inside { at + length stand.now ≤ length (S.means source.old).octets }
+    requires short { length stand.now ≤ 9000 }
+{
+    let mut into = [0; 9_000];
+    let part = &mut into[..stand.len()];
+    let answer = source.read_at(at, part);
+    (answer, *part == *stand)
 }
 
 /// The source has these bytes, and answers these reads so, one after the other.

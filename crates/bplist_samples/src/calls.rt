@@ -62,25 +62,26 @@ impl Call {
         checked: &mut Checked<S>,
     ) -> Result<String, AllocError> {
         match self {
-            Call::Lint => lint_text(alloc, &lint(alloc, checked)),
-            Call::Upgrade => upgrade_text(alloc, &upgrade(alloc, checked)),
-            Call::Octets => octets_text(alloc, &checked.certificate().to_octets(alloc)),
-            Call::Locate(path) => text_of(alloc, &locate(checked, path)),
-            Call::LocateCounted(path) => text_of(alloc, &locate_counted(checked, path)),
-            Call::Face(node) => text_of(alloc, &face(alloc, checked, *node)),
-            Call::Member(node, i) => text_of(alloc, &member(checked, *node, *i)),
-            Call::Answer(query) => text_of(alloc, &answer(alloc, checked, query)),
-            Call::AnswerAll(queries) => text_of(alloc, &answer_all(alloc, checked, queries)),
-            Call::Measure => text_of(alloc, &measure(alloc, checked)),
+            Call::Lint => lint_text(alloc, lint(alloc, checked)),
+            Call::Upgrade => upgrade_text(alloc, upgrade(alloc, checked)),
+            Call::Octets => octets_text(alloc, checked.certificate().to_octets(alloc)),
+            Call::Locate(path) => text_of(alloc, locate(checked, path)),
+            Call::LocateCounted(path) => text_of(alloc, locate_counted(checked, path)),
+            Call::Face(node) => text_of(alloc, face(alloc, checked, *node)),
+            Call::Member(node, i) => text_of(alloc, member(checked, *node, *i)),
+            Call::Answer(query) => text_of(alloc, answer(alloc, checked, query)),
+            Call::AnswerAll(queries) => text_of(alloc, answer_all(alloc, checked, queries)),
+            Call::Measure => text_of(alloc, measure(alloc, checked)),
             Call::Print(node, limit) => print_text(alloc, checked, *node, *limit),
-            Call::Parse(text) => text_of(alloc, &Path::parse(alloc, text)),
-            Call::TextOfUnits(units) => octets_text(alloc, &text_of_units(alloc, units)),
-            Call::TextOfBytes(bytes) => octets_text(alloc, &text_of_bytes(alloc, bytes)),
+            Call::Parse(text) => text_of(alloc, Path::parse(alloc, text)),
+            Call::TextOfUnits(units) => octets_text(alloc, text_of_units(alloc, units)),
+            Call::TextOfBytes(bytes) => octets_text(alloc, text_of_bytes(alloc, bytes)),
         }
     }
 }
 
-fn text_of<T: Debug>(alloc: Global, answer: &T) -> Result<String, AllocError> {
+/// The text of an answer, which is taken so that its caller has none to drop.
+fn text_of<T: Debug + Drop>(alloc: Global, answer: T) -> Result<String, AllocError> {
     format!(in alloc; "{answer:?}")
 }
 
@@ -96,7 +97,7 @@ fn certificate_text(alloc: Global, certificate: &Certificate) -> Result<String, 
     }
 }
 
-fn lint_text(alloc: Global, linted: &Result<Lint, LintRefusal>) -> Result<String, AllocError> {
+fn lint_text(alloc: Global, linted: Result<Lint, LintRefusal>) -> Result<String, AllocError> {
     match linted {
         Ok(lint) => {
             let certificate = certificate_text(alloc, &lint.certificate)?;
@@ -109,15 +110,15 @@ fn lint_text(alloc: Global, linted: &Result<Lint, LintRefusal>) -> Result<String
 
 fn upgrade_text(
     alloc: Global,
-    upgraded: &Result<Certificate, UpgradeFault>,
+    upgraded: Result<Certificate, UpgradeFault>,
 ) -> Result<String, AllocError> {
     match upgraded {
-        Ok(certificate) => certificate_text(alloc, certificate),
+        Ok(certificate) => certificate_text(alloc, &certificate),
         Err(fault) => format!(in alloc; "Err({fault:?})"),
     }
 }
 
-fn octets_text(alloc: Global, octets: &Result<Vec<u8>, AllocError>) -> Result<String, AllocError> {
+fn octets_text(alloc: Global, octets: Result<Vec<u8>, AllocError>) -> Result<String, AllocError> {
     match octets {
         Ok(octets) => text_of(alloc, octets),
         Err(_) => String::from_str(alloc, "Err(Memory)"),
@@ -135,7 +136,7 @@ fn print_text<S: Source>(
         Ok(measures) => {
             let mut out: ArrayVec<u8, 64> = ArrayVec::new();
             let printed = print(alloc, checked, &measures, node, limit, &mut out);
-            text_of(alloc, &printed.map(|_| out))
+            text_of(alloc, printed.map(|_| out))
         }
         Err(fault) => format!(in alloc; "Err({fault:?})"),
     }
@@ -149,7 +150,7 @@ pub fn checked_text<S: Source>(alloc: Global, checked: &Checked<S>) -> Result<St
 }
 
 /// Paths that lead somewhere in some of the tested files.
-const PATHS: [&str; 7] = ["", "/0/1/0", "/a", "/a~1b/0", "/s/0", "/x", "/"];
+const PATHS: &[&str] = &["", "/0/1/0", "/a", "/a~1b/0", "/s/0", "/x", "/"];
 
 /// Three queries for each path.
 fn queries(alloc: Global) -> Result<Vec<Query>, PathFault> {

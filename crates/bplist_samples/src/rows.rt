@@ -65,23 +65,26 @@ impl Row {
     }
 }
 
+/// Names, and leaves of files that double.
+const DOUBLING: &[(&str, &[u8])] = &[("doubling-64", b"\x09"), ("doubling-64-text", b"\x51a")];
+
+/// Names, and small files.
+const SMALL: &[(&str, Parts)] = &[
+    ("two-trues", TWO_TRUES),
+    ("three-keys", THREE_KEYS),
+    ("printable-dict", PRINTABLE_DICT),
+    ("unprintable-dict", UNPRINTABLE_DICT),
+    ("a-to-one", A_TO_ONE),
+];
+
 /// The files on which reads are made to fail and bytes are changed.
 pub fn tested_rows(alloc: Global) -> Result<Vec<Row>, Fail> {
     let mut rows = Vec::new(alloc);
-    for (name, leaf) in [
-        ("doubling-64", b"\x09".as_slice()),
-        ("doubling-64-text", b"\x51a"),
-    ] {
+    for (name, leaf) in DOUBLING {
         rows.push(Row::new(alloc, name, doubling(alloc, leaf)?)?)?;
     }
-    for (name, parts) in [
-        ("two-trues", TWO_TRUES),
-        ("three-keys", THREE_KEYS),
-        ("printable-dict", PRINTABLE_DICT),
-        ("unprintable-dict", UNPRINTABLE_DICT),
-        ("a-to-one", A_TO_ONE),
-    ] {
-        rows.push(Row::small(alloc, name, parts)?)?;
+    for (name, parts) in SMALL {
+        rows.push(Row::small(alloc, name, *parts)?)?;
     }
     Ok(rows)
 }

@@ -1,7 +1,7 @@
 //! One failing read at each turn: in the first run read number 0 fails, in the next one read number 1, and so on up to
 //! the first run in which none fails. The same call made again then answers as over a slice.
 
-use bplist_cert::check;
+use bplist_cert::{Certificate, check};
 use bplist_lint::lint;
 use bplist_octets::{FaultySource, SliceSource, Source};
 use bplist_samples::{Call, Parts, Row, all_calls, checked_text, small, tested_rows};
@@ -27,16 +27,23 @@ fn check_turn(alloc: Global, row: &Row, fails: u64) -> Result<Turn, Fail> {
             first: checked_text(alloc, &checked)?,
             again: String::new(alloc),
         }),
-        Err((refusal, source, certificate)) => {
-            let first = format!(in alloc; "Err({refusal:?})")?;
-            match check(alloc, source, certificate) {
-                Ok(checked) => Ok(Turn {
-                    first,
-                    again: checked_text(alloc, &checked)?,
-                }),
-                Err(_) => Err(Fail::new(row.name)),
-            }
-        }
+        Err((refusal, source, certificate)) => Ok(Turn {
+            first: format!(in alloc; "Err({refusal:?})")?,
+            again: accepted_text(alloc, row.name, source, certificate)?,
+        }),
+    }
+}
+
+/// What a check says that meets no failing read.
+fn accepted_text<S: Source + Drop>(
+    alloc: Global,
+    name: &'static str,
+    source: S,
+    certificate: Certificate,
+) -> Result<String, Fail> {
+    match check(alloc, source, certificate) {
+        Ok(checked) => Ok(checked_text(alloc, &checked)?),
+        Err(_) => Err(Fail::new(name)),
     }
 }
 
@@ -60,14 +67,20 @@ fn is_whole(rt: &impl Abort, name: &str, turn: &Turn, want: &str) -> bool {
 
 /// How many reads a check makes.
 fn check_at_each_turn(rt: &impl Abort, alloc: Global, row: &Row) -> Result<u64, Fail> {
-    let whole = row.checked(alloc, SliceSource::new(&row.octets))?;
-    let want = checked_text(alloc, &whole)?;
+    let source = SliceSource::new(&row.octets);
+    let want = accepted_text(alloc, row.name, source, row.certificate(alloc)?)?;
     for fails in 0..MOST_READS {
         if is_whole(rt, row.name, &check_turn(alloc, row, fails)?, &want) {
             return Ok(fails);
         }
     }
     Err(Fail::new(row.name))
+}
+
+/// What a call answers over a slice.
+fn whole_answer(alloc: Global, row: &Row, call: &Call) -> Result<String, Fail> {
+    let mut whole = row.checked(alloc, SliceSource::new(&row.octets))?;
+    Ok(call.answer_text(alloc, &mut whole)?)
 }
 
 /// How many reads a call makes on a file whose check makes so many.
@@ -78,8 +91,7 @@ fn call_at_each_turn(
     call: &Call,
     checking: u64,
 ) -> Result<u64, Fail> {
-    let mut whole = row.checked(alloc, SliceSource::new(&row.octets))?;
-    let want = call.answer_text(alloc, &mut whole)?;
+    let want = whole_answer(alloc, row, call)?;
     for turn in 0..MOST_READS {
         let fails = checking.saturating_add(turn);
         if is_whole(rt, row.name, &call_turn(alloc, row, call, fails)?, &want) {

@@ -1,13 +1,49 @@
 //! How many comparisons, and how many reads of the source, the look-up of a key among a thousand takes.
 
+use bplist_cert::Checked;
 use bplist_cursor::{Found, Node, Path, Why, locate_counted};
 use bplist_objects::ObjectNo;
 use bplist_samples::{CountingSource, Counts, thousand_keys};
+use std::alloc::Global;
 use std::cell::Cell;
+use std::process::Abort;
 use std::test::Fail;
 
 /// The greatest number of comparisons and of reads.
 const MOST: (u64, u64) = (10, 400);
+
+/// The look-up of this key finds what it is to find, and takes no more than `MOST`.
+fn is_by_halving(
+    rt: &impl Abort,
+    alloc: Global,
+    checked: &mut Checked<CountingSource<'_>>,
+    counts: &Cell<Counts>,
+    key: u32,
+) -> Result<(), Fail> {
+    counts.set(Counts::default());
+    let (found, compared) = locate_counted(
+        checked,
+        &Path::parse(alloc, &format!(in alloc; "/{key:04}")?)?,
+    )?;
+    let Counts { reads, .. } = counts.get();
+    let want = if key < 1000 {
+        Found::At(Node {
+            object: ObjectNo(1001),
+        })
+    } else {
+        Found::Missing {
+            step: 0,
+            why: Why::NoKey,
+        }
+    };
+    assert_eq!(rt; found, want, "key {key}");
+    assert!(rt;
+        compared >= 1 && compared <= MOST.0,
+        "key {key} takes {compared}"
+    );
+    assert!(rt; reads <= MOST.1, "key {key} reads {reads}");
+    Ok(())
+}
 
 #[test]
 fn thousand_keys_by_halving(rt: HostRuntime) -> Result<(), Fail> {
@@ -18,26 +54,7 @@ fn thousand_keys_by_halving(rt: HostRuntime) -> Result<(), Fail> {
     let source = CountingSource::new(&row.octets, &counts);
     let mut checked = row.checked(alloc, source)?;
     for key in 0..1001 {
-        let want = if key < 1000 {
-            Found::At(Node {
-                object: ObjectNo(1001),
-            })
-        } else {
-            Found::Missing {
-                step: 0,
-                why: Why::NoKey,
-            }
-        };
-        let path = Path::parse(alloc, &format!(in alloc; "/{key:04}")?)?;
-        counts.set(Counts::default());
-        let (found, compared) = locate_counted(&mut checked, &path)?;
-        assert_eq!(rt; found, want, "key {key}");
-        assert!(rt;
-            compared >= 1 && compared <= MOST.0,
-            "key {key} takes {compared}"
-        );
-        let Counts { reads, .. } = counts.get();
-        assert!(rt; reads <= MOST.1, "key {key} reads {reads}");
+        is_by_halving(&rt, alloc, &mut checked, &counts, key)?;
     }
     Ok(())
 }

@@ -5,7 +5,7 @@ use bplist_cert::Checked;
 use bplist_cursor::{CursorFault, List, Node, bytes_of, face, measure, member};
 use bplist_objects::ObjectNo;
 use bplist_octets::SliceSource;
-use bplist_samples::{Parts, Row, ShortWriter, THREE_KEYS, small};
+use bplist_samples::{Parts, Row, ShortWriter, THREE_KEYS};
 use std::alloc::Global;
 use std::test::Fail;
 
@@ -36,15 +36,15 @@ const NO_NODES: &[(Parts, u32)] = &[
 #[test]
 fn no_nodes(rt: HostRuntime) -> Result<(), Fail> {
     let alloc = rt.alloc();
-    for ((objects, table), n) in NO_NODES {
-        let row = Row::new(alloc, "no node", small(alloc, objects, table)?)?;
+    for (parts, n) in NO_NODES {
+        let row = Row::small(alloc, "no node", *parts)?;
         let mut checked = row.checked(alloc, SliceSource::new(&row.octets))?;
         let node = Node {
             object: ObjectNo(*n),
         };
         assert!(rt;
             is_no_node(alloc, &mut checked, node),
-            "object {n} of {objects:?}"
+            "object {n} of {parts:?}"
         );
     }
     Ok(())

@@ -2,6 +2,7 @@
 
 use bplist_cursor::Path;
 use std::alloc::{AllocError, Global};
+use std::process::Abort;
 use std::test::Fail;
 
 /// Path texts and their steps.
@@ -28,9 +29,17 @@ fn path_of(alloc: Global, steps: &[&[u16]]) -> Result<Path, AllocError> {
     Ok(Path::from_steps(own))
 }
 
-/// The path as `Debug` writes it.
-fn shown(alloc: Global, path: &Path) -> Result<String, AllocError> {
-    format!(in alloc; "{path:?}")
+/// `Debug` writes the path so.
+fn is_shown(
+    rt: &impl Abort,
+    alloc: Global,
+    path: Path,
+    want: &str,
+    text: &str,
+) -> Result<(), AllocError> {
+    let shown = format!(in alloc; "{path:?}")?;
+    assert_eq!(rt; shown.as_str(), want, "at {text}");
+    Ok(())
 }
 
 /// The path of a text and that of the steps are the same.
@@ -39,10 +48,8 @@ fn texts(rt: HostRuntime) -> Result<(), Fail> {
     let alloc = rt.alloc();
     for (text, steps) in TEXTS {
         let want = format!(in alloc; "Path {{ steps: {steps:?} }}")?;
-        let parsed = shown(alloc, &Path::parse(alloc, text)?)?;
-        assert_eq!(rt; parsed.as_str(), want.as_str(), "at {text}");
-        let made = shown(alloc, &path_of(alloc, steps)?)?;
-        assert_eq!(rt; made.as_str(), want.as_str(), "at {text}");
+        is_shown(&rt, alloc, Path::parse(alloc, text)?, &want, text)?;
+        is_shown(&rt, alloc, path_of(alloc, steps)?, &want, text)?;
     }
     Ok(())
 }

@@ -5,7 +5,7 @@ use bplist_ascii::{PrintFault, Sink, WriteFault, print};
 use bplist_cursor::{Node, measure};
 use bplist_objects::ObjectNo;
 use bplist_octets::SliceSource;
-use bplist_samples::{Last, PRINTABLE_DICT, Row, ShortWriter, small};
+use bplist_samples::{Last, PRINTABLE_DICT, Row, ShortWriter};
 use std::test::Fail;
 
 fn send_all(sink: &mut Sink, out: &mut ShortWriter, pieces: &[&[u8]]) -> Result<(), WriteFault> {
@@ -110,8 +110,7 @@ const ROOMS: &[(usize, Result<(), PrintFault>, &[u8])] = &[
 #[test]
 fn values(rt: HostRuntime) -> Result<(), Fail> {
     let alloc = rt.alloc();
-    let (objects, table) = PRINTABLE_DICT;
-    let row = Row::new(alloc, "printable-dict", small(alloc, objects, table)?)?;
+    let row = Row::small(alloc, "printable-dict", PRINTABLE_DICT)?;
     let mut checked = row.checked(alloc, SliceSource::new(&row.octets))?;
     let top = Node {
         object: ObjectNo(0),
@@ -120,8 +119,11 @@ fn values(rt: HostRuntime) -> Result<(), Fail> {
         let measures = measure(alloc, &mut checked)?;
         let mut out = ShortWriter::with_room(*room);
         let said = print(alloc, &mut checked, &measures, top, 10, &mut out);
-        assert_eq!(rt; said, *want, "with room for {room}");
-        assert_eq!(rt; out.held.as_slice(), *held, "with room for {room}");
+        assert_eq!(rt;
+            (said, out.held.as_slice()),
+            (*want, *held),
+            "with room for {room}"
+        );
     }
     Ok(())
 }
