@@ -1,6 +1,6 @@
 //! A source over a source, with one window of bytes that were read.
 
-ghost use Rattle.std.specs.Prelude.{◌≡◌, ◌+◌, ◌-◌, ◌≤◌, length, take, min, IsTrue, MatchOption, OnOk, OnErr, is_err};
+ghost use Rattle.std.specs.Prelude.{◌≡◌, ◌↔◌, ◌+◌, ◌-◌, ◌≤◌, length, take, min, IsTrue, MatchOption, OnOk, OnErr, is_err};
 ghost use Rattle.bplist_octets.specs.Octets.{part};
 ghost use Rattle.bplist_octets.specs.Meaning.{OnlyReads};
 
@@ -9,13 +9,16 @@ use crate::source::{ReadFault, Source};
 /// How many bytes the window holds at most.
 const WINDOW: usize = 4096;
 
+/// So many bytes are read at a jump, unless more is asked for: who jumps may not read on.
+pub(crate) const JUMP: usize = 1024;
+
 /// A source over a source, with one window of 4,096 bytes. It has the bytes, the honesty and the count
 /// of failures of the source below it.
 ///
 /// A read of bytes that lie in the window asks the source for nothing. Any other read moves the window
-/// to its place; the last window of a file may be shorter. A request longer than the window goes
-/// straight to the source. After a failed read the window is empty. A reader that alternates between a few places
-/// is better served by `Windows`.
+/// to its place, where it takes 4,096 bytes if the window led there, else 1,024, or as many as are asked for; at the end of a file
+/// there may be fewer. A request longer than the window goes straight to the source. After a failed read the window is empty. A
+/// reader that alternates between a few places is better served by `Windows`.
 #[derive(Drop)]
 pub struct Window<S: Source> {
     source: S,
@@ -38,6 +41,15 @@ pub(crate) fn offset_in(start: u64, filled: usize, at: u64, count: usize) -> Opt
         return None;
     }
     Some(from as usize)
+}
+
+/// The place stands among the `filled` bytes from `start` on, or not far behind them: who reads there reads on. Which bytes are
+/// given does not hang on it.
+pub(crate) fn is_near(start: u64, filled: usize, at: u64) -> bool
+    ensures { IsTrue result ↔ ((start ≤ at) × (at ≤ start + filled + 1024)) }
+{
+    at.checked_sub(start)
+        .is_some_and(|from| from <= (filled as u64).saturating_add(JUMP as u64))
 }
 
 /// Reads `count` bytes from place `at` on to the front of `into`.
@@ -78,18 +90,19 @@ impl<S: Source> Window<S> {
         into.copy_from_slice(&self.octets[from..from + into.len()]);
     }
 
-    /// Moves the window to place `at`. It is empty after a failed read.
-    fn refill(&mut self, at: u64) -> Result<(), ReadFault>
-        requires { at ≤ length (S.means self.old.source).octets }
+    /// Moves the window to place `at`, where it takes so many bytes. It is empty after a failed read.
+    fn refill(&mut self, at: u64, room: usize) -> Result<(), ReadFault>
+        requires inside { at ≤ length (S.means self.old.source).octets }
+        requires fits { room ≤ 4096 }
         ensures reads { OnlyReads (is_err result) (S.means self.old.source) (S.means self.new.source) }
         ensures start { self.new.start ≡ at }
         ensures filled { OnOk result
-            (self.new.filled ≡ min (length (S.means self.old.source).octets - at) WINDOW) }
+            (self.new.filled ≡ min (length (S.means self.old.source).octets - at) room) }
         ensures emptied { OnErr result (self.new.filled ≡ 0) }
     {
         self.filled = 0;
         self.start = at;
-        let count = (self.source.len() - at).min(WINDOW as u64) as usize;
+        let count = (self.source.len() - at).min(room as u64) as usize;
         read_front(&mut self.source, at, &mut self.octets, count)?;
         self.filled = count;
         Ok(())
@@ -126,7 +139,13 @@ impl<S: Source> Source for Window<S> {
             self.copy_part(from, into);
             return Ok(());
         }
-        self.refill(at)?;
+        let forward = is_near(self.start, self.filled, at);
+        let room = if forward {
+            WINDOW
+        } else {
+            into.len().max(JUMP)
+        };
+        self.refill(at, room)?;
         self.copy_part(0, into);
         Ok(())
     }

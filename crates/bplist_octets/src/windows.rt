@@ -9,15 +9,15 @@ ghost use Rattle.bplist_octets.specs.Meaning.{OnlyReads};
 ghost use Rattle.bplist_octets.specs.Windows.{IsEmptyPane, IsPane, borrowed};
 
 use crate::source::{ReadFault, Source};
-use crate::window::offset_in;
+use crate::window::{JUMP, is_near, offset_in};
 
 /// How many bytes a pane holds at most.
 const PANE: usize = 16_384;
 
-/// Panes begin at multiples of this, and a pane that does not go on where another ends takes no more bytes.
-const BLOCK: usize = 8192;
+/// A longer request goes straight to the source.
+const LONGEST: usize = 8192;
 
-/// For so many blocks the pane that was taken last is known.
+/// For so many blocks of `LONGEST` bytes the pane that was taken last is known.
 const LIKELY: usize = 16;
 
 /// Room for 16,384 bytes of a source, which `Windows` is lent.
@@ -49,24 +49,52 @@ fn copy_part(pane: &Pane, from: usize, into: &mut [u8])
     into.copy_from_slice(&pane.octets[from..from + into.len()]);
 }
 
-/// The pane ends at this place, so who reads on there reads forward. Which bytes are given does not hang on it.
-fn ends_at(pane: &Pane, place: u64) -> bool {
-    pane.start.saturating_add(pane.filled as u64) == place
+/// The bytes that a pane takes.
+#[derive(Clone, Copy, Debug)]
+struct Span {
+    start: u64,
+    room: usize,
 }
 
-/// Moves a pane that has not all of the `count` bytes from place `at` on to the multiple of 8,192 below, from where it takes so
-/// many bytes. It is empty after a failed read.
+/// What a pane takes to have `count` bytes from place `at` on. At a jump these are the 1,024 bytes around that place. Who reads on
+/// behind a pane, or before it, gets four times as many as that one has, since more will be asked for there.
+fn span_of(panes: &[Pane], at: u64, count: usize) -> Span
+    requires { count ≤ 8192 }
+    ensures start { result.start ≤ at }
+    ensures has { at + count ≤ result.start + result.room }
+    ensures fits { result.room ≤ 16384 }
+{
+    let mut start = at - at % JUMP as u64;
+    let mut room = JUMP;
+    for pane in panes {
+        let more = pane.filled.saturating_mul(4).clamp(JUMP, PANE);
+        if is_near(pane.start, pane.filled, at) {
+            start = at.min(pane.start.saturating_add(pane.filled as u64));
+            room = more;
+        } else if is_near(at, 0, pane.start) && count <= JUMP {
+            room = more.min(PANE - JUMP);
+            start = pane.start.saturating_sub(room as u64);
+        }
+    }
+    Span {
+        start,
+        room: room.max((at - start) as usize + count),
+    }
+}
+
+/// Moves a pane that has not all of the `count` bytes from place `at` on, so that it takes these bytes. It is empty after a
+/// failed read.
 fn hold<S: Source>(
     source: &mut S,
     pane: &mut Pane,
     at: u64,
     count: usize,
-    room: usize,
+    span: Span,
 ) -> Result<(), ReadFault>
     requires inside { at + count ≤ length (S.means source.old).octets }
-    requires block { at % 8192 + count ≤ 8192 }
-    requires whole { 8192 ≤ room }
-    requires fits { room ≤ 16384 }
+    requires start { span.start ≤ at }
+    requires has { at + count ≤ span.start + span.room }
+    requires fits { span.room ≤ 16384 }
     requires pane { IsPane (S.means source.old).octets (S.means source.old).honest pane.old }
     ensures reads { OnlyReads (is_err result) (S.means source.old) (S.means source.new) }
     ensures pane { IsPane (S.means source.old).octets (S.means source.old).honest pane.new }
@@ -76,57 +104,54 @@ fn hold<S: Source>(
     if offset_in(pane.start, pane.filled, at, count).is_some() {
         return Ok(());
     }
-    let start = at - at % BLOCK as u64;
     pane.filled = 0;
-    pane.start = start;
-    let held = (source.len() - start).min(room as u64) as usize;
-    source.read_at(pane.start, &mut pane.octets[..held])?;
+    pane.start = span.start;
+    let held = (source.len() - span.start).min(span.room as u64) as usize;
+    source.read_at(span.start, &mut pane.octets[..held])?;
     pane.filled = held;
     Ok(())
 }
 
-/// The pane that was taken longest ago, which moves to place `at`, and how many bytes it takes there: where a pane ends at the
-/// multiple of 8,192 below, that one is read forward, and what it holds stays for who goes back.
-fn oldest(panes: &[Pane], at: u64) -> (usize, usize)
+/// The pane that was taken longest ago.
+fn oldest(panes: &[Pane]) -> usize
     requires { 0 < length panes.now }
-    ensures inside { result.0 < length panes.now }
-    ensures whole { 8192 ≤ result.1 }
-    ensures fits { result.1 ≤ 16384 }
+    ensures { result < length panes.now }
 {
-    let start = at - at % BLOCK as u64;
     let mut oldest = 0;
     let mut least = u64::MAX;
-    let mut room = BLOCK;
     for (k, pane) in panes.iter().enumerate() {
-        if ends_at(pane, start) {
-            room = PANE;
-        }
         if pane.taken < least {
             oldest = k;
             least = pane.taken;
         }
     }
-    (oldest, room)
+    oldest
 }
 
-/// A pane that has `count` bytes from place `at` on, and where none has them the one that moves there, with the bytes that it
-/// takes. The likely one is asked first.
-fn choose(panes: &[Pane], likely: usize, at: u64, count: usize) -> (usize, usize)
-    requires { likely < length panes.now }
+/// A pane that has `count` bytes from place `at` on, and where none has them the one that was taken longest ago, with the bytes that
+/// it takes. The likely one is asked first.
+fn choose(panes: &[Pane], likely: usize, at: u64, count: usize) -> (usize, Span)
+    requires likely { likely < length panes.now }
+    requires count { count ≤ 8192 }
     ensures inside { result.0 < length panes.now }
-    ensures whole { 8192 ≤ result.1 }
-    ensures fits { result.1 ≤ 16384 }
+    ensures start { result.1.start ≤ at }
+    ensures has { at + count ≤ result.1.start + result.1.room }
+    ensures fits { result.1.room ≤ 16384 }
 {
+    let had = Span {
+        start: at,
+        room: count,
+    };
     let pane = &panes[likely];
     if offset_in(pane.start, pane.filled, at, count).is_some() {
-        return (likely, BLOCK);
+        return (likely, had);
     }
     for (k, pane) in panes.iter().enumerate() {
         if offset_in(pane.start, pane.filled, at, count).is_some() {
-            return (k, BLOCK);
+            return (k, had);
         }
     }
-    oldest(panes, at)
+    (oldest(panes), span_of(panes, at, count))
 }
 
 /// Empties panes that may hold bytes of another source.
@@ -143,9 +168,10 @@ fn empty_all(panes: &mut [Pane])
 /// A source over a borrowed source, with panes of bytes that are borrowed too. It has the bytes, the honesty and the count
 /// of failures of that source.
 ///
-/// A read of bytes that lie in one pane asks the source for nothing. Any other read moves the pane that was used longest ago: it
-/// takes 16,384 bytes where a pane ends at the place that the read goes on from, else 8,192. A request of more than 8,192 bytes
-/// goes straight to the source. After a failed read that pane is empty.
+/// A read of bytes that lie in one pane asks the source for nothing. Any other read moves the pane that was used longest ago. It
+/// takes 1,024 bytes at a jump, or as many as are asked for, and where the read goes on from a pane, forward or backward, four
+/// times as many as that one has, at most 16,384. A request of more than 8,192 bytes goes straight to the source. After a failed
+/// read that pane is empty.
 #[derive(Drop)]
 pub struct Windows<'a, S: Source> {
     /// The source that is read.
@@ -155,7 +181,7 @@ pub struct Windows<'a, S: Source> {
     panes: &'a mut [Pane],
     /// The pane that was taken last.
     last: usize,
-    /// The pane that was taken last for a multiple of 8,192, by its number modulo 16, so that a reader which alternates between
+    /// The pane that was taken last for a block of 8,192 bytes, by its number modulo 16, so that a reader which alternates between
     /// a few places finds their panes at once.
     likely: [usize; LIKELY],
     /// How many panes were taken.
@@ -185,30 +211,8 @@ impl<'a, S: Source> Windows<'a, S> {
         }
     }
 
-    /// Gives bytes that do not stand on both sides of a multiple of 8,192.
-    fn read_block(&mut self, at: u64, into: &mut [u8]) -> Result<(), ReadFault>
-        requires inside { at + length into.old ≤ length (S.means self.old.source.now).octets }
-        requires block { at % 8192 + length into.old ≤ 8192 }
-        ensures same_source { self.new.source.ghost_name ≡ self.old.source.ghost_name }
-        ensures reads { OnlyReads (is_err result) (S.means self.old.source.now) (S.means self.new.source.now) }
-        ensures filled { OnOk result (IsTrue (S.means self.old.source.now).honest
-            → into.new ≡ part (S.means self.old.source.now).octets at (length into.old)) }
-    {
-        let panes = &mut *self.panes;
-        let block = (at / BLOCK as u64) as usize % LIKELY;
-        let (chosen, room) = choose(panes, self.likely[block], at, into.len());
-        self.likely[block] = chosen;
-        self.last = chosen;
-        self.turn = self.turn.wrapping_add(1);
-        let pane = &mut panes[self.last];
-        pane.taken = self.turn;
-        hold(self.source, pane, at, into.len(), room)?;
-        copy_part(pane, (at - pane.start) as usize, into);
-        Ok(())
-    }
-
-    /// Gives at most 8,192 bytes: those below a multiple of 8,192, and then those from there on.
-    fn read_blocks(&mut self, at: u64, into: &mut [u8]) -> Result<(), ReadFault>
+    /// Gives at most 8,192 bytes by a pane.
+    fn read_pane(&mut self, at: u64, into: &mut [u8]) -> Result<(), ReadFault>
         requires inside { at + length into.old ≤ length (S.means self.old.source.now).octets }
         requires fits { length into.old ≤ 8192 }
         ensures same_source { self.new.source.ghost_name ≡ self.old.source.ghost_name }
@@ -216,13 +220,17 @@ impl<'a, S: Source> Windows<'a, S> {
         ensures filled { OnOk result (IsTrue (S.means self.old.source.now).honest
             → into.new ≡ part (S.means self.old.source.now).octets at (length into.old)) }
     {
-        let room = BLOCK - (at % BLOCK as u64) as usize;
-        if into.len() <= room {
-            return self.read_block(at, into);
-        }
-        let (front, back) = into.split_at_mut(room);
-        self.read_block(at, front)?;
-        self.read_block(at + room as u64, back)
+        let panes = &mut *self.panes;
+        let block = (at / LONGEST as u64) as usize % LIKELY;
+        let (chosen, span) = choose(panes, self.likely[block], at, into.len());
+        self.likely[block] = chosen;
+        self.last = chosen;
+        self.turn = self.turn.wrapping_add(1);
+        let pane = &mut panes[self.last];
+        pane.taken = self.turn;
+        hold(self.source, pane, at, into.len(), span)?;
+        copy_part(pane, (at - pane.start) as usize, into);
+        Ok(())
     }
 }
 
@@ -236,7 +244,7 @@ impl<S: Source> Source for Windows<'_, S> {
     // Inlined, so that a read of one byte is no call where a pane has it.
     #[inline(always)]
     fn read_at(&mut self, at: u64, into: &mut [u8]) -> Result<(), ReadFault> {
-        if into.len() > BLOCK {
+        if into.len() > LONGEST {
             return self.source.read_at(at, into);
         }
         let panes = &mut *self.panes;
@@ -245,6 +253,6 @@ impl<S: Source> Source for Windows<'_, S> {
             copy_part(pane, from, into);
             return Ok(());
         }
-        self.read_blocks(at, into)
+        self.read_pane(at, into)
     }
 }

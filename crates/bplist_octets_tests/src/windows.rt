@@ -127,11 +127,11 @@ fn panes(rt: HostRuntime) {
     }
 }
 
-/// The sixth read of the source would fail.
+/// Of 1,024 bytes, of 4,096, and five of 16,384. The eighth read of the source would fail.
 #[test]
 fn forward_in_whole_panes(rt: HostRuntime) {
     let bytes = numbered();
-    let mut source = FaultySource::new(&bytes, 5);
+    let mut source = FaultySource::new(&bytes, 7);
     let mut panes = [Pane::EMPTY; 2];
     let mut windows = Windows::new(&mut source, &mut panes);
     for k in 0..700 {

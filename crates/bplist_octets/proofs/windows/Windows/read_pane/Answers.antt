@@ -1,6 +1,6 @@
 use Rattle.std.proofs.Common.{◌∙◌, arith}
 use Rattle.bplist_octets.proofs.WindowSteps.{pane_part}
-use Rattle.bplist_octets.proofs.windows.Windows.read_block.Goals as goal
+use Rattle.bplist_octets.proofs.windows.Windows.read_pane.Goals as goal
 
 pub returns-clause-filled : goal.returns-clause-filled
 returns-clause-filled g c = λ honest.
