@@ -12,7 +12,7 @@ the verdict and the goals. The verdicts:
   unread   the prover could not take the function at all, which says nothing either
   PROVED   nothing refuses it
 
-An edit passes where it is refused by one of the first three. The last line is `N passed, M failed`, and the status is 1 where
+An edit is named FUNCTION--what by the function that it changes, and passes where it is refused by one of the first three. The last line is `N passed, M failed`, and the status is 1 where
 one failed.
 
 Edits of different functions are tried together, in a copy of the crate over what its last check kept, so a crate takes a
@@ -195,7 +195,8 @@ def verdict(goals):
 
 
 def line(edit, goals):
-    return f"{edit.name}: {edit.function or edit.file}: {verdict(goals)}: {', '.join(sorted({goal for _, goal in goals}))}"
+    by = ", ".join(sorted({goal for _, goal in goals})) or "nothing refuses it"
+    return f"{edit.name}: {edit.function or edit.file}: {verdict(goals)}: {by}"
 
 
 def tried(rt, crate, edits):
@@ -241,10 +242,15 @@ def check(rt, crate, edits, kept, is_short):
 def edits_of(crate, names, has_more):
     """A crate's edits, those of its folder more/ where they are asked for, all or those named, each with its function."""
     folders = [EDITS / crate.name, EDITS / crate.name / "more"][: 1 + has_more]
-    paths = [path for folder in folders for path in sorted(folder.glob("*.edit")) if not names or path.stem in names]
-    edits = [read_edit(path) for path in paths]
+    paths = {path.stem: path for folder in folders for path in sorted(folder.glob("*.edit"))}
+    for name in names:
+        if name not in paths:
+            raise ValueError(f"{crate.name} has no edit {name}")
+    edits = [read_edit(paths[name]) for name in names or paths]
     for edit in edits:
         edit.place(pathlib.Path(crate.folder))
+        if edit.function and edit.function.split("::")[-1] != edit.name.split("--")[0]:
+            raise ValueError(f"{edit.name}: its name is not that of {edit.function}, which it changes")
     return edits
 
 
@@ -276,7 +282,8 @@ def main(words):
     crates.reverse()
     with concurrent.futures.ThreadPoolExecutor(at_once()) as pool:
         try:
-            counts = list(pool.map(lambda it: try_crate(rt, it, words[1:], has_more), crates))
+            names = [it.removesuffix(".edit") for it in words[1:]]
+            counts = list(pool.map(lambda it: try_crate(rt, it, names, has_more), crates))
         except ValueError as error:
             sys.exit(str(error))
     total, failed = (sum(it) for it in zip(*counts))

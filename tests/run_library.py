@@ -7,11 +7,12 @@ bplist_calls the form of a request.
 """
 import argparse
 import dataclasses
+import functools
 import os
 import subprocess
 import sys
 
-from run_vectors import SHOWN, content, escaped, readable
+from run_vectors import SHOWN, content, escaped, read_table, readable, row_of
 
 SECONDS = 300
 WITH_PATH = ("size", "keys")
@@ -36,14 +37,6 @@ def request(vector):
     if name in WITH_PATH:
         operands = [escaped(operand).hex() for operand in operands]
     return "\t".join([*inputs, name, *operands])
-
-
-def read_table(path, prefix):
-    """The vectors whose name begins so. All lines of one file and certificate have one name."""
-    with open(path, encoding="utf-8", newline="\n") as lines:
-        next(lines)
-        vectors = [Vector(*line.rstrip("\n").split("\t")) for line in lines]
-    return [vector for vector in vectors if vector.name.startswith(prefix)]
 
 
 def answers(vectors, program):
@@ -77,7 +70,7 @@ def main():
     parser.add_argument("table")
     parser.add_argument("program")
     given = parser.parse_args()
-    vectors = read_table(given.table, given.only)
+    vectors = read_table(given.table, given.only, functools.partial(row_of, Vector))
     told, complaint = answers(vectors, os.path.abspath(given.program))
     return 1 if report(vectors, told, complaint) else 0
 

@@ -303,11 +303,35 @@ def following(vector):
         yield follows(vector, "text", " ".join(["show", "--text", "--limit", limit, *flags, file, path]))
 
 
-def read_table(path, prefix):
-    with open(path, encoding="utf-8", newline="\n") as lines:
-        next(lines)
-        vectors = [Vector(*line.rstrip("\n").split("\t")) for line in lines]
-    return [vector for vector in vectors if vector.name.startswith(prefix)]
+def row_of(kind, place, line):
+    """The row of a line, which has a column for each field of its kind."""
+    columns = line.rstrip("\n").split("\t")
+    wanted = len(dataclasses.fields(kind))
+    if len(columns) != wanted:
+        raise ValueError(f"{place} {columns[0]}: {len(columns)} columns, {wanted} wanted")
+    return kind(*columns)
+
+
+def vector_of(place, line):
+    """The row of a line of a table of runs, whose columns for bytes can be read."""
+    vector = row_of(Vector, place, line)
+    for name in ("file", "cert", "stdin"):
+        column = getattr(vector, name)
+        if "=" not in column and not re.fullmatch(r"|-|@absent|@\w+\(.*\)|([0-9a-fA-F]{2})*", column):
+            raise ValueError(f"{place} {vector.name}: {name} is neither hexadecimal nor @NAME(..)")
+    return vector
+
+
+def read_table(path, prefix, read=vector_of):
+    """The rows of a table whose name begins so. A table that cannot be read, or has none, ends the program."""
+    try:
+        with open(path, encoding="utf-8", newline="\n") as lines:
+            next(lines)
+            vectors = [read(f"{path}:{number}", line) for number, line in enumerate(lines, 2)]
+    except ValueError as error:
+        sys.exit(str(error))
+    found = [vector for vector in vectors if vector.name.startswith(prefix)]
+    return found or sys.exit(f"{path}: no row begins with {prefix}")
 
 
 def by_standard_input(vector):

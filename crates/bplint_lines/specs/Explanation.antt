@@ -11,6 +11,7 @@ use Rattle.bplint_lines.specs.declared.rule_texts.TheConstants.{TEXTS}
 -- what a rule asks, and something that breaks it: its row of the table
 abbrev pub demand_of : Rule → List ℕ
 demand_of rule = get_or (map (λ row. row.0.now) TEXTS) (number_of rule - 1) []
+
 abbrev pub breach_of : Rule → List ℕ
 breach_of rule = get_or (map (λ row. row.1.now) TEXTS) (number_of rule - 1) []
 

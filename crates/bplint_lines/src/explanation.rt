@@ -193,7 +193,9 @@ fn key_line<S: Source>(
     if head.kind != Kind::Dict || index >= head.count {
         return Ok(String::new(alloc));
     }
-    let units = key_units(alloc, src, frame, &head, index)?;
+    let Some(units) = key_units(alloc, src, frame, &head, index)? else {
+        return Ok(format!(in alloc; "  key {index}: no text\n")?);
+    };
     let mut line = format!(in alloc; "  key {index}: ")?;
     for octet in text_of_units(alloc, &units)? {
         line.push(octet as char)?;

@@ -8,7 +8,7 @@ ghost use Rattle.bplist_objects.specs.Safe.{IsSafe, IsSafeFrame, IsSafeHead, ref
 ghost use Rattle.bplint_lines.specs.Answers.{read_failed};
 
 use crate::fault::RunFault;
-use crate::member_names::{add_index_name, add_key_name};
+use crate::member_names::{add_index, add_index_name, add_key_name};
 use bplist_objects::{Frame, Head, Kind, ObjectFault, ObjectNo, read_units, ref_at, shape_of};
 use bplist_octets::Source;
 use std::alloc::{AllocError, Global};
@@ -197,20 +197,22 @@ fn add_step<S: Source>(
         return Ok(());
     };
     if head.kind == Kind::Dict && step.index < head.count {
-        let units = key_units(alloc, src, frame, &head, step.index)?;
-        return Ok(add_key_name(alloc, "", step.index, &units, path)?);
+        return match key_units(alloc, src, frame, &head, step.index)? {
+            Some(units) => Ok(add_key_name(alloc, "", step.index, &units, path)?),
+            None => Ok(add_index(alloc, step.index, path)?),
+        };
     }
     Ok(add_index_name(alloc, "", step.index, path)?)
 }
 
-/// The first units of a key of a dictionary, none where it is no text.
+/// The first units of a key of a dictionary, if it is a text.
 pub(crate) fn key_units<S: Source>(
     alloc: Global,
     src: &mut S,
     frame: &Frame,
     head: &Head,
     index: u64,
-) -> Result<Vec<u16>, RunFault>
+) -> Result<Option<Vec<u16>>, RunFault>
     requires safe { IsSafe (length (S.means src.old).octets) frame.now }
     requires head { IsSafeHead frame.now head.now }
     requires within { index < ref_count head.now.kind head.now.count }
@@ -218,16 +220,16 @@ pub(crate) fn key_units<S: Source>(
 {
     let key = ref_at(src, frame, head, index)?;
     if key >= frame.objects as u64 {
-        return Ok(Vec::new(alloc));
+        return Ok(None);
     }
     let _length = src.len();
     match head_in(src, frame, ObjectNo(key as u32))? {
         Some(text) if text.kind == Kind::Ascii || text.kind == Kind::Wide => {
             let mut units = vec![in alloc; 0u16; text.count.min(KEY_UNITS) as usize]?;
             read_units(src, &text, 0, &mut units)?;
-            Ok(units)
+            Ok(Some(units))
         }
-        _ => Ok(Vec::new(alloc)),
+        _ => Ok(None),
     }
 }
 
