@@ -17,7 +17,8 @@ HEAD = """# Definitions
 
 Each definition that the contract of a public call cites, with the plain words above it in its file. Behind the file's name stand those
 that only definitions cite; a reader of the promises has to believe these too. Definitions use only what stands above them. The head of
-each file names its source. `tests/definitions.py --write` makes this page, and the gate compares.
+each file names its source: Apple's published CFBinaryPList.c, a standard, or `profile`, a choice of this project.
+`tests/definitions.py --write` makes this page, and the gate compares.
 
 The calls of the theorem lead to {} definitions of {} lines, all public calls to {} of {}.
 """
