@@ -1,4 +1,5 @@
 mod Findings
 mod Layouts
 mod Orders
+mod RowOrder
 mod MapText

@@ -2,8 +2,17 @@
 
 ghost use Rattle.std.specs.Prelude.{◌≡◌, ◌⊎◌, ◌↔◌, ◌≤◌, ◌<◌, ℕ, List, codes};
 ghost use Rattle.std.specs.List.{Any};
+ghost use Rattle.bplist_objects.specs.declared.frame.Frame.{Frame as frame};
 ghost use Rattle.bplint_map.specs.Layout.{AreInOrder, IsRegion, objects_at, parts};
+ghost use Rattle.bplint_map.specs.Rows.{AreFindings, IsByPlace, rows};
+ghost use Rattle.bplint_map.specs.declared.rows.Finding.{Finding as finding};
 ghost use Rattle.bplint_map.specs.declared.rows.Row.{Row as row};
+
+/// The rows of every map stand in order, as the two other laws ask.
+pub fn rows_are_in_order()
+    ensures { (f : List ℕ) (F : frame) (findings : ℕ → finding) (left : ℕ) (order : List ℕ) → AreFindings f F findings
+        → IsByPlace f F order → AreInOrder (rows f F findings left order) }
+{}
 
 /// Gaps are all bytes from place 8 up to the offset table that lie in no object, and no others.
 pub fn gaps_are_all()

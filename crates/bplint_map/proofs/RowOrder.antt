@@ -1,0 +1,66 @@
+-- The rows of a map stand in order.
+use Rattle.std.proofs.Common.{◌≡◌, ℕ, zero, suc, ◌<◌, ◌≤◌, List, [], ◌∷◌, All, false, length, refl, ap, slice_index_or, arith, Ordering, Less, Equal, Greater}
+use Rattle.std.specs.List.{AllPairs, range_with_len}
+use Rattle.std.specs.List.Sorted.{IsNonDecreasingBy}
+use Rattle.std.specs.Ordering.{is_lt, nat_cmp, ordering_then}
+use Rattle.std.proofs.lemmas.List.Elements.{All-cons, All-nil}
+use Rattle.std.proofs.lemmas.List.FromFn.{get_or-range_with_len, length-range_with_len}
+use Rattle.std.proofs.lemmas.List.Sorted.{All-permutation, IsNonDecreasingBy-from_sort}
+use Rattle.bplist_objects.specs.declared.frame.Frame.{Frame}
+use Rattle.bplist_objects.specs.Frame.{off}
+use Rattle.bplint_map.specs.declared.rows.Finding.{Finding}
+use Rattle.bplint_map.specs.declared.rows.Finding.TheVariants.{Whole, Wrong, Lost}
+use Rattle.bplint_map.specs.declared.rows.Row.{Row}
+use Rattle.bplint_map.specs.Layout.{AreInOrder, row_end}
+use Rattle.bplint_map.specs.Rows.{AreFindings, IsByPlace, IsFinding, row, rows, shown}
+
+-- what is not less by a first order and then a second is not less by the first
+first_not_less : (a b : Ordering) → is_lt (ordering_then a b) ≡ false → is_lt a ≡ false
+first_not_less Less b h = h
+first_not_less Equal b h = refl
+first_not_less Greater b h = refl
+
+range_low : (n : ℕ) → All (λ k. k < n) (range_with_len 0 n)
+range_low n = λ k d l.
+    let low : k < n = omega (arith, l, length-range_with_len 0 n) in
+    omega (arith, low, get_or-range_with_len 0 n k d low)
+
+module _ (f : List ℕ) (F : Frame) (findings : ℕ → Finding) where
+  places_ascend : (order : List ℕ) → IsByPlace f F order → IsNonDecreasingBy (off f F) order
+  places_ascend order by = IsNonDecreasingBy-from_sort (off f F) order (λ k d low l. first_not_less _ _ (by.1 k d low l))
+
+  rows_long : (order : List ℕ) (left : ℕ) → length (rows f F findings left order) ≡ length order
+  rows_long [] left = refl
+  rows_long (n ∷ ns) left = ap suc (rows_long ns _)
+
+  row_place : (order : List ℕ) (left k : ℕ) (d : Row) → k < length order
+      → (slice_index_or (rows f F findings left order) k d).place ≡ off f F (slice_index_or order k 0)
+  row_place [] left k d l = absurd (omega (arith, l))
+  row_place (n ∷ ns) left zero d l = refl
+  row_place (n ∷ ns) left (suc k) d l = row_place ns _ k d (omega (arith, l))
+
+  finding_low : (n left : ℕ) (x : Finding) → IsFinding f F n x
+      → off f F n < row_end (record { number = n; place = off f F n; finding = shown left (off f F n) x }) → 8 ≤ off f F n
+  finding_low n left (Whole head) is short = is.0.low
+  finding_low n left (Wrong head rule) is short = is.0.low
+  finding_low n left (Lost rule) is short = absurd (omega (arith, short))
+
+  rows_low : (order : List ℕ) (left : ℕ) → AreFindings f F findings → All (λ n. n < F.objects) order
+      → All (λ (r : Row). r.place < row_end r → 8 ≤ r.place) (rows f F findings left order)
+  rows_low [] left are all = All-nil (λ (r : Row). r.place < row_end r → 8 ≤ r.place)
+  rows_low (n ∷ ns) left are all =
+      All-cons (λ (r : Row). r.place < row_end r → 8 ≤ r.place) (row f F findings left n) (rows f F findings _ ns)
+      (finding_low n left (findings n) (are n (all 0 0 (omega arith))))
+      (rows_low ns _ are (λ k d l. all (suc k) d (omega (arith, l))))
+
+  pub rows_in_order : (left : ℕ) (order : List ℕ) → AreFindings f F findings → IsByPlace f F order → AreInOrder (rows f F findings left order)
+  rows_in_order left order are by =
+      let long = rows_long order left in
+      let pairs : AllPairs (λ (r s : Row). r.place ≤ s.place) (rows f F findings left order) = λ i j d before l.
+      omega (
+        arith,
+        row_place order left i d (omega (arith, before, l, long)),
+        row_place order left j d (omega (arith, l, long)),
+        places_ascend order by i j 0 (omega (arith, before)) (omega (arith, l, long)),
+      ) in
+      (rows_low order left are (All-permutation (λ n. n < F.objects) _ _ by.0 (range_low F.objects)), pairs)
