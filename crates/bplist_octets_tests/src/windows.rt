@@ -139,6 +139,18 @@ fn forward_in_whole_panes(rt: HostRuntime) {
     }
 }
 
+/// The same backward: of the last 368 bytes, of four times as many twice, and five of 15,360. The ninth read would fail.
+#[test]
+fn backward_in_large_parts(rt: HostRuntime) {
+    let bytes = numbered();
+    let mut source = FaultySource::new(&bytes, 8);
+    let mut panes = [Pane::EMPTY; 2];
+    let mut windows = Windows::new(&mut source, &mut panes);
+    for k in 1..701 {
+        answers(&rt, &mut windows, &bytes, (70_000 - k * 100, 100, Ok(())));
+    }
+}
+
 #[test]
 fn panes_that_held_another_source(rt: HostRuntime) {
     let mut panes = [Pane::EMPTY; 1];
