@@ -1,5 +1,5 @@
 -- What the marker alone says of an object.
-use Rattle.std.proofs.Common.{◌≡◌, ℕ, zero, suc, ◌+◌, ◌-◌, ◌*◌, ◌<◌, ◌≤◌, Bool, true, false, ◌&&◌, nat_eq, if◌then◌else◌, List, [], ◌∷◌, length, slice_index, Option, Some, None, sym, ap, ◌∙◌, arith, refl, subst}
+use Rattle.std.proofs.Common.{◌≡◌, ℕ, zero, suc, ◌+◌, ◌-◌, ◌*◌, ◌<◌, ◌≤◌, Bool, true, false, ◌&&◌, nat_eq, if◌then◌else◌, List, [], ◌∷◌, length, slice_index, Option, Some, None, ◌⊎◌, inl, inr, IsTrue, sym, ap, ◌∙◌, arith, refl, subst}
 use Rattle.std.proofs.lemmas.Bool.Decides.{nat_tests}
 use Rattle.std.proofs.lemmas.Bool.{false≢true}
 use Rattle.std.specs.Option.{option_map, option_and_then}
@@ -13,10 +13,10 @@ use Rattle.bplist_objects.specs.declared.kind.Kind.TheVariants as kinds
 use Rattle.bplist_objects.specs.Frame.{off}
 use Rattle.bplist_objects.specs.Safe.{ref_count}
 use Rattle.bplist_objects.specs.Rules.{KeepsAll}
-use Rattle.bplist_objects.specs.Announced.{Markers, plain, counted, markers_of, Marks, HasHead, kind_at, count_found, long_found, item_size}
+use Rattle.bplist_objects.specs.Announced.{Markers, plain, counted, markers_of, Marks, AnnouncesAs, HasHead, kind_at, count_found, long_found, item_size}
 use Rattle.bplist_objects.specs.ObjectRules.{KeepsByObject, IsObjectFault, shape_rules, body_rules, object_rules}
 use Rattle.bplist_objects.specs.Visits.{is_looked_into, count_in, size_of_kind, size_said}
-use Rattle.bplist_objects.proofs.HeadLaws.{marked_kind, found_announced, head_announced}
+use Rattle.bplist_objects.proofs.HeadLaws.{marked_kind, kind_marked, announced_marks, found_announced, head_announced, head_parts}
 use Rattle.bplist_objects.proofs.ShapeLaws.{shape_kept, shape_extent}
 use Rattle.bplist_objects.proofs.BodyLaws.{HasHead-unique}
 use Rattle.bplist_objects.proofs.RuleLaws.{kept_all_after}
@@ -174,3 +174,33 @@ module _ (f : List ℕ) (F : Frame) (n size : ℕ) (far : 8 ≤ off f F n) (said
   pub said_late : F.table < o + size → (fault : Fault) → fault.rule ≡ Extent → fault.object ≡ Some (record { 0 = n }) → fault.place ≡ o
       → IsObjectFault f F n shape_rules fault
   said_late l = shape_extent f F n far head has (omega (arith, l, ends))
+
+-- an object whose marker does not say its size has a body that a rule looks into, or a count behind the marker
+module _ (f : List ℕ) (F : Frame) (n : ℕ) (head : Head) (h : HasHead f F n head) where
+  parts : AnnouncesAs f (off f F n) (markers_of head.kind) head.count head.body
+  parts = (head_parts f F n head h).0
+
+  count_unsaid : is_looked_into head.kind ≡ false → size_said (slice_index f (off f F n)) ≡ None
+      → count_in (markers_of head.kind) (slice_index f (off f F n)) ≡ None
+  count_unsaid free none =
+      let marker = slice_index f (off f F n) in
+      let kind = kind_marked marker head.kind (announced_marks f (off f F n) (markers_of head.kind) head.count head.body parts) in
+      of_count (count_in (markers_of head.kind) marker) ((rw (kind, free) at none))
+    where
+      of_count : (found : Option ℕ) → option_map (λ count. 1 + count * item_size 1 head.kind) found ≡ None → found ≡ None
+      of_count None e = refl
+      of_count (Some count) e = absurd (cc e)
+
+  follows : (form : Markers) → AnnouncesAs f (off f F n) form head.count head.body → count_in form (slice_index f (off f F n)) ≡ None
+      → off f F n + 1 < head.body
+  follows (plain low high says) a e = absurd (cc e)
+  follows (counted high) (inl a) e =
+      let short : nat_eq (slice_index f (off f F n)) (16 * high + 15) ≡ false = grind (arith, nat_tests) in absurd (cc (rw short at e))
+  follows (counted high) (inr a) e = omega (arith, a.1.4)
+
+  pub unsaid : size_said (slice_index f (off f F n)) ≡ None → IsTrue (is_looked_into head.kind) ⊎ (off f F n + 1 < head.body)
+  unsaid none = go (is_looked_into head.kind) refl
+    where
+      go : (looked : Bool) → is_looked_into head.kind ≡ looked → IsTrue (is_looked_into head.kind) ⊎ (off f F n + 1 < head.body)
+      go true s = inl s
+      go false s = inr (follows (markers_of head.kind) parts (count_unsaid s none))

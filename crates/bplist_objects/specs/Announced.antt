@@ -10,11 +10,8 @@ use Rattle.bplist_objects.specs.Frame.{off}
 
 -- how many bytes of the body each of the count takes
 abbrev pub item_size : ℕ → Kind → ℕ
-item_size ref_size kinds.Wide = 2
-item_size ref_size kinds.Array = ref_size
-item_size ref_size kinds.Set = ref_size
-item_size ref_size kinds.Dict = 2 * ref_size
-item_size ref_size _ = 1
+item_size ref_size kind =
+    elim kind [ kinds.Wide ↦ 2 | kinds.Array ↦ ref_size | kinds.Set ↦ ref_size | kinds.Dict ↦ 2 * ref_size | _ ↦ 1 ]
 
 -- how markers say a count: each from the least to the greatest its own, or all with this high half in the low half, where 15 says that it follows
 pub data Markers : Type 0 where

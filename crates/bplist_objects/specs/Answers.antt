@@ -1,23 +1,16 @@
 -- What a call that reads answers. Source: profile.
-use Rattle.std.specs.Prelude.{Result, Ok, Err, MatchResult, Bool, true, false}
+use Rattle.std.specs.Prelude.{Result, Err, MatchResult, Bool, true, false}
 use Rattle.bplist_objects.specs.declared.fault.Fault.{Fault}
 use Rattle.bplist_objects.specs.declared.fault.ObjectFault.{ObjectFault}
 use Rattle.bplist_objects.specs.declared.fault.ObjectFault.TheVariants as errors
 
--- the error is a failed read
-abbrev pub is_read : ObjectFault → Bool
-is_read (errors.Fault _) = false
-is_read (errors.Read _) = true
-
 -- the answer is a failed read
 abbrev pub read_failed : {X : Type 0} → Result X ObjectFault → Bool
-read_failed (Ok x) = false
-read_failed (Err e) = is_read e
+read_failed answer = elim answer [ Err (errors.Read _) ↦ true | _ ↦ false ]
 
 -- Q holds of the fault, unless a read failed
 abbrev pub GivesFault : (Fault → Type 0) → ObjectFault → Type 0
-GivesFault Q (errors.Fault fault) = Q fault
-GivesFault Q (errors.Read _) = Unit {0}
+GivesFault Q error = elim error [ errors.Fault fault ↦ Q fault | _ ↦ Unit {0} ]
 
 -- P holds of the value, or Q of the fault unless a read failed
 abbrev pub Gives : {X : Type 0} → (X → Type 0) → (Fault → Type 0) → Result X ObjectFault → Type 0

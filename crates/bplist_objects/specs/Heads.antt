@@ -21,10 +21,7 @@ pub data Content : Type 0 where
 
 -- the references in written order; of a dictionary keys first, then values
 abbrev pub refs : Content → List ℕ
-refs (leaf l) = []
-refs (array ms) = ms
-refs (set ms) = ms
-refs (dict ks ms) = ks ++ ms
+refs content = elim content [ leaf l ↦ [] | array ms ↦ ms | set ms ↦ ms | dict ks ms ↦ ks ++ ms ]
 
 -- rules 18 and 19: Ascii bytes are below 128, a UID is not too large
 abbrev pub is_proper : List ℕ → Kind → ℕ → ℕ → Bool

@@ -24,3 +24,4 @@ pub mod Spelled
 pub mod SmallFiles
 pub mod Framed
 pub mod Visits
+pub mod Prelude

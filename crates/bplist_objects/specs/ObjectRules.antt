@@ -45,9 +45,7 @@ KeepsByObject f F n _ = Unit {0}
 
 -- where object n breaks a rule of 14 to 17, or rule 19
 abbrev pub place_of : List ℕ → Frame → ℕ → Rule → ℕ
-place_of f F n OffsetLow = F.table + n * F.offset_size
-place_of f F n Count = off f F n + 1
-place_of f F n _ = off f F n
+place_of f F n rule = elim rule [ OffsetLow ↦ F.table + n * F.offset_size | Count ↦ off f F n + 1 | _ ↦ off f F n ]
 
 -- object n breaks this rule at this place
 abbrev pub BreaksByObject : List ℕ → Frame → ℕ → Rule → ℕ → Type 0

@@ -31,10 +31,7 @@ MayCount kind count = MarkersCount (markers_of kind) count
 
 -- how many references a head has
 abbrev pub ref_count : Kind → ℕ → ℕ
-ref_count kinds.Array count = count
-ref_count kinds.Set count = count
-ref_count kinds.Dict count = 2 * count
-ref_count _ count = 0
+ref_count kind count = elim kind [ kinds.Array ↦ count | kinds.Set ↦ count | kinds.Dict ↦ 2 * count | _ ↦ 0 ]
 
 -- the parts of an object with this head lie before the table
 pub record IsSafeHead (frame : Frame) (head : Head) : Type 0 where

@@ -11,15 +11,11 @@ use Rattle.bplist_objects.specs.Numbers.{nums_at}
 
 -- the kinds of texts
 abbrev pub IsTextKind : Kind → Type 0
-IsTextKind kinds.Ascii = Unit {0}
-IsTextKind kinds.Wide = Unit {0}
-IsTextKind _ = ⊥
+IsTextKind kind = elim kind [ kinds.Ascii ↦ Unit {0} | kinds.Wide ↦ Unit {0} | _ ↦ ⊥ ]
 
 -- consecutive units of a text of this kind; a byte is one unit
 abbrev pub units_at : List ℕ → Kind → ℕ → ℕ → List ℕ
-units_at f kinds.Ascii count at = part f at count
-units_at f kinds.Wide count at = nums_at f at 2 count
-units_at f _ count at = []
+units_at f kind count at = elim kind [ kinds.Ascii ↦ part f at count | kinds.Wide ↦ nums_at f at 2 count | _ ↦ [] ]
 
 -- the units of the text with this head
 abbrev pub units_of : List ℕ → Head → List ℕ

@@ -1,5 +1,5 @@
 -- What the first look at an object finds. Source: profile.
-use Rattle.std.specs.Prelude.{◌≡◌, ℕ, ◌+◌, ◌-◌, ◌*◌, ◌<◌, ◌≤◌, Bool, true, false, nat_eq, if◌then◌else◌, List, slice_index, Option, Some, None}
+use Rattle.std.specs.Prelude.{◌≡◌, ℕ, ◌+◌, ◌-◌, ◌*◌, ◌<◌, ◌≤◌, ◌⊎◌, Bool, true, false, IsTrue, nat_eq, if◌then◌else◌, List, Option, Some, None}
 use Rattle.std.specs.Option.{option_map, option_and_then}
 use Rattle.bplist_objects.specs.declared.frame.Frame.{Frame}
 use Rattle.bplist_objects.specs.declared.kind.Kind.{Kind}
@@ -15,12 +15,8 @@ use Rattle.bplist_objects.specs.ObjectRules.{KeepsByObject, shape_rules, object_
 
 -- a rule looks into bodies of this kind
 abbrev pub is_looked_into : Kind → Bool
-is_looked_into kinds.Ascii = true
-is_looked_into kinds.Uid = true
-is_looked_into kinds.Array = true
-is_looked_into kinds.Set = true
-is_looked_into kinds.Dict = true
-is_looked_into _ = false
+is_looked_into kind =
+    elim kind [ kinds.Ascii ↦ true | kinds.Uid ↦ true | kinds.Array ↦ true | kinds.Set ↦ true | kinds.Dict ↦ true | _ ↦ false ]
 
 -- the count that a marker of this form holds, if it does not follow
 abbrev pub count_in : Markers → ℕ → Option ℕ
@@ -36,13 +32,14 @@ size_of_kind marker kind =
 abbrev pub size_said : ℕ → Option ℕ
 size_said marker = option_and_then (size_of_kind marker) (kind_at marker)
 
--- a visit of object n finds this: its end, where it keeps all rules of objects by themselves and has no references, or else, where its marker does not say its size, its head
+-- a visit of object n finds this: its end, where it keeps all rules of objects by themselves and has no references; or its head, where a rule looks into its body or its count follows the marker
 abbrev pub IsVisited : List ℕ → Frame → ℕ → Visit → Type 0
 IsVisited f F n (visits.Done last) =
     (head : Head) × HasHead f F n head × (head.«end» ≡ last) × (ref_count head.kind head.count ≡ 0)
     × KeepsAll (KeepsByObject f F n) object_rules
 IsVisited f F n (visits.Body head) =
-    HasHead f F n head × KeepsAll (KeepsByObject f F n) shape_rules × (size_said (slice_index f (off f F n)) ≡ None)
+    HasHead f F n head × KeepsAll (KeepsByObject f F n) shape_rules
+    × (IsTrue (is_looked_into head.kind) ⊎ (off f F n + 1 < head.body))
 
 -- what a visit of an object at this place finds lies behind the place and before the table
 abbrev pub IsSafeVisit : Frame → ℕ → Visit → Type 0

@@ -1,18 +1,7 @@
 //! The bodies of objects, and heads by all rules of an object by itself.
 
 ghost use Rattle.std.specs.Prelude.{◌≡◌, ◌+◌, ◌*◌, ◌≤◌, ◌<◌, IfOk, length};
-ghost use Rattle.bplist_octets.specs.Meaning.{OnlyReads, Honestly};
-ghost use Rattle.bplist_objects.specs.Framed.{HonestlyBy};
-ghost use Rattle.bplist_objects.specs.Numbers.{num_at};
-ghost use Rattle.bplist_objects.specs.Frame.{off};
-ghost use Rattle.bplist_objects.specs.Safe.{IsSafe, IsSafeHead, ref_count};
-ghost use Rattle.bplist_objects.specs.Answers.{Gives, Never, read_failed};
-ghost use Rattle.bplist_objects.specs.Rules.{KeepsAll};
-ghost use Rattle.bplist_objects.specs.Scan.{AreBelow};
-ghost use Rattle.bplist_objects.specs.Announced.{HasHead};
-ghost use Rattle.bplist_objects.specs.Heads.{Content, content_at, Spells, IsHeadOf};
-ghost use Rattle.bplist_objects.specs.ObjectRules.{KeepsByObject, IsObjectFault, body_rules, object_rules};
-ghost use Rattle.bplist_objects.specs.BodyFaults.{IsAsciiFault, IsUidFault, IsRefFault};
+ghost use Rattle.bplist_objects.specs.Prelude.{OnlyReads, Honestly, HonestlyBy, num_at, off, IsSafe, IsSafeHead, ref_count, Gives, Never, read_failed, KeepsAll, AreBelow, HasHead, Content, content_at, Spells, IsHeadOf, KeepsByObject, IsObjectFault, body_rules, object_rules, IsAsciiFault, IsUidFault, IsRefFault};
 
 use crate::fault::{ObjectFault, broken};
 use crate::frame::{Frame, ObjectNo};

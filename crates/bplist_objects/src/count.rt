@@ -1,12 +1,7 @@
 //! The count of an object: in its marker, or as an integer object behind it.
 
 ghost use Rattle.std.specs.Prelude.{◌≡◌, ℕ, ◌+◌, ◌^◌, ◌≤◌, ◌<◌, List, false, true, IfOk, IfSome, MatchOption, length, slice_index};
-ghost use Rattle.bplist_octets.specs.Meaning.{OnlyReads, Honestly};
-ghost use Rattle.bplist_objects.specs.Answers.{Gives, read_failed};
-ghost use Rattle.bplist_objects.specs.Announced.{Marks, markers_of, is_counted, IsLongOf, HasLongCount, Announces};
-ghost use Rattle.bplist_objects.specs.Numbers.{num_at};
-ghost use Rattle.bplist_objects.specs.Safe.{MayCount};
-ghost use Rattle.bplist_objects.specs.CountFaults.{IsLongCountFault};
+ghost use Rattle.bplist_objects.specs.Prelude.{OnlyReads, Honestly, Gives, read_failed, Marks, markers_of, is_counted, IsLongOf, HasLongCount, Announces, num_at, MayCount, IsLongCountFault};
 
 use crate::fault::{ObjectFault, broken};
 use crate::frame::ObjectNo;

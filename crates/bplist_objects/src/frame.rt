@@ -1,16 +1,7 @@
 //! The frame of a file: the five numbers of its trailer.
 
 ghost use Rattle.std.specs.Prelude.{◌≡◌, ℕ, ◌^◌, ◌≤◌, ◌<◌, List, length, IfOk, MatchResult};
-ghost use Rattle.bplist_octets.specs.Octets.{part, num};
-ghost use Rattle.bplist_octets.specs.Meaning.{OnlyReads, Honestly};
-ghost use Rattle.bplist_objects.specs.Frame.{trailer as spelled, Keeps, IsFrame, number_rules};
-ghost use Rattle.bplist_objects.specs.Rules.{KeepsAll, IsFirstFault};
-ghost use Rattle.bplist_objects.specs.FrameRules.{Breaks, IsTrailer, IsTrailerFault, IsFrameFault};
-ghost use Rattle.bplist_objects.specs.Safe.{IsSafeFrame};
-ghost use Rattle.bplist_objects.specs.Trailer.{frame_of_trailer};
-ghost use Rattle.bplist_objects.specs.declared.rule.Rule.TheVariants.{Magic};
-ghost use Rattle.bplist_objects.specs.declared.frame.Frame.{Frame as frame};
-ghost use Rattle.bplist_objects.specs.Answers.{Gives, Never, read_failed};
+ghost use Rattle.bplist_objects.specs.Prelude.{part, num, OnlyReads, Honestly, trailer as spelled, Keeps, IsFrame, number_rules, KeepsAll, IsFirstFault, Breaks, IsTrailer, IsTrailerFault, IsFrameFault, IsSafeFrame, frame_of_trailer, Magic, Frame as frame, Gives, Never, read_failed};
 
 use crate::fault::{Fault, ObjectFault};
 use crate::offset_table::check_entries;

@@ -1,16 +1,7 @@
 //! The heads of objects: what marker and count say.
 
 ghost use Rattle.std.specs.Prelude.{◌≡◌, ◌<◌, ◌≤◌, true, IfOk, length, slice_index};
-ghost use Rattle.bplist_octets.specs.Meaning.{OnlyReads};
-ghost use Rattle.bplist_objects.specs.Framed.{HonestlyBy};
-ghost use Rattle.bplist_objects.specs.Frame.{off};
-ghost use Rattle.bplist_objects.specs.Safe.{IsSafe, IsSafeHead};
-ghost use Rattle.bplist_objects.specs.Answers.{Gives, Never, read_failed};
-ghost use Rattle.bplist_objects.specs.Rules.{KeepsAll};
-ghost use Rattle.bplist_objects.specs.Announced.{markers_of, is_counted, IsLongOf, HasHead};
-ghost use Rattle.bplist_objects.specs.Heads.{HasShape};
-ghost use Rattle.bplist_objects.specs.declared.head.Head.{Head as head};
-ghost use Rattle.bplist_objects.specs.ObjectRules.{KeepsByObject, IsObjectFault, shape_rules};
+ghost use Rattle.bplist_objects.specs.Prelude.{OnlyReads, HonestlyBy, off, IsSafe, IsSafeHead, Gives, Never, read_failed, KeepsAll, markers_of, is_counted, IsLongOf, HasHead, HasShape, Head as head, KeepsByObject, IsObjectFault, shape_rules};
 
 use crate::count::{long_count, short_count};
 use crate::fault::{ObjectFault, broken};

@@ -2,24 +2,8 @@
 
 ghost use Rattle.std.specs.Prelude.{◌≡◌, ◌↔◌, ◌⊎◌, ℕ, ◌+◌, ◌*◌, ◌^◌, ◌<◌, ◌≤◌, true, List, [], ◌∷◌, Contains, length, slice_index, Option, Some};
 ghost use Rattle.bplist_objects.specs.declared.fault.Fault.{Fault as fault};
-ghost use Rattle.bplist_objects.specs.declared.frame.Frame.{Frame as frame};
-ghost use Rattle.bplist_objects.specs.declared.frame.ObjectNo.{ObjectNo as object_no};
-ghost use Rattle.bplist_objects.specs.declared.head.Head.{Head as head};
-ghost use Rattle.bplist_objects.specs.declared.rule.Rule.{Rule as rule};
-ghost use Rattle.bplist_objects.specs.Frame.{Keeps, frame_rules, IsFrame};
-ghost use Rattle.bplist_objects.specs.Value.{Value, leaf, boolean, array, value, no_values, dict, pair, no_pairs};
-ghost use Rattle.bplist_objects.specs.Heads.{Content, refs, content_at, HasShape, Spells, IsHeadOf};
-ghost use Rattle.bplist_objects.specs.Holds.{Holds};
-ghost use Rattle.bplist_objects.specs.File.{FileHolds};
-ghost use Rattle.bplist_objects.specs.Rules.{KeepsAll};
-ghost use Rattle.bplist_objects.specs.Scan.{nth_number};
-ghost use Rattle.bplist_objects.specs.FrameRules.{Breaks, IsFrameFault};
-ghost use Rattle.bplist_objects.specs.Announced.{HasHead};
-ghost use Rattle.bplist_objects.specs.ObjectRules.{KeepsByObject, BreaksByObject, shape_rules, object_rules, IsObjectFault};
-ghost use Rattle.bplist_objects.specs.Safe.{ref_count, IsSafe, IsSafeFrame, IsSafeHead};
-ghost use Rattle.bplist_objects.specs.Spelled.{spelled_at, refs_at};
-ghost use Rattle.bplist_objects.specs.Reach.{Refs, Chain, Founded};
-ghost use Rattle.bplist_objects.specs.SmallFiles.{small_file};
+ghost use Rattle.bplist_objects.specs.Prelude.{Frame as frame, ObjectNo as object_no, Head as head, Rule as rule, Keeps, frame_rules, IsFrame, Value, boolean, array, value, no_values, dict, pair, no_pairs, Content, refs, content_at, HasShape, Spells, IsHeadOf, Holds, FileHolds, KeepsAll, nth_number, Breaks, IsFrameFault, HasHead, KeepsByObject, BreaksByObject, shape_rules, object_rules, IsObjectFault, ref_count, IsSafe, IsSafeFrame, IsSafeHead, spelled_at, refs_at, Refs, Chain, Founded, small_file};
+ghost use Rattle.bplist_objects.specs.Value.{leaf};
 
 /// At one place marker and count say at most one head.
 pub fn one_shape()

@@ -1,13 +1,7 @@
 //! The values of leaves, read at a head.
 
 ghost use Rattle.std.specs.Prelude.{◌≡◌, ◌⊎◌, ◌+◌, ◌*◌, ◌^◌, ◌%◌, ◌≤◌, length, IfOk, OnOk, is_err};
-ghost use Rattle.bplist_octets.specs.Octets.{part};
-ghost use Rattle.bplist_octets.specs.Meaning.{OnlyReads, Honestly};
-ghost use Rattle.bplist_objects.specs.Numbers.{integer, num_at};
-ghost use Rattle.bplist_objects.specs.Announced.{item_size};
-ghost use Rattle.bplist_objects.specs.Kinds.{IsLeafKind};
-ghost use Rattle.bplist_objects.specs.Safe.{IsSafeBody};
-ghost use Rattle.bplist_objects.specs.declared.kind.Kind.TheVariants.{Int, Uid};
+ghost use Rattle.bplist_objects.specs.Prelude.{part, OnlyReads, Honestly, integer, num_at, item_size, IsLeafKind, IsSafeBody, Int, Uid};
 
 use crate::head::Head;
 use crate::numbers::wide_in;

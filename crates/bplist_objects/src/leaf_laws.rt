@@ -3,14 +3,9 @@
 ghost use Rattle.std.specs.Prelude.{◌≡◌, ◌↔◌, ℕ, ◌≤◌, List, ℤ};
 ghost use Rattle.std.specs.declared.cmp.Ordering.TheVariants.{Less, Equal};
 ghost use Rattle.std.specs.Ordering.{ordering_reverse};
-ghost use Rattle.bplist_octets.specs.Octets.{part};
-ghost use Rattle.bplist_objects.specs.declared.frame.Frame.{Frame as frame};
-ghost use Rattle.bplist_objects.specs.declared.head.Head.{Head as head};
+ghost use Rattle.bplist_objects.specs.Prelude.{part, Frame as frame, Head as head, integer, num_at, int, real, date, bytes, text, uid, content_at, Spells, IsTextKind, units_of, compare_units};
 ghost use Rattle.bplist_objects.specs.declared.kind.Kind.TheVariants as kinds;
-ghost use Rattle.bplist_objects.specs.Numbers.{integer, num_at};
-ghost use Rattle.bplist_objects.specs.Value.{int, real, date, bytes, text, uid};
-ghost use Rattle.bplist_objects.specs.Heads.{leaf, content_at, Spells};
-ghost use Rattle.bplist_objects.specs.Units.{IsTextKind, units_of, compare_units};
+ghost use Rattle.bplist_objects.specs.Heads.{leaf};
 
 /// What a body means as a leaf is what the calls that read leaves read there. A UID that an object
 /// spells is all in its low 32 bits.

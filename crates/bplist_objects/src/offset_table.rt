@@ -1,12 +1,7 @@
 //! The offset table, whose entries are the places of the objects.
 
 ghost use Rattle.std.specs.Prelude.{◌≡◌, ℕ, ◌+◌, ◌*◌, ◌≤◌, ◌<◌, length, slice_index, IfOk, OnOk, is_err};
-ghost use Rattle.bplist_octets.specs.Meaning.{OnlyReads, Honestly};
-ghost use Rattle.bplist_objects.specs.Frame.{off};
-ghost use Rattle.bplist_objects.specs.Safe.{IsSafe};
-ghost use Rattle.bplist_objects.specs.FrameRules.{AreEntriesLow, IsEntryFault};
-ghost use Rattle.bplist_objects.specs.Answers.{Gives, read_failed};
-ghost use Rattle.bplist_objects.specs.declared.rule.Rule.TheVariants.{OffsetHigh};
+ghost use Rattle.bplist_objects.specs.Prelude.{OnlyReads, Honestly, off, IsSafe, AreEntriesLow, IsEntryFault, Gives, read_failed, OffsetHigh};
 
 use crate::fault::{Fault, ObjectFault};
 use crate::frame::{Frame, ObjectNo};

@@ -1,16 +1,7 @@
 //! What stands in a file, by a source that knows its frame.
 
 ghost use Rattle.std.specs.Prelude.{◌≡◌, ℕ, ◌+◌, ◌*◌, ◌≤◌, ◌<◌, IfOk, OnOk, length, is_err, slice_index};
-ghost use Rattle.bplist_octets.specs.Meaning.{OnlyReads};
-ghost use Rattle.bplist_objects.specs.Framed.{frame_in, HonestlyIn};
-ghost use Rattle.bplist_objects.specs.Frame.{off};
-ghost use Rattle.bplist_objects.specs.Answers.{Gives, read_failed};
-ghost use Rattle.bplist_objects.specs.Safe.{IsSafeHead, ref_count};
-ghost use Rattle.bplist_objects.specs.Scan.{nth_number};
-ghost use Rattle.bplist_objects.specs.Heads.{IsHeadOf, HasShape};
-ghost use Rattle.bplist_objects.specs.Announced.{HasHead};
-ghost use Rattle.bplist_objects.specs.Rules.{KeepsAll};
-ghost use Rattle.bplist_objects.specs.ObjectRules.{KeepsByObject, IsObjectFault, object_rules, shape_rules};
+ghost use Rattle.bplist_objects.specs.Prelude.{OnlyReads, frame_in, HonestlyIn, off, Gives, read_failed, IsSafeHead, ref_count, nth_number, IsHeadOf, HasShape, HasHead, KeepsAll, KeepsByObject, IsObjectFault, object_rules, shape_rules};
 
 use crate::body::head_at;
 use crate::fault::ObjectFault;

@@ -1,12 +1,7 @@
 //! The first look at an object, which for many leaves is all of it.
 
 ghost use Rattle.std.specs.Prelude.{◌≡◌, ◌<◌, IfOk};
-ghost use Rattle.bplist_octets.specs.Meaning.{OnlyReads};
-ghost use Rattle.bplist_objects.specs.Framed.{frame_in, HonestlyIn};
-ghost use Rattle.bplist_objects.specs.Frame.{off};
-ghost use Rattle.bplist_objects.specs.Answers.{Gives, read_failed};
-ghost use Rattle.bplist_objects.specs.ObjectRules.{IsObjectFault, shape_rules};
-ghost use Rattle.bplist_objects.specs.Visits.{size_said, IsVisited, IsSafeVisit};
+ghost use Rattle.bplist_objects.specs.Prelude.{OnlyReads, frame_in, HonestlyIn, off, Gives, read_failed, IsObjectFault, shape_rules, size_said, IsVisited, IsSafeVisit};
 
 use crate::fault::{ObjectFault, broken};
 use crate::frame::ObjectNo;

@@ -7,17 +7,15 @@ use Rattle.bplist_octets.specs.Meaning.{Meaning}
 use Rattle.bplist_octets.specs.declared.faulty_source.FaultySource.{FaultySource}
 use Rattle.bplist_octets.specs.declared.shifting_source.ShiftingSource.{ShiftingSource}
 use Rattle.bplist_octets.specs.declared.source.ReadFault.{ReadFault}
-use Rattle.bplist_octets.specs.declared.source.ReadFault.TheVariants.{Device, Ended, TooManyTurns}
+use Rattle.bplist_octets.specs.declared.source.ReadFault.TheVariants.{Device, Ended}
 
 -- how many reads still succeed before the one that fails, after one more
 abbrev pub before_next : Option ℕ → Option ℕ
-before_next (Some (suc n)) = Some n
-before_next _ = None
+before_next before = elim before [ Some (suc n) ↦ Some n | _ ↦ None ]
 
 -- what the next read answers
 abbrev pub faulty_answer : Option ℕ → Result (Unit {0}) ReadFault
-faulty_answer (Some zero) = Err Device
-faulty_answer _ = Ok tt
+faulty_answer before = elim before [ Some zero ↦ Err Device | _ ↦ Ok tt ]
 
 -- the meaning of a source with a failing read, which is still to come or has failed
 abbrev pub faulty_meaning : FaultySource → Meaning
@@ -34,6 +32,4 @@ shifting_meaning s = record { octets = s.first.now; honest = false; failures = 0
 
 -- what an error of the reading loop says of its reader: with `Ended` no byte is left
 abbrev pub FillFailed : Option (List ℕ) → ReadFault → Type 0
-FillFailed known Ended = IsAtEnd known
-FillFailed known Device = Unit {0}
-FillFailed known TooManyTurns = Unit {0}
+FillFailed known fault = elim fault [ Ended ↦ IsAtEnd known | _ ↦ Unit {0} ]
