@@ -26,10 +26,10 @@ use Rattle.bplist_objects.proofs.Broken.{no_first_fault, no_object_fault}
 use Rattle.bplist_objects.proofs.References.{length-nums_at, all_refs, each_ref}
 use Rattle.bplist_objects.proofs.HeadTies.{kept_announces, kept_spells, spells_keeps, shape_announced}
 use Rattle.bplist_objects.proofs.FirstFaults.{no_frame}
+use Rattle.bplist_objects.specs.Scan.{ref}
 use Rattle.bplist_cert.specs.Lists.{Keyed, Lists, lists, list_of}
 use Rattle.bplist_cert.specs.Valid.{IsVouchedBy, IsVouched, IsValid}
 use Rattle.bplist_cert.specs.Sorted.{IsSorted, HasSortedKeys, AreListed, IsAccepted}
-use Rattle.bplist_cert.specs.Heights.{ref}
 use Rattle.bplist_cert.specs.Looks.{KeepBeforeKeysBelow}
 use Rattle.bplist_cert.specs.DictKeys.{KeysAreTexts, KeysDiffer, AreInOrder}
 use Rattle.bplist_cert.specs.CheckRules.{Asks, KeepsByCheck, BreaksByCheck, BreaksAtCheck, KeepsCheck, IsCheckFault, HasOrder, BreaksOrder, KeepsLast, vouched_rules, last_rule}

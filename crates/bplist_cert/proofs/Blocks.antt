@@ -4,8 +4,9 @@ use Rattle.std.proofs.lemmas.Bool.{cases_lt}
 use Rattle.bplist_objects.specs.declared.frame.Frame.{Frame}
 use Rattle.bplist_objects.specs.declared.head.Head.{Head}
 use Rattle.bplist_objects.specs.Safe.{ref_count}
+use Rattle.bplist_objects.specs.Scan.{ref}
 use Rattle.bplist_cert.specs.declared.heights.Wanted.{Wanted}
-use Rattle.bplist_cert.specs.Heights.{ref, Meets, AreMet, AreMetBy, IsFirstUnmet, IsFirstUnmetBy}
+use Rattle.bplist_cert.specs.Heights.{Meets, AreMet, AreMetBy, IsFirstUnmet, IsFirstUnmetBy}
 
 module _ (f : List ℕ) (F : Frame) (heights : List ℕ) (head : Head) (wanted : Wanted) (done : ℕ) (refs : List ℕ) where
   -- these are the references behind the first so many

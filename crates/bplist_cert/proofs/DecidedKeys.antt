@@ -12,10 +12,10 @@ use Rattle.bplist_objects.proofs.Lists.{Either, all_or_first}
 use Rattle.bplist_objects.proofs.KeptOrBroken.{object_kept_or_fault}
 use Rattle.bplist_objects.proofs.HeadTies.{kept_announces}
 use Rattle.bplist_objects.proofs.UnitOrder.{compare_units-cases, compare_units-less, compare_units-not_less}
-use Rattle.bplist_cert.specs.Heights.{ref}
 use Rattle.bplist_cert.specs.DictKeys.{IsText, IsKey, KeysAreTexts, IsFirstKeyless, KeysDiffer, IsFirstTwice}
 use Rattle.bplist_cert.specs.DictKeys.{AreInOrder}
 use Rattle.bplist_objects.specs.Claims.{FailsAt}
+use Rattle.bplist_objects.specs.Scan.{ref}
 use Rattle.bplist_cert.proofs.TextObjects.{text_there, no_text, other_kind}
 use Rattle.bplist_cert.proofs.OrderedLists.{text_once, IsInOrder}
 

@@ -19,12 +19,13 @@ use Rattle.bplist_objects.proofs.Lists.{Either, all_or_first}
 use Rattle.bplist_objects.proofs.KeptOrBroken.{frame_kept_or_fault, object_kept_or_fault}
 use Rattle.bplist_objects.proofs.FrameTies.{trailer_is_frame}
 use Rattle.bplist_objects.proofs.HeadTies.{kept_announces}
+use Rattle.bplist_objects.specs.Scan.{ref}
 use Rattle.bplist_cert.specs.declared.heights.Wanted.{Wanted}
 use Rattle.bplist_cert.specs.declared.heights.Wanted.TheVariants.{Vouched, Below, VouchedBelow}
 use Rattle.bplist_cert.specs.declared.checker.Look.TheVariants.{Exact}
 use Rattle.bplist_cert.specs.Lists.{Keyed, Lists, lists, list_of}
 use Rattle.bplist_cert.specs.Valid.{IsVouchedBy}
-use Rattle.bplist_cert.specs.Heights.{ref, Meets, AreMet, IsFirstUnmet, IsHeightFault}
+use Rattle.bplist_cert.specs.Heights.{Meets, AreMet, IsFirstUnmet, IsHeightFault}
 use Rattle.bplist_cert.specs.DictKeys.{KeysAreTexts}
 use Rattle.bplist_cert.specs.CheckRules.{KeepsLast, IsLastFault, IsKeysFault, IsCheckFault}
 use Rattle.bplist_cert.specs.PairFault.{IsCheckedObject, AreCheckedBelow, IsVouchedFault, IsCountFault, IsPairFault}

@@ -10,11 +10,11 @@ use Rattle.bplist_objects.specs.Safe.{ref_count}
 use Rattle.bplist_objects.specs.Answers.{Gives}
 use Rattle.bplist_objects.specs.Announced.{HasHead}
 use Rattle.bplist_objects.specs.Rules.{KeepsAll}
-use Rattle.bplist_objects.specs.Scan.{AreBelow}
+use Rattle.bplist_objects.specs.Scan.{AreBelow, ref}
 use Rattle.bplist_objects.specs.ObjectRules.{KeepsByObject, body_rules}
 use Rattle.bplist_objects.proofs.BodyLaws.{HasHead-unique}
 use Rattle.bplist_cert.specs.declared.heights.Wanted.TheVariants.{VouchedBelow}
-use Rattle.bplist_cert.specs.Heights.{ref, AreMet, AreLower}
+use Rattle.bplist_cert.specs.Heights.{AreMet, AreLower}
 use Rattle.bplist_cert.proofs.CheckSteps.{vouched_inside}
 
 module _ (f : List ℕ) (F : Frame) (heights : List ℕ) (n : ℕ) (head : Head) where

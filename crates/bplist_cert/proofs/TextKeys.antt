@@ -15,8 +15,8 @@ use Rattle.bplist_objects.specs.Holds.{AreDistinct}
 use Rattle.bplist_objects.specs.Units.{IsTextKind, units_at, units_of, compare_units}
 use Rattle.bplist_objects.proofs.References.{length-nums_at, nth-nums_at}
 use Rattle.bplist_objects.proofs.UnitOrder.{compare_units-less_less, compare_units-not_less}
+use Rattle.bplist_objects.specs.Scan.{ref}
 use Rattle.bplist_cert.specs.Valid.{SpellsText}
-use Rattle.bplist_cert.specs.Heights.{ref}
 use Rattle.bplist_cert.specs.DictKeys.{IsText, IsKey, KeysAreTexts, KeysDiffer, AreInOrder}
 use Rattle.bplist_cert.proofs.OrderedLists.{text_once}
 use Rattle.bplist_cert.proofs.AllNumbers.{onto}

@@ -14,15 +14,14 @@ use Rattle.bplist_objects.specs.Rules.{KeepsAll, IsFirstFault}
 use Rattle.bplist_objects.specs.ObjectRules.{KeepsByObject, IsObjectFault, object_rules}
 use Rattle.bplist_objects.specs.Extents.{IsOverfull}
 use Rattle.bplist_objects.specs.Claims.{FailsAt}
+use Rattle.bplist_objects.specs.Scan.{ref}
 use Rattle.bplist_cert.specs.Lists.{Keyed, Lists, IsWhole, list_of}
 use Rattle.bplist_cert.specs.Valid.{IsVouchedBy}
-use Rattle.bplist_cert.specs.Heights.{ref}
 use Rattle.bplist_cert.specs.DictKeys.{KeysAreTexts, KeysDiffer, AreInOrder, IsKeylessFault, IsTwiceFault}
 
 -- rule 22, or in version 2 rule 32
 abbrev pub last_rule : Option Keyed → Rule
-last_rule None = rules.KeyTwice
-last_rule (Some keyed) = rules.KeyOrder
+last_rule keys = elim keys [ None ↦ rules.KeyTwice | Some keyed ↦ rules.KeyOrder ]
 
 -- the rules of a vouched object after 14 to 20, in order
 abbrev pub vouched_rules : Option Keyed → List Rule

@@ -9,7 +9,7 @@ use Rattle.bplist_objects.specs.declared.head.Head.{Head}
 use Rattle.bplist_objects.specs.Heads.{IsHeadOf}
 use Rattle.bplist_objects.specs.Units.{IsTextKind, units_of, compare_units}
 use Rattle.bplist_objects.specs.Claims.{FailsAt}
-use Rattle.bplist_cert.specs.Heights.{ref}
+use Rattle.bplist_objects.specs.Scan.{ref}
 
 -- object m spells a text with this head
 pub record IsText (f : List ℕ) (F : Frame) (m : ℕ) (head : Head) : Type 0 where

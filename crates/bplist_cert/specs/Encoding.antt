@@ -12,8 +12,7 @@ use Rattle.bplist_cert.specs.Lists.{Keyed, Lists}
 
 -- what a certificate begins with, without key lists and with them
 abbrev pub magic : Bool → List ℕ
-magic false = codes "bplcert1"
-magic true = codes "bplcert2"
+magic keyed = elim keyed [ false ↦ codes "bplcert1" | true ↦ codes "bplcert2" ]
 
 -- numbers in 4 bytes each
 abbrev pub words : List ℕ → List ℕ
@@ -46,5 +45,4 @@ IsOctetsFault octets fault =
 
 -- bytes are refused by the first broken rule of 24 and 25, or because memory was refused
 abbrev pub IsCertRefusal : List ℕ → CertRefusal → Type 0
-IsCertRefusal octets (refusals.Fault fault) = IsOctetsFault octets fault
-IsCertRefusal octets refusals.Memory = ⊤
+IsCertRefusal octets refusal = elim refusal [ refusals.Fault fault ↦ IsOctetsFault octets fault | refusals.Memory ↦ ⊤ ]

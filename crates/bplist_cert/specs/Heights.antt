@@ -6,14 +6,10 @@ use Rattle.bplist_objects.specs.declared.fault.Fault.{Fault}
 use Rattle.bplist_objects.specs.declared.frame.Frame.{Frame}
 use Rattle.bplist_objects.specs.declared.head.Head.{Head}
 use Rattle.bplist_objects.specs.Safe.{ref_count}
-use Rattle.bplist_objects.specs.Scan.{nth_number}
+use Rattle.bplist_objects.specs.Scan.{nth_number, ref}
 use Rattle.bplist_objects.specs.Claims.{FailsAt}
 use Rattle.bplist_cert.specs.declared.heights.Wanted.{Wanted}
 use Rattle.bplist_cert.specs.declared.heights.Wanted.TheVariants.{Vouched, Below, VouchedBelow}
-
--- reference i of an object with this head
-abbrev pub ref : List ℕ → Frame → Head → ℕ → ℕ
-ref f F head i = nth_number f head.body F.ref_size i
 
 -- a reference's height is as wanted
 abbrev pub Meets : Wanted → ℕ → Type 0

@@ -9,7 +9,7 @@ use Rattle.bplist_cert.specs.declared.key_lists.ReadKey.{ReadKey}
 use Rattle.bplist_cert.specs.declared.key_pairs.OrderedPairs.{OrderedPairs}
 use Rattle.bplist_keys.specs.Texts.{HasTextShape, IsTextHead, text_units}
 use Rattle.bplist_objects.specs.Safe.{IsSafeBody}
-use Rattle.bplist_cert.specs.Heights.{ref}
+use Rattle.bplist_objects.specs.Scan.{ref}
 
 -- the head of a key, where it was read, is that of a text with its body inside a file of so many bytes
 abbrev pub IsSafeKey : ℕ → ReadKey → Type 0

@@ -7,9 +7,9 @@ use Rattle.bplist_objects.specs.declared.kind.Kind.TheVariants.{Dict}
 use Rattle.bplist_objects.specs.Announced.{HasHead}
 use Rattle.bplist_objects.specs.Rules.{KeepsAll}
 use Rattle.bplist_objects.specs.ObjectRules.{KeepsByObject, object_rules}
+use Rattle.bplist_objects.specs.Scan.{ref}
 use Rattle.bplist_cert.specs.Lists.{Keyed, Lists}
 use Rattle.bplist_cert.specs.Valid.{IsVouchedBy}
-use Rattle.bplist_cert.specs.Heights.{ref}
 use Rattle.bplist_cert.specs.DictKeys.{KeysAreTexts}
 use Rattle.bplist_cert.specs.CheckRules.{KeepsLast, IsKeysFault}
 

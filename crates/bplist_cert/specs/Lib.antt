@@ -16,3 +16,4 @@ pub mod KeyPairs
 pub mod LowBytes
 pub mod KeysLooks
 pub mod CertifiedFile
+pub mod Prelude

@@ -11,18 +11,15 @@ use Rattle.bplist_cert.specs.Lists.{Keyed}
 
 -- the refusal is a failed read
 abbrev pub is_read : Refusal → Bool
-is_read (refusals.Read _) = true
-is_read _ = false
+is_read refusal = elim refusal [ refusals.Read _ ↦ true | _ ↦ false ]
 
 -- the answer is a failed read
 abbrev pub refused_read : {X : Type 0} → Result X Refusal → Bool
-refused_read (Ok x) = false
-refused_read (Err refusal) = is_read refusal
+refused_read answer = elim answer [ Err refusal ↦ is_read refusal | _ ↦ false ]
 
 -- Q holds of the fault, unless a read failed or memory was refused
 abbrev pub GivesRefusal : (Fault → Type 0) → Refusal → Type 0
-GivesRefusal Q (refusals.Fault fault) = Q fault
-GivesRefusal Q _ = Unit {0}
+GivesRefusal Q refusal = elim refusal [ refusals.Fault fault ↦ Q fault | _ ↦ Unit {0} ]
 
 -- P holds of the value, or Q of the fault unless a read failed or memory was refused
 abbrev pub Judges : {X : Type 0} → (X → Type 0) → (Fault → Type 0) → Result X Refusal → Type 0
@@ -30,15 +27,12 @@ Judges P Q result = MatchResult result P (GivesRefusal Q)
 
 -- a growth may be refused only in version 1
 abbrev pub MayRefuse : Option Keyed → Refusal → Type 0
-MayRefuse keys refusals.Memory = keys ≡ None
-MayRefuse keys _ = Unit {0}
+MayRefuse keys refusal = elim refusal [ refusals.Memory ↦ keys ≡ None | _ ↦ Unit {0} ]
 
 -- an object's fault as a refusal
 abbrev pub refusal_of : ObjectFault → Refusal
-refusal_of (errors.Fault fault) = refusals.Fault fault
-refusal_of (errors.Read fault) = refusals.Read fault
+refusal_of error = elim error [ errors.Fault fault ↦ refusals.Fault fault | errors.Read fault ↦ refusals.Read fault ]
 
 -- the refusal where keys are not ranked
 abbrev pub refusal_of_keys : Failure → Refusal
-refusal_of_keys (keys_errors.Read fault) = refusals.Read fault
-refusal_of_keys keys_errors.Memory = refusals.Memory
+refusal_of_keys failure = elim failure [ keys_errors.Read fault ↦ refusals.Read fault | keys_errors.Memory ↦ refusals.Memory ]

@@ -1,29 +1,8 @@
 //! The check of a certificate against a file.
 
 ghost use Rattle.std.specs.Prelude.{◌≡◌, ◌+◌, ◌≤◌, ◌<◌, ℕ, suc, length, slice_index, IfOk, IfErr, MatchResult, Some, None};
-ghost use Rattle.bplist_octets.specs.Meaning.{OnlyReads, Honestly};
-ghost use Rattle.bplist_objects.specs.Framed.{frame_in, HonestlyIn};
-ghost use Rattle.bplist_objects.specs.Frame.{off};
-ghost use Rattle.bplist_objects.specs.Extents.{Sums};
-ghost use Rattle.bplist_objects.specs.Safe.{IsSafeHead, IsSafeFrame};
-ghost use Rattle.bplist_objects.specs.Rules.{KeepsAll};
-ghost use Rattle.bplist_objects.specs.Announced.{HasHead};
-ghost use Rattle.bplist_objects.specs.ObjectRules.{KeepsByObject, body_rules};
-ghost use Rattle.bplist_objects.specs.declared.frame.ObjectNo.{ObjectNo as object_no};
-ghost use Rattle.bplist_cert.specs.Lists.{Keyed, lists, HasStarts};
-ghost use Rattle.bplist_cert.specs.Valid.{IsVouchedBy, HoldsOneValue};
-ghost use Rattle.bplist_cert.specs.Heights.{AreLower};
-ghost use Rattle.bplist_cert.specs.Looks.{IsShownFault};
-ghost use Rattle.bplist_cert.specs.KeysLooks.{keys_of, IsLookOf, AreSeen};
-ghost use Rattle.bplist_cert.specs.declared.checker.Look.TheVariants.{Quick as quick, Exact as exact};
-ghost use Rattle.bplist_cert.specs.PairFault.{IsCheckedObject, AreCheckedBelow, IsWalkFault, IsSeenFault, IsVouchedFault, IsCountFault, KeepsPairRules, IsPairFault};
-ghost use Rattle.bplist_cert.specs.Refusals.{Judges, GivesRefusal, is_read, refused_read, MayRefuse};
-ghost use Rattle.bplist_cert.specs.Sorted.{IsAccepted};
-ghost use Rattle.bplist_objects.specs.Answers.{Never, read_failed};
-ghost use Rattle.bplist_objects.specs.Reach.{Reach, Chain};
-ghost use Rattle.bplist_objects.specs.Heads.{Content, Spells, refs};
+ghost use Rattle.bplist_cert.specs.Prelude.{OnlyReads, Honestly, frame_in, HonestlyIn, off, Sums, IsSafeHead, IsSafeFrame, KeepsAll, HasHead, KeepsByObject, body_rules, ObjectNo as object_no, Keyed, lists, HasStarts, IsVouchedBy, HoldsOneValue, AreLower, IsShownFault, keys_of, IsLookOf, AreSeen, Quick as quick, Exact as exact, IsCheckedObject, AreCheckedBelow, IsWalkFault, IsSeenFault, IsVouchedFault, IsCountFault, KeepsPairRules, IsPairFault, Judges, GivesRefusal, is_read, refused_read, MayRefuse, IsAccepted, Never, read_failed, Reach, Chain, Content, Spells, refs, Frame as frame};
 ghost use Rattle.std.specs.List.{AllByRecursion};
-ghost use Rattle.bplist_objects.specs.declared.frame.Frame.{Frame as frame};
 
 use crate::certificate::{Certificate, KeyLists};
 use crate::checked::Checked;

@@ -2,14 +2,7 @@
 
 ghost use Rattle.std.specs.Prelude.{◌≡◌, ◌≢◌, ℕ, List, ◌+◌, ◌*◌, ◌≤◌, Bool, length, take, drop, IfOk, OnOk, MatchOption, MatchResult, ◌↔◌, IsTrue, is_some, vec_len, ⊤};
 ghost use Rattle.bplist_cert.specs.declared.certificate.CertRefusal.TheVariants.{Memory};
-ghost use Rattle.bplist_octets.specs.Octets.{part};
-ghost use Rattle.bplist_octets.specs.Meaning.{OnlyReads, Honestly};
-ghost use Rattle.bplist_objects.specs.Answers.{Gives, Never, read_failed};
-ghost use Rattle.bplist_keys.specs.Failures.{failed_to_read};
-ghost use Rattle.bplist_cert.specs.Lists.{Lists, IsCertificate, AreWords, AreKeyed, HasCount};
-ghost use Rattle.bplist_cert.specs.Encoding.{octets_of, magic, words, key_words, Fits, IsOctetsFault, IsCertRefusal};
-ghost use Rattle.bplist_cert.specs.Refusals.{Judges, refused_read};
-ghost use Rattle.bplist_cert.specs.Versions.{is_keyed, header_octets};
+ghost use Rattle.bplist_cert.specs.Prelude.{part, OnlyReads, Honestly, Gives, Never, read_failed, failed_to_read, Lists, IsCertificate, AreWords, AreKeyed, HasCount, octets_of, magic, words, key_words, Fits, IsOctetsFault, IsCertRefusal, Judges, refused_read, is_keyed, header_octets};
 
 use crate::certificate::{CertRefusal, Certificate, KeyLists};
 use crate::encoding::{KEYED_MAGIC, PLAIN_MAGIC};

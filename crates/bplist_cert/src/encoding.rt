@@ -1,8 +1,7 @@
 //! The bytes of a certificate.
 
 ghost use Rattle.std.specs.Prelude.{◌≡◌, ◌++◌, IfOk, OnOk, is_some};
-ghost use Rattle.bplist_cert.specs.Lists.{IsCertificate, AreWords, AreKeyed};
-ghost use Rattle.bplist_cert.specs.Encoding.{octets_of, words, key_words, magic};
+ghost use Rattle.bplist_cert.specs.Prelude.{IsCertificate, AreWords, AreKeyed, octets_of, words, key_words, magic};
 
 use crate::certificate::{Certificate, KeyLists};
 use std::alloc::{AllocError, Global};

@@ -1,11 +1,7 @@
 //! The heights of references: rules 28 and 29.
 
 ghost use Rattle.std.specs.Prelude.{◌≡◌, ◌↔◌, ◌<◌, length, slice_index, IsTrue, IfOk, IfSome, MatchOption, is_err};
-ghost use Rattle.bplist_octets.specs.Meaning.{OnlyReads};
-ghost use Rattle.bplist_objects.specs.Framed.{frame_in, HonestlyIn};
-ghost use Rattle.bplist_objects.specs.Safe.{IsSafeHead, ref_count};
-ghost use Rattle.bplist_objects.specs.Answers.{Gives, read_failed};
-ghost use Rattle.bplist_cert.specs.Heights.{Meets, AreMet, AreMetBy, AreLower, IsFirstUnmet, IsFirstUnmetBy, IsUnmetFault, IsHeightFault, rule_of};
+ghost use Rattle.bplist_cert.specs.Prelude.{OnlyReads, frame_in, HonestlyIn, IsSafeHead, ref_count, Gives, read_failed, Meets, AreMet, AreMetBy, AreLower, IsFirstUnmet, IsFirstUnmetBy, IsUnmetFault, IsHeightFault, rule_of};
 
 use bplist_objects::{
     Fault, Framed, Head, ObjectFault, ObjectNo, Rule, read_refs_in, ref_place, refs_of,

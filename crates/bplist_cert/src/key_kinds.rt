@@ -1,21 +1,7 @@
 //! The keys of dictionaries: rule 21.
 
 ghost use Rattle.std.specs.Prelude.{◌≡◌, ◌↔◌, IsTrue, ◌+◌, ◌*◌, ◌≤◌, ◌<◌, length, IfOk, IfSome, MatchOption, Some, is_err};
-ghost use Rattle.bplist_octets.specs.Meaning.{OnlyReads};
-ghost use Rattle.bplist_objects.specs.Framed.{frame_in, HonestlyIn};
-ghost use Rattle.bplist_objects.specs.Frame.{off};
-ghost use Rattle.bplist_objects.specs.Safe.{IsSafeHead, IsSafeBody};
-ghost use Rattle.bplist_objects.specs.Units.{IsTextKind};
-ghost use Rattle.bplist_objects.specs.Announced.{HasHead};
-ghost use Rattle.bplist_objects.specs.Rules.{KeepsAll};
-ghost use Rattle.bplist_objects.specs.ObjectRules.{KeepsByObject, IsObjectFault, object_rules};
-ghost use Rattle.bplist_objects.specs.Answers.{Gives, Never, read_failed};
-ghost use Rattle.bplist_objects.specs.declared.kind.Kind.TheVariants.{Dict};
-ghost use Rattle.bplist_objects.specs.declared.rule.Rule.TheVariants.{KeyKind};
-ghost use Rattle.bplist_objects.specs.declared.head.Head.{Head as head_record};
-ghost use Rattle.bplist_cert.specs.DictKeys.{IsText, IsKey, KeysAreTexts, IsFirstKeyless, IsKeylessFault};
-ghost use Rattle.bplist_cert.specs.LowBytes.{AreLow};
-ghost use Rattle.bplist_cert.specs.KeyOffsets.{IsOffsetOf, AreOffsetsOf, ReferToTexts, IsFirstOther};
+ghost use Rattle.bplist_cert.specs.Prelude.{OnlyReads, frame_in, HonestlyIn, off, IsSafeHead, IsSafeBody, IsTextKind, HasHead, KeepsAll, KeepsByObject, IsObjectFault, object_rules, Gives, Never, read_failed, Dict, KeyKind, Head as head_record, IsText, IsKey, KeysAreTexts, IsFirstKeyless, IsKeylessFault, AreLow, IsOffsetOf, AreOffsetsOf, ReferToTexts, IsFirstOther};
 
 use crate::key_offsets::{BLOCK, read_ahead};
 use crate::low_bytes::LowBytes;

@@ -1,40 +1,16 @@
 //! Whether the key lists of vouched dictionaries have the keys in order, which are texts: rules 21 and 32.
 
 ghost use Rattle.std.specs.Prelude.{◌≡◌, ◌+◌, ◌≤◌, ◌<◌, ℕ, List, Some, IsTrue, false, IfOk, IfSome, OnOk, MatchOption, ⊤, is_err, length, slice_index};
-ghost use Rattle.bplist_octets.specs.Meaning.{OnlyReads};
-ghost use Rattle.bplist_objects.specs.Answers.{Gives, Never, read_failed};
-ghost use Rattle.bplist_objects.specs.Frame.{off};
-ghost use Rattle.bplist_objects.specs.declared.frame.Frame.{Frame as frame};
-ghost use Rattle.bplist_objects.specs.Announced.{HasHead};
-ghost use Rattle.bplist_objects.specs.Framed.{frame_in, HonestlyIn};
-ghost use Rattle.bplist_objects.specs.Rules.{KeepsAll};
-ghost use Rattle.bplist_objects.specs.ObjectRules.{KeepsByObject, object_rules};
-ghost use Rattle.bplist_objects.specs.Safe.{IsSafeBody, IsSafeHead};
-ghost use Rattle.bplist_objects.specs.Units.{IsTextKind};
-ghost use Rattle.bplist_objects.specs.declared.head.Head.{Head as head};
-ghost use Rattle.bplist_objects.specs.declared.kind.Kind.TheVariants.{Dict};
-ghost use Rattle.bplist_keys.specs.Texts.{HasTextShape, IsTextHead};
-ghost use Rattle.bplist_cert.specs.Heights.{ref};
-ghost use Rattle.bplist_cert.specs.Lists.{lists, IsWhole, list_of};
-ghost use Rattle.bplist_cert.specs.CheckRules.{HasOrder, IsKeysFault};
-ghost use Rattle.bplist_cert.specs.DictKeys.{KeysAreTexts, AreInOrder};
-ghost use Rattle.bplist_cert.specs.KeyRepeats.{KeysAreSound, HasGoodKeys, BreaksKeys, IsFirstKeysFault};
-ghost use Rattle.bplist_cert.specs.KeyPairs.{AreFewKeys, Ascends, AreKnown, HaveTextShapes, Follows, IsReadKey, IsSafeKey};
-ghost use Rattle.bplist_cert.specs.LowBytes.{AreLow};
-ghost use Rattle.bplist_cert.specs.Valid.{IsVouchedBy};
-ghost use Rattle.bplist_cert.specs.Looks.{KeepBeforeKeysBelow};
-ghost use Rattle.bplist_cert.specs.KeysLooks.{IsListed, HaveGoodLists};
+ghost use Rattle.bplist_cert.specs.Prelude.{OnlyReads, Gives, Never, read_failed, off, Frame as frame, HasHead, frame_in, HonestlyIn, KeepsAll, KeepsByObject, object_rules, IsSafeBody, IsSafeHead, IsTextKind, Head as head, Dict, ref, HasTextShape, IsTextHead, lists, IsWhole, list_of, HasOrder, IsKeysFault, KeysAreTexts, AreInOrder, KeysAreSound, HasGoodKeys, BreaksKeys, IsFirstKeysFault, AreFewKeys, Ascends, AreKnown, HaveTextShapes, Follows, IsReadKey, IsSafeKey, AreLow, IsVouchedBy, KeepBeforeKeysBelow, IsListed, HaveGoodLists};
 
 use crate::certificate::KeyLists;
 use crate::key_kinds::check_texts;
-use crate::key_order::{check_order, comes_after, part_of, text_of};
+use crate::key_order::{check_order, comes_after, part_of};
 use crate::key_pairs::OrderedPairs;
 use crate::low_bytes::LowBytes;
 use crate::vouched_prefix::VouchedPrefix;
-use bplist_keys::Offsets;
-use bplist_objects::{
-    Framed, Head, Kind, ObjectFault, ObjectNo, read_refs_in, ref_at, shape_at, shape_in,
-};
+use bplist_keys::{Offsets, object_shape, object_text};
+use bplist_objects::{Framed, Head, Kind, ObjectFault, ObjectNo, read_refs_in, ref_at, shape_in};
 use bplist_octets::ReadFault;
 
 /// Up to so many keys are read at once. Most dictionaries have no more.
@@ -58,7 +34,7 @@ fn head_of<P: Offsets>(src: &mut P, key: &ReadKey) -> Result<Option<Head>, ReadF
 {
     match key.head {
         Some(head) => Ok(Some(head)),
-        None => text_of(src, key.object),
+        None => object_text(src, key.object),
     }
 }
 
@@ -87,7 +63,7 @@ fn ascend<P: Offsets>(
     let Some(first) = head_of(src, last)? else {
         return Ok(None);
     };
-    let Some(second) = text_of(src, m)? else {
+    let Some(second) = object_text(src, m)? else {
         return Ok(None);
     };
     if !comes_after(src, &mut pairs.runs, &Some(first), &second)? {
@@ -117,7 +93,7 @@ fn follows<P: Offsets>(
 {
     match before {
         None => {
-            let Some(head) = text_of(src, m)? else {
+            let Some(head) = object_text(src, m)? else {
                 return Ok(None);
             };
             Ok(Some(ReadKey {
@@ -331,9 +307,8 @@ fn check_dict_order<P: Offsets>(
         → ((head : head) → HasHead f F n head → head.kind ≡ Dict → seen.now.bound ≡ F.objects → KeysAreSound f F head)
         → Gives (λ _. HasGoodKeys f F (Some keys.now) n) (BreaksKeys f F F.objects (Some keys.now) n) result) }
 {
-    let frame = src.frame();
-    let place = src.offset(n)?;
-    let head = shape_at(src, &frame, ObjectNo(n), place)?;
+    let _frame = src.frame();
+    let head = object_shape(src, n)?;
     match head.kind {
         Kind::Dict => check_list(src, seen, keys, ObjectNo(n), &head, look),
         _ => Ok(()),

@@ -1,17 +1,7 @@
 //! The objects that the vouched dictionaries name as keys.
 
 ghost use Rattle.std.specs.Prelude.{◌≡◌, ◌+◌, ◌<◌, ◌≤◌, ℕ, IfOk, IfSome, length, slice_index};
-ghost use Rattle.bplist_octets.specs.Meaning.{OnlyReads};
-ghost use Rattle.bplist_objects.specs.Answers.{Gives, Never, read_failed};
-ghost use Rattle.bplist_objects.specs.Frame.{off};
-ghost use Rattle.bplist_objects.specs.Framed.{frame_in, HonestlyIn};
-ghost use Rattle.bplist_objects.specs.Rules.{KeepsAll};
-ghost use Rattle.bplist_objects.specs.ObjectRules.{KeepsByObject, object_rules};
-ghost use Rattle.bplist_keys.specs.Classes.{HasNamedKeys};
-ghost use Rattle.bplist_keys.specs.Marks.{IsMarked};
-ghost use Rattle.bplist_cert.specs.Valid.{IsVouchedBy};
-ghost use Rattle.bplist_cert.specs.Looks.{KeepBeforeKeysBelow};
-ghost use Rattle.bplist_cert.specs.Refusals.{Judges, refused_read};
+ghost use Rattle.bplist_cert.specs.Prelude.{OnlyReads, Gives, Never, read_failed, off, frame_in, HonestlyIn, KeepsAll, KeepsByObject, object_rules, HasNamedKeys, IsMarked, IsVouchedBy, KeepBeforeKeysBelow, Judges, refused_read};
 
 use crate::refusal::Refusal;
 use crate::vouched_prefix::VouchedPrefix;

@@ -4,10 +4,7 @@
 //! window reads each of them forward where they are read in turns, and not for one key after the other.
 
 ghost use Rattle.std.specs.Prelude.{◌≡◌, ◌+◌, ◌≤◌, length, OnOk, is_err};
-ghost use Rattle.bplist_octets.specs.Meaning.{OnlyReads};
-ghost use Rattle.bplist_objects.specs.Framed.{frame_in, HonestlyIn};
-ghost use Rattle.bplist_objects.specs.Safe.{IsSafeHead, ref_count};
-ghost use Rattle.bplist_cert.specs.KeyOffsets.{AreOffsetsOf, AreRefs};
+ghost use Rattle.bplist_cert.specs.Prelude.{OnlyReads, frame_in, HonestlyIn, IsSafeHead, ref_count, AreOffsetsOf, AreRefs};
 
 use bplist_keys::Offsets;
 use bplist_objects::{Framed, Head, read_refs};

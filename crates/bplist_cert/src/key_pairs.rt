@@ -1,7 +1,7 @@
 //! Pairs of texts that were found in order, so that dictionaries which share keys do not compare them again.
 
 ghost use Rattle.std.specs.Prelude.{◌≡◌, ◌+◌, ◌*◌, ◌<◌, ℕ, List, IsTrue};
-ghost use Rattle.bplist_objects.specs.declared.frame.Frame.{Frame as frame};
+ghost use Rattle.bplist_cert.specs.Prelude.{Frame as frame};
 
 use bplist_keys::Runs;
 

@@ -1,27 +1,7 @@
 //! Whether the keys of vouched dictionaries are texts that differ, by the classes of the texts: rules 21 and 22.
 
 ghost use Rattle.std.specs.Prelude.{◌≡◌, ◌<◌, ℕ, None, IfOk, IfSome, OnOk, IsTrue, MatchOption, is_err, ⊤, length};
-ghost use Rattle.bplist_octets.specs.Meaning.{OnlyReads};
-ghost use Rattle.bplist_objects.specs.Framed.{frame_in, HonestlyIn};
-ghost use Rattle.bplist_objects.specs.Answers.{Never};
-ghost use Rattle.bplist_objects.specs.Safe.{IsSafeHead};
-ghost use Rattle.bplist_objects.specs.Announced.{HasHead};
-ghost use Rattle.bplist_objects.specs.Rules.{KeepsAll};
-ghost use Rattle.bplist_objects.specs.ObjectRules.{KeepsByObject, object_rules};
-ghost use Rattle.bplist_objects.specs.declared.head.Head.{Head as head};
-ghost use Rattle.bplist_objects.specs.declared.kind.Kind.TheVariants.{Dict};
-ghost use Rattle.bplist_keys.specs.Classes.{HasNamedKeys, AreClassed, IsStamped, IsNew};
-ghost use Rattle.bplist_keys.specs.Ranks.{AreClasses};
-ghost use Rattle.bplist_keys.specs.Failures.{failed_to_read};
-ghost use Rattle.bplist_cert.specs.Heights.{ref};
-ghost use Rattle.bplist_cert.specs.Lists.{lists};
-ghost use Rattle.bplist_cert.specs.Valid.{IsVouchedBy};
-ghost use Rattle.bplist_cert.specs.DictKeys.{KeysAreTexts, KeysDiffer, IsTwiceFault};
-ghost use Rattle.bplist_cert.specs.Looks.{KeepBeforeKeysBelow};
-ghost use Rattle.bplist_cert.specs.LowBytes.{AreLow};
-ghost use Rattle.bplist_cert.specs.CheckRules.{IsKeysFault};
-ghost use Rattle.bplist_cert.specs.KeyRepeats.{KeysAreSound, HasGoodKeys, BreaksKeys, IsFirstKeysFault};
-ghost use Rattle.bplist_cert.specs.Refusals.{Judges, refused_read};
+ghost use Rattle.bplist_cert.specs.Prelude.{OnlyReads, frame_in, HonestlyIn, Never, IsSafeHead, HasHead, KeepsAll, KeepsByObject, object_rules, Head as head, Dict, ref, HasNamedKeys, AreClassed, IsStamped, IsNew, AreClasses, failed_to_read, lists, IsVouchedBy, KeysAreTexts, KeysDiffer, IsTwiceFault, KeepBeforeKeysBelow, AreLow, IsKeysFault, KeysAreSound, HasGoodKeys, BreaksKeys, IsFirstKeysFault, Judges, refused_read};
 
 use crate::key_kinds::{check_texts, keyless};
 use crate::key_names::seen_keys;
@@ -29,10 +9,10 @@ use crate::low_bytes::LowBytes;
 use crate::refusal::Refusal;
 use crate::vouched_prefix::VouchedPrefix;
 use bplist_keys::{
-    ClassTable, Failure, KeyDefect, NamedKeys, OffsetTable, Offsets, Ranks, classes_of, offsets_of,
-    ranks_of,
+    ClassTable, Failure, KeyDefect, NamedKeys, OffsetTable, Offsets, Ranks, classes_of,
+    object_shape, offsets_of, ranks_of,
 };
-use bplist_objects::{Fault, Framed, Head, Kind, ObjectNo, Rule, ref_place, shape_at};
+use bplist_objects::{Fault, Framed, Head, Kind, ObjectNo, Rule, ref_place};
 use bplist_octets::ReadFault;
 use std::alloc::Global;
 
@@ -155,9 +135,7 @@ fn check_dict_repeats<P: Offsets>(
         → AreClassed f F look.old.table.classes.table.items head × (seen.now.bound ≡ F.objects → KeysAreSound f F head))
         → Judges (λ _. HasGoodKeys f F None n) (BreaksKeys f F F.objects None n) result) }
 {
-    let frame = src.frame();
-    let place = src.offset(n)?;
-    let head = shape_at(src, &frame, ObjectNo(n), place)?;
+    let head = object_shape(src, n)?;
     match head.kind {
         Kind::Dict => check_classes(src, seen, ObjectNo(n), &head, look),
         _ => Ok(()),

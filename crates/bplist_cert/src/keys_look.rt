@@ -1,9 +1,7 @@
 //! What a walk over the vouched objects finds of the keys of dictionaries.
 
 ghost use Rattle.std.specs.Prelude.{◌≡◌, ℕ, List, None, IfOk, IfErr, length};
-ghost use Rattle.bplist_objects.specs.declared.frame.Frame.{Frame as frame};
-ghost use Rattle.bplist_cert.specs.Lists.{HasCount};
-ghost use Rattle.bplist_cert.specs.KeysLooks.{keys_of, IsLookOf, AreSeen};
+ghost use Rattle.bplist_cert.specs.Prelude.{Frame as frame, HasCount, keys_of, IsLookOf, AreSeen};
 
 use crate::certificate::KeyLists;
 use crate::key_lists::{ListLook, check_key_orders, look_at_lists};

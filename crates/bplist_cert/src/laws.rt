@@ -1,21 +1,8 @@
 //! Laws of the definitions: each is the contract of a function that does nothing.
 
 ghost use Rattle.std.specs.Prelude.{◌≡◌, ◌⊎◌, ℕ, ◌<◌, List, length, slice_index, Bool};
-ghost use Rattle.bplist_octets.specs.Meaning.{OnlyReads};
+ghost use Rattle.bplist_cert.specs.Prelude.{OnlyReads, Frame as frame, Head as head, Value, Content, Spells, Holds, Chain, Reach, Refs, Lists, IsCertificate, octets_of, IsVouchedBy, IsValid, HoldsOneValue, SpellsText, IsSorted, IsAccepted, KeysAreTexts, KeysDiffer, AreInOrder, IsPairFault, CheckedFile, meaning_of};
 ghost use Rattle.bplist_objects.specs.declared.fault.Fault.{Fault as fault};
-ghost use Rattle.bplist_objects.specs.declared.frame.Frame.{Frame as frame};
-ghost use Rattle.bplist_objects.specs.declared.head.Head.{Head as head};
-ghost use Rattle.bplist_objects.specs.Value.{Value};
-ghost use Rattle.bplist_objects.specs.Heads.{Content, Spells};
-ghost use Rattle.bplist_objects.specs.Holds.{Holds};
-ghost use Rattle.bplist_objects.specs.Reach.{Chain, Reach, Refs};
-ghost use Rattle.bplist_cert.specs.Lists.{Lists, IsCertificate};
-ghost use Rattle.bplist_cert.specs.Encoding.{octets_of};
-ghost use Rattle.bplist_cert.specs.Valid.{IsVouchedBy, IsValid, HoldsOneValue, SpellsText};
-ghost use Rattle.bplist_cert.specs.Sorted.{IsSorted, IsAccepted};
-ghost use Rattle.bplist_cert.specs.DictKeys.{KeysAreTexts, KeysDiffer, AreInOrder};
-ghost use Rattle.bplist_cert.specs.PairFault.{IsPairFault};
-ghost use Rattle.bplist_cert.specs.CheckedFile.{CheckedFile, meaning_of};
 
 /// Two certificates with the same bytes are the same.
 pub fn one_certificate()

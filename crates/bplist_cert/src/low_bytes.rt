@@ -2,8 +2,7 @@
 //! which lie in one another, are not read again for rule 18.
 
 ghost use Rattle.std.specs.Prelude.{◌≡◌, ◌↔◌, ◌≤◌, ◌<◌, ℕ, List, length, IsTrue, IfOk, is_err};
-ghost use Rattle.bplist_octets.specs.Meaning.{OnlyReads};
-ghost use Rattle.bplist_cert.specs.LowBytes.{IsLow, AreLow};
+ghost use Rattle.bplist_cert.specs.Prelude.{OnlyReads, IsLow, AreLow};
 
 use bplist_objects::first_high_in;
 use bplist_octets::{ReadFault, Source};

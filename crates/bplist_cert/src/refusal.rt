@@ -1,7 +1,8 @@
 //! Why a certificate is refused.
 
 ghost use Rattle.std.specs.Prelude.{◌≡◌};
-ghost use Rattle.bplist_cert.specs.declared.refusal.Refusal.TheVariants.{Memory, Read, Fault as is_fault};
+ghost use Rattle.bplist_cert.specs.Prelude.{Read};
+ghost use Rattle.bplist_cert.specs.declared.refusal.Refusal.TheVariants.{Memory, Fault as is_fault};
 
 use bplist_keys::Failure;
 use bplist_objects::{Fault, ObjectFault};

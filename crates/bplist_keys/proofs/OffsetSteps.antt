@@ -1,32 +1,32 @@
 -- Steps of the reading of the offset table, and what the places that are kept say of the table.
-use Rattle.std.proofs.Common.{◌≡◌, ℕ, ◌+◌, ◌-◌, ◌^◌, ◌<◌, inl, inr, List, length, slice_index, sym, subst, arith}
+use Rattle.std.proofs.Common.{◌≡◌, ℕ, ◌+◌, ◌-◌, ◌^◌, ◌<◌, min, inl, inr, List, length, slice_index, ap, ◌∙◌, subst, arith}
 use Rattle.std.proofs.lemmas.Bool.{cases_lt}
 use Rattle.bplist_objects.specs.declared.frame.Frame.{Frame}
 use Rattle.bplist_objects.specs.Frame.{off, IsFrame}
 use Rattle.bplist_objects.specs.FrameRules.{AreEntriesLow}
 use Rattle.bplist_objects.proofs.FrameTies.{numbered}
-use Rattle.bplist_keys.specs.Offsets.{IsOffset32, AreOffsets32}
+use Rattle.bplist_keys.specs.Offsets.{AreOffsets32}
 use Rattle.bplist_keys.specs.Texts.{AreOffsets}
 
 -- one block more was put into the table
 pub offsets_more : (f : List ℕ) (F : Frame) (from count : ℕ) (old new places : List ℕ) → length places ≡ count
     → ((k : ℕ) → k < from → slice_index new k ≡ slice_index old k)
-    → ((k : ℕ) → k < length places → IsOffset32 (slice_index places k) (slice_index new (from + k)))
+    → ((k : ℕ) → k < length places → slice_index new (from + k) ≡ min (slice_index places k) 4294967295)
     → ((k : ℕ) → k < length places → slice_index places k ≡ off f F (from + k))
     → AreOffsets32 f F from old → AreOffsets32 f F (from + count) new
 offsets_more f F from count old new places long before put are below n low = elim (cases_lt n from) [
-  | inl early ↦ subst (IsOffset32 (off f F n)) (sym (before n early)) (below n early)
+  | inl early ↦ before n early ∙ below n early
   | inr late ↦
       let k : ℕ = n - from in
       let is : from + k ≡ n = omega arith in
       let in' : k < length places = omega arith in
-      subst (λ m. IsOffset32 (off f F m) (slice_index new m)) is (subst (λ p. IsOffset32 p (slice_index new (from + k))) (are k in') (put k in'))
+      subst (λ m. slice_index new m ≡ min (off f F m) 4294967295) is (put k in' ∙ ap (λ p. min p 4294967295) (are k in'))
 ]
 
 module _ (f : List ℕ) (F : Frame) (places : List ℕ) (kept : AreOffsets32 f F F.objects places) where
   -- a place below the table is kept as it is
   pub kept_offsets : F.table < 2 ^ 32 → AreEntriesLow f F → AreOffsets f F places
-  kept_offsets fits low n within = (kept n within).0 (let l = low n within in omega (arith, l))
+  kept_offsets fits low n within = let l = low n within in omega (arith, l, kept n within)
 
   pub framed_offsets : IsFrame f F → AreOffsets f F places
   framed_offsets frame = let is = numbered frame in kept_offsets (omega (arith, is.table_late, is.large)) is.offsets

@@ -4,7 +4,7 @@ use Rattle.bplist_objects.specs.declared.frame.Frame.{Frame}
 use Rattle.bplist_objects.specs.declared.head.Head.{Head}
 use Rattle.bplist_objects.specs.declared.kind.Kind.TheVariants.{Dict}
 use Rattle.bplist_objects.specs.Announced.{HasHead}
-use Rattle.bplist_objects.specs.Scan.{nth_number}
+use Rattle.bplist_objects.specs.Scan.{nth_number, ref}
 use Rattle.bplist_keys.specs.Marks.{IsMarked}
 use Rattle.bplist_objects.specs.Claims.{FailsAt}
 use Rattle.bplist_keys.specs.Texts.{HasTextShape, text_units}
@@ -13,23 +13,19 @@ use Rattle.bplist_keys.specs.declared.class_table.KeyLookup.TheVariants as looku
 use Rattle.bplist_keys.specs.declared.class_table.KeyDefect.{KeyDefect}
 use Rattle.bplist_keys.specs.declared.class_table.KeyDefect.TheVariants as defects
 
--- key reference i of a dictionary with this head
-abbrev pub key_ref : List ℕ → Frame → Head → ℕ → ℕ
-key_ref f F head i = nth_number f head.body F.ref_size i
-
 module _ (f : List ℕ) (F : Frame) where
   -- the keys of object n, if it is a dictionary, are named
   abbrev pub HasNamedKeys : List Bool → ℕ → Type 0
-  HasNamedKeys named n = (head : Head) → HasHead f F n head → head.kind ≡ Dict → (k : ℕ) → k < head.count → IsMarked named (key_ref f F head k)
+  HasNamedKeys named n = (head : Head) → HasHead f F n head → head.kind ≡ Dict → (k : ℕ) → k < head.count → IsMarked named (ref f F head k)
 
   -- the keys of a dictionary with this head have these classes: those alone that are texts by marker and count, and two
   -- have the same one exactly where their units are the same
   pub record AreClassed (classes : List ℕ) (head : Head) : Type 0 where
-    pub only : (k : ℕ) → k < head.count → 0 < slice_index classes (key_ref f F head k) → HasTextShape f F (key_ref f F head k)
-    pub all : (k : ℕ) → k < head.count → HasTextShape f F (key_ref f F head k) → 0 < slice_index classes (key_ref f F head k)
+    pub only : (k : ℕ) → k < head.count → 0 < slice_index classes (ref f F head k) → HasTextShape f F (ref f F head k)
+    pub all : (k : ℕ) → k < head.count → HasTextShape f F (ref f F head k) → 0 < slice_index classes (ref f F head k)
     pub same : (i j : ℕ) → i < head.count → j < head.count
-        → 0 < slice_index classes (key_ref f F head i) → 0 < slice_index classes (key_ref f F head j)
-        → (slice_index classes (key_ref f F head i) ≡ slice_index classes (key_ref f F head j)) ↔ (text_units f F (key_ref f F head i) ≡ text_units f F (key_ref f F head j))
+        → 0 < slice_index classes (ref f F head i) → 0 < slice_index classes (ref f F head j)
+        → (slice_index classes (ref f F head i) ≡ slice_index classes (ref f F head j)) ↔ (text_units f F (ref f F head i) ≡ text_units f F (ref f F head j))
 
 -- what is found of a key m of dictionary n, and what becomes of the numbers of the dictionaries that each class was seen in last
 abbrev pub IsKeyLookup : List ℕ → ℕ → ℕ → List ℕ → KeyLookup → List ℕ → Type 0
@@ -71,5 +67,4 @@ module _ (key : ℕ → ℕ) (classes : List ℕ) where
 
 -- the number of the key that is wrong
 abbrev pub defect_key : KeyDefect → ℕ
-defect_key (defects.NotText i) = i
-defect_key (defects.Repeated j) = j
+defect_key defect = elim defect [ defects.NotText i ↦ i | defects.Repeated j ↦ j ]

@@ -5,5 +5,4 @@ use Rattle.bplist_keys.specs.declared.failure.Failure.TheVariants.{Read}
 
 -- the answer is a failed read
 abbrev pub failed_to_read : {X : Type 0} → Result X Failure → Bool
-failed_to_read (Err (Read _)) = true
-failed_to_read _ = false
+failed_to_read answer = elim answer [ Err (Read _) ↦ true | _ ↦ false ]

@@ -9,3 +9,4 @@ pub mod Classes
 pub mod Offsets
 pub mod Notes
 pub mod Runs
+pub mod Prelude

@@ -5,7 +5,7 @@ ghost use Rattle.bplist_octets.specs.Meaning.{OnlyReads};
 ghost use Rattle.bplist_objects.specs.Framed.{frame_in, HonestlyIn};
 ghost use Rattle.bplist_objects.specs.Safe.{IsSafeHead};
 ghost use Rattle.bplist_objects.specs.declared.kind.Kind.TheVariants.{Dict};
-ghost use Rattle.bplist_keys.specs.Classes.{key_ref};
+ghost use Rattle.bplist_objects.specs.Scan.{ref};
 
 use crate::named_keys::BLOCK;
 use crate::ranks::Ranks;
@@ -132,9 +132,9 @@ impl ClassTable {
         ensures inside { IfOk result (λ found. IfSome found (λ wrong. defect_key wrong < head.now.count)) }
         ensures exact { HonestlyIn (P.means src.old) (λ f F. IsNew self.old.seen.items n
             → IfOk result (λ found. MatchOption found
-            (HaveClasses (key_ref f F head.now) self.old.classes.table.items head.now.count
-            × AreApart (key_ref f F head.now) self.old.classes.table.items head.now.count)
-            (IsKeyDefect (key_ref f F head.now) self.old.classes.table.items head.now.count))) }
+            (HaveClasses (ref f F head.now) self.old.classes.table.items head.now.count
+            × AreApart (ref f F head.now) self.old.classes.table.items head.now.count)
+            (IsKeyDefect (ref f F head.now) self.old.classes.table.items head.now.count))) }
     {
         let count = head.count;
         let mut buffer = [0u64; BLOCK];

@@ -1,7 +1,7 @@
 //! Why a call gives no answer that no rule decides.
 
 ghost use Rattle.std.specs.Prelude.{◌≡◌};
-ghost use Rattle.bplist_keys.specs.declared.failure.Failure.TheVariants.{Read, Memory};
+ghost use Rattle.bplist_keys.specs.Prelude.{Read, Memory};
 
 use bplist_octets::ReadFault;
 use std::alloc::{AllocError, AllocFailed};

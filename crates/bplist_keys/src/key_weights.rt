@@ -1,10 +1,7 @@
 //! The weights of the objects that are named as keys.
 
 ghost use Rattle.std.specs.Prelude.{◌≡◌, ◌<◌, ◌≤◌, ◌++◌, ◌∷◌, [], ℕ, All, Contains, false, OnOk, length, set, slice_index};
-ghost use Rattle.bplist_octets.specs.Meaning.{OnlyReads};
-ghost use Rattle.bplist_objects.specs.Framed.{frame_in, HonestlyIn};
-ghost use Rattle.bplist_keys.specs.Weights.{AreWeighed};
-ghost use Rattle.bplist_keys.specs.Failures.{failed_to_read};
+ghost use Rattle.bplist_keys.specs.Prelude.{OnlyReads, frame_in, HonestlyIn, AreWeighed, failed_to_read};
 
 use crate::failure::Failure;
 use crate::offsets::Offsets;

@@ -2,12 +2,7 @@
 
 ghost use Rattle.std.specs.Prelude.{◌≡◌, ◌⊎◌, Contains, ◌≤◌, ◌<◌, ◌^◌, ℕ, IfOk, OnOk, is_err, false, true, count_by, length, map, set, replicate, slice_index};
 ghost use Rattle.std.specs.Int.{from_bool};
-ghost use Rattle.bplist_octets.specs.Meaning.{OnlyReads};
-ghost use Rattle.bplist_objects.specs.Framed.{frame_in, HonestlyIn};
-ghost use Rattle.bplist_objects.specs.Safe.{IsSafeHead};
-ghost use Rattle.bplist_objects.specs.declared.kind.Kind.TheVariants.{Dict};
-ghost use Rattle.bplist_keys.specs.Classes.{key_ref};
-ghost use Rattle.bplist_keys.specs.Marks.{IsMarked};
+ghost use Rattle.bplist_keys.specs.Prelude.{OnlyReads, frame_in, HonestlyIn, IsSafeHead, Dict, ref, IsMarked};
 
 use bplist_objects::{Framed, Head, read_refs_in};
 use bplist_octets::ReadFault;
@@ -101,7 +96,7 @@ fn name_block<P: Framed>(
     ensures next { IfOk result (λ next. (from < next) × (next ≤ head.now.count)) }
     ensures keeps { (m : ℕ) → IsMarked named.old.marks.items m → IsMarked named.new.marks.items m }
     ensures named { HonestlyIn (P.means src.old) (λ f F. IfOk result (λ next. (k : ℕ) → from ≤ k → k < next
-        → key_ref f F head.now k < F.objects → IsMarked named.new.marks.items (key_ref f F head.now k))) }
+        → ref f F head.now k < F.objects → IsMarked named.new.marks.items (ref f F head.now k))) }
 {
     let count = (head.count - from).min(BLOCK as u64);
     let _objects = src.frame().objects;
@@ -125,7 +120,7 @@ pub fn name_keys<P: Framed>(
     ensures all { length named.new.marks.items ≡ (frame_in (P.means src.old)).objects }
     ensures keeps { (m : ℕ) → IsMarked named.old.marks.items m → IsMarked named.new.marks.items m }
     ensures named { HonestlyIn (P.means src.old) (λ f F. OnOk result ((k : ℕ) → k < head.now.count
-        → key_ref f F head.now k < F.objects → IsMarked named.new.marks.items (key_ref f F head.now k))) }
+        → ref f F head.now k < F.objects → IsMarked named.new.marks.items (ref f F head.now k))) }
 {
     let mut done = 0u64;
     while done < head.count {

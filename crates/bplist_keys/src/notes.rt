@@ -4,8 +4,7 @@
 //! the same text, the one that went before them, and what they share with it is not read again.
 
 ghost use Rattle.std.specs.Prelude.{◌≡◌, ◌≤◌, ℕ, List, IfOk, length, vec_len};
-ghost use Rattle.bplist_keys.specs.Notes.{Agree, AreTrue, note_at};
-ghost use Rattle.bplist_keys.specs.Runs.{AreRuns};
+ghost use Rattle.bplist_keys.specs.Prelude.{Agree, AreTrue, note_at, AreRuns};
 
 use crate::runs::Runs;
 use std::alloc::{AllocError, Global};

@@ -1,6 +1,6 @@
 //! The places of all objects, from the offset table, and sources that hold them.
 
-ghost use Rattle.std.specs.Prelude.{◌≡◌, ℕ, ◌+◌, ◌≤◌, ◌<◌, IsTrue, IfOk, is_err, length, slice_index, vec_len};
+ghost use Rattle.std.specs.Prelude.{◌≡◌, ℕ, ◌+◌, ◌≤◌, ◌<◌, IsTrue, IfOk, is_err, min, length, slice_index, vec_len};
 ghost use Rattle.bplist_octets.specs.Meaning.{OnlyReads};
 ghost use Rattle.bplist_octets.specs.Windows.{borrowed};
 ghost use Rattle.bplist_objects.specs.Frame.{off, IsFrame};
@@ -12,7 +12,7 @@ ghost use Rattle.bplist_objects.specs.Heads.{HasShape};
 ghost use Rattle.bplist_objects.specs.Rules.{KeepsAll};
 ghost use Rattle.bplist_objects.specs.ObjectRules.{KeepsByObject, IsObjectFault, shape_rules};
 ghost use Rattle.bplist_keys.specs.Failures.{failed_to_read};
-ghost use Rattle.bplist_keys.specs.Offsets.{IsOffset32, AreOffsets32};
+ghost use Rattle.bplist_keys.specs.Offsets.{AreOffsets32};
 ghost use Rattle.bplist_keys.specs.Texts.{AreOffsets};
 
 use crate::failure::Failure;
@@ -30,7 +30,7 @@ fn put_offsets(places: &[u64], from: usize, table: &mut [u32])
     ensures length { length table.new ≡ length table.old }
     ensures before { (k : ℕ) → k < from → slice_index table.new k ≡ slice_index table.old k }
     ensures put { (k : ℕ) → k < length places.now
-        → IsOffset32 (slice_index places.now k) (slice_index table.new (from + k)) }
+        → slice_index table.new (from + k) ≡ min (slice_index places.now k) 4294967295 }
 {
     for (k, place) in places.iter().enumerate() {
         table[from + k] = (*place).min(u32::MAX as u64) as u32;

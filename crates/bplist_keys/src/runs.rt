@@ -4,8 +4,7 @@
 //! that are as far from each other mostly begin inside that run: what is left of it is not read again.
 
 ghost use Rattle.std.specs.Prelude.{◌≡◌, ◌+◌, ◌*◌, ◌≤◌, ◌<◌, ℕ, List, length, IfSome};
-ghost use Rattle.bplist_objects.specs.Announced.{item_size};
-ghost use Rattle.bplist_objects.specs.Units.{IsTextKind};
+ghost use Rattle.bplist_keys.specs.Prelude.{item_size, IsTextKind};
 
 use bplist_objects::{Head, Kind};
 

@@ -3,12 +3,7 @@
 //! Most texts that differ have different weights, so that few are read a second time.
 
 ghost use Rattle.std.specs.Prelude.{◌≡◌, ◌<◌, IsTrue, IfOk, is_err, length, fold, slice_index};
-ghost use Rattle.bplist_octets.specs.Meaning.{OnlyReads};
-ghost use Rattle.bplist_objects.specs.Frame.{off};
-ghost use Rattle.bplist_objects.specs.Framed.{frame_in, HonestlyIn};
-ghost use Rattle.bplist_objects.specs.Safe.{IsSafeBody};
-ghost use Rattle.bplist_objects.specs.Units.{IsTextKind, units_of};
-ghost use Rattle.bplist_keys.specs.Weights.{mix, fingerprint, prefix, Weighs};
+ghost use Rattle.bplist_keys.specs.Prelude.{OnlyReads, off, frame_in, HonestlyIn, IsSafeBody, IsTextKind, units_of, mix, fingerprint, prefix, Weighs};
 
 use crate::text::{BLOCK, text_head};
 use bplist_objects::{Framed, Head, read_units};

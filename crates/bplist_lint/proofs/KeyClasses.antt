@@ -15,7 +15,7 @@ use Rattle.bplist_objects.proofs.HeadTies.{head_tie}
 use Rattle.bplist_keys.specs.Ranks.{AreClasses}
 use Rattle.bplist_keys.specs.Marks.{IsMarked}
 use Rattle.bplist_objects.proofs.ClaimLaws.{fails_too}
-use Rattle.bplist_cert.specs.Heights.{ref}
+use Rattle.bplist_objects.specs.Scan.{ref}
 use Rattle.bplist_cert.specs.DictKeys.{KeysAreTexts}
 use Rattle.bplist_cert.specs.KeyRepeats.{KeysAreSound}
 use Rattle.bplist_cert.proofs.KeyRepeats as keys

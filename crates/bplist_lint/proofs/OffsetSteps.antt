@@ -1,6 +1,5 @@
 -- What the places that are kept say of rule 13.
-use Rattle.std.proofs.Common.{ℕ, ◌^◌, ◌<◌, ◌≤◌, inl, inr, List, slice_index, ap, arith}
-use Rattle.std.proofs.lemmas.Bool.{cases_lt}
+use Rattle.std.proofs.Common.{ℕ, ◌^◌, ◌<◌, ◌≤◌, List, slice_index, ap, arith}
 use Rattle.bplist_objects.specs.declared.fault.Fault.{Fault}
 use Rattle.bplist_objects.specs.declared.frame.Frame.{Frame}
 use Rattle.bplist_objects.specs.Frame.{off}
@@ -15,20 +14,14 @@ table_fits f F (is, (large, (_, (_, (_, (_, (_, (late, _)))))))) = let e = ap (�
 
 module _ (f : List ℕ) (F : Frame) (places : List ℕ) (kept : AreOffsets32 f F F.objects places) where
   below : F.table < 2 ^ 32 → (n : ℕ) → n < F.objects → slice_index places n < F.table → off f F n < F.table
-  below fits n within low = elim (cases_lt (off f F n) (2 ^ 32)) [
-    | inl small ↦ let e = (kept n within).0 small in omega (arith, e)
-    | inr great ↦ let e = (kept n within).1 (omega (arith, great)) in omega (arith, e, low, fits)
-  ]
+  below fits n within low = omega (arith, kept n within, low, fits)
 
   -- where all that is kept is below the table, so are all entries
   pub kept_low : IsTrailer f F → AreBelowTable F places → AreEntriesLow f F
   kept_low trailed low n within = below (table_fits f F trailed) n within (low n within)
 
   high : (n : ℕ) → n < F.objects → F.table < 2 ^ 32 → F.table ≤ slice_index places n → F.table ≤ off f F n
-  high n within fits at = elim (cases_lt (off f F n) (2 ^ 32)) [
-    | inl small ↦ let e = (kept n within).0 small in omega (arith, e)
-    | inr great ↦ omega (arith, great)
-  ]
+  high n within fits at = omega (arith, kept n within, at)
 
   -- the first kept place that is not below the table is that of the first such entry
   pub kept_high : (fault : Fault) → IsTrailer f F → IsOffsetFault F places fault → IsEntryFault f F fault.object fault.place

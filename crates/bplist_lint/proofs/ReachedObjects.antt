@@ -12,14 +12,13 @@ use Rattle.bplist_objects.specs.Numbers.{num_at}
 use Rattle.bplist_objects.specs.ObjectRules.{KeepsByObject, shape_rules, body_rules, object_rules}
 use Rattle.bplist_objects.specs.Rules.{KeepsAll}
 use Rattle.bplist_objects.specs.Safe.{ref_count}
-use Rattle.bplist_objects.specs.Scan.{AreBelow}
+use Rattle.bplist_objects.specs.Scan.{AreBelow, ref}
 use Rattle.bplist_objects.specs.Spelled.{refs_at}
 use Rattle.bplist_objects.proofs.BodyLaws.{HasHead-unique}
 use Rattle.bplist_objects.proofs.ReachedObjects.{refs_spelled}
 use Rattle.bplist_objects.proofs.References.{length-refs}
 use Rattle.bplist_objects.proofs.RuleLaws.{kept_all_after}
 use Rattle.bplist_objects.proofs.HeadTies.{head_tie, shape_tie}
-use Rattle.bplist_keys.specs.Classes.{key_ref}
 use Rattle.bplist_keys.specs.Marks.{IsMarked}
 use Rattle.bplist_lint.specs.declared.tally.Tally.{Tally}
 use Rattle.bplist_lint.specs.Tallies.{IsTalliedWith}
@@ -71,11 +70,11 @@ module _ (f : List ℕ) (F : Frame) (n : ℕ) (head : Head) (has : HasHead f F n
     -- an object whose references are marked was visited
     pub walking_container : 0 < ref_count head.kind head.count → AreBelow f head.body F.ref_size (ref_count head.kind head.count) F.objects → (stack' : List ℕ) (marks' keys' : List Bool)
         → Noted (refs (content_at f F head)) next (ref_count head.kind head.count) marks stack marks' stack'
-        → ((m : ℕ) → IsMarked keys m → IsMarked keys' m) → (head.kind ≡ kinds.Dict → (k : ℕ) → k < head.count → IsMarked keys' (key_ref f F head k)) → IsWalkState f F next stack' marks' childless keys' tally'
+        → ((m : ℕ) → IsMarked keys m → IsMarked keys' m) → (head.kind ≡ kinds.Dict → (k : ℕ) → k < head.count → IsMarked keys' (ref f F head k)) → IsWalkState f F next stack' marks' childless keys' tally'
     walking_container some below stack' marks' keys' noted more named =
         let all = container_kept some below in
         let spelled = (head_tie f F n frame within head).0 (has, all) in
         let same : refs_at f F n ≡ refs (content_at f F head) = refs_spelled f F n (content_at f F head) spelled.1 in
         walking_visit f F frame next n within stack marks childless keys tally w head has all stack' marks' childless keys' tally'
         (rw (same, length-refs f F head.kind head.count head.body) noted) w.childless_known more
-        (λ other h. subst (λ (x : Head). x.kind ≡ kinds.Dict → (k : ℕ) → k < x.count → IsMarked keys' (key_ref f F x k)) (HasHead-unique f F n head other has h) named) t
+        (λ other h. subst (λ (x : Head). x.kind ≡ kinds.Dict → (k : ℕ) → k < x.count → IsMarked keys' (ref f F x k)) (HasHead-unique f F n head other has h) named) t

@@ -18,3 +18,4 @@ pub mod Linted
 pub mod UpgradeAnswers
 pub mod KeyLists
 pub mod Upgraded
+pub mod Prelude

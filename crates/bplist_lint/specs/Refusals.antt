@@ -15,14 +15,11 @@ lint_refusal_of cert_refusals.Memory = refusals.Memory
 
 -- the answer is a failed read
 abbrev pub lint_failed : {X : Type 0} → Result X LintRefusal → Bool
-lint_failed (Err (refusals.Read _)) = true
-lint_failed _ = false
+lint_failed answer = elim answer [ Err (refusals.Read _) ↦ true | _ ↦ false ]
 
 -- P holds of the fault or Q of the circle, unless a read failed or memory was refused
 abbrev pub Refuses : (Fault → Type 0) → (List ℕ → Type 0) → LintRefusal → Type 0
-Refuses P Q (refusals.Fault fault) = P fault
-Refuses P Q (refusals.Circle circle) = Q (map number circle)
-Refuses P Q _ = Unit {0}
+Refuses P Q refusal = elim refusal [ refusals.Fault fault ↦ P fault | refusals.Circle circle ↦ Q (map number circle) | _ ↦ Unit {0} ]
 
 -- P holds of the answer, Q of the fault, or R of the circle
 abbrev pub Lints : {X : Type 0} → (X → Type 0) → (Fault → Type 0) → (List ℕ → Type 0) → Result X LintRefusal → Type 0

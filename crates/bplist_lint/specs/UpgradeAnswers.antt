@@ -13,8 +13,7 @@ upgrade_fault_of cert_refusals.Memory = faults.Memory
 
 -- the answer is a failed read
 abbrev pub upgrade_failed : {X : Type 0} → Result X UpgradeFault → Bool
-upgrade_failed (Err (faults.Read _)) = true
-upgrade_failed _ = false
+upgrade_failed answer = elim answer [ Err (faults.Read _) ↦ true | _ ↦ false ]
 
 -- P holds of the answer, or the fault is another than that the file changed
 abbrev pub Upgrades : {X : Type 0} → (X → Type 0) → Result X UpgradeFault → Type 0

@@ -16,8 +16,7 @@ use Rattle.bplist_lint.specs.Linted.{is_vouched}
 
 -- how many pairs a dictionary has
 abbrev pub pairs_of : Option Content → Option ℕ
-pairs_of (Some (dict ks ms)) = Some (length ks)
-pairs_of _ = None
+pairs_of content = elim content [ Some (dict ks ms) ↦ Some (length ks) | _ ↦ None ]
 
 module _ (f : List ℕ) (F : Frame) (heights : List ℕ) where
   -- how many positions the key list of object n has, if it is a vouched dictionary

@@ -2,11 +2,7 @@
 
 ghost use Rattle.std.specs.Prelude.{◌≡◌, ◌≢◌, ℕ, ◌+◌, ◌^◌, ◌<◌, ◌≤◌, Bool, List, [], ◌∷◌, ◌++◌, IsTrue, length, map, set, slice_index, vec_len, IfOk, OnOk};
 ghost use Rattle.std.specs.Int.{from_bool};
-ghost use Rattle.bplist_octets.specs.Meaning.{OnlyReads};
-ghost use Rattle.bplist_keys.specs.Failures.{failed_to_read};
-ghost use Rattle.bplist_lint.specs.Graph.{IsWhole, AreObjects};
-ghost use Rattle.bplist_keys.specs.Marks.{IsMarked};
-ghost use Rattle.bplist_lint.specs.HeightWalks.{Finds, Shows, Standing, IsHeightWalk, AreClosed, AreLeastOf, state_at, first_state, work};
+ghost use Rattle.bplist_lint.specs.Prelude.{OnlyReads, failed_to_read, IsWhole, AreObjects, IsMarked, Finds, Shows, Standing, IsHeightWalk, AreClosed, AreLeastOf, state_at, first_state, work};
 ghost use Rattle.bplist_lint.specs.declared.heights.State.TheVariants as states;
 
 use crate::references::{BLOCK, References};
@@ -44,15 +40,11 @@ enum Finding {
 #[derive(Drop)]
 struct HeightWalk {
     states: Vec<State>,
-    /// The height of each founded object. Of an open one the number of the reference at which the next look at it begins, by
-    /// `stride`. Of the others 0.
+    /// The height of each founded object. Of an open one the number of the reference at which the next look at it begins. Of the
+    /// others 0.
     heights: Vec<u32>,
     /// The open objects, each a reference of the one before it.
     stack: Vec<u32>,
-    /// How far apart the references are at which a look may begin again: 1, but where a file is so long that the number of a
-    /// reference may not fit.
-    stride: u64,
-    ghost apart: { 0 < stride },
 }
 
 /// The states that are known before the first look: objects that are known to have no references are founded.
@@ -68,8 +60,8 @@ fn first_states(alloc: Global, childless: &[bool]) -> Result<Vec<State>, AllocEr
 
 impl HeightWalk {
     /// Before the first look. Objects with a mark in `childless` have no references, and so height 1 at once, the number of a
-    /// mark. The file has this length.
-    fn new(alloc: Global, childless: &[bool], len: u64) -> Result<HeightWalk, AllocError>
+    /// mark.
+    fn new(alloc: Global, childless: &[bool]) -> Result<HeightWalk, AllocError>
         ensures states { IfOk result (λ walk. walk.states.items ≡ map first_state childless.now) }
         ensures heights { IfOk result (λ walk. walk.heights.items ≡ map from_bool childless.now) }
         ensures empty { IfOk result (λ walk. vec_len walk.stack ≡ 0) }
@@ -79,7 +71,6 @@ impl HeightWalk {
             states: first_states(alloc, childless)?,
             heights: numbers_of(alloc, childless)?,
             stack: Vec::with_capacity(alloc, containers)?,
-            stride: len / u32::MAX as u64 + 1,
         })
     }
 
@@ -103,7 +94,7 @@ impl HeightWalk {
         ensures all { vec_len self.new.heights ≡ vec_len self.old.heights }
         ensures stack { OnOk result (self.new.stack.items ≡ self.old.stack.items ++ n ∷ []) }
     {
-        self.heights[n as usize] = (i / self.stride).min(u32::MAX as u64) as u32;
+        self.heights[n as usize] = i.min(u32::MAX as u64) as u32;
         self.stack.push(n)?;
         Ok(())
     }
@@ -182,7 +173,7 @@ impl HeightWalk {
         ensures shows { IsTrue (R.means graph.old).honest → IsWhole (R.graph graph.old) n
             → IfOk result (Shows ((R.graph graph.old).refs n) self.now.states.items self.now.heights.items 0) }
     {
-        let from = (self.heights[n as usize] as u64).saturating_mul(self.stride);
+        let from = self.heights[n as usize] as u64;
         if from > 0 {
             match self.look(graph, n, from)? {
                 Finding::Founded(_) => {}
@@ -248,8 +239,7 @@ impl HeightWalk {
 }
 
 /// The least height of each founded object among the marked ones, which refer to marked ones alone, and 0 for each other.
-/// Objects with a mark in `childless` have no references, and so their height at once. No object has more references than `len`,
-/// the file's length.
+/// Objects with a mark in `childless` have no references, and so their height at once.
 ///
 /// A walk begins at each of the others that is not settled, the last first: where each reference leads to a greater number,
 /// the references of each object are looked at in one go, and the stack takes none but the first. Memory is taken by object:
@@ -259,7 +249,6 @@ pub fn least_heights<R: References>(
     graph: &mut R,
     marks: &[bool],
     childless: &[bool],
-    len: u64,
 ) -> Result<Vec<u32>, Failure>
     requires fits { (R.graph graph.old).size < 2 ^ 32 }
     requires all_marks { length marks.now ≡ (R.graph graph.old).size }
@@ -271,7 +260,7 @@ pub fn least_heights<R: References>(
         → ((n : ℕ) → IsMarked childless.now n → IsMarked marks.now n × ((R.graph graph.old).refs n ≡ []))
         → IfOk result (λ heights. AreLeastOf (R.graph graph.old).refs marks.now heights.items) }
 {
-    let mut walk = HeightWalk::new(alloc, childless, len)?;
+    let mut walk = HeightWalk::new(alloc, childless)?;
     let size = marks.len() as u32;
     for n in (0..size).rev() {
         if marks[n as usize] {

@@ -4,24 +4,7 @@
 //! class, and a key without one is no text.
 
 ghost use Rattle.std.specs.Prelude.{◌≡◌, ◌↔◌, ℕ, ◌<◌, length};
-ghost use Rattle.bplist_octets.specs.Meaning.{OnlyReads};
-ghost use Rattle.bplist_objects.specs.Framed.{frame_in, HonestlyIn};
-ghost use Rattle.bplist_objects.specs.Safe.{IsSafeHead};
-ghost use Rattle.bplist_objects.specs.Reach.{Reach};
-ghost use Rattle.bplist_objects.specs.Rules.{KeepsAll, IsFirstFault};
-ghost use Rattle.bplist_objects.specs.ObjectRules.{KeepsByObject, object_rules};
-ghost use Rattle.bplist_objects.specs.Announced.{HasHead};
-ghost use Rattle.bplist_objects.specs.declared.kind.Kind.TheVariants.{Dict};
-ghost use Rattle.bplist_cert.specs.KeyRepeats.{KeysAreSound};
-ghost use Rattle.bplist_cert.specs.Refusals.{Judges, refused_read};
-ghost use Rattle.bplist_keys.specs.Marks.{IsMarked};
-ghost use Rattle.bplist_lint.specs.ReferenceGraph.{AreChildless};
-ghost use Rattle.bplist_lint.specs.ReachRules.{KeepReachBelow};
-ghost use Rattle.bplist_lint.specs.ReachWalk.{AreNamed};
-ghost use Rattle.bplist_lint.specs.KeyRules.{KeepsByKeys, BreaksAtKeys, key_rules, KeepKeysBelow, IsKeysFault};
-ghost use Rattle.bplist_keys.specs.Classes.{AreClassed, IsStamped, IsNew, defect_key};
-ghost use Rattle.bplist_lint.specs.KeyClasses.{IsWrongFault};
-ghost use Rattle.bplist_objects.specs.declared.head.Head.{Head as head_record};
+ghost use Rattle.bplist_lint.specs.Prelude.{OnlyReads, frame_in, HonestlyIn, IsSafeHead, Reach, KeepsAll, IsFirstFault, KeepsByObject, object_rules, HasHead, Dict, KeysAreSound, Judges, refused_read, IsMarked, AreChildless, KeepReachBelow, AreNamed, KeepsByKeys, BreaksAtKeys, key_rules, KeepKeysBelow, IsKeysFault, AreClassed, IsStamped, IsNew, defect_key, IsWrongFault, Head as head_record};
 
 use bplist_cert::Refusal;
 use bplist_keys::{ClassTable, KeyDefect, NamedKeys, Offsets, classes_of, object_shape};

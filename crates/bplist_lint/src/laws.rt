@@ -2,20 +2,7 @@
 
 ghost use Rattle.std.specs.Prelude.{◌≡◌, ◌↔◌, ◌⊎◌, ℕ, ◌<◌, ◌≤◌, List, length, slice_index};
 ghost use Rattle.bplist_objects.specs.declared.fault.Fault.{Fault as fault};
-ghost use Rattle.bplist_objects.specs.declared.frame.Frame.{Frame as frame};
-ghost use Rattle.bplist_objects.specs.Value.{Value};
-ghost use Rattle.bplist_objects.specs.Frame.{IsFrame};
-ghost use Rattle.bplist_objects.specs.Heads.{Content, Spells};
-ghost use Rattle.bplist_objects.specs.File.{FileHolds};
-ghost use Rattle.bplist_objects.specs.Reach.{Reach, Founded};
-ghost use Rattle.bplist_objects.specs.Spelled.{refs_at};
-ghost use Rattle.bplist_cert.specs.Valid.{IsValid};
-ghost use Rattle.bplist_lint.specs.Graph.{Reaches, Ends, AreLeast, IsCircleOf};
-ghost use Rattle.bplist_lint.specs.LeastHeights.{StandLeast, AreLeastHeights};
-ghost use Rattle.bplist_lint.specs.WellFormed.{IsWellFormed};
-ghost use Rattle.bplist_lint.specs.ReachRules.{KeepReachBelow};
-ghost use Rattle.bplist_lint.specs.KeyRules.{KeepKeysBelow};
-ghost use Rattle.bplist_lint.specs.FileFault.{IsCircle, IsFileFault, IsFileCircle};
+ghost use Rattle.bplist_lint.specs.Prelude.{Frame as frame, Value, IsFrame, Content, Spells, FileHolds, Reach, Founded, refs_at, IsValid, Reaches, Ends, AreLeast, IsCircleOf, StandLeast, AreLeastHeights, IsWellFormed, KeepReachBelow, KeepKeysBelow, IsCircle, IsFileFault, IsFileCircle};
 
 /// A file has valid heights exactly where it is well formed.
 pub fn valid_iff_well_formed()

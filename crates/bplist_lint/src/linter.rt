@@ -1,27 +1,7 @@
 //! The linter.
 
 ghost use Rattle.std.specs.Prelude.{◌≡◌, ◌↔◌, ℕ, ◌+◌, ◌≤◌, ◌<◌, IsTrue, IfOk, IfSome, MatchOption, length, map, slice_index, vec_len, ⊤};
-ghost use Rattle.bplist_octets.specs.Meaning.{OnlyReads};
-ghost use Rattle.bplist_objects.specs.Framed.{frame_in, HonestlyIn};
-ghost use Rattle.bplist_objects.specs.Reach.{Reach};
-ghost use Rattle.bplist_keys.specs.Texts.{AreOffsets};
-ghost use Rattle.bplist_objects.specs.Spelled.{refs_at};
-ghost use Rattle.bplist_objects.specs.Value.{Value};
-ghost use Rattle.bplist_objects.specs.File.{FileHolds};
-ghost use Rattle.bplist_objects.specs.Answers.{Never};
-ghost use Rattle.bplist_objects.specs.Heads.{HasShape};
-ghost use Rattle.bplist_objects.specs.declared.head.Head.{Head as head};
-ghost use Rattle.bplist_keys.specs.Failures.{failed_to_read};
-ghost use Rattle.bplist_keys.specs.Marks.{IsMarked};
-ghost use Rattle.bplist_lint.specs.Graph.{AreLeast, IsCircleOf};
-ghost use Rattle.bplist_lint.specs.ReferenceGraph.{AreChildless};
-ghost use Rattle.bplist_lint.specs.Trail.{number};
-ghost use Rattle.bplist_lint.specs.ReachRules.{IsReachFault, KeepReachBelow};
-ghost use Rattle.bplist_lint.specs.KeyRules.{KeepKeysBelow};
-ghost use Rattle.bplist_lint.specs.ReachWalk.{HasRoomFor, IsWalked, AreNamed};
-ghost use Rattle.bplist_lint.specs.FileFault.{IsObjectsFault, IsFileFault, IsFileCircle, IsFramedCircle};
-ghost use Rattle.bplist_lint.specs.Refusals.{Lints, lint_failed, no_circle};
-ghost use Rattle.bplist_lint.specs.Linted.{KeepsRules, IsLintedBy, IsLinted, IsLintedWithKind, HasNoHeights};
+ghost use Rattle.bplist_lint.specs.Prelude.{OnlyReads, frame_in, HonestlyIn, Reach, AreOffsets, refs_at, Value, FileHolds, Never, HasShape, Head as head, failed_to_read, IsMarked, AreLeast, IsCircleOf, AreChildless, number, IsReachFault, KeepReachBelow, KeepKeysBelow, HasRoomFor, IsWalked, AreNamed, IsObjectsFault, IsFileFault, IsFileCircle, IsFramedCircle, Lints, lint_failed, no_circle, KeepsRules, IsLintedBy, IsLinted, IsLintedWithKind, HasNoHeights};
 
 use crate::answer::Lint;
 use crate::circle::circle;
@@ -61,9 +41,8 @@ fn find_heights<P: Offsets>(
         → IfOk result (λ heights. AreLeast (refs_at f F) F.top.0 heights.items)) }
 {
     let _frame = src.frame();
-    let len = src.len();
     let mut objects = Objects::new(src, View::Values);
-    least_heights(alloc, &mut objects, marks, childless, len)
+    least_heights(alloc, &mut objects, marks, childless)
 }
 
 /// The circle that first references without a height lead to from the top, where the reached objects keep rules 14 to 20.

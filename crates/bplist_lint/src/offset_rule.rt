@@ -1,12 +1,7 @@
 //! The places of all objects: rule 13 of them, and the heads that stand there.
 
 ghost use Rattle.std.specs.Prelude.{◌≡◌, ◌<◌, MatchResult, MatchOption, IfOk, IfSome, is_err, length};
-ghost use Rattle.bplist_octets.specs.Meaning.{OnlyReads};
-ghost use Rattle.bplist_objects.specs.Framed.{frame_in, HonestlyIn};
-ghost use Rattle.bplist_objects.specs.Heads.{HasShape};
-ghost use Rattle.bplist_objects.specs.Safe.{IsSafe, IsSafeHead};
-ghost use Rattle.bplist_objects.specs.declared.head.Head.{Head as head};
-ghost use Rattle.bplist_lint.specs.OffsetRule.{AreBelowTable, IsOffsetFault};
+ghost use Rattle.bplist_lint.specs.Prelude.{OnlyReads, frame_in, HonestlyIn, HasShape, IsSafe, IsSafeHead, Head as head, AreBelowTable, IsOffsetFault};
 
 use bplist_keys::{Offsets, object_shape};
 use bplist_objects::{Fault, Frame, Head, ObjectFault, ObjectNo, high_entry};

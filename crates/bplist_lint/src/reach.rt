@@ -2,15 +2,7 @@
 //! once, however many arrays it lies in.
 
 ghost use Rattle.std.specs.Prelude.{◌≡◌, ◌↔◌, ℕ, Bool, All, Contains, List, ◌+◌, ◌^◌, ◌≤◌, ◌<◌, [], ◌∷◌, ◌++◌, true, not, IsTrue, IfOk, OnOk, is_err, replicate, count_by, length, vec_len};
-ghost use Rattle.bplist_octets.specs.Meaning.{OnlyReads};
-ghost use Rattle.bplist_objects.specs.Framed.{frame_in, HonestlyIn};
-ghost use Rattle.bplist_objects.specs.Heads.{content_at, refs};
-ghost use Rattle.bplist_objects.specs.Reach.{Reach};
-ghost use Rattle.bplist_objects.specs.Safe.{IsSafeHead, ref_count};
-ghost use Rattle.bplist_objects.specs.Scan.{AreBelow};
-ghost use Rattle.bplist_keys.specs.Failures.{failed_to_read};
-ghost use Rattle.bplist_keys.specs.Marks.{IsMarked};
-ghost use Rattle.bplist_lint.specs.ReachSearch.{HasMarks, place_index, index_count, IsReady, AreGood, AreFollowed, Looked, Searching};
+ghost use Rattle.bplist_lint.specs.Prelude.{OnlyReads, frame_in, HonestlyIn, content_at, refs, Reach, IsSafeHead, ref_count, AreBelow, failed_to_read, IsMarked, HasMarks, place_index, index_count, IsReady, AreGood, AreFollowed, Looked, Searching};
 
 use crate::bit_set::BitSet;
 use crate::object_graph::object_in;

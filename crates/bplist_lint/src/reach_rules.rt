@@ -1,13 +1,7 @@
 //! The first fault of the reached objects by rules 14 to 20 and 31.
 
 ghost use Rattle.std.specs.Prelude.{◌≡◌, ℕ, ◌+◌, ◌<◌, ◌↔◌, Bool, IfOk, List, length};
-ghost use Rattle.bplist_octets.specs.Meaning.{OnlyReads};
-ghost use Rattle.bplist_objects.specs.Framed.{frame_in, HonestlyIn};
-ghost use Rattle.bplist_objects.specs.Reach.{Reach};
-ghost use Rattle.bplist_objects.specs.Answers.{Gives, read_failed};
-ghost use Rattle.bplist_keys.specs.Marks.{IsMarked};
-ghost use Rattle.bplist_lint.specs.ReachRules.{IsReachFault, Tallied};
-ghost use Rattle.bplist_lint.specs.Tallies.{IsRoomy};
+ghost use Rattle.bplist_lint.specs.Prelude.{OnlyReads, frame_in, HonestlyIn, Reach, Gives, read_failed, IsMarked, IsReachFault, Tallied, IsRoomy};
 
 use crate::tally::Tally;
 use bplist_keys::Offsets;

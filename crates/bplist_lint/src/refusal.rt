@@ -1,11 +1,8 @@
 //! Why the linter says no.
 
 ghost use Rattle.std.specs.Prelude.{◌≡◌};
-ghost use Rattle.bplist_objects.specs.declared.fault.ObjectFault.{ObjectFault as object_fault};
-ghost use Rattle.bplist_cert.specs.declared.refusal.Refusal.{Refusal as cert_refusal};
+ghost use Rattle.bplist_lint.specs.Prelude.{ObjectFault as object_fault, Refusal as cert_refusal, lint_refusal_of, refusal_of, refusal_of_keys};
 ghost use Rattle.bplist_lint.specs.declared.refusal.LintRefusal.TheVariants.{Fault as is_fault};
-ghost use Rattle.bplist_lint.specs.Refusals.{lint_refusal_of};
-ghost use Rattle.bplist_cert.specs.Refusals.{refusal_of, refusal_of_keys};
 
 use crate::object_nos::ObjectNos;
 use bplist_cert::Refusal;

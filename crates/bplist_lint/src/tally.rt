@@ -1,8 +1,7 @@
 //! What reached objects come to together.
 
 ghost use Rattle.std.specs.Prelude.{◌≡◌, ◌+◌, ◌-◌, ◌≤◌, ◌<◌, IfSome, MatchOption};
-ghost use Rattle.bplist_objects.specs.Safe.{IsSafeHead, ref_count};
-ghost use Rattle.bplist_lint.specs.Tallies.{IsRoomy};
+ghost use Rattle.bplist_lint.specs.Prelude.{IsSafeHead, ref_count, IsRoomy};
 
 use bplist_objects::{Frame, Head, refs_of};
 

@@ -1,11 +1,8 @@
 //! Why a certificate is not upgraded.
 
 ghost use Rattle.std.specs.Prelude.{◌≡◌};
-ghost use Rattle.bplist_objects.specs.declared.fault.ObjectFault.{ObjectFault as object_fault};
-ghost use Rattle.bplist_cert.specs.declared.refusal.Refusal.{Refusal as cert_refusal};
-ghost use Rattle.bplist_cert.specs.Refusals.{refusal_of, refusal_of_keys};
+ghost use Rattle.bplist_lint.specs.Prelude.{ObjectFault as object_fault, Refusal as cert_refusal, refusal_of, refusal_of_keys, upgrade_fault_of};
 ghost use Rattle.bplist_lint.specs.declared.upgrade_fault.UpgradeFault.TheVariants.{Memory as is_memory};
-ghost use Rattle.bplist_lint.specs.UpgradeAnswers.{upgrade_fault_of};
 
 use bplist_cert::Refusal;
 use bplist_keys::Failure;

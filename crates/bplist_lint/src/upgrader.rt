@@ -1,13 +1,7 @@
 //! Certificates of version 2, from those of a checked file.
 
 ghost use Rattle.std.specs.Prelude.{◌≡◌, ◌+◌, ◌≤◌, ◌<◌, ℕ, Bool, List, set, length, IsTrue, IfOk, vec_len};
-ghost use Rattle.bplist_octets.specs.Meaning.{OnlyReads};
-ghost use Rattle.bplist_objects.specs.Framed.{frame_in, HonestlyIn};
-ghost use Rattle.bplist_keys.specs.Ranks.{AreRanks};
-ghost use Rattle.bplist_cert.specs.Valid.{IsVouchedBy, IsValid};
-ghost use Rattle.bplist_keys.specs.Classes.{HasNamedKeys};
-ghost use Rattle.bplist_lint.specs.Upgraded.{Listed, IsUpgraded};
-ghost use Rattle.bplist_lint.specs.UpgradeAnswers.{Upgrades, upgrade_failed};
+ghost use Rattle.bplist_lint.specs.Prelude.{OnlyReads, frame_in, HonestlyIn, AreRanks, IsVouchedBy, IsValid, HasNamedKeys, Listed, IsUpgraded, Upgrades, upgrade_failed};
 
 use crate::key_lists::KeySorting;
 use crate::upgrade_fault::UpgradeFault;

@@ -1,19 +1,8 @@
 //! One walk over the reached objects, for files in which none of them breaks a rule and all have room.
 
 ghost use Rattle.std.specs.Prelude.{◌≡◌, ◌≢◌, ◌↔◌, ℕ, ◌+◌, ◌≤◌, ◌<◌, [], ◌∷◌, ◌++◌, not, IsTrue, false, IfOk, IfSome, OnOk, count_by, length, slice_index, vec_len};
-ghost use Rattle.bplist_octets.specs.Meaning.{OnlyReads};
-ghost use Rattle.bplist_objects.specs.declared.fault.ObjectFault.{ObjectFault as object_fault};
-ghost use Rattle.bplist_objects.specs.Framed.{frame_in, HonestlyIn};
-ghost use Rattle.bplist_objects.specs.Heads.{content_at, refs};
-ghost use Rattle.bplist_objects.specs.Safe.{IsSafeHead, ref_count};
-ghost use Rattle.bplist_objects.specs.Scan.{AreBelow};
-ghost use Rattle.bplist_objects.specs.declared.kind.Kind.TheVariants.{Dict};
-ghost use Rattle.bplist_keys.specs.Classes.{key_ref};
-ghost use Rattle.bplist_keys.specs.Failures.{failed_to_read};
-ghost use Rattle.bplist_keys.specs.Marks.{IsMarked};
-ghost use Rattle.bplist_lint.specs.Tallies.{IsRoomy};
-ghost use Rattle.bplist_lint.specs.ReachWalk.{IsSteady, IsSteadyWalk, Noted, IsWalking, HasRoomFor, IsWalked, AreNamed, of_object, stop_failed};
-ghost use Rattle.bplist_lint.specs.declared.walk.Stop.TheVariants.{Read as is_read, Memory as is_memory};
+ghost use Rattle.bplist_lint.specs.Prelude.{OnlyReads, ObjectFault as object_fault, frame_in, HonestlyIn, content_at, refs, IsSafeHead, ref_count, AreBelow, ref, Dict, failed_to_read, IsMarked, IsRoomy, IsSteady, IsSteadyWalk, Noted, IsWalking, HasRoomFor, IsWalked, AreNamed, of_object, stop_failed, Read as is_read};
+ghost use Rattle.bplist_lint.specs.declared.walk.Stop.TheVariants.{Memory as is_memory};
 
 use crate::tally::Tally;
 use bplist_keys::{Failure, NamedKeys, Offsets};
@@ -179,7 +168,7 @@ fn mark_body<P: Framed>(
         AreBelow f head.now.body F.ref_size (ref_count head.now.kind head.now.count) F.objects
         × Noted (refs (content_at f F head.now)) (worklist.old.current + 1) (ref_count head.now.kind head.now.count)
         worklist.old.marks.items worklist.old.stack.items worklist.new.marks.items worklist.new.stack.items
-        × (head.now.kind ≡ Dict → (k : ℕ) → k < head.now.count → IsMarked named.new.marks.items (key_ref f F head.now k)))) }
+        × (head.now.kind ≡ Dict → (k : ℕ) → k < head.now.count → IsMarked named.new.marks.items (ref f F head.now k)))) }
 {
     let objects = src.frame().objects;
     let count = refs_of(head);

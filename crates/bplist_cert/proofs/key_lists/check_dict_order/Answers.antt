@@ -13,24 +13,21 @@ use Rattle.bplist_cert.proofs.key_lists.check_dict_order.Goals as goal
 pub returns-in_err-head-clause-exact : goal.returns-in_err-head-clause-exact
 returns-in_err-head-clause-exact g c = λ honest known low kept sound.
     let m = g.P.Source.means c.args.src.now in
-    let p = err_from_is_err_and c.from_residual-in_err-head.result c.from_residual-in_err-head.ensures.1 in
-    let place = c.in_ok-place.ensures.value honest in
-    let rules = (rw (c.in_ok-place.ensures.reads, c.frame-frame.ensures.frame) at c.in_err-head.ensures.rules) honest (c.frame-frame.ensures.framed.framed honest) place in
-    rw (p.1, p.2) (given_weaker _ _ c.in_err-head.field-0.0 (λ fault h. absurd (shape_kept m.octets (frame_in m) c.args.n fault kept h)) rules)
+    let p = err_from_is_err_and c.from_residual.result c.from_residual.ensures.1 in
+    rw (p.1, p.2) (given_weaker _ _ c.in_err-head.field-0.0 (λ fault h. absurd (shape_kept m.octets (frame_in m) c.args.n fault kept h)) (c.in_err-head.ensures.rules honest))
 
 pub returns-in-Dict-clause-known : goal.returns-in-Dict-clause-known
 returns-in-Dict-clause-known g c = λ honest known low.
-    (rw (c.in_ok-head.ensures.reads, c.in_ok-place.ensures.reads) at c.check_list.ensures.known) honest known low
+    (rw c.in_ok-head.ensures.reads at c.check_list.ensures.known) honest known low
 
 pub returns-in_default : goal.returns-in_default
 returns-in_default g c = record {
-  reads = c.in_ok-head.ensures.reads ∙ c.in_ok-place.ensures.reads;
+  reads = c.in_ok-head.ensures.reads;
   known = λ honest known low. (known, low);
   exact = λ honest known low kept sound other has dict.
       let f = (g.P.Source.means c.args.src.now).octets in
       let F : Frame = frame_in (g.P.Source.means c.args.src.now) in
-      let place = c.in_ok-place.ensures.value honest in
-      let here = ((rw (c.in_ok-place.ensures.reads, c.frame-frame.ensures.frame) at c.in_ok-head.ensures.rules) honest (c.frame-frame.ensures.framed.framed honest) place).0 in
+      let here = (c.in_ok-head.ensures.rules honest).0 in
       absurd (c.in_default.not-Dict (ap (λ (x : Head). x.kind) (HasHead-unique f F c.args.n c.in_ok-head.head other here has) ∙ dict));
 }
 
@@ -40,8 +37,7 @@ returns-in-Dict-clause-exact g c = λ honest known low kept sound.
     let F : Frame = frame_in (g.P.Source.means c.args.src.now) in
     let framed = c.frame-frame.ensures.framed.framed honest in
     let head = c.in_ok-head.head in
-    let place = c.in_ok-place.ensures.value honest in
-    let has = ((rw (c.in_ok-place.ensures.reads, c.frame-frame.ensures.frame) at c.in_ok-head.ensures.rules) honest framed place).0 in
+    let has = (c.in_ok-head.ensures.rules honest).0 in
     let inside = keys_inside f F c.args.n kept head has c.in-Dict.is in
     keys_given f F F.objects (Some c.args.keys.now) c.args.n head has c.check_list.result
-    ((rw (c.in_ok-head.ensures.reads, c.in_ok-place.ensures.reads) at c.check_list.ensures.exact) honest known low (λ whole shapes. shapes_texts f F framed head inside (sound head has c.in-Dict.is whole) shapes))
+    ((rw c.in_ok-head.ensures.reads at c.check_list.ensures.exact) honest known low (λ whole shapes. shapes_texts f F framed head inside (sound head has c.in-Dict.is whole) shapes))

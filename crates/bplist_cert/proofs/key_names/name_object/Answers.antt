@@ -4,7 +4,7 @@ use Rattle.bplist_objects.specs.declared.frame.Frame.{Frame}
 use Rattle.bplist_objects.specs.declared.head.Head.{Head}
 use Rattle.bplist_objects.specs.Framed.{frame_in}
 use Rattle.bplist_objects.proofs.BodyLaws.{HasHead-unique}
-use Rattle.bplist_keys.specs.Classes.{key_ref}
+use Rattle.bplist_objects.specs.Scan.{ref}
 use Rattle.bplist_keys.specs.Marks.{IsMarked}
 use Rattle.bplist_cert.proofs.TextObjects.{shape_kept}
 use Rattle.bplist_cert.proofs.CheckSteps.{given_weaker}
@@ -25,5 +25,5 @@ returns-in_ok-name_keys-in-Dict-clause-exact g c = λ honest at kept head has di
     let here = c.in_ok-head.head in
     let has_here = (c.in_ok-head.ensures.rules honest at).0 in
     let named = (rw c.in_ok-head.ensures.reads at c.in_ok-name_keys-in-Dict.ensures.named) honest in
-    subst (λ (h : Head). (j : ℕ) → j < h.count → IsMarked c.name_keys.new.named.marks.items (key_ref f F h j)) (HasHead-unique f F c.args.n here head has_here has)
+    subst (λ (h : Head). (j : ℕ) → j < h.count → IsMarked c.name_keys.new.named.marks.items (ref f F h j)) (HasHead-unique f F c.args.n here head has_here has)
     (λ j l. named j l (keys_inside f F c.args.n kept here has_here c.in-Dict.is j l)) k low

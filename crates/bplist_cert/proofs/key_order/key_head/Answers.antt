@@ -28,5 +28,5 @@ returns-clause-exact g c = λ honest texts.
     let m = g.P.Source.means c.args.src.now in
     let text = texts c.args.i c.requires.within in
     let value = (rw c.frame-frame.ensures.frame at c.in_ok-m.ensures.value) honest in
-    let found = (rw c.in_ok-m.ensures.reads at c.text_of.ensures.exact) honest in
-    shape_is m.octets (frame_in m) _ text.0 text.1 c.text_of.result (rw value at found)
+    let found = (rw c.in_ok-m.ensures.reads at c.object_text.ensures.exact) honest in
+    shape_is m.octets (frame_in m) _ text.0 text.1 c.object_text.result (rw value at found)

@@ -1,7 +1,7 @@
 use Rattle.std.proofs.Common.{◌≡◌, ℕ, ◌+◌, ◌-◌, ◌<◌, length, sym, ap, ◌∙◌, subst, arith}
 use Rattle.std.proofs.lemmas.Grind.{common_steps}
 use Rattle.bplist_objects.specs.Framed.{frame_in}
-use Rattle.bplist_keys.specs.Classes.{key_ref}
+use Rattle.bplist_objects.specs.Scan.{ref}
 use Rattle.bplist_keys.specs.Marks.{IsMarked}
 use Rattle.bplist_keys.proofs.named_keys.name_block.Goals as goal
 
@@ -13,7 +13,7 @@ returns-clause-named g c = λ honest k from high inside.
     let is : c.args.from + i ≡ k = omega arith in
     let long : length numbers ≡ c.min-count.result = grind (arith, common_steps) in
     let low : i < length numbers = omega arith in
-    let here = c.in_ok-read_refs_in.ensures.numbers honest i low ∙ ap (key_ref m.octets (frame_in m) c.args.head.now) is in
+    let here = c.in_ok-read_refs_in.ensures.numbers honest i low ∙ ap (ref m.octets (frame_in m) c.args.head.now) is in
     let fits = c.insert_all.ensures.all ∙ c.requires.all in
     subst (λ x. IsMarked c.insert_all.new.self.marks.items x) here
     (c.insert_all.ensures.named i low (subst (λ x. x < length c.insert_all.new.self.marks.items) (sym here) (omega (arith, fits, inside))))

@@ -6,7 +6,7 @@ use Rattle.bplist_objects.specs.Framed.{frame_in}
 use Rattle.bplist_objects.specs.Heads.{content_at, refs}
 use Rattle.bplist_objects.proofs.BodyLaws.{refs_fit}
 use Rattle.bplist_objects.proofs.References.{length-refs, nth-refs}
-use Rattle.bplist_keys.specs.Classes.{key_ref}
+use Rattle.bplist_objects.specs.Scan.{ref}
 use Rattle.bplist_lint.proofs.MarkSteps.{noted_more, named_front}
 use Rattle.bplist_lint.proofs.walk.mark_body.Goals as goal
 
@@ -46,7 +46,7 @@ loop-done-preserved g c =
             let part : k - done < length block = omega (arith, low, later, long) in
             let is = (rw i.reads at c.in_ok-read_refs_in.ensures.numbers) honest (k - done) part in
             let key_there : k - done < c.keys_among.result = (c.keys_among.ensures.keys dict (k - done) part).1 (omega (arith, same, key)) in
-            named_front c.keys_among.result block c.insert_all.new.self.marks.items (k - done) (key_ref f F h k) key_there c.keys_among.ensures.few (rw same at is) (omega (arith, rw (is, same) at (below_block (k - done) part), c.insert_all.ensures.all, i.all_named)) c.insert_all.ensures.named
+            named_front c.keys_among.result block c.insert_all.new.self.marks.items (k - done) (ref f F h k) key_there c.keys_among.ensures.few (rw same at is) (omega (arith, rw (is, same) at (below_block (k - done) part), c.insert_all.ensures.all, i.all_named)) c.insert_all.ensures.named
       ];
       below = λ honest k low. elim (cases_lt k done) [
         | inl first ↦ i.below honest k first

@@ -1,9 +1,8 @@
 use Rattle.std.proofs.Common.{◌≡◌, ℕ, ◌+◌, ◌≤◌, ◌<◌, ◌-◌, not, count_by, length, vec_len}
 use Rattle.bplist_objects.specs.Framed.{frame_in, HonestlyIn}
 use Rattle.bplist_objects.specs.Heads.{content_at, refs}
-use Rattle.bplist_objects.specs.Scan.{AreBelow}
+use Rattle.bplist_objects.specs.Scan.{AreBelow, ref}
 use Rattle.bplist_objects.specs.declared.kind.Kind.TheVariants.{Dict}
-use Rattle.bplist_keys.specs.Classes.{key_ref}
 use Rattle.bplist_keys.specs.Marks.{IsMarked}
 use Rattle.bplist_lint.specs.ReachWalk.{IsSteady, Noted}
 use Rattle.bplist_lint.proofs.walk.mark_body.Given as goal
@@ -20,7 +19,7 @@ invariant-loop-done g l =
       work : count_by not l.worklist.marks.items + vec_len l.worklist.stack ≤ count_by not l.fn.worklist.marks.items + vec_len l.fn.worklist.stack;
       all_named : length l.named.marks.items ≡ (frame_in (means l.fn.src)).objects;
       keeps_named : (m : ℕ) → IsMarked l.fn.named.marks.items m → IsMarked l.named.marks.items m;
-      named : HonestlyIn (means l.fn.src) (λ f F. l.head.kind ≡ Dict → (k : ℕ) → k < l.done → k < l.head.count → IsMarked l.named.marks.items (key_ref f F l.head k));
+      named : HonestlyIn (means l.fn.src) (λ f F. l.head.kind ≡ Dict → (k : ℕ) → k < l.done → k < l.head.count → IsMarked l.named.marks.items (ref f F l.head k));
       below : HonestlyIn (means l.fn.src) (λ f F. AreBelow f l.head.body F.ref_size l.done F.objects);
       noted : HonestlyIn (means l.fn.src) (λ f F. Noted (refs (content_at f F l.head)) (l.fn.worklist.current + 1) l.done l.fn.worklist.marks.items l.fn.worklist.stack.items l.worklist.marks.items l.worklist.stack.items);
     }

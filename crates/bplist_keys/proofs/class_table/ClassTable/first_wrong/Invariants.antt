@@ -1,6 +1,6 @@
 use Rattle.std.proofs.Common.{◌≡◌, ◌<◌, ◌≤◌, ◌-◌, IfSome}
 use Rattle.bplist_objects.specs.Framed.{HonestlyIn}
-use Rattle.bplist_keys.specs.Classes.{key_ref}
+use Rattle.bplist_objects.specs.Scan.{ref}
 use Rattle.bplist_keys.specs.Classes.{IsStamped, IsNew, HaveSeenKeys}
 use Rattle.bplist_keys.proofs.class_table.ClassTable.first_wrong.Given as goal
 
@@ -15,7 +15,7 @@ invariant-loop-done g l =
       reached : l.done ≤ l.count;
       again : IfSome l.again (λ j. j < l.done);
       seen : HonestlyIn (means l.fn.src) (λ f F. IsNew l.fn.self.seen.items l.n
-          → HaveSeenKeys (key_ref f F l.head) classes l.n l.self.seen.items l.done l.again);
+          → HaveSeenKeys (ref f F l.head) classes l.n l.self.seen.items l.done l.again);
     }
 
 abbrev pub decreases-loop-done : goal.decreases-loop-done

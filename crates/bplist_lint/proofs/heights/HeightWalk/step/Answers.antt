@@ -2,8 +2,12 @@ use Rattle.std.proofs.Common.{◌≡◌, ◌++◌, ◌∷◌, [], length, refl, 
 use Rattle.std.proofs.lemmas.Grind.{common_steps}
 use Rattle.std.proofs.lemmas.List.{get_or_push, length_push}
 use Rattle.bplist_lint.specs.declared.heights.State.TheVariants.{Founded, Circular}
-use Rattle.bplist_lint.proofs.HeightSteps.{top_room, top_marked, standing_back, standing_open, standing_settle, work_open, work_settle, walking_back, walking_open, walking_settle, not_founded, least_height, among_at}
+use Rattle.bplist_lint.proofs.HeightSteps.{top_within, top_room, top_marked, standing_back, standing_open, standing_settle, work_open, work_settle, walking_back, walking_open, walking_settle, not_founded, least_height, among_at}
 use Rattle.bplist_lint.proofs.heights.HeightWalk.step.Goals as goal
+
+pub settle-requires-in-Founded-clause-within : goal.settle-requires-in-Founded-clause-within
+settle-requires-in-Founded-clause-within g c =
+    let s = c.requires.standing in omega (arith, top_within _ _ _ _ _ s, s.all_heights)
 
 pub overflow_add-best : goal.overflow_add-best
 overflow_add-best g c =

@@ -1,0 +1,49 @@
+-- The names that the clauses of this crate cite, passed on from one place. Declares nothing.
+pub use Rattle.bplist_octets.specs.Meaning.{Honestly, OnlyReads}
+pub use Rattle.bplist_octets.specs.Octets.{part}
+pub use Rattle.bplist_octets.specs.Slices.{StandsAt}
+pub use Rattle.bplist_objects.specs.Announced.{HasHead}
+pub use Rattle.bplist_objects.specs.Answers.{Gives, Never, read_failed}
+pub use Rattle.bplist_objects.specs.Claims.{FailsAt}
+pub use Rattle.bplist_objects.specs.Extents.{Sums}
+pub use Rattle.bplist_objects.specs.Frame.{off}
+pub use Rattle.bplist_objects.specs.Framed.{HonestlyIn, frame_in}
+pub use Rattle.bplist_objects.specs.Heads.{Content, Spells, refs}
+pub use Rattle.bplist_objects.specs.Holds.{Holds}
+pub use Rattle.bplist_objects.specs.ObjectRules.{IsObjectFault, KeepsByObject, body_rules, object_rules}
+pub use Rattle.bplist_objects.specs.Reach.{Chain, Reach, Refs}
+pub use Rattle.bplist_objects.specs.Rules.{KeepsAll}
+pub use Rattle.bplist_objects.specs.Safe.{IsSafeBody, IsSafeFrame, IsSafeHead, ref_count}
+pub use Rattle.bplist_objects.specs.Scan.{ref}
+pub use Rattle.bplist_objects.specs.Units.{IsTextKind}
+pub use Rattle.bplist_objects.specs.Value.{Value}
+pub use Rattle.bplist_objects.specs.declared.frame.Frame.{Frame}
+pub use Rattle.bplist_objects.specs.declared.frame.ObjectNo.{ObjectNo}
+pub use Rattle.bplist_objects.specs.declared.head.Head.{Head}
+pub use Rattle.bplist_objects.specs.declared.kind.Kind.TheVariants.{Dict}
+pub use Rattle.bplist_objects.specs.declared.rule.Rule.TheVariants.{KeyKind, Overfull}
+pub use Rattle.bplist_keys.specs.Classes.{AreClassed, HasNamedKeys, IsNew, IsStamped}
+pub use Rattle.bplist_keys.specs.Failures.{failed_to_read}
+pub use Rattle.bplist_keys.specs.Marks.{IsMarked}
+pub use Rattle.bplist_keys.specs.Ranks.{AreClasses}
+pub use Rattle.bplist_keys.specs.Runs.{AreRuns}
+pub use Rattle.bplist_keys.specs.Texts.{HasTextShape, IsTextHead}
+pub use Rattle.bplist_cert.specs.CheckRules.{HasOrder, IsKeysFault, IsOrderFault}
+pub use Rattle.bplist_cert.specs.CheckedFile.{CheckedFile, IsChecked, meaning_of}
+pub use Rattle.bplist_cert.specs.DictKeys.{AreInOrder, ComesAfter, IsFirstKeyless, IsKey, IsKeylessFault, IsText, IsTwiceFault, KeysAreTexts, KeysDiffer}
+pub use Rattle.bplist_cert.specs.Encoding.{Fits, IsCertRefusal, IsOctetsFault, key_words, magic, octets_of, words}
+pub use Rattle.bplist_cert.specs.Heights.{AreLower, AreMet, AreMetBy, IsFirstUnmet, IsFirstUnmetBy, IsHeightFault, IsUnmetFault, Meets, rule_of}
+pub use Rattle.bplist_cert.specs.KeyOffsets.{AreOffsetsOf, AreRefs, IsFirstOther, IsOffsetOf, ReferToTexts}
+pub use Rattle.bplist_cert.specs.KeyPairs.{AreFewKeys, AreKnown, Ascends, Follows, HaveTextShapes, IsReadKey, IsSafeKey}
+pub use Rattle.bplist_cert.specs.KeyRepeats.{BreaksKeys, HasGoodKeys, IsFirstKeysFault, KeysAreSound}
+pub use Rattle.bplist_cert.specs.KeysLooks.{AreSeen, HaveGoodLists, IsListed, IsLookOf, keys_of}
+pub use Rattle.bplist_cert.specs.Lists.{AreKeyed, AreWords, HasCount, HasStarts, IsCertificate, IsWhole, Keyed, Lists, list_of, lists}
+pub use Rattle.bplist_cert.specs.Looks.{IsShownFault, KeepBeforeKeysBelow}
+pub use Rattle.bplist_cert.specs.LowBytes.{AreLow, IsLow}
+pub use Rattle.bplist_cert.specs.PairFault.{AreCheckedBelow, IsCheckedObject, IsCountFault, IsPairFault, IsSeenFault, IsVouchedFault, IsWalkFault, KeepsPairRules}
+pub use Rattle.bplist_cert.specs.Refusals.{GivesRefusal, Judges, MayRefuse, is_read, refused_read}
+pub use Rattle.bplist_cert.specs.Sorted.{IsAccepted, IsSorted}
+pub use Rattle.bplist_cert.specs.Valid.{HoldsOneValue, IsValid, IsVouchedBy, SpellsText}
+pub use Rattle.bplist_cert.specs.Versions.{header_octets, is_keyed}
+pub use Rattle.bplist_cert.specs.declared.checker.Look.TheVariants.{Exact, Quick}
+pub use Rattle.bplist_cert.specs.declared.refusal.Refusal.TheVariants.{Read}

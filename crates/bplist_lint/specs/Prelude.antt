@@ -1,0 +1,48 @@
+-- The names that the clauses of this crate cite, passed on from one place. Declares nothing.
+pub use Rattle.bplist_octets.specs.Meaning.{OnlyReads}
+pub use Rattle.bplist_objects.specs.Announced.{HasHead}
+pub use Rattle.bplist_objects.specs.Answers.{Gives, Never, read_failed}
+pub use Rattle.bplist_objects.specs.File.{FileHolds}
+pub use Rattle.bplist_objects.specs.Frame.{IsFrame}
+pub use Rattle.bplist_objects.specs.Framed.{HonestlyIn, frame_in}
+pub use Rattle.bplist_objects.specs.Heads.{Content, HasShape, Spells, content_at, refs}
+pub use Rattle.bplist_objects.specs.ObjectRules.{KeepsByObject, object_rules}
+pub use Rattle.bplist_objects.specs.Reach.{Founded, Reach}
+pub use Rattle.bplist_objects.specs.Rules.{IsFirstFault, KeepsAll}
+pub use Rattle.bplist_objects.specs.Safe.{IsSafe, IsSafeHead, ref_count}
+pub use Rattle.bplist_objects.specs.Scan.{AreBelow, nth_number, ref}
+pub use Rattle.bplist_objects.specs.Spelled.{refs_at}
+pub use Rattle.bplist_objects.specs.Value.{Value}
+pub use Rattle.bplist_objects.specs.declared.fault.ObjectFault.{ObjectFault}
+pub use Rattle.bplist_objects.specs.declared.frame.Frame.{Frame}
+pub use Rattle.bplist_objects.specs.declared.head.Head.{Head}
+pub use Rattle.bplist_objects.specs.declared.kind.Kind.TheVariants.{Dict}
+pub use Rattle.bplist_keys.specs.Classes.{AreClassed, HasNamedKeys, IsNew, IsStamped, defect_key}
+pub use Rattle.bplist_keys.specs.Failures.{failed_to_read}
+pub use Rattle.bplist_keys.specs.Marks.{IsMarked}
+pub use Rattle.bplist_keys.specs.Ranks.{AreRanks}
+pub use Rattle.bplist_keys.specs.Texts.{AreOffsets}
+pub use Rattle.bplist_cert.specs.KeyRepeats.{KeysAreSound}
+pub use Rattle.bplist_cert.specs.Refusals.{Judges, refusal_of, refusal_of_keys, refused_read}
+pub use Rattle.bplist_cert.specs.Valid.{IsValid, IsVouchedBy}
+pub use Rattle.bplist_cert.specs.declared.refusal.Refusal.{Refusal}
+pub use Rattle.bplist_lint.specs.FileFault.{IsCircle, IsFileCircle, IsFileFault, IsFramedCircle, IsObjectsFault}
+pub use Rattle.bplist_lint.specs.Graph.{AreLeast, AreObjects, AreWhole, Ends, IsCircleOf, IsFirstWithout, IsWhole, Reaches}
+pub use Rattle.bplist_lint.specs.HeightWalks.{AreClosed, AreLeastOf, Finds, IsHeightWalk, Shows, Standing, first_state, state_at, work}
+pub use Rattle.bplist_lint.specs.KeyClasses.{IsWrongFault}
+pub use Rattle.bplist_lint.specs.KeyLists.{AreAbove, AreRanked, HaveRanks, IsListed, positions_in, ranks_in}
+pub use Rattle.bplist_lint.specs.KeyRules.{BreaksAtKeys, IsKeysFault, KeepKeysBelow, KeepsByKeys, key_rules}
+pub use Rattle.bplist_lint.specs.LeastHeights.{AreLeastHeights, StandLeast}
+pub use Rattle.bplist_lint.specs.Linted.{HasNoHeights, IsLinted, IsLintedBy, IsLintedWithKind, KeepsRules}
+pub use Rattle.bplist_lint.specs.OffsetRule.{AreBelowTable, IsOffsetFault}
+pub use Rattle.bplist_lint.specs.ReachRules.{IsReachFault, KeepReachBelow, Tallied}
+pub use Rattle.bplist_lint.specs.ReachSearch.{AreFollowed, AreGood, HasMarks, IsReady, Looked, Searching, index_count, place_index}
+pub use Rattle.bplist_lint.specs.ReachWalk.{AreNamed, HasRoomFor, IsSteady, IsSteadyWalk, IsWalked, IsWalking, Noted, of_object, stop_failed}
+pub use Rattle.bplist_lint.specs.ReferenceGraph.{AreChildless, graph_of, hidden}
+pub use Rattle.bplist_lint.specs.Refusals.{Lints, lint_failed, lint_refusal_of, no_circle}
+pub use Rattle.bplist_lint.specs.Tallies.{IsRoomy}
+pub use Rattle.bplist_lint.specs.Trail.{AllHave, IsFirstIndex, number, object}
+pub use Rattle.bplist_lint.specs.UpgradeAnswers.{Upgrades, upgrade_failed, upgrade_fault_of}
+pub use Rattle.bplist_lint.specs.Upgraded.{IsUpgraded, Listed}
+pub use Rattle.bplist_lint.specs.WellFormed.{IsWellFormed}
+pub use Rattle.bplist_lint.specs.declared.walk.Stop.TheVariants.{Read}
