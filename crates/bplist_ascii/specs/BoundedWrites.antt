@@ -10,8 +10,7 @@ use Rattle.bplist_ascii.specs.declared.style.Style.TheVariants.{Unquoted, Quoted
 
 -- the answer says that a read has failed
 abbrev pub print_read : {X : Type 0} → Result X PrintFault → Bool
-print_read (Err (Read _)) = true
-print_read _ = false
+print_read answer = elim answer [ Err (Read _) ↦ true | _ ↦ false ]
 
 -- these bytes were put in, and of the room `left` bytes are left
 pub record Adds (old new : Option (List ℕ)) (before after : Sending) (room left : ℕ) (bytes : List ℕ) : Type 0 where

@@ -3,3 +3,4 @@ pub mod BoundedWrites
 pub mod Walks
 pub mod FormlessSearch
 pub mod Printed
+pub mod Prelude

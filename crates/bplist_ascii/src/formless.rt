@@ -1,21 +1,7 @@
 //! The first object that keeps a value from having a text.
 
 ghost use Rattle.std.specs.Prelude.{◌≡◌, ◌↔◌, ◌<◌, ℕ, Some, None, slice_index, IfOk, IfSome, IsTrue, MatchOption};
-ghost use Rattle.bplist_cert.specs.CheckedFile.{HonestlyChecked};
-ghost use Rattle.bplist_objects.specs.Value.{Value};
-ghost use Rattle.bplist_objects.specs.Heads.{Content, Spells, content_at};
-ghost use Rattle.bplist_objects.specs.Holds.{Holds};
-ghost use Rattle.bplist_objects.specs.Safe.{IsSafeHead};
-ghost use Rattle.bplist_cert.specs.Valid.{IsVouchedBy};
-ghost use Rattle.bplist_cursor.specs.Causes.{GivesRead, read_failed};
-ghost use Rattle.bplist_cursor.specs.Kept.{OnlyReadsFile};
-ghost use Rattle.bplist_cursor.specs.Sizes.{AreMeasures, form_in};
-ghost use Rattle.bplist_cursor.specs.declared.form.Form.TheVariants.{NoForm};
-ghost use Rattle.bplist_cursor.specs.OldStyle.{value_text};
-ghost use Rattle.bplist_cursor.specs.Formless.{IsFormless};
-ghost use Rattle.bplist_cursor.specs.Found.{IsHeld};
-ghost use Rattle.bplist_ascii.specs.Walks.{IsContainer};
-ghost use Rattle.bplist_ascii.specs.FormlessSearch.{HasSameFormless, first_value_of};
+ghost use Rattle.bplist_ascii.specs.Prelude.{HonestlyChecked, Value, Content, Spells, content_at, Holds, IsSafeHead, IsVouchedBy, GivesRead, read_failed, OnlyReadsFile, AreMeasures, form_in, NoForm, value_text, IsFormless, IsHeld, IsContainer, HasSameFormless, first_value_of};
 
 use bplist_cert::Checked;
 use bplist_cursor::{Form, Measures, Node, Unread, member_by_head, node_head};

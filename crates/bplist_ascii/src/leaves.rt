@@ -2,16 +2,7 @@
 
 ghost use Rattle.std.specs.Prelude.{◌≡◌, ◌+◌, ◌<◌, ◌≤◌, true, length, flat_map, IfOk, OnOk, IfErr, OnErr, IsTrue};
 ghost use Rattle.std.specs.List.{list_all};
-ghost use Rattle.bplist_octets.specs.Octets.{part};
-ghost use Rattle.bplist_cert.specs.CheckedFile.{HonestlyChecked};
-ghost use Rattle.bplist_objects.specs.Safe.{IsSafeBody};
-ghost use Rattle.bplist_objects.specs.Units.{IsTextKind, units_of};
-ghost use Rattle.bplist_objects.specs.declared.kind.Kind.TheVariants.{Bytes};
-ghost use Rattle.bplist_cursor.specs.Causes.{GivesRead, read_failed};
-ghost use Rattle.bplist_cursor.specs.Kept.{OnlyReadsFile};
-ghost use Rattle.bplist_cursor.specs.Texts.{hex_digits, text_of_units, text_of_bytes, quoted};
-ghost use Rattle.bplist_ascii.specs.BoundedWrites.{print_read, AddsText, AddFails, FailsWithin, StaysWithin, styled, fits, is_unquoted_text};
-ghost use Rattle.bplist_ascii.specs.declared.style.Style.TheVariants.{Unquoted};
+ghost use Rattle.bplist_ascii.specs.Prelude.{part, HonestlyChecked, IsSafeBody, IsTextKind, units_of, Bytes, GivesRead, read_failed, OnlyReadsFile, hex_digits, text_of_units, text_of_bytes, quoted, print_read, AddsText, AddFails, FailsWithin, StaysWithin, styled, fits, is_unquoted_text, Unquoted};
 
 use crate::output::{write, write_digits, write_units};
 use crate::print_fault::PrintFault;

@@ -2,8 +2,7 @@
 
 ghost use Rattle.std.specs.Prelude.{◌≡◌, ◌<◌, ◌≤◌, false, true, length, flat_map, OnOk, IfErr, OnErr};
 ghost use Rattle.std.specs.List.{list_all};
-ghost use Rattle.bplist_cursor.specs.Texts.{hex_digits};
-ghost use Rattle.bplist_ascii.specs.BoundedWrites.{print_read, Adds, AddFails, FailsWithin, StaysWithin, styled, fits};
+ghost use Rattle.bplist_ascii.specs.Prelude.{hex_digits, print_read, Adds, AddFails, FailsWithin, StaysWithin, styled, fits};
 
 use crate::print_fault::PrintFault;
 use crate::sink::Sink;

@@ -1,8 +1,8 @@
 //! Why a value was not printed.
 
 ghost use Rattle.std.specs.Prelude.{◌≡◌};
-ghost use Rattle.bplist_cursor.specs.declared.faults.Unread.TheVariants.{Read as unread_read, Changed as unread_changed};
-ghost use Rattle.bplist_ascii.specs.declared.print_fault.PrintFault.{PrintFault as print_fault};
+ghost use Rattle.bplist_cursor.specs.declared.faults.Unread.TheVariants.{Changed as unread_changed};
+ghost use Rattle.bplist_ascii.specs.Prelude.{Read as unread_read, PrintFault as print_fault};
 ghost use Rattle.bplist_ascii.specs.declared.print_fault.PrintFault.TheVariants as print_faults;
 
 use crate::sink::WriteFault;

@@ -1,15 +1,7 @@
 //! The old-style text of a value, written to a writer.
 
 ghost use Rattle.std.specs.Prelude.{◌≡◌, ℕ, ◌+◌, ◌≤◌, List, length, Err, OnOk, OnErr};
-ghost use Rattle.bplist_cert.specs.CheckedFile.{HonestlyChecked};
-ghost use Rattle.bplist_objects.specs.Value.{Value};
-ghost use Rattle.bplist_objects.specs.Holds.{Holds};
-ghost use Rattle.bplist_cert.specs.Valid.{IsVouchedBy};
-ghost use Rattle.bplist_cursor.specs.Kept.{OnlyReadsFile};
-ghost use Rattle.bplist_cursor.specs.Sizes.{AreMeasures};
-ghost use Rattle.bplist_ascii.specs.Sending.{AtMost, Takes};
-ghost use Rattle.bplist_ascii.specs.BoundedWrites.{print_read};
-ghost use Rattle.bplist_ascii.specs.Printed.{IsPut, IsPrinted};
+ghost use Rattle.bplist_ascii.specs.Prelude.{HonestlyChecked, Value, Holds, IsVouchedBy, OnlyReadsFile, AreMeasures, AtMost, Takes, print_read, IsPut, IsPrinted};
 ghost use Rattle.bplist_ascii.specs.declared.print_fault.PrintFault.TheVariants.{Changed};
 
 use crate::formless::first_formless;

@@ -1,11 +1,7 @@
 //! The walk that writes a value's text: containers that are half written wait on a stack.
 
 ghost use Rattle.std.specs.Prelude.{◌≡◌, ◌<◌, ◌++◌, [], ◌∷◌, List, ℕ, OnOk, IfErr, OnErr};
-ghost use Rattle.bplist_objects.specs.Safe.{IsSafeHead};
-ghost use Rattle.bplist_cursor.specs.Kept.{OnlyReadsFile};
-ghost use Rattle.bplist_ascii.specs.BoundedWrites.{print_read, AddsSome, TakesWithin, FailsWithin, StaysWithin};
-ghost use Rattle.bplist_ascii.specs.Sending.{Takes};
-ghost use Rattle.bplist_ascii.specs.Walks.{opening_of, separator_of, closing_of, AreSafe, HonestlyLeft, HonestlyPlain, StackLeft, GoesOn};
+ghost use Rattle.bplist_ascii.specs.Prelude.{IsSafeHead, OnlyReadsFile, print_read, AddsSome, TakesWithin, FailsWithin, StaysWithin, Takes, opening_of, separator_of, closing_of, AreSafe, HonestlyLeft, HonestlyPlain, StackLeft, GoesOn};
 
 use crate::leaves::{write_data, write_text};
 use crate::output::write;

@@ -33,8 +33,8 @@ told_equal Equal us vs b e is = (λ t. (compare_units-equal_iff us vs).0 (sym e)
 told_equal Greater us vs b e is = (λ t. cc (t, is), λ same. let self = (compare_units-equal_iff us vs).1 same in cc (self, e))
 
 -- reference i of a dictionary is key i
-pub key_ref : (ks ms : List ℕ) (i : ℕ) → i < length ks → slice_index (refs (dict ks ms)) i ≡ slice_index ks i
-key_ref ks ms i l = get_or_append_left ks ms 0 i l
+pub ref : (ks ms : List ℕ) (i : ℕ) → i < length ks → slice_index (refs (dict ks ms)) i ≡ slice_index ks i
+ref ks ms i l = get_or_append_left ks ms 0 i l
 
 -- and behind the keys reference i is value i
 pub value_ref : (ks ms : List ℕ) (c i : ℕ) → length ks ≡ c → slice_index (refs (dict ks ms)) (c + i) ≡ slice_index ms i

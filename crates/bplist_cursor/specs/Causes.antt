@@ -7,13 +7,11 @@ use Rattle.bplist_cursor.specs.declared.faults.CursorFault.TheVariants as faults
 
 -- the answer says that a read has failed
 abbrev pub read_failed : {X : Type 0} → Result X Unread → Bool
-read_failed (Err (unread.Read _)) = true
-read_failed _ = false
+read_failed answer = elim answer [ Err (unread.Read _) ↦ true | _ ↦ false ]
 
 -- the answer is a failed read
 abbrev pub cursor_read : {X : Type 0} → Result X CursorFault → Bool
-cursor_read (Err (faults.Read _)) = true
-cursor_read _ = false
+cursor_read answer = elim answer [ Err (faults.Read _) ↦ true | _ ↦ false ]
 
 -- P holds of what was read, or the fault is not `Changed`
 abbrev pub GivesRead : {X : Type 0} → (X → Type 0) → Result X Unread → Type 0

@@ -22,8 +22,7 @@ halvings_of _ count = 0
 
 -- how many comparisons a step at this value may take: the binary digits of the count of pairs
 abbrev pub halvings_at : Value → ℕ
-halvings_at (dict ps) = length (digits_of 2 (length (keys ps)))
-halvings_at _ = 0
+halvings_at v = elim v [ dict ps ↦ length (digits_of 2 (length (keys ps))) | _ ↦ 0 ]
 
 -- the sum, over the dictionaries met, of the binary digits of their count of pairs
 abbrev pub halvings : Value → List (List ℕ) → ℕ

@@ -21,3 +21,4 @@ pub mod Steps
 pub mod KeySearch
 pub mod Found
 pub mod Queries
+pub mod Prelude

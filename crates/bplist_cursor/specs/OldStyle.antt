@@ -5,8 +5,7 @@ use Rattle.bplist_cursor.specs.Texts.{text_of_units, text_of_bytes}
 
 -- `,` before more members
 abbrev pub comma : Values → List ℕ
-comma no_values = []
-comma (value v vs) = 0x2C ∷ []
+comma values = elim values [ no_values ↦ [] | value v vs ↦ 0x2C ∷ [] ]
 
 abbrev mutual
   -- the text of a value, if all its parts have one

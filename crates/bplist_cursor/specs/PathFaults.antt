@@ -5,5 +5,4 @@ use Rattle.bplist_cursor.specs.declared.path.PathFault.TheVariants.{Text, Memory
 
 -- P holds of the place of a wrong text
 abbrev pub OnText : (ℕ → Type 0) → PathFault → Type 0
-OnText P (Text place) = P place
-OnText P Memory = ⊤
+OnText P fault = elim fault [ Text place ↦ P place | Memory ↦ ⊤ ]

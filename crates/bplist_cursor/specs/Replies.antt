@@ -27,8 +27,7 @@ face (dict ps) = faces.Dict (length (keys ps))
 
 -- the keys of a dictionary
 abbrev pub keys_reply : Value → Reply
-keys_reply (dict ps) = replies.Keys (keys ps)
-keys_reply _ = replies.NoKeys
+keys_reply v = elim v [ dict ps ↦ replies.Keys (keys ps) | _ ↦ replies.NoKeys ]
 
 -- a value's reply to a query
 abbrev pub reply : Value → Query → Reply

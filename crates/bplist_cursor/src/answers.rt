@@ -1,15 +1,7 @@
 //! Replies to queries.
 
 ghost use Rattle.std.specs.Prelude.{⊤, ◌≡◌, ◌<◌, map, IsTrue, IfSome};
-ghost use Rattle.bplist_cert.specs.CheckedFile.{HonestlyChecked};
-ghost use Rattle.bplist_objects.specs.Value.{Value};
-ghost use Rattle.bplist_objects.specs.Holds.{Holds};
-ghost use Rattle.bplist_cursor.specs.Causes.{GivesCursor, cursor_read};
-ghost use Rattle.bplist_cursor.specs.Kept.{OnlyReadsFile};
-ghost use Rattle.bplist_cursor.specs.Found.{IsHeld, AreMeasuresOf};
-ghost use Rattle.bplist_cursor.specs.Nodes.{cap, nodes};
-ghost use Rattle.bplist_cursor.specs.Replies.{reply, keys_reply};
-ghost use Rattle.bplist_cursor.specs.Queries.{steps_in, reply_at};
+ghost use Rattle.bplist_cursor.specs.Prelude.{HonestlyChecked, Value, Holds, GivesCursor, cursor_read, OnlyReadsFile, IsHeld, AreMeasuresOf, cap, nodes, reply, keys_reply, steps_in, reply_at};
 
 use crate::faults::CursorFault;
 use crate::found::{Found, Node};

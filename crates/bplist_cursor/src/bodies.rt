@@ -1,14 +1,8 @@
 //! Bodies of objects, read in parts.
 
 ghost use Rattle.std.specs.Prelude.{◌≡◌, ◌+◌, ◌*◌, ◌≤◌, length};
-ghost use Rattle.bplist_octets.specs.Octets.{part};
-ghost use Rattle.bplist_cert.specs.CheckedFile.{HonestlyChecked};
-ghost use Rattle.bplist_objects.specs.Announced.{item_size};
-ghost use Rattle.bplist_objects.specs.Kinds.{IsLeafKind};
-ghost use Rattle.bplist_objects.specs.Safe.{IsSafeBody};
-ghost use Rattle.bplist_objects.specs.Units.{IsTextKind, units_of};
-ghost use Rattle.bplist_cursor.specs.Causes.{GivesRead, read_failed};
-ghost use Rattle.bplist_cursor.specs.Kept.{OnlyReadsFile};
+ghost use Rattle.bplist_cursor.specs.Prelude.{part, HonestlyChecked, item_size, IsLeafKind, IsSafeBody, IsTextKind, GivesRead, read_failed, OnlyReadsFile};
+ghost use Rattle.bplist_objects.specs.Units.{units_of};
 
 use crate::faults::Unread;
 use bplist_cert::Checked;

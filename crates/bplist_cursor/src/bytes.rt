@@ -1,8 +1,7 @@
 //! Bodies lent from the caller's own slice.
 
 ghost use Rattle.std.specs.Prelude.{ℕ, List, IfSome, MatchOption};
-ghost use Rattle.bplist_cert.specs.Valid.{IsVouchedBy};
-ghost use Rattle.bplist_cursor.specs.LentBodies.{SpellsBytes, StandsAtBody};
+ghost use Rattle.bplist_cursor.specs.Prelude.{IsVouchedBy, SpellsBytes, StandsAtBody};
 
 use crate::found::Node;
 use bplist_cert::Checked;

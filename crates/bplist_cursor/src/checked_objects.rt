@@ -1,11 +1,7 @@
 //! Objects of a checked file: their heads and references.
 
 ghost use Rattle.std.specs.Prelude.{◌≡◌, ℕ, ◌<◌, IfOk, length, slice_index};
-ghost use Rattle.bplist_cert.specs.CheckedFile.{HonestlyChecked};
-ghost use Rattle.bplist_objects.specs.Heads.{Content, Spells, content_at, refs};
-ghost use Rattle.bplist_objects.specs.Safe.{IsSafeHead, IsSafeBody, ref_count};
-ghost use Rattle.bplist_cursor.specs.Causes.{GivesRead, read_failed};
-ghost use Rattle.bplist_cursor.specs.Kept.{OnlyReadsFile};
+ghost use Rattle.bplist_cursor.specs.Prelude.{HonestlyChecked, Content, Spells, content_at, refs, IsSafeHead, IsSafeBody, ref_count, GivesRead, read_failed, OnlyReadsFile};
 
 use crate::faults::Unread;
 use bplist_cert::Checked;

@@ -1,7 +1,7 @@
 //! Whether a value has an old-style text.
 
 ghost use Rattle.std.specs.Prelude.{◌≡◌};
-ghost use Rattle.bplist_cursor.specs.Forms.{joined};
+ghost use Rattle.bplist_cursor.specs.Prelude.{joined};
 
 /// Whether a value has an old-style text, and how long it is.
 #[derive(Clone, Copy, Debug, PartialEq, Eq)]

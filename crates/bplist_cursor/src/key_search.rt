@@ -2,19 +2,7 @@
 
 ghost use Rattle.std.specs.Prelude.{◌≡◌, ℕ, ◌+◌, ◌^◌, ◌<◌, ◌≤◌, List, length, slice_index, IfOk, IfSome, MatchResult, Option, Some, None};
 ghost use Rattle.std.specs.Int.Digits.{digits_of};
-ghost use Rattle.bplist_octets.specs.Octets.{part};
-ghost use Rattle.bplist_cert.specs.CheckedFile.{HonestlyChecked};
-ghost use Rattle.bplist_objects.specs.Value.{text};
-ghost use Rattle.bplist_objects.specs.Heads.{Spells, leaf, dict, content_at};
-ghost use Rattle.bplist_objects.specs.Units.{compare_units};
-ghost use Rattle.bplist_objects.specs.Safe.{IsSafeHead};
-ghost use Rattle.bplist_objects.specs.declared.kind.Kind.TheVariants.{Dict};
-ghost use Rattle.bplist_cert.specs.Lists.{Keyed};
-ghost use Rattle.bplist_cert.specs.Valid.{IsVouchedBy};
-ghost use Rattle.bplist_cursor.specs.Causes.{GivesRead, read_failed};
-ghost use Rattle.bplist_cursor.specs.Kept.{OnlyReadsFile};
-ghost use Rattle.bplist_cursor.specs.Steps.{SpellTexts, HonestlyKeyed, IsKeyIndex};
-ghost use Rattle.bplist_cursor.specs.KeySearch.{IsCompared, IsKeyList, RisesAtMost, ListStarts, IsUnlisted};
+ghost use Rattle.bplist_cursor.specs.Prelude.{part, HonestlyChecked, text, Spells, leaf, dict, content_at, compare_units, IsSafeHead, Dict, Keyed, IsVouchedBy, GivesRead, read_failed, OnlyReadsFile, SpellTexts, HonestlyKeyed, IsKeyIndex, IsCompared, IsKeyList, RisesAtMost, ListStarts, IsUnlisted};
 
 use crate::checked_objects::{head_in, reference_in};
 use crate::faults::Unread;

@@ -1,15 +1,8 @@
 //! The keys of a dictionary.
 
 ghost use Rattle.std.specs.Prelude.{◌≡◌, ◌<◌, ℕ, List as list};
-ghost use Rattle.bplist_cert.specs.CheckedFile.{HonestlyChecked};
+ghost use Rattle.bplist_cursor.specs.Prelude.{HonestlyChecked, text, Spells, leaf, dict, content_at, IsSafeHead, Dict, SpellsText, GivesCursor, cursor_read, OnlyReadsFile};
 ghost use Rattle.std.specs.List.{AllZip};
-ghost use Rattle.bplist_objects.specs.Value.{text};
-ghost use Rattle.bplist_objects.specs.Heads.{Spells, leaf, dict, content_at};
-ghost use Rattle.bplist_objects.specs.Safe.{IsSafeHead};
-ghost use Rattle.bplist_objects.specs.declared.kind.Kind.TheVariants.{Dict};
-ghost use Rattle.bplist_cert.specs.Valid.{SpellsText};
-ghost use Rattle.bplist_cursor.specs.Causes.{GivesCursor, cursor_read};
-ghost use Rattle.bplist_cursor.specs.Kept.{OnlyReadsFile};
 
 use crate::checked_objects::{head_in, reference_in};
 use crate::faults::CursorFault;

@@ -2,21 +2,7 @@
 //! rest on: tables by object, and the text of a value in two parts.
 
 ghost use Rattle.std.specs.Prelude.{◌≡◌, ◌≤◌, ◌↔◌, ℕ, ◌<◌, List, Ok, Err, Some, None, Contains, slice_index};
-ghost use Rattle.bplist_objects.specs.declared.frame.Frame.{Frame as frame};
-ghost use Rattle.bplist_objects.specs.Frame.{IsFrame};
-ghost use Rattle.bplist_objects.specs.Value.{Value};
-ghost use Rattle.bplist_objects.specs.Heads.{Content, Spells, refs};
-ghost use Rattle.bplist_objects.specs.Holds.{Holds};
-ghost use Rattle.bplist_objects.specs.Reach.{Refs};
-ghost use Rattle.bplist_cursor.specs.Path.{IsPathOf, IsWrongAt};
-ghost use Rattle.bplist_cursor.specs.Look.{stepped};
-ghost use Rattle.bplist_cursor.specs.Leads.{IsTaken, Leads, HasTextKeys, why_of};
-ghost use Rattle.bplist_cursor.specs.Nodes.{cap, nodes};
-ghost use Rattle.bplist_cursor.specs.Measured.{Measured};
-ghost use Rattle.bplist_cursor.specs.OldStyle.{value_text, IsFormed, plain};
-ghost use Rattle.bplist_cursor.specs.Formless.{IsFormless};
-ghost use Rattle.bplist_cursor.specs.Forms.{Formed, form_at, form_of};
-ghost use Rattle.bplist_cursor.specs.declared.form.Form.{Form};
+ghost use Rattle.bplist_cursor.specs.Prelude.{Frame as frame, IsFrame, Value, Content, Spells, refs, Holds, Refs, IsPathOf, IsWrongAt, stepped, IsTaken, Leads, HasTextKeys, why_of, cap, nodes, Measured, value_text, IsFormed, plain, IsFormless, Formed, form_at, form_of, Form};
 
 /// A path text spells one list of steps.
 pub fn one_path()

@@ -1,14 +1,8 @@
 //! Where a path leads.
 
 ghost use Rattle.std.specs.Prelude.{⊤, ◌≡◌, ◌≢◌, ◌<◌, IsTrue, IsOk, IfOk, OnOk, Err, Vec};
-ghost use Rattle.bplist_cert.specs.CheckedFile.{HonestlyChecked};
-ghost use Rattle.bplist_objects.specs.Value.{Value};
-ghost use Rattle.bplist_objects.specs.Holds.{Holds};
-ghost use Rattle.bplist_cursor.specs.Causes.{GivesRead, GivesCursor, read_failed, cursor_read};
-ghost use Rattle.bplist_cursor.specs.Kept.{OnlyReadsFile};
-ghost use Rattle.bplist_cursor.specs.KeySearch.{halvings, RisesAtMost};
-ghost use Rattle.bplist_cursor.specs.Found.{IsFound, units_of};
-ghost use Rattle.bplist_cursor.specs.declared.faults.CursorFault.TheVariants.{Memory};
+ghost use Rattle.bplist_cursor.specs.Prelude.{HonestlyChecked, Value, Holds, GivesRead, GivesCursor, read_failed, cursor_read, OnlyReadsFile, halvings, RisesAtMost, IsFound, Memory};
+ghost use Rattle.bplist_cursor.specs.Found.{units_of};
 
 use crate::faults::{CursorFault, Unread};
 use crate::found::{Found, Node};

@@ -1,16 +1,8 @@
 //! The members of nodes.
 
 ghost use Rattle.std.specs.Prelude.{◌≡◌, ◌≢◌, ℕ, ◌+◌, ◌*◌, ◌^◌, ◌<◌, ◌≤◌, List, length, slice_index, false, IsTrue, IfOk, IfErr, IfSome, MatchOption, option_map, Some, None, Err};
-ghost use Rattle.bplist_cert.specs.CheckedFile.{HonestlyChecked};
-ghost use Rattle.bplist_objects.specs.Value.{Value};
-ghost use Rattle.bplist_objects.specs.Heads.{Content, Spells, array, content_at, set, dict, refs};
-ghost use Rattle.bplist_objects.specs.Holds.{Holds};
-ghost use Rattle.bplist_objects.specs.Safe.{IsSafeHead, ref_count};
-ghost use Rattle.bplist_cert.specs.Valid.{IsVouchedBy};
-ghost use Rattle.bplist_cursor.specs.Causes.{GivesCursor, GivesRead, cursor_read, read_failed};
-ghost use Rattle.bplist_cursor.specs.Kept.{OnlyReadsFile};
-ghost use Rattle.bplist_cursor.specs.Members.{IsNumberOf, HoldsMember, member_of, member_reference, named, node_of};
-ghost use Rattle.bplist_cursor.specs.declared.faults.CursorFault.TheVariants.{Changed, Memory};
+ghost use Rattle.bplist_cursor.specs.Prelude.{HonestlyChecked, Value, Content, Spells, array, content_at, set, dict, refs, Holds, IsSafeHead, ref_count, IsVouchedBy, GivesCursor, GivesRead, cursor_read, read_failed, OnlyReadsFile, IsNumberOf, HoldsMember, member_of, member_reference, named, node_of, Memory};
+ghost use Rattle.bplist_cursor.specs.declared.faults.CursorFault.TheVariants.{Changed};
 
 use crate::checked_objects::reference_in;
 use crate::faults::{CursorFault, Unread};

@@ -1,20 +1,8 @@
 //! The faces of nodes.
 
 ghost use Rattle.std.specs.Prelude.{◌≡◌, ◌≢◌, ℕ, IsTrue, IfOk, IfErr, length, Err};
-ghost use Rattle.bplist_octets.specs.Octets.{part};
-ghost use Rattle.bplist_cert.specs.CheckedFile.{HonestlyChecked};
-ghost use Rattle.bplist_objects.specs.Value.{Value};
-ghost use Rattle.bplist_objects.specs.Announced.{item_size};
-ghost use Rattle.bplist_objects.specs.Heads.{Content, Spells, content_at};
-ghost use Rattle.bplist_objects.specs.Holds.{Holds};
-ghost use Rattle.bplist_objects.specs.Kinds.{IsLeafKind};
-ghost use Rattle.bplist_objects.specs.Units.{IsTextKind, units_of};
-ghost use Rattle.bplist_objects.specs.Safe.{IsSafeHead, IsSafeBody};
-ghost use Rattle.bplist_cert.specs.Valid.{IsVouchedBy};
-ghost use Rattle.bplist_cursor.specs.Causes.{GivesCursor, cursor_read};
-ghost use Rattle.bplist_cursor.specs.Kept.{OnlyReadsFile};
-ghost use Rattle.bplist_cursor.specs.Replies.{face as face_of};
-ghost use Rattle.bplist_cursor.specs.Shown.{content_face, HasRoom};
+ghost use Rattle.bplist_cursor.specs.Prelude.{part, HonestlyChecked, Value, item_size, Content, Spells, content_at, Holds, IsLeafKind, IsTextKind, IsSafeHead, IsSafeBody, IsVouchedBy, GivesCursor, cursor_read, OnlyReadsFile, face as face_of, content_face, HasRoom};
+ghost use Rattle.bplist_objects.specs.Units.{units_of};
 ghost use Rattle.bplist_cursor.specs.declared.faults.CursorFault.TheVariants.{Changed};
 
 use crate::bodies::{body_bytes, body_units};

@@ -1,12 +1,7 @@
 //! The objects that nodes name.
 
 ghost use Rattle.std.specs.Prelude.{◌≡◌, IfOk, length, Err};
-ghost use Rattle.bplist_cert.specs.CheckedFile.{HonestlyChecked};
-ghost use Rattle.bplist_objects.specs.Heads.{Content, Spells, content_at};
-ghost use Rattle.bplist_objects.specs.Safe.{IsSafeHead, IsSafeBody};
-ghost use Rattle.bplist_cert.specs.Valid.{IsVouchedBy};
-ghost use Rattle.bplist_cursor.specs.Causes.{GivesRead, read_failed};
-ghost use Rattle.bplist_cursor.specs.Kept.{OnlyReadsFile};
+ghost use Rattle.bplist_cursor.specs.Prelude.{HonestlyChecked, Content, Spells, content_at, IsSafeHead, IsSafeBody, IsVouchedBy, GivesRead, read_failed, OnlyReadsFile};
 ghost use Rattle.bplist_cursor.specs.declared.faults.Unread.TheVariants.{Changed};
 
 use crate::checked_objects::head_in;

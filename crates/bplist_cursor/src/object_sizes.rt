@@ -2,20 +2,7 @@
 
 ghost use Rattle.std.specs.Prelude.{◌≡◌, ◌<◌, ℕ, Option, Some, List, length, IfOk, IfErr};
 ghost use Rattle.std.specs.List.{AllByRecursion};
-ghost use Rattle.bplist_cert.specs.CheckedFile.{HonestlyChecked};
-ghost use Rattle.bplist_objects.specs.Value.{Value, Leaf};
-ghost use Rattle.bplist_objects.specs.Heads.{Content, Spells, leaf, refs, content_at};
-ghost use Rattle.bplist_objects.specs.Holds.{Holds};
-ghost use Rattle.bplist_objects.specs.Safe.{IsSafeHead, IsSafeBody};
-ghost use Rattle.bplist_cert.specs.Valid.{IsValid};
-ghost use Rattle.bplist_cursor.specs.Causes.{GivesRead, read_failed, GivesCursor, cursor_read};
-ghost use Rattle.bplist_cursor.specs.Kept.{OnlyReadsFile};
-ghost use Rattle.bplist_cursor.specs.OldStyle.{leaf_text};
-ghost use Rattle.bplist_cursor.specs.Forms.{form_of_text};
-ghost use Rattle.bplist_cursor.specs.Sizes.{size_of, size_in, added, IsSized, AreMeasures};
-ghost use Rattle.bplist_cursor.specs.ObjectSizes.{punctuation_of, AreInside, AreVouched, IsOrder, IsEmpty, AreSet};
-ghost use Rattle.bplist_cursor.specs.declared.measures.Size.{Size as size};
-ghost use Rattle.bplist_cursor.specs.declared.faults.CursorFault.TheVariants.{Memory};
+ghost use Rattle.bplist_cursor.specs.Prelude.{HonestlyChecked, Value, Leaf, Content, Spells, leaf, refs, content_at, Holds, IsSafeHead, IsSafeBody, IsValid, GivesRead, read_failed, GivesCursor, cursor_read, OnlyReadsFile, leaf_text, form_of_text, size_of, size_in, added, IsSized, AreMeasures, punctuation_of, AreInside, AreVouched, IsOrder, IsEmpty, AreSet, Size as size, Memory};
 
 use crate::checked_objects::head_in;
 use crate::faults::{CursorFault, Unread};

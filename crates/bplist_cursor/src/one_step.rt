@@ -1,13 +1,8 @@
 //! One step from a node.
 
 ghost use Rattle.std.specs.Prelude.{◌≡◌, ◌≢◌, ◌∷◌, [], IsTrue, Err};
-ghost use Rattle.bplist_objects.specs.Value.{Value};
-ghost use Rattle.bplist_objects.specs.Holds.{Holds};
-ghost use Rattle.bplist_cert.specs.Valid.{IsVouchedBy};
-ghost use Rattle.bplist_cursor.specs.Causes.{GivesCursor, cursor_read};
-ghost use Rattle.bplist_cursor.specs.Kept.{OnlyReadsFile};
-ghost use Rattle.bplist_cursor.specs.Found.{IsFound};
-ghost use Rattle.bplist_cursor.specs.declared.faults.CursorFault.TheVariants.{Changed, Memory};
+ghost use Rattle.bplist_cursor.specs.Prelude.{Value, Holds, IsVouchedBy, GivesCursor, cursor_read, OnlyReadsFile, IsFound, Memory};
+ghost use Rattle.bplist_cursor.specs.declared.faults.CursorFault.TheVariants.{Changed};
 
 use crate::faults::CursorFault;
 use crate::found::{Found, Node};

@@ -1,17 +1,7 @@
 //! One step of a path.
 
 ghost use Rattle.std.specs.Prelude.{◌≡◌, ◌<◌, ◌+◌, IfOk, OnOk};
-ghost use Rattle.bplist_cert.specs.CheckedFile.{HonestlyChecked};
-ghost use Rattle.bplist_objects.specs.Value.{Value};
-ghost use Rattle.bplist_objects.specs.Heads.{Spells, Content, content_at};
-ghost use Rattle.bplist_objects.specs.Holds.{Holds};
-ghost use Rattle.bplist_objects.specs.Safe.{IsSafeHead, ref_count};
-ghost use Rattle.bplist_cert.specs.Valid.{IsVouchedBy};
-ghost use Rattle.bplist_cursor.specs.Causes.{GivesRead, read_failed};
-ghost use Rattle.bplist_cursor.specs.Kept.{OnlyReadsFile};
-ghost use Rattle.bplist_cursor.specs.Steps.{IsStep, IsInside, IsRefIndex, IsRefIndexBelow};
-ghost use Rattle.bplist_cursor.specs.Leads.{HasTextKeys};
-ghost use Rattle.bplist_cursor.specs.KeySearch.{halvings_of, halvings_at, RisesAtMost};
+ghost use Rattle.bplist_cursor.specs.Prelude.{HonestlyChecked, Value, Spells, Content, content_at, Holds, IsSafeHead, ref_count, IsVouchedBy, GivesRead, read_failed, OnlyReadsFile, IsStep, IsInside, IsRefIndex, IsRefIndexBelow, HasTextKeys, halvings_of, halvings_at, RisesAtMost};
 
 use crate::checked_objects::{head_in, reference_in};
 use crate::faults::Unread;

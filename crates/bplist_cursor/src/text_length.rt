@@ -2,12 +2,8 @@
 
 ghost use Rattle.std.specs.Prelude.{◌≡◌, ◌≤◌, length, flat_map};
 ghost use Rattle.std.specs.List.{list_all};
-ghost use Rattle.bplist_cert.specs.CheckedFile.{HonestlyChecked};
-ghost use Rattle.bplist_objects.specs.Safe.{IsSafeBody};
-ghost use Rattle.bplist_objects.specs.Units.{IsTextKind, units_of};
-ghost use Rattle.bplist_cursor.specs.Causes.{GivesRead, read_failed};
-ghost use Rattle.bplist_cursor.specs.Kept.{OnlyReadsFile};
-ghost use Rattle.bplist_cursor.specs.Nodes.{cap};
+ghost use Rattle.bplist_cursor.specs.Prelude.{HonestlyChecked, IsSafeBody, IsTextKind, GivesRead, read_failed, OnlyReadsFile, cap};
+ghost use Rattle.bplist_objects.specs.Units.{units_of};
 ghost use Rattle.bplist_cursor.specs.Texts as texts;
 
 use crate::bodies::body_units;

@@ -5,7 +5,7 @@ use Rattle.std.proofs.lemmas.Result.{err_from_is_err_and}
 use Rattle.bplist_objects.specs.Value.{text}
 use Rattle.bplist_objects.specs.Heads.{Spells, leaf, dict}
 use Rattle.bplist_objects.proofs.Fronts.{one_head}
-use Rattle.bplist_cursor.proofs.Keys.{dict_counts, key_ref, told_equal}
+use Rattle.bplist_cursor.proofs.Keys.{dict_counts, ref, told_equal}
 use Rattle.bplist_cursor.proofs.key_search.walk_keys.Goals as goal
 
 pub returns-in_err-k-clause-exact : goal.returns-in_err-k-clause-exact
@@ -18,7 +18,7 @@ returns-in_err-compare_key-clause-exact g c = λ honest n ks ms s e t.
     let counts = dict_counts c.args.checked.now.source.octets c.args.checked.now.frame c.args.head.now ks ms e in
     let within : c.loop-i.i < length ks = omega (arith, counts.0, c.loop-i-test.true) in
     let same = c.loop-i.invariant.same in
-    let k : c.in_ok-k.k.0 ≡ slice_index ks c.loop-i.i = (rw same at c.in_ok-k.ensures.exact) honest n (dict ks ms) s e ∙ key_ref ks ms c.loop-i.i within in
+    let k : c.in_ok-k.k.0 ≡ slice_index ks c.loop-i.i = (rw same at c.in_ok-k.ensures.exact) honest n (dict ks ms) s e ∙ ref ks ms c.loop-i.i within in
     let x = t c.loop-i.i within in
     let both = c.in_ok-k.ensures.reads ∙ same in
     let p = err_from_is_err_and c.from_residual-in_err-compare_key.result c.from_residual-in_err-compare_key.ensures.1 in
@@ -31,7 +31,7 @@ returns-then-eq-clause-exact g c = λ honest n ks ms s e t.
     let counts = dict_counts f F c.args.head.now ks ms e in
     let within : c.loop-i.i < length ks = omega (arith, counts.0, c.loop-i-test.true) in
     let same = c.loop-i.invariant.same in
-    let k : c.in_ok-k.k.0 ≡ slice_index ks c.loop-i.i = (rw same at c.in_ok-k.ensures.exact) honest n (dict ks ms) s e ∙ key_ref ks ms c.loop-i.i within in
+    let k : c.in_ok-k.k.0 ≡ slice_index ks c.loop-i.i = (rw same at c.in_ok-k.ensures.exact) honest n (dict ks ms) s e ∙ ref ks ms c.loop-i.i within in
     let x = t c.loop-i.i within in
     let both = c.in_ok-k.ensures.reads ∙ same in
     let o = (rw (both, k) at c.in_ok-compare_key.ensures.exact) honest x.0 x.1 in
@@ -47,7 +47,7 @@ loop-i-preserved g c = record {
       let counts = dict_counts f F c.args.head.now ks ms e in
       let within : c.loop-i.i < length ks = omega (arith, counts.0, c.loop-i-test.true) in
       let same = c.loop-i.invariant.same in
-      let k : c.in_ok-k.k.0 ≡ slice_index ks c.loop-i.i = (rw same at c.in_ok-k.ensures.exact) honest n (dict ks ms) s e ∙ key_ref ks ms c.loop-i.i within in
+      let k : c.in_ok-k.k.0 ≡ slice_index ks c.loop-i.i = (rw same at c.in_ok-k.ensures.exact) honest n (dict ks ms) s e ∙ ref ks ms c.loop-i.i within in
       let x = t c.loop-i.i within in
       let both = c.in_ok-k.ensures.reads ∙ same in
       let o = (rw (both, k) at c.in_ok-compare_key.ensures.exact) honest x.0 x.1 in

@@ -5,7 +5,7 @@ use Rattle.std.proofs.lemmas.Slice.Zip.{AllZip-long}
 use Rattle.bplist_objects.specs.Heads.{dict}
 use Rattle.bplist_cert.specs.Valid.{SpellsText}
 use Rattle.bplist_cursor.proofs.Causes.{unread_excused}
-use Rattle.bplist_cursor.proofs.Keys.{dict_counts, key_ref}
+use Rattle.bplist_cursor.proofs.Keys.{dict_counts, ref}
 use Rattle.bplist_cursor.proofs.KeyLists.{text_there}
 use Rattle.bplist_cursor.proofs.ListItems.{pushed}
 use Rattle.bplist_cursor.proofs.key_texts.key_texts.Goals as goal
@@ -20,7 +20,7 @@ returns-in_err-key-clause-exact g c = λ honest n ks ms s e us z.
     let f = c.args.checked.now.source.octets in
     let F = c.args.checked.now.frame in
     let within : c.loop-i.i < length ks = omega (arith, (dict_counts f F c.args.head.now ks ms e).0, c.loop-i-test.true) in
-    let k : c.in_ok-k.k.0 ≡ slice_index ks c.loop-i.i = (rw c.loop-i.invariant.same at c.in_ok-k.ensures.exact) honest n (dict ks ms) s e ∙ key_ref ks ms c.loop-i.i within in
+    let k : c.in_ok-k.k.0 ≡ slice_index ks c.loop-i.i = (rw c.loop-i.invariant.same at c.in_ok-k.ensures.exact) honest n (dict ks ms) s e ∙ ref ks ms c.loop-i.i within in
     let p = err_from_is_err_and c.from_residual-in_err-key.result c.from_residual-in_err-key.ensures.1 in
     rw (p.1, p.2) ((rw (c.in_ok-k.ensures.reads ∙ c.loop-i.invariant.same, k) at c.in_err-key.ensures.exact) honest (slice_index_or us c.loop-i.i []) (text_there f F ks us c.loop-i.i z within))
 
@@ -31,7 +31,7 @@ loop-i-preserved g c = record {
       let f = c.args.checked.now.source.octets in
       let F = c.args.checked.now.frame in
       let within : c.loop-i.i < length ks = omega (arith, (dict_counts f F c.args.head.now ks ms e).0, c.loop-i-test.true) in
-      let k : c.in_ok-k.k.0 ≡ slice_index ks c.loop-i.i = (rw c.loop-i.invariant.same at c.in_ok-k.ensures.exact) honest n (dict ks ms) s e ∙ key_ref ks ms c.loop-i.i within in
+      let k : c.in_ok-k.k.0 ≡ slice_index ks c.loop-i.i = (rw c.loop-i.invariant.same at c.in_ok-k.ensures.exact) honest n (dict ks ms) s e ∙ ref ks ms c.loop-i.i within in
       let key = (rw (c.in_ok-k.ensures.reads ∙ c.loop-i.invariant.same, k) at c.in_ok-key.ensures.exact) honest (slice_index_or us c.loop-i.i []) (text_there f F ks us c.loop-i.i z within) in
       let long = AllZip-long (SpellsText f F) ks us z in
       let more : c.push.new.self.items ≡ c.loop-i.keys.items ++ c.in_ok-key.key ∷ [] = c.in_ok-push.ensures.items in
