@@ -7,3 +7,4 @@ pub mod Sizes
 pub mod Statuses
 pub mod Texts
 pub mod Verdicts
+pub mod Prelude

@@ -2,28 +2,8 @@
 
 ghost use Rattle.std.specs.Prelude.{◌≡◌, ◌≢◌, ◌⊎◌, ⊤, ℕ, None, Result, IfSome, IsSome, MatchResult, Vec as vec};
 ghost use Rattle.std.specs.Global.{Global as global};
-ghost use Rattle.bplist_objects.specs.declared.head.Head.{Head as head};
-ghost use Rattle.bplist_objects.specs.Heads.{IsHeadOf};
-ghost use Rattle.bplist_octets.specs.Slices.{source_over};
-ghost use Rattle.bplist_cert.specs.CertifiedFile.{IsVouchingFault};
-ghost use Rattle.bplist_cert.specs.CheckedFile.{IsChecked};
-ghost use Rattle.bplist_cert.specs.Encoding.{octets_of as certificate_octets};
-ghost use Rattle.bplist_cert.specs.Lists.{IsCertificate};
+ghost use Rattle.bplist_c.specs.Prelude.{Head as head, IsHeadOf, source_over, IsVouchingFault, IsChecked, octets_of as certificate_octets, IsCertificate, Lint as lint_answer, LintRefusal as lint_refusal, IsFileFault, IsFileCircle, IsLinted, Lints, no_circle, Status as status, Closed, Memory, Opened, CertificateSays, IsAcceptedFor, IsCheckedFor, IsSessionFor, IsOpened, IsPair, certified, kind_number, IsSame, IsSessionOf, Puts, number_of as number, NO_VERDICT, ShowsLint, ShowsTop};
 ghost use Rattle.bplist_cert.specs.declared.certificate.CertRefusal.TheVariants as refusals;
-ghost use Rattle.bplist_lint.specs.declared.answer.Lint.{Lint as lint_answer};
-ghost use Rattle.bplist_lint.specs.declared.refusal.LintRefusal.{LintRefusal as lint_refusal};
-ghost use Rattle.bplist_lint.specs.FileFault.{IsFileFault, IsFileCircle};
-ghost use Rattle.bplist_lint.specs.Linted.{IsLinted};
-ghost use Rattle.bplist_lint.specs.Refusals.{Lints, no_circle};
-ghost use Rattle.bplist_c.specs.declared.status.Status.{Status as status};
-ghost use Rattle.bplist_c.specs.declared.status.Status.TheVariants.{Closed, Memory, Opened};
-ghost use Rattle.bplist_c.specs.Lifecycle.{CertificateSays, IsAcceptedFor, IsCheckedFor, IsSessionFor, IsOpened, IsPair};
-ghost use Rattle.bplist_c.specs.Lifecycle.{certified};
-ghost use Rattle.bplist_c.specs.Objects.{kind_number};
-ghost use Rattle.bplist_c.specs.Sessions.{IsSame, IsSessionOf};
-ghost use Rattle.bplist_c.specs.Statuses.{Puts, number_of as number};
-ghost use Rattle.bplist_c.specs.declared.verdict.TheConstants.{NO_VERDICT};
-ghost use Rattle.bplist_c.specs.Verdicts.{ShowsLint, ShowsTop};
 
 use crate::handle::BplistHandle;
 use crate::linter::{lint_file, show};
@@ -33,7 +13,7 @@ use crate::status::{Status, put_answer};
 use crate::verdict::{BplistVerdict, NO_VERDICT, Top};
 use bplist_cert::{CertRefusal, Certificate, Checked, Refusal, check};
 use bplist_lint::{Lint, upgrade};
-use bplist_objects::frame_of;
+use bplist_objects::trailer_of;
 use bplist_octets::SliceSource;
 use std::alloc::Global;
 use std::mem;
@@ -44,7 +24,8 @@ fn vouched(file: &[u8], certificate: Certificate) -> Checked<SliceSource<'_>>
     ensures { IsCheckedFor file.entry certificate result }
 {
     let mut source = SliceSource::new(file);
-    match frame_of(&mut source) {
+    // A file with an accepted certificate has a frame, so the trailer says all.
+    match trailer_of(&mut source) {
         Ok(frame) => Checked::new(source, frame, certificate),
         Err(_) => unreachable!(),
     }

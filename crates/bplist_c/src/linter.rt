@@ -1,28 +1,14 @@
 //! The linter, for C.
 
 ghost use Rattle.std.specs.Prelude.{◌≡◌, ℕ, Result, MatchResult, map, Vec as vec};
-ghost use Rattle.bplist_objects.specs.declared.frame.Frame.{Frame as frame};
-ghost use Rattle.bplist_objects.specs.declared.head.Head.{Head as head};
-ghost use Rattle.bplist_objects.specs.Frame.{IsFrame};
-ghost use Rattle.bplist_objects.specs.Heads.{IsHeadOf};
-ghost use Rattle.bplist_lint.specs.declared.answer.Lint.{Lint as lint_answer};
-ghost use Rattle.bplist_lint.specs.declared.refusal.LintRefusal.{LintRefusal as lint_refusal};
-ghost use Rattle.bplist_lint.specs.FileFault.{IsFileFault, IsFileCircle};
-ghost use Rattle.bplist_lint.specs.Linted.{IsLinted};
-ghost use Rattle.bplist_lint.specs.Refusals.{Lints};
-ghost use Rattle.bplist_lint.specs.Trail.{number};
+ghost use Rattle.bplist_c.specs.Prelude.{Frame as frame, Head as head, IsFrame, IsHeadOf, Lint as lint_answer, LintRefusal as lint_refusal, IsFileFault, IsFileCircle, IsLinted, Lints, number, Status as status, Memory, Puts, kind_number as number_of_kind, CircleSays, NamesRule, ShowsLint};
 ghost use Rattle.std.specs.Global.{Global as global};
-ghost use Rattle.bplist_c.specs.declared.status.Status.{Status as status};
-ghost use Rattle.bplist_c.specs.declared.status.Status.TheVariants.{Memory};
-ghost use Rattle.bplist_c.specs.Statuses.{Puts};
-ghost use Rattle.bplist_c.specs.Objects.{kind_number as number_of_kind};
-ghost use Rattle.bplist_c.specs.Verdicts.{CircleSays, NamesRule, ShowsLint};
 
 use crate::object::number_of as kind_number;
 use crate::status::{Status, put_all, put_answer};
 use crate::verdict::{BplistVerdict, Top, refused};
 use bplist_lint::{Lint, LintRefusal, lint};
-use bplist_objects::{ObjectNo, frame_of, rule_name, rule_of_number, shape_of};
+use bplist_objects::{ObjectNo, rule_name, rule_of_number, shape_of, trailer_of};
 use bplist_octets::SliceSource;
 use std::alloc::Global;
 
@@ -39,7 +25,8 @@ fn top_of(file: &[u8], height: u32) -> Top
         → result ≡ record { objects = F.objects; object = F.top.0; kind = number_of_kind head.kind; height = height } }
 {
     let mut source = SliceSource::new(file);
-    let Ok(frame) = frame_of(&mut source) else {
+    // The linter has read the offset table, so the trailer says all.
+    let Ok(frame) = trailer_of(&mut source) else {
         return no_top(height);
     };
     let Ok(head) = shape_of(&mut source, &frame, frame.top) else {

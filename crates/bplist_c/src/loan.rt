@@ -1,8 +1,7 @@
 //! The checked file of a handle, for one call.
 
 ghost use Rattle.std.specs.Prelude.{◌≡◌, ◌<◌, length, Some, MatchResult};
-ghost use Rattle.bplist_c.specs.Sessions.{IsFileOf, IsRefused, checked_of};
-ghost use Rattle.bplist_c.specs.declared.session.Session.{Session as session};
+ghost use Rattle.bplist_c.specs.Prelude.{IsFileOf, IsRefused, checked_of, Session as session};
 
 use crate::handle::BplistHandle;
 use crate::session::Session;

@@ -1,14 +1,7 @@
 //! Where paths lead.
 
 ghost use Rattle.std.specs.Prelude.{◌≡◌, ◌∷◌, [], ℕ, Result};
-ghost use Rattle.bplist_c.specs.declared.status.Status.{Status as status};
-ghost use Rattle.bplist_objects.specs.Holds.{Holds};
-ghost use Rattle.bplist_cursor.specs.Found.{IsFound};
-ghost use Rattle.bplist_cursor.specs.declared.found.Found.{Found as place};
-ghost use Rattle.bplist_c.specs.Lookup.{FindSays, told_found, step_answer, why_status};
-ghost use Rattle.bplist_c.specs.Objects.{OnObject};
-ghost use Rattle.bplist_c.specs.Sessions.{IsFileOf, IsSame, OnHandle};
-ghost use Rattle.bplist_c.specs.Statuses.{Tells};
+ghost use Rattle.bplist_c.specs.Prelude.{Status as status, Holds, IsFound, Found as place, FindSays, told_found, step_answer, why_status, OnObject, IsFileOf, IsSame, OnHandle, Tells};
 
 use crate::handle::BplistHandle;
 use crate::loan::{give_back, lend};

@@ -1,22 +1,7 @@
 //! What an object shows.
 
 ghost use Rattle.std.specs.Prelude.{◌≡◌, ◌≢◌, ◌+◌, ◌*◌, ◌%◌, ◌^◌, ◌≤◌, ℕ, IfErr, IfOk, Ok, Result, length, ok_or};
-ghost use Rattle.bplist_octets.specs.Octets.{part};
-ghost use Rattle.bplist_objects.specs.Numbers.{integer, num_at};
-ghost use Rattle.bplist_objects.specs.Units.{IsTextKind, units_of};
-ghost use Rattle.bplist_objects.specs.Value.{int};
-ghost use Rattle.bplist_objects.specs.declared.kind.Kind.TheVariants.{Int, Uid};
-ghost use Rattle.bplist_objects.specs.Announced.{item_size};
-ghost use Rattle.bplist_objects.specs.Heads.{IsHeadOf, Spells, leaf};
-ghost use Rattle.bplist_objects.specs.Safe.{IsSafeBody, IsSafeHead};
-ghost use Rattle.bplist_cursor.specs.Members.{member_reference};
-ghost use Rattle.bplist_c.specs.declared.object.BplistBody.{BplistBody as body};
-ghost use Rattle.bplist_c.specs.declared.status.Status.{Status as status};
-ghost use Rattle.bplist_c.specs.declared.status.Status.TheVariants.{NoMember};
-ghost use Rattle.bplist_c.specs.declared.object.BplistInteger.{BplistInteger as number};
-ghost use Rattle.bplist_c.specs.Objects.{OnObject, UnitsSay, body_of, int_answer, kind_number, uid_answer};
-ghost use Rattle.bplist_c.specs.Sessions.{IsFileOf, IsSame, OnHandle};
-ghost use Rattle.bplist_c.specs.Statuses.{Tells};
+ghost use Rattle.bplist_c.specs.Prelude.{part, integer, num_at, IsTextKind, units_of, int, Int, Uid, IsHeadOf, Spells, leaf, IsSafeBody, IsSafeHead, member_reference, BplistBody as body, Status as status, NoMember, BplistInteger as number, OnObject, UnitsSay, body_of, int_answer, kind_number, uid_answer, IsFileOf, IsSame, OnHandle, Tells};
 
 use crate::handle::BplistHandle;
 use crate::loan::{give_back, lend};
@@ -79,32 +64,16 @@ pub(crate) fn number_of(kind: Kind) -> u32
     kind as u32 + 1
 }
 
-/// How many bytes of the body one of the count takes.
-fn item_size(kind: Kind, ref_size: u8) -> u8
-    requires { ref_size ≤ 8 }
-    ensures { result ≡ item_size ref_size kind }
-{
-    match kind {
-        Kind::Wide => 2,
-        Kind::Array | Kind::Set => ref_size,
-        Kind::Dict => 2 * ref_size,
-        _ => 1,
-    }
-}
-
 /// What an object shows of itself.
 fn face_of(checked: &Checked<SliceSource<'_>>, object: u32) -> Result<BplistBody, Status>
     ensures { OnObject checked.now object IsHeadOf (λ head answer. answer ≡ Ok (body_of checked.now.frame head)) result }
 {
-    let frame = checked.frame();
-    let _octets = checked.octets();
     let head = head_of_object(checked, object)?;
-    let item_size = item_size(head.kind, frame.ref_size) as u64;
     Ok(BplistBody {
         kind: number_of(head.kind),
         count: head.count,
         place: head.body,
-        length: head.count * item_size,
+        length: head.end - head.body,
     })
 }
 

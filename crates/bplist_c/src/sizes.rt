@@ -1,18 +1,7 @@
 //! How large values are, and their texts.
 
 ghost use Rattle.std.specs.Prelude.{◌≡◌, ◌⊎◌, Result, Ok, Err, IfSome};
-ghost use Rattle.bplist_objects.specs.Holds.{Holds};
-ghost use Rattle.bplist_c.specs.declared.sizes.BplistSizes.{BplistSizes as sizes};
-ghost use Rattle.bplist_c.specs.declared.status.Status.{Status as status};
-ghost use Rattle.bplist_c.specs.declared.status.Status.TheVariants.{Memory};
-ghost use Rattle.bplist_c.specs.Objects.{OnObject};
-ghost use Rattle.bplist_c.specs.Sessions.{IsFileOf, IsSame, OnHandle};
-ghost use Rattle.bplist_c.specs.Sizes.{sizes_by, sizes_told};
-ghost use Rattle.bplist_c.specs.Statuses.{Tells};
-ghost use Rattle.bplist_cursor.specs.Forms.{form_of};
-ghost use Rattle.bplist_cursor.specs.Found.{AreMeasuresOf};
-ghost use Rattle.bplist_cursor.specs.Nodes.{cap, nodes as node_count};
-ghost use Rattle.bplist_cursor.specs.Sizes.{form_in, nodes_in};
+ghost use Rattle.bplist_c.specs.Prelude.{Holds, BplistSizes as sizes, Status as status, Memory, OnObject, IsFileOf, IsSame, OnHandle, sizes_by, sizes_told, Tells, form_of, AreMeasuresOf, cap, nodes as node_count, form_in, nodes_in};
 
 use crate::handle::BplistHandle;
 use crate::loan::{give_back, lend};

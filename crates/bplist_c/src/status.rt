@@ -1,7 +1,7 @@
 //! What a call returns, and how it tells its answer.
 
 ghost use Rattle.std.specs.Prelude.{◌≡◌};
-ghost use Rattle.bplist_c.specs.Statuses.{number_of, Puts, PutsAll, Tells};
+ghost use Rattle.bplist_c.specs.Prelude.{number_of, Puts, PutsAll, Tells};
 
 /// Why a call has no answer, in the order of the numbers of the header.
 #[derive(Clone, Copy, Debug, PartialEq, Eq, Drop)]

@@ -1,13 +1,7 @@
 //! The old-style texts of values.
 
 ghost use Rattle.std.specs.Prelude.{◌≡◌, Result, length};
-ghost use Rattle.bplist_c.specs.declared.status.Status.{Status as status};
-ghost use Rattle.bplist_c.specs.declared.text.Text.{Text as text};
-ghost use Rattle.bplist_c.specs.Sessions.{IsFileOf, IsSame, OnHandle};
-ghost use Rattle.bplist_c.specs.Statuses.{PutsAll};
-ghost use Rattle.bplist_c.specs.Objects.{OnObject};
-ghost use Rattle.bplist_objects.specs.Holds.{Holds};
-ghost use Rattle.bplist_c.specs.Texts.{IsTextOf, TellsText, printed_as, text_length};
+ghost use Rattle.bplist_c.specs.Prelude.{Status as status, Text as text, IsFileOf, IsSame, OnHandle, PutsAll, OnObject, Holds, IsTextOf, TellsText, printed_as, text_length};
 
 use crate::handle::BplistHandle;
 use crate::loan::{give_back, lend};

@@ -1,12 +1,11 @@
 //! What was found of a file, for C.
 
 ghost use Rattle.std.specs.Prelude.{◌≡◌, ℕ, List, Err};
-ghost use Rattle.bplist_c.specs.declared.verdict.TheConstants.{NO_VERDICT};
-ghost use Rattle.bplist_c.specs.Verdicts.{ShowsLint, circle_verdict, fault_verdict};
+ghost use Rattle.bplist_c.specs.Prelude.{NO_VERDICT, ShowsLint, circle_verdict, fault_verdict};
 
 use crate::status::Status;
 use bplist_lint::{LintRefusal, ObjectNos};
-use bplist_objects::{Fault, rule_number};
+use bplist_objects::{Fault, Rule, rule_number};
 
 /// What was found of a file. Numbers of which nothing is said are 0.
 #[repr(C)]
@@ -110,7 +109,7 @@ impl BplistVerdict {
     {
         let objects = circle.as_slice();
         BplistVerdict {
-            rule: 23,
+            rule: rule_number(Rule::Circle),
             has_object: 1,
             object: match objects.first() {
                 Some(first) => first.0,
