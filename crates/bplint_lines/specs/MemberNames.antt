@@ -1,13 +1,14 @@
 -- The names that lines have for the members of containers. Source: the path texts RFC 6901; the indexes profile.
-use Rattle.std.specs.Prelude.{◌++◌, ℕ, ◌==◌, ◌||◌, ◌&&◌, not, nat_lt, List, Bool, if◌then◌else◌, codes, encode_utf8_all}
+use Rattle.std.specs.Prelude.{◌++◌, ℕ, ◌==◌, ◌||◌, ◌&&◌, not, List, Bool, if◌then◌else◌, codes, encode_utf8_all}
+use Rattle.std.specs.Char.{is_control}
 use Rattle.std.specs.List.{flat_map, list_any}
 use Rattle.std.specs.Fmt.{decimal}
 use Rattle.std.specs.Char.Utf16.{has_unpaired_surrogate, utf16_lossy_chars}
 use Rattle.bplist_cursor.specs.Path.{escaped}
 
--- the key's path text is UTF-8 and has no control character
+-- the key's path text is UTF-8, and has no control character and no separator of lines or paragraphs
 abbrev pub has_path_text : List ℕ → Bool
-has_path_text units = not (list_any (λ u. nat_lt u 0x20 || u == 0x7F) units) && not (has_unpaired_surrogate units)
+has_path_text units = not (list_any (λ u. is_control u || u == 0x2028 || u == 0x2029) units) && not (has_unpaired_surrogate units)
 
 -- an index among the members, in brackets
 abbrev pub bracketed : ℕ → List ℕ

@@ -6,7 +6,7 @@ ghost use Rattle.bplint_lines.specs.Answers.{read_failed};
 ghost use Rattle.bplint_lines.specs.Explanation.{Explains, rule_line};
 
 use crate::fault::RunFault;
-use crate::object_path::{ObjectPath, head_in, key_units, path_to};
+use crate::object_path::{ObjectPath, head_in, key_front, path_to};
 use crate::output_lines::kind_name;
 use crate::rule_lines::rule_line_of;
 use bplist_ascii::text_of_units;
@@ -174,7 +174,8 @@ fn object_line<S: Source>(
     }
 }
 
-/// Number, object and text of the key whose reference stands at a place.
+/// Number and text of the key whose reference stands at a place; behind the front of a long text ` ..`, which no whole
+/// text ends in, since one with a blank stands in quotes.
 fn key_line<S: Source>(
     alloc: Global,
     src: &mut S,
@@ -193,14 +194,14 @@ fn key_line<S: Source>(
     if head.kind != Kind::Dict || index >= head.count {
         return Ok(String::new(alloc));
     }
-    let Some(units) = key_units(alloc, src, frame, &head, index)? else {
+    let Some(key) = key_front(alloc, src, frame, &head, index)? else {
         return Ok(format!(in alloc; "  key {index}: no text\n")?);
     };
     let mut line = format!(in alloc; "  key {index}: ")?;
-    for octet in text_of_units(alloc, &units)? {
+    for octet in text_of_units(alloc, &key.units)? {
         line.push(octet as char)?;
     }
-    line.push('\n')?;
+    line.push_str(if key.is_cut { " ..\n" } else { "\n" })?;
     Ok(line)
 }
 

@@ -6,6 +6,7 @@ ghost use Rattle.bplist_ascii.specs.declared.print_fault.PrintFault.TheVariants 
 ghost use Rattle.bplist_cert.specs.declared.certificate.CertRefusal.TheVariants as cert;
 ghost use Rattle.bplist_cert.specs.declared.refusal.Refusal.TheVariants as check;
 ghost use Rattle.bplist_cursor.specs.declared.faults.CursorFault.TheVariants as cursor;
+ghost use Rattle.bplist_cursor.specs.declared.faults.Unread.TheVariants as unread;
 ghost use Rattle.bplist_cursor.specs.declared.path.PathFault.TheVariants as path;
 ghost use Rattle.bplist_lint.specs.declared.refusal.LintRefusal.TheVariants as lint;
 ghost use Rattle.bplist_lint.specs.declared.upgrade_fault.UpgradeFault.TheVariants as upgrade;
@@ -13,7 +14,7 @@ ghost use Rattle.bplint_lines.specs.FaultLines.{fault_line, report_of};
 
 use bplist_ascii::{PrintFault, WriteFault};
 use bplist_cert::{CertRefusal, Refusal};
-use bplist_cursor::{CursorFault, PathFault};
+use bplist_cursor::{CursorFault, PathFault, Unread};
 use bplist_lint::{LintRefusal, ObjectNos, UpgradeFault};
 use bplist_objects::{Fault, ObjectNo, Rule, rule_name};
 use bplist_octets::ReadFault;
@@ -126,6 +127,18 @@ impl From<CursorFault> for RunFault {
             CursorFault::Read(fault) => RunFault::Read(fault),
             CursorFault::Changed => RunFault::Changed,
             CursorFault::Memory => RunFault::Memory,
+        }
+    }
+}
+
+impl From<Unread> for RunFault {
+    ghost from_gives = { λ cause fault.
+        fault ≡ elim cause [ unread.Read failed ↦ Read failed | unread.Changed ↦ Changed ] };
+
+    fn from(cause: Unread) -> RunFault {
+        match cause {
+            Unread::Read(fault) => RunFault::Read(fault),
+            Unread::Changed => RunFault::Changed,
         }
     }
 }

@@ -1,7 +1,8 @@
 //! The names that lines have for the members of containers.
 //!
 //! Each call adds its name to the bytes. The one refusal is that of a growth.
-ghost use Rattle.std.specs.Prelude.{◌≡◌, ◌++◌, ◌∷◌, ◌||◌, ◌==◌, IfOk, MatchOption, OnOk, encode_utf8_all, false, nat_lt, string_bytes, true};
+ghost use Rattle.std.specs.Prelude.{◌≡◌, ◌++◌, ◌∷◌, ◌||◌, ◌==◌, IfOk, MatchOption, OnOk, encode_utf8_all, false, string_bytes, true};
+ghost use Rattle.std.specs.Char.{is_control};
 ghost use Rattle.std.specs.Char.Utf16.{utf16_lossy_chars};
 ghost use Rattle.std.specs.List.{flat_map, list_any};
 ghost use Rattle.bplist_cursor.specs.Path.{escaped};
@@ -53,7 +54,7 @@ fn key_text(alloc: Global, units: &[u16]) -> Result<Option<String>, AllocError>
     ensures { IfOk result (λ key. MatchOption key (has_path_text units.now ≡ false)
         (λ text. (has_path_text units.now ≡ true) × (string_bytes text ≡ encode_utf8_all (utf16_lossy_chars units.now)))) }
 {
-    if have_control(units) {
+    if have_unshown(units) {
         return Ok(None);
     }
     match String::from_utf16(alloc, units)? {
@@ -62,16 +63,19 @@ fn key_text(alloc: Global, units: &[u16]) -> Result<Option<String>, AllocError>
     }
 }
 
-fn have_control(units: &[u16]) -> bool
-    ensures { result ≡ list_any (λ u. nat_lt u 0x20 || u == 0x7F) units.now }
+/// Is there a unit that no line shows?
+fn have_unshown(units: &[u16]) -> bool
+    ensures { result ≡ list_any (λ u. is_control u || u == 0x2028 || u == 0x2029) units.now }
 {
-    units.iter().any(|unit| is_control(*unit))
+    units.iter().any(|unit| is_unshown(*unit))
 }
 
-fn is_control(unit: u16) -> bool
-    ensures { result ≡ (nat_lt unit 0x20 || unit == 0x7F) }
+/// Is it a control character, or a separator of lines or paragraphs? At each of these readers may begin a new line, or
+/// a terminal take a command.
+fn is_unshown(unit: u16) -> bool
+    ensures { result ≡ (is_control unit || unit == 0x2028 || unit == 0x2029) }
 {
-    unit < 0x20 || unit == 0x7F
+    matches!(unit, 0..=0x1F | 0x7F..=0x9F | 0x2028 | 0x2029)
 }
 
 /// Adds a path text, `/` and a token, in which `~0` stands for `~` and `~1` for `/`.

@@ -13,8 +13,17 @@ use bplist_objects::{Frame, Head, Kind, ObjectFault, ObjectNo, read_units, ref_a
 use bplist_octets::Source;
 use std::alloc::{AllocError, Global};
 
-/// How many units of a key are read for a path.
+/// How many units of a key are read.
 const KEY_UNITS: u64 = 4096;
+
+/// What was read of a key.
+#[derive(Drop)]
+pub(crate) struct KeyFront {
+    /// Its first units.
+    pub units: Vec<u16>,
+    /// Whether it has more.
+    pub is_cut: bool,
+}
 
 /// One step: by member or pair `index` of object `from`.
 #[derive(Clone, Copy, Debug, Drop)]
@@ -124,7 +133,7 @@ impl Search {
         Ok(())
     }
 
-    /// OnlyReadsFile the step to an object that was not met before.
+    /// Keeps the step to an object that was not met before.
     fn meet(&mut self, object: u64, step: Step) -> Result<(), AllocError> {
         let Ok(n) = u32::try_from(object) else {
             return Ok(());
@@ -179,7 +188,8 @@ fn path_of<S: Source>(
     Ok(path)
 }
 
-/// Adds the token of a step to a path text.
+/// Adds the token of a step to a path text. A key that was not read whole has its index, as one that cannot be shown:
+/// its front would be the token of another key.
 fn add_step<S: Source>(
     alloc: Global,
     src: &mut S,
@@ -197,22 +207,22 @@ fn add_step<S: Source>(
         return Ok(());
     };
     if head.kind == Kind::Dict && step.index < head.count {
-        return match key_units(alloc, src, frame, &head, step.index)? {
-            Some(units) => Ok(add_key_name(alloc, "", step.index, &units, path)?),
-            None => Ok(add_index(alloc, step.index, path)?),
+        return match key_front(alloc, src, frame, &head, step.index)? {
+            Some(key) if !key.is_cut => Ok(add_key_name(alloc, "", step.index, &key.units, path)?),
+            _ => Ok(add_index(alloc, step.index, path)?),
         };
     }
     Ok(add_index_name(alloc, "", step.index, path)?)
 }
 
-/// The first units of a key of a dictionary, if it is a text.
-pub(crate) fn key_units<S: Source>(
+/// The first 4,096 units of a key of a dictionary, or all of fewer, if it is a text.
+pub(crate) fn key_front<S: Source>(
     alloc: Global,
     src: &mut S,
     frame: &Frame,
     head: &Head,
     index: u64,
-) -> Result<Option<Vec<u16>>, RunFault>
+) -> Result<Option<KeyFront>, RunFault>
     requires safe { IsSafe (length (S.means src.old).octets) frame.now }
     requires head { IsSafeHead frame.now head.now }
     requires within { index < ref_count head.now.kind head.now.count }
@@ -227,7 +237,8 @@ pub(crate) fn key_units<S: Source>(
         Some(text) if text.kind == Kind::Ascii || text.kind == Kind::Wide => {
             let mut units = vec![in alloc; 0u16; text.count.min(KEY_UNITS) as usize]?;
             read_units(src, &text, 0, &mut units)?;
-            Ok(Some(units))
+            let is_cut = text.count > KEY_UNITS;
+            Ok(Some(KeyFront { units, is_cut }))
         }
         _ => Ok(None),
     }
