@@ -1,5 +1,5 @@
 //! The objects of a file in byte order.
-ghost use Rattle.std.specs.Prelude.{◌≡◌, ℕ, List, ◌<◌, All, IfOk, map};
+ghost use Rattle.std.specs.Prelude.{◌≡◌, ℕ, List, ◌<◌, ◌≤◌, All, IfOk, map};
 ghost use Rattle.std.specs.List.{range_with_len};
 ghost use Rattle.bplist_octets.specs.Meaning.{OnlyReads};
 ghost use Rattle.bplist_objects.specs.Framed.{HonestlyIn, frame_in};
@@ -8,8 +8,11 @@ ghost use Rattle.bplint_lines.specs.Faults.{Gives};
 ghost use Rattle.bplint_map.specs.Rows.{IsByPlace, placed};
 
 use bplint_lines::RunFault;
-use bplist_objects::{Framed, ObjectNo, offset_in};
+use bplist_objects::{Framed, read_offsets_in};
 use std::alloc::Global;
+
+/// How many entries of the offset table are read at once.
+const BLOCK: usize = 256;
 
 /// An object and its place.
 #[derive(Clone, Copy, Debug, PartialEq, Eq, PartialOrd, Ord, Drop)]
@@ -31,13 +34,40 @@ pub(crate) fn objects_in_order<P: Framed>(
     ensures exact { HonestlyIn (P.means src.old) (λ f F. Gives (λ objects. (order : List ℕ) × IsByPlace f F order
         × (objects.items ≡ map (placed f F) order)) result) }
 {
-    let mut objects = read_offsets(alloc, src)?;
+    let mut objects = objects_by_number(alloc, src)?;
     objects.sort_unstable();
     Ok(objects)
 }
 
+/// Adds the objects of a block of entries of the offset table, from number `from` on. The number of the object after them.
+fn add_block<P: Framed>(
+    src: &mut P,
+    from: u32,
+    objects: &mut Vec<ObjectOffset>,
+) -> Result<u32, RunFault>
+    requires { from < (frame_in (P.means src.old)).objects }
+    ensures reads { OnlyReads (read_failed result) (P.means src.old) (P.means src.new) }
+    ensures next { IfOk result (λ next. (from < next) × (next ≤ (frame_in (P.means src.old)).objects)) }
+    ensures within { All (λ object. object.number < (frame_in (P.means src.old)).objects) objects.old.items
+        → IfOk result (λ _. All (λ object. object.number < (frame_in (P.means src.old)).objects) objects.new.items) }
+    ensures exact { HonestlyIn (P.means src.old) (λ f F. objects.old.items ≡ map (placed f F) (range_with_len 0 from)
+        → Gives (λ next. objects.new.items ≡ map (placed f F) (range_with_len 0 next)) result) }
+{
+    let count = (src.frame().objects - from).min(BLOCK as u32);
+    let mut places = [0; BLOCK];
+    let places = &mut places[..count as usize];
+    read_offsets_in(src, from, places)?;
+    for (k, place) in places.iter().enumerate() {
+        objects.push(ObjectOffset {
+            place: *place,
+            number: from + k as u32,
+        })?;
+    }
+    Ok(from + count)
+}
+
 /// The objects of a file by their numbers.
-fn read_offsets<P: Framed>(alloc: Global, src: &mut P) -> Result<Vec<ObjectOffset>, RunFault>
+fn objects_by_number<P: Framed>(alloc: Global, src: &mut P) -> Result<Vec<ObjectOffset>, RunFault>
     ensures reads { OnlyReads (read_failed result) (P.means src.old) (P.means src.new) }
     ensures within { IfOk result (λ objects.
         All (λ object. object.number < (frame_in (P.means src.old)).objects) objects.items) }
@@ -46,9 +76,9 @@ fn read_offsets<P: Framed>(alloc: Global, src: &mut P) -> Result<Vec<ObjectOffse
 {
     let count = src.frame().objects;
     let mut objects = Vec::with_capacity(alloc, count as usize)?;
-    for number in 0..count {
-        let place = offset_in(src, ObjectNo(number))?;
-        objects.push(ObjectOffset { place, number })?;
+    let mut next = 0;
+    while next < count {
+        next = add_block(src, next, &mut objects)?;
     }
     Ok(objects)
 }

@@ -4,10 +4,13 @@ ghost use Rattle.bplist_octets.specs.Meaning.{OnlyReads};
 ghost use Rattle.bplist_objects.specs.Frame.{off};
 ghost use Rattle.bplist_objects.specs.Framed.{HonestlyIn, frame_in};
 ghost use Rattle.bplist_objects.specs.Heads.{HasShape};
+ghost use Rattle.bplist_objects.specs.ObjectRules.{KeepsByObject, shape_rules};
+ghost use Rattle.bplist_objects.specs.Rules.{KeepsAll};
+ghost use Rattle.bplist_objects.specs.Safe.{IsSafeHead};
 ghost use Rattle.bplint_map.specs.Rows.{AreFindings, IsFinding, left_behind, placed, row};
 
 use crate::object_order::ObjectOffset;
-use bplist_objects::{Framed, Head, ObjectFault, ObjectNo, Rule, head_in, shape_in};
+use bplist_objects::{Framed, Head, ObjectFault, ObjectNo, Rule, check_body, shape_in};
 use bplist_octets::ReadFault;
 
 /// What rules 14 to 20 say of an object by itself.
@@ -66,19 +69,21 @@ pub(crate) fn row_of<P: Framed>(
     })
 }
 
-/// What the body of an object with this head says.
+/// What is found of an object with this head, which keeps rules 14 to 17.
 fn finding_of<P: Framed>(
     src: &mut P,
     object: ObjectOffset,
     head: Head,
 ) -> Result<Finding, ReadFault>
-    requires { object.number < (frame_in (P.means src.old)).objects }
+    requires { IsSafeHead (frame_in (P.means src.old)) head }
     ensures reads { OnlyReads (is_err result) (P.means src.old) (P.means src.new) }
     ensures exact { HonestlyIn (P.means src.old) (λ f F. object.place ≡ off f F object.number
-        → HasShape f F object.number head → IfOk result (IsFinding f F object.number)) }
+        → HasShape f F object.number head → KeepsAll (KeepsByObject f F object.number) shape_rules
+        → IfOk result (IsFinding f F object.number)) }
 {
-    match head_in(src, ObjectNo(object.number), object.place) {
-        Ok(_) => Ok(Finding::Whole(head)),
+    let frame = src.frame();
+    match check_body(src, &frame, ObjectNo(object.number), object.place, &head) {
+        Ok(()) => Ok(Finding::Whole(head)),
         Err(ObjectFault::Fault(fault)) => Ok(Finding::Wrong(head, fault.rule)),
         Err(ObjectFault::Read(fault)) => Err(fault),
     }

@@ -14,7 +14,7 @@ returns-in_ok-finding-in-Ok-clause-exact g c = λ honest is findings are.
     let at : c.args.object.place ≡ off f F n = ap (λ (p : ObjectOffset). p.place) is in
     let has = c.in-Ok.ensures.exact honest at in
     let checks = rw c.in-Ok.ensures.reads at c.in_ok-finding-in-Ok.ensures.exact in
-    let r = looked f F n left c.args.object.place _ (findings n) _ has (are n c.requires) (checks honest at has) (omega arith) in
+    let r = looked f F n left c.args.object.place _ (findings n) _ has (are n c.requires) (checks honest at has (c.in-Ok.ensures.rules honest at).1) (omega arith) in
     (row_is f F findings left n _ _ at r.0, r.1)
 
 pub returns-else-taken-left-clause-exact : goal.returns-else-taken-left-clause-exact
