@@ -275,7 +275,7 @@ fn lint_files<R: Files<File = File> + Input + Print + Eprint>(
                 &prefix,
                 lint_file(rt, alloc, lint, name, &prefix),
             ),
-            Err(_) => finish(rt, alloc, "", Err(RunFault::Memory)),
+            Err(_) => finish(rt, alloc, "", Err(RunFault::Memory), ""),
         };
         status = worse(status, next);
     }
@@ -302,25 +302,28 @@ fn end<R: Eprint>(rt: &R, alloc: Global, prefix: &str, ending: Result<Ending, Ru
     ensures { MatchResult ending (λ ended. EndsWith ended.answer result) (λ fault. EndsWith (Err fault) result) }
 {
     match ending {
-        Ok(Ending { answer, under }) => {
-            let status = finish(rt, alloc, prefix, answer);
-            let _ = rt.eprint(under);
-            status
-        }
-        Err(fault) => finish(rt, alloc, prefix, Err(fault)),
+        Ok(Ending { answer, under }) => finish(rt, alloc, prefix, answer, &under),
+        Err(fault) => finish(rt, alloc, prefix, Err(fault), ""),
     }
 }
 
-/// Prints a fault's line behind the prefix, and gives the exit status.
-fn finish<R: Eprint>(rt: &R, alloc: Global, prefix: &str, answer: Result<Said, RunFault>) -> u8
+/// Prints a fault's line behind the prefix, with what is said under it, and gives the exit status. All is printed at once, so that
+/// runs side by side do not mix their lines.
+fn finish<R: Eprint>(
+    rt: &R,
+    alloc: Global,
+    prefix: &str,
+    answer: Result<Said, RunFault>,
+    under: &str,
+) -> u8
     ensures { EndsWith answer result }
 {
     match answer {
         Ok(Said::All) => 0,
         Ok(Said::SomeMissing) => 1,
-        Err(fault) => match line_behind(alloc, prefix, &fault) {
-            Ok(line) => {
-                let _ = rt.eprint(line);
+        Err(fault) => match lines_of(alloc, prefix, &fault, under) {
+            Ok(lines) => {
+                let _ = rt.eprint(lines);
                 fault.status()
             }
             Err(_) => {
@@ -331,9 +334,15 @@ fn finish<R: Eprint>(rt: &R, alloc: Global, prefix: &str, answer: Result<Said, R
     }
 }
 
-fn line_behind(alloc: Global, prefix: &str, fault: &RunFault) -> Result<String, AllocError> {
+/// A fault's line behind the prefix, and what is said under it.
+fn lines_of(
+    alloc: Global,
+    prefix: &str,
+    fault: &RunFault,
+    under: &str,
+) -> Result<String, AllocError> {
     let line = fault.line(alloc)?;
-    format!(in alloc; "{prefix}{line}\n")
+    format!(in alloc; "{prefix}{line}\n{under}")
 }
 
 /// Prints what `clap` says of a command line, and gives the exit status.
@@ -341,7 +350,7 @@ fn refuse<R: Print + Eprint>(rt: &R, alloc: Global, error: Error) -> u8
     ensures { IsRefusedWith (kind_of error) result }
 {
     match error.kind() {
-        ErrorKind::OutOfMemory => finish(rt, alloc, "", Err(RunFault::Memory)),
+        ErrorKind::OutOfMemory => finish(rt, alloc, "", Err(RunFault::Memory), ""),
         kind => {
             let _ = error.print(rt);
             match kind {
@@ -363,8 +372,8 @@ fn start<R: Files<File = File> + Input + Print + Eprint>(
     match args::read_line(alloc, words) {
         Ok(Line::Lint(lint)) => lint_files(rt, alloc, &lint),
         Ok(Line::Run(line)) => end(rt, alloc, "", run(rt, alloc, &line)),
-        Ok(Line::Look(line)) => finish(rt, alloc, "", look(rt, alloc, &line)),
-        Ok(Line::Explain(rule)) => finish(rt, alloc, "", page(rt, alloc, rule)),
+        Ok(Line::Look(line)) => finish(rt, alloc, "", look(rt, alloc, &line), ""),
+        Ok(Line::Explain(rule)) => finish(rt, alloc, "", page(rt, alloc, rule), ""),
         Err(error) => refuse(rt, alloc, error),
     }
 }
@@ -378,10 +387,13 @@ fn main(rt: HostRuntime) -> ExitCode {
     let status = match words(&rt) {
         Ok(words) => start(&rt, rt.alloc(), &words),
         Err(error) if error.kind() == io::ErrorKind::OutOfMemory => {
-            finish(&rt, rt.alloc(), "", Err(RunFault::Memory))
+            finish(&rt, rt.alloc(), "", Err(RunFault::Memory), "")
         }
         Err(error) => {
-            let _ = rt.eprintln(&error);
+            let _ = match error.kind() {
+                io::ErrorKind::InvalidData => rt.eprintln("an argument is not UTF-8"),
+                _ => rt.eprintln(&error),
+            };
             WRONG_LINE
         }
     };

@@ -1,26 +1,18 @@
 -- What `show` and `ls` say, from the linter's certificate and the answers of the cursor.
-use Rattle.std.proofs.Common.{◌≡◌, inl, inr, ℕ, List, [], ◌∷◌, map, Option, None, Result, Ok, Err, refl, sym, ap, subst}
+use Rattle.std.proofs.Common.{◌≡◌, inl, inr, ℕ, List, [], ◌∷◌, map, Option, Result, Ok, Err, refl}
 use Rattle.std.specs.List.{AllZip, flat_map}
 use Rattle.std.proofs.Math.Logic.{∥∥₁_map}
 use Rattle.std.proofs.lemmas.Grind.{not_there}
 use Rattle.bplist_objects.specs.declared.frame.Frame.{Frame}
-use Rattle.bplist_objects.specs.Frame.{IsFrame}
 use Rattle.bplist_objects.specs.Value.{Value}
 use Rattle.bplist_objects.specs.Holds.{Holds}
 use Rattle.bplist_cert.specs.Encoding.{octets_of}
-use Rattle.bplist_cert.specs.Lists.{Lists, IsCertificate}
-use Rattle.bplist_cert.specs.Sorted.{AreListed, IsAccepted}
+use Rattle.bplist_cert.specs.Lists.{Lists}
 use Rattle.bplist_cursor.specs.declared.reply.Query.{Query}
 use Rattle.bplist_cursor.specs.declared.reply.Query.TheVariants.{Get}
 use Rattle.bplist_cursor.specs.Look.{look}
 use Rattle.bplist_cursor.specs.Path.{IsPathOf}
 use Rattle.bplist_cursor.specs.Replies.{reply}
-use Rattle.bplist_lint.specs.declared.answer.Lint.{Lint}
-use Rattle.bplist_lint.specs.declared.refusal.LintRefusal.{LintRefusal}
-use Rattle.bplist_lint.specs.declared.refusal.LintRefusal.TheVariants as lint_refusals
-use Rattle.bplist_lint.specs.FileFault.{IsFileFault, IsFileCircle}
-use Rattle.bplist_lint.specs.Linted.{IsLinted, IsLintedBy}
-use Rattle.bplist_lint.specs.Refusals.{Refuses}
 use Rattle.bplint_lines.specs.declared.fault.RunFault.{RunFault}
 use Rattle.bplint_lines.specs.declared.fault.RunFault.TheVariants as faults
 use Rattle.bplint_engine.specs.declared.output.Output.{Output}
@@ -29,7 +21,6 @@ use Rattle.bplint_lines.specs.Answers.{Answer, refuses, Leaves, LeavesBy}
 use Rattle.bplint_engine.specs.Output.{Answers, IsRefusal}
 use Rattle.bplint_engine.specs.PathTexts.{IsAskingFault, IsWrongAmong, OnPath}
 use Rattle.bplint_lines.specs.Faults.{Gives, IsExcused}
-use Rattle.bplint_engine.proofs.LowerFaults.{lint_fault}
 use Rattle.bplint_engine.specs.Get.{GetSays, replies_said, reply_line, said_of}
 use Rattle.bplint_engine.specs.Lint.{LintSays}
 use Rattle.bplint_engine.specs.Ls.{ListSays, listed}
@@ -38,34 +29,6 @@ use Rattle.bplint_engine.specs.Show.{IsLeastFor, LeastLeads}
 use Rattle.bplint_engine.proofs.GetAnswers.{excused_refused, file_fault, told_of}
 use Rattle.bplint_engine.proofs.LeftBytes.{said_as}
 use Rattle.bplint_engine.proofs.PrintAnswers.{path_to_print}
-
--- the file holds no value
-pub least_refused : (f : List ℕ) (refusal : LintRefusal) → Refuses (IsFileFault f) (IsFileCircle f) refusal
-    → IsRefusal (LintSays f) (lint_fault refusal)
-least_refused f (lint_refusals.Fault fault) h = h
-least_refused f (lint_refusals.Circle ns) h = h
-least_refused f (lint_refusals.Read _) h = tt
-least_refused f lint_refusals.Memory h = tt
-
--- the check accepts the linter's certificate
-pub least_for : (f : List ℕ) (G : Frame) (lint : Lint) (lists : Lists) → IsLinted f lint → lists ≡ lint.certificate
-    → (lint.certificate.keys ≡ None → IsCertificate lint.certificate)
-    → ((F : Frame) → IsAccepted f F lint.certificate → G ≡ F) → ∥ IsAccepted f G lint.certificate ∥₁ → IsLeastFor f G lists
-least_for f G lint lists (F, is, by) same fits frames agreed =
-    let listed : AreListed f F lint.certificate.heights lint.certificate.keys =
-    subst (λ keys. AreListed f F lint.certificate.heights keys) (sym by.version) tt in
-    let frame = frames F (record { valid = by.valid; listed = listed }) in
-    record {
-      lint = lint;
-      frame = subst (λ X. IsFrame f X) (sym frame) is;
-      linted = subst (λ X. IsLintedBy f X lint) (sym frame) by;
-      same = same;
-      vouched = (
-        subst (λ l. IsCertificate l) (sym same) (fits by.version),
-        ap octets_of (sym same),
-        subst (λ l. ∥ IsAccepted f G l ∥₁) (sym same) agreed,
-      );
-    }
 
 -- the first fault of the file is one of `show` and `ls`
 pub show_fault : (f : List ℕ) (texts : List (List ℕ)) (paths : List (List (List ℕ))) (fault : RunFault) → AllZip IsPathOf texts paths

@@ -7,10 +7,10 @@ use Rattle.bplist_lint.specs.declared.refusal.LintRefusal.{LintRefusal}
 use Rattle.bplist_lint.specs.declared.refusal.LintRefusal.TheVariants as lint_refusals
 use Rattle.bplist_cursor.specs.declared.faults.CursorFault.{CursorFault}
 use Rattle.bplist_cursor.specs.declared.faults.CursorFault.TheVariants as cursor_faults
+use Rattle.bplist_cursor.specs.declared.faults.Unread.{Unread}
+use Rattle.bplist_cursor.specs.declared.faults.Unread.TheVariants as unread
 use Rattle.bplist_cursor.specs.declared.path.PathFault.{PathFault}
 use Rattle.bplist_cursor.specs.declared.path.PathFault.TheVariants as path_faults
-use Rattle.bplist_lint.specs.declared.upgrade_fault.UpgradeFault.{UpgradeFault}
-use Rattle.bplist_lint.specs.declared.upgrade_fault.UpgradeFault.TheVariants as upgrade_faults
 use Rattle.bplist_ascii.specs.declared.print_fault.PrintFault.{PrintFault}
 use Rattle.bplist_ascii.specs.declared.print_fault.PrintFault.TheVariants as print_faults
 use Rattle.bplint_lines.specs.declared.fault.RunFault.{RunFault}
@@ -45,11 +45,10 @@ cursor_fault (cursor_faults.Read fault) = faults.Read fault
 cursor_fault cursor_faults.Changed = faults.Changed
 cursor_fault cursor_faults.Memory = faults.Memory
 
--- an upgrade's fault
-abbrev pub upgrade_fault : UpgradeFault → RunFault
-upgrade_fault (upgrade_faults.Read fault) = faults.Read fault
-upgrade_fault upgrade_faults.Changed = faults.Changed
-upgrade_fault upgrade_faults.Memory = faults.Memory
+-- the cause why an object could not be read, as a fault
+abbrev pub unread_fault : Unread → RunFault
+unread_fault (unread.Read fault) = faults.Read fault
+unread_fault unread.Changed = faults.Changed
 
 -- a printer's fault
 abbrev pub print_fault : PrintFault → RunFault

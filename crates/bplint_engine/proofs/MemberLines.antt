@@ -1,19 +1,24 @@
 -- The lines of the members of containers.
-use Rattle.std.proofs.Common.{◌≡◌, ◌<◌, ◌+◌, ◌-◌, ◌*◌, ◌++◌, [], ◌∙◌, ℕ, zero, suc, List, codes, length, slice_get, Some, Ok, ap, append_assoc, append-nil, arith, refl, sym}
+use Rattle.std.proofs.Common.{◌≡◌, ◌<◌, ◌+◌, ◌-◌, ◌*◌, ◌++◌, [], ◌∙◌, ℕ, zero, suc, List, codes, length, slice_get, Option, Some, Ok, ap, append_assoc, append-nil, arith, refl, subst, sym}
 use Rattle.bplist_objects.specs.Value.{Value, leaf, array, set, dict, text, Values, no_values, value, Pairs, no_pairs, pair, keys}
 use Rattle.bplist_cursor.specs.declared.faces.Face.{Face}
-use Rattle.bplist_cursor.specs.declared.faults.CursorFault.{CursorFault}
-use Rattle.bplist_cursor.specs.declared.faults.CursorFault.TheVariants as cursor_faults
-use Rattle.bplist_cursor.proofs.Causes as cursor
+use Rattle.bplist_objects.specs.declared.head.Head.{Head}
+use Rattle.bplist_objects.specs.Heads.{Content, Spells, content_at}
+use Rattle.bplist_cert.specs.CheckedFile.{CheckedFile}
+use Rattle.bplist_cert.specs.Valid.{IsVouchedBy}
+use Rattle.bplist_cursor.specs.declared.found.Node.{Node}
+use Rattle.bplist_cursor.specs.declared.faults.Unread.{Unread}
+use Rattle.bplist_cursor.specs.declared.faults.Unread.TheVariants as unread
+use Rattle.bplist_cursor.proofs.Causes.{IsUnread}
 use Rattle.std.specs.List.{enumerate_from, flat_map}
-use Rattle.bplist_cursor.specs.Members.{entries, members, member_of}
-use Rattle.bplist_cursor.proofs.Membership.{in_turn}
+use Rattle.bplist_cursor.specs.Members.{HoldsMember, entries, member_of, member_reference, members, named}
+use Rattle.bplist_cursor.proofs.Membership.{held_members, in_turn}
 use Rattle.bplist_cursor.specs.Replies.{face}
 use Rattle.bplint_engine.specs.declared.member_lines.Members.{Members}
 use Rattle.bplint_engine.specs.declared.member_lines.Members.TheVariants.{Array, Set, Dict}
 use Rattle.bplint_lines.specs.Faults.{IsExcused}
-use Rattle.bplint_engine.proofs.LowerFaults.{cursor_fault}
-use Rattle.bplint_engine.specs.Ls.{IsContainer, IsLeaf, first_lines, line_of_member, line_of_pair, listed, member_line, named_line}
+use Rattle.bplint_engine.proofs.LowerFaults.{unread_fault}
+use Rattle.bplint_engine.specs.Ls.{IsContainer, IsHeadFor, IsLeaf, first_lines, line_of_member, line_of_pair, listed, member_line, named_line}
 use Rattle.bplint_lines.specs.MemberNames.{bracketed, index_name, key_name}
 use Rattle.bplint_lines.specs.OutputLines.{face_line}
 
@@ -169,8 +174,17 @@ pub leaf_listed : (path : List ℕ) (w : Value) → IsLeaf w → named_line path
 leaf_listed path (leaf x) is = refl
 leaf_listed path _ is = absurd is
 
--- the cursor met a failed read or a refused growth
-pub cursor_excused : (fault : CursorFault) → cursor.IsExcused fault → IsExcused (cursor_fault fault)
-cursor_excused (cursor_faults.Read _) h = tt
-cursor_excused cursor_faults.Changed h = absurd (h refl)
-cursor_excused cursor_faults.Memory h = tt
+-- an object could not be read since a read failed
+pub unread_excused : (fault : Unread) → IsUnread fault → IsExcused (unread_fault fault)
+unread_excused (unread.Read _) h = tt
+unread_excused unread.Changed h = absurd (h refl)
+
+-- what was found by the head of a value's object holds the value's member i
+pub found_member : (checked : CheckedFile) (head : Head) (w : Value) (i : ℕ) (found : Option Node) → IsHeadFor checked head w
+    → ((n : ℕ) → IsVouchedBy checked.certificate.heights n → (content : Content) → Spells checked.source.octets checked.frame n content
+    → content ≡ content_at checked.source.octets checked.frame head → found ≡ named (member_reference content i))
+    → HoldsMember checked.source.octets checked.frame (member_of w i) found
+found_member checked head w i found of is =
+    let held = held_members checked.source.octets checked.frame w of.0 of.2 in
+    let named_so = is of.0 of.1 held.0 held.1 (of.3 held.0 held.1) in
+    subst (HoldsMember checked.source.octets checked.frame (member_of w i)) (sym named_so) (held.2 i)

@@ -10,3 +10,4 @@ pub mod PathTexts
 pub mod Print
 pub mod Said
 pub mod Show
+pub mod Prelude

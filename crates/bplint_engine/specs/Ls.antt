@@ -2,9 +2,13 @@
 use Rattle.std.specs.Prelude.{◌≡◌, ◌∷◌, ◌++◌, ℕ, zero, suc, ◌+◌, ◌*◌, length, List, [], codes, Option, None, Some, Result, Ok, Err, ⊤}
 use Rattle.std.specs.List.{enumerate_from, flat_map}
 use Rattle.bplist_objects.specs.declared.frame.Frame.{Frame}
+use Rattle.bplist_objects.specs.declared.head.Head.{Head}
 use Rattle.bplist_objects.specs.Frame.{IsFrame}
+use Rattle.bplist_objects.specs.Heads.{Content, Spells, content_at}
 use Rattle.bplist_objects.specs.Holds.{Holds}
 use Rattle.bplist_objects.specs.Value.{Value, leaf, array, set, dict, text, keys}
+use Rattle.bplist_cert.specs.CheckedFile.{CheckedFile}
+use Rattle.bplist_cert.specs.Valid.{IsVouchedBy}
 use Rattle.bplist_cursor.specs.declared.found.Why.{Why}
 use Rattle.bplist_cursor.specs.Look.{look}
 use Rattle.bplist_cursor.specs.Members.{entries, members, member_of}
@@ -30,6 +34,12 @@ IsContainer Array n (array vs) = length (members vs) ≡ n
 IsContainer Set n (set vs) = length (members vs) ≡ n
 IsContainer Dict n (dict ps) = length (keys ps) ≡ n
 IsContainer _ n w = ⊥
+
+-- an object that is vouched for holds the value, and has this head
+abbrev pub IsHeadFor : CheckedFile → Head → Value → Type 0
+IsHeadFor checked head w =
+    (n : ℕ) × IsVouchedBy checked.certificate.heights n × Holds checked.source.octets checked.frame n w
+    × ((c : Content) → Spells checked.source.octets checked.frame n c → c ≡ content_at checked.source.octets checked.frame head)
 
 -- a value's line: name, tab, line of `get`
 abbrev pub named_line : List ℕ → Value → List ℕ

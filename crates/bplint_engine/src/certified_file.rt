@@ -1,18 +1,11 @@
 //! A file with a certificate.
-ghost use Rattle.std.specs.Prelude.{◌≡◌, ℕ, List, IfOk, IsTrue, MatchResult, None};
-ghost use Rattle.bplist_octets.specs.Meaning.{OnlyReads};
-ghost use Rattle.bplist_objects.specs.Holds.{Holds};
-ghost use Rattle.bplist_objects.specs.Value.{Value};
-ghost use Rattle.bplist_cert.specs.Lists.{AreWords, IsCertificate};
-ghost use Rattle.bplint_engine.specs.Output.{IsRefusal, is_read};
-ghost use Rattle.bplint_engine.specs.Check.{CheckSays, IsDecoded};
-ghost use Rattle.bplint_engine.specs.Lint.{LintSays};
-ghost use Rattle.bplist_cert.specs.CertifiedFile.{IsVouchedFor};
-ghost use Rattle.bplint_engine.specs.Show.{IsLeastFor};
+ghost use Rattle.std.specs.Prelude.{◌≡◌, ℕ, List, length, IfOk, IsTrue, MatchResult, None};
+ghost use Rattle.bplint_engine.specs.Prelude.{OnlyReads, Holds, IsSafeFrame, Value, AreWords, IsCertificate, read_failed, IsRefusal, is_read, CheckSays, IsDecoded, LintSays, IsVouchedFor, IsLeastFor};
 
 use bplint_lines::RunFault;
 use bplist_cert::{CertRefusal, Certificate, Checked, check};
-use bplist_lint::{UpgradeFault, lint};
+use bplist_lint::lint;
+use bplist_objects::{Frame, ObjectFault, trailer_of};
 use bplist_octets::Source;
 use std::alloc::Global;
 
@@ -41,8 +34,9 @@ pub(crate) fn check_decoded<S: Source>(
     }
 }
 
-/// The file with the certificate of its least heights, where it holds a value.
-pub(crate) fn check_least<S: Source>(alloc: Global, src: S) -> Result<Checked<S>, (RunFault, S)>
+/// The file with the certificate of its least heights, where it holds a value. The linter's certificate is proved valid, so
+/// no check is made.
+pub(crate) fn checked_by_lint<S: Source>(alloc: Global, src: S) -> Result<Checked<S>, (RunFault, S)>
     ensures handed { MatchResult result
         (λ checked. checked.source ≡ S.means src)
         (λ refused. OnlyReads (is_read refused.0) (S.means src) (S.means refused.1)) }
@@ -53,16 +47,34 @@ pub(crate) fn check_least<S: Source>(alloc: Global, src: S) -> Result<Checked<S>
         ∥ ((v : Value) × Holds (S.means src).octets checked.frame checked.frame.top.0 v) ∥₁) }
 {
     let mut src = src;
-    let found = match lint(alloc, &mut src) {
-        Ok(found) => found,
-        Err(refusal) => return Err((RunFault::from(refusal), src)),
-    };
-    fits_octets(&found.certificate);
-    match check(alloc, src, found.certificate) {
-        Ok(checked) => Ok(checked),
-        // The linter has found a value and made the certificate, so a broken rule means that the file has changed.
-        Err((refusal, src, _)) => Err((RunFault::from(UpgradeFault::from(refusal)), src)),
+    match lint_with_frame(alloc, &mut src) {
+        Ok((frame, certificate)) => Ok(Checked::new(src, frame, certificate)),
+        Err(fault) => Err((fault, src)),
     }
+}
+
+/// The frame of a file that holds a value, and the certificate of its least heights. Over any source the frame fits it, and
+/// there is a height for each object.
+fn lint_with_frame<S: Source>(alloc: Global, src: &mut S) -> Result<(Frame, Certificate), RunFault>
+    ensures reads { OnlyReads (read_failed result) (S.means src.old) (S.means src.new) }
+    ensures exact { IsTrue (S.means src.old).honest → MatchResult result
+        (λ found. IsLeastFor (S.means src.old).octets found.0 found.1)
+        (IsRefusal (LintSays (S.means src.old).octets)) }
+    ensures safe { IfOk result (λ found. IsSafeFrame (length (S.means src.old).octets) found.0) }
+    ensures count { IfOk result (λ found. length found.1.heights ≡ found.0.objects) }
+{
+    let found = lint(alloc, src)?;
+    fits_octets(&found.certificate);
+    // The linter has read this trailer, so a broken rule or another number of objects means that the file has changed.
+    let frame = match trailer_of(src) {
+        Ok(frame) => frame,
+        Err(ObjectFault::Fault(_)) => return Err(RunFault::Changed),
+        Err(ObjectFault::Read(fault)) => return Err(RunFault::Read(fault)),
+    };
+    if found.certificate.heights.len() != frame.objects as usize {
+        return Err(RunFault::Changed);
+    }
+    Ok((frame, found.certificate))
 }
 
 /// A certificate without key lists can be spelled as bytes.

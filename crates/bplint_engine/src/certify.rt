@@ -1,13 +1,6 @@
 //! The answer of `certify`.
 ghost use Rattle.std.specs.Prelude.{◌≡◌, IfOk, IsTrue, false, true};
-ghost use Rattle.bplist_octets.specs.Meaning.{OnlyReads};
-ghost use Rattle.bplist_cert.specs.Encoding.{octets_of};
-ghost use Rattle.bplist_cert.specs.Lists.{Lists, IsCertificate};
-ghost use Rattle.bplist_lint.specs.Upgraded.{IsUpgraded};
-ghost use Rattle.bplint_lines.specs.Answers.{read_failed};
-ghost use Rattle.bplint_engine.specs.Output.{Answers};
-ghost use Rattle.bplint_engine.specs.Certify.{CertifySays, written};
-ghost use Rattle.bplint_lines.specs.Faults.{Gives};
+ghost use Rattle.bplint_engine.specs.Prelude.{OnlyReads, octets_of, Lists, IsCertificate, IsUpgraded, read_failed, Answers, CertifySays, written, Gives};
 
 use crate::output::Output;
 use bplint_lines::{RunFault, Said};

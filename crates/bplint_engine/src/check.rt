@@ -1,10 +1,6 @@
 //! The answer of `check`.
 ghost use Rattle.std.specs.Prelude.{◌≡◌, ◌++◌, ℕ, List, IfErr, IfOk, IsTrue, codes, slice_index};
-ghost use Rattle.bplist_octets.specs.Meaning.{OnlyReads};
-ghost use Rattle.bplint_lines.specs.Answers.{read_failed};
-ghost use Rattle.bplint_engine.specs.Output.{Answers};
-ghost use Rattle.bplint_engine.specs.Check.{CheckSays, IsDecoded};
-ghost use Rattle.bplint_lines.specs.OutputLines.{check_line};
+ghost use Rattle.bplint_engine.specs.Prelude.{OnlyReads, read_failed, Answers, CheckSays, IsDecoded, check_line};
 
 use crate::certified_file::check_decoded;
 use crate::output::Output;

@@ -1,9 +1,7 @@
 //! The way of an answer to the writer.
 ghost use Rattle.std.specs.Prelude.{◌≡◌, MatchResult};
 ghost use Rattle.std.specs.Io.KnownBytes.{Appends};
-ghost use Rattle.bplist_ascii.specs.Sending.{IsCut};
-ghost use Rattle.bplint_lines.specs.Answers.{read_failed};
-ghost use Rattle.bplint_engine.specs.Output.{Sends};
+ghost use Rattle.bplint_engine.specs.Prelude.{IsCut, read_failed, Sends};
 
 use crate::output::Output;
 use bplint_lines::{RunFault, Said};

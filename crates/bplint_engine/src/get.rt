@@ -2,16 +2,7 @@
 ghost use Rattle.std.specs.Prelude.{◌≡◌, ◌++◌, ℕ, List, IfOk, IsTrue, OnOk, map, string_bytes};
 ghost use Rattle.std.specs.List.{flat_map};
 ghost use Rattle.std.specs.List.{list_any};
-ghost use Rattle.bplist_octets.specs.Meaning.{OnlyReads};
-ghost use Rattle.bplist_objects.specs.Holds.{Holds};
-ghost use Rattle.bplist_objects.specs.Value.{Value};
-ghost use Rattle.bplist_cursor.specs.Kept.{OnlyReadsFile};
-ghost use Rattle.bplist_cursor.specs.Replies.{reply};
-ghost use Rattle.bplint_lines.specs.Answers.{read_failed};
-ghost use Rattle.bplint_engine.specs.Output.{Answers};
-ghost use Rattle.bplint_lines.specs.Faults.{Gives};
-ghost use Rattle.bplint_engine.specs.Check.{IsDecoded};
-ghost use Rattle.bplint_engine.specs.Get.{GetSays, reply_line};
+ghost use Rattle.bplint_engine.specs.Prelude.{OnlyReads, Holds, Value, OnlyReadsFile, reply, read_failed, Answers, Gives, IsDecoded, GetSays, reply_line};
 ghost use Rattle.bplint_engine.specs.Get as spec;
 
 use crate::certified_file::check_decoded;

@@ -1,6 +1,6 @@
 //! Inputs that are hexadecimal text.
 ghost use Rattle.std.specs.Prelude.{◌≡◌, ◌⊎◌, ◌-◌, ◌==◌, IfOk, IfErr, IsErr, Ok, if◌then◌else◌, length, slice_index, take};
-ghost use Rattle.bplint_engine.specs.Hexadecimal.{spelled};
+ghost use Rattle.bplint_engine.specs.Prelude.{spelled};
 
 use bplint_lines::RunFault;
 use hex::FromHexError;

@@ -1,9 +1,7 @@
 //! Laws of the definitions: each is the contract of a function that does nothing.
 
 ghost use Rattle.std.specs.Prelude.{◌≡◌, ℕ, List, Bool};
-ghost use Rattle.bplint_lines.specs.Answers.{Answer};
-ghost use Rattle.bplint_engine.specs.Commands.{Asked};
-ghost use Rattle.bplint_engine.specs.Said.{Says, SaysOver};
+ghost use Rattle.bplint_engine.specs.Prelude.{Answer, Asked, Says, SaysOver};
 
 /// The answer to a command over a file and a certificate's bytes is one.
 pub fn one_answer()

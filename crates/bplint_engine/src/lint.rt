@@ -1,10 +1,6 @@
 //! The answer of `lint`.
 ghost use Rattle.std.specs.Prelude.{◌≡◌, ◌++◌, IfOk, IsTrue, codes};
-ghost use Rattle.bplist_octets.specs.Meaning.{OnlyReads};
-ghost use Rattle.bplint_lines.specs.Answers.{read_failed};
-ghost use Rattle.bplint_engine.specs.Output.{Answers};
-ghost use Rattle.bplint_engine.specs.Lint.{LintSays};
-ghost use Rattle.bplint_lines.specs.OutputLines.{lint_line};
+ghost use Rattle.bplint_engine.specs.Prelude.{OnlyReads, read_failed, Answers, LintSays, lint_line};
 
 use crate::output::Output;
 use bplint_lines::{RunFault, Said, add_lint};

@@ -1,20 +1,8 @@
 //! The members of a value in a file, with no certificate at hand.
 ghost use Rattle.std.specs.Prelude.{◌≡◌, ◌∷◌, [], ◌*◌, ◌^◌, ◌<◌, Ok, IfSome, IsTrue, MatchOption};
-ghost use Rattle.bplist_octets.specs.Meaning.{OnlyReads};
-ghost use Rattle.bplist_objects.specs.Holds.{Holds};
-ghost use Rattle.bplist_objects.specs.Value.{Value};
-ghost use Rattle.bplist_cert.specs.Valid.{IsVouchedBy};
-ghost use Rattle.bplist_cursor.specs.Kept.{OnlyReadsFile};
-ghost use Rattle.bplist_cursor.specs.Look.{look};
-ghost use Rattle.bplist_cursor.specs.Replies.{face as face_of};
-ghost use Rattle.bplist_cursor.specs.Shown.{HasRoom};
-ghost use Rattle.bplint_lines.specs.Answers.{Leaves, read_failed};
-ghost use Rattle.bplint_engine.specs.Output.{Answers};
-ghost use Rattle.bplint_lines.specs.Faults.{Gives};
-ghost use Rattle.bplint_engine.specs.Get.{said_of};
-ghost use Rattle.bplint_engine.specs.Ls.{IsContainer, IsLeaf, ListSays, listed};
+ghost use Rattle.bplint_engine.specs.Prelude.{OnlyReads, Holds, Value, IsVouchedBy, OnlyReadsFile, look, face as face_of, HasRoom, Leaves, read_failed, Answers, Gives, said_of, IsContainer, IsLeaf, ListSays, listed};
 
-use crate::certified_file::check_least;
+use crate::certified_file::checked_by_lint;
 use crate::delivery::send_made;
 use crate::member_lines::{Container, Members, add_members, add_value};
 use crate::output::Output;
@@ -22,7 +10,7 @@ use crate::path_queries::path_in;
 use crate::print::missing_output;
 use bplint_lines::{RunFault, Said};
 use bplist_cert::Checked;
-use bplist_cursor::{Face, Found, Node, Path, face, locate};
+use bplist_cursor::{Face, Found, Node, Path, face, locate, node_head};
 use bplist_octets::Source;
 use std::alloc::Global;
 use std::io::Write;
@@ -32,7 +20,8 @@ use std::io::Write;
 ///
 /// A line has the member's own path text, a tab, and the line of `Get` for it. The place in brackets, counted from 0,
 /// stands for the path of a set's member, and of a key whose path text could not be shown on one line of UTF-8: it has
-/// a control character or a surrogate without its other half. A path that leads nowhere gets its line as with `Get`.
+/// a control character (one of U+0080 to U+009F too), a separator of lines or paragraphs (U+2028 and U+2029) or a
+/// surrogate without its other half. A path that leads nowhere gets its line as with `Get`.
 ///
 /// The answer is the first fault: `Path` for a wrong path text, or else `Fault` or `Circle` as `Lint` answers it. Nothing
 /// went out then. `Read`, `Memory`, `Write` and `Changed` are those of [`crate::run_on`].
@@ -58,7 +47,7 @@ fn list_output<S: Source>(alloc: Global, src: S, text: &str) -> (Result<Output, 
         Ok(path) => path,
         Err(fault) => return (Err(fault), src),
     };
-    match check_least(alloc, src) {
+    match checked_by_lint(alloc, src) {
         Ok(checked) => list_checked(alloc, checked, &path, text),
         Err((fault, src)) => (Err(fault), src),
     }
@@ -128,7 +117,7 @@ fn lines_at<S: Source>(
         return Ok(lines);
     };
     let container = Container {
-        node,
+        head: node_head(checked, node)?,
         members,
         count,
         path,

@@ -1,19 +1,11 @@
 //! The lines of the members of containers.
 ghost use Rattle.std.specs.Prelude.{◌≡◌, ◌++◌, ◌*◌, ◌^◌, ◌<◌, IsTrue, OnOk, Some, codes};
-ghost use Rattle.bplist_objects.specs.Holds.{Holds};
-ghost use Rattle.bplist_objects.specs.Value.{Value};
-ghost use Rattle.bplist_cert.specs.Valid.{IsVouchedBy};
-ghost use Rattle.bplist_cursor.specs.Kept.{OnlyReadsFile};
-ghost use Rattle.bplist_cursor.specs.Members.{member_of};
-ghost use Rattle.bplist_cursor.specs.Replies.{face as face_of};
-ghost use Rattle.bplint_lines.specs.Answers.{read_failed};
-ghost use Rattle.bplint_lines.specs.Faults.{Gives};
-ghost use Rattle.bplint_engine.specs.Ls.{IsContainer, first_lines, member_line};
-ghost use Rattle.bplint_lines.specs.OutputLines.{face_line};
+ghost use Rattle.bplint_engine.specs.Prelude.{IsSafeHead, Value, OnlyReadsFile, member_of, face as face_of, read_failed, Gives, IsContainer, IsHeadFor, first_lines, member_line, face_line};
 
 use bplint_lines::{RunFault, add_face, add_index, add_index_name, add_key_name};
 use bplist_cert::Checked;
-use bplist_cursor::{Face, Node, face, member};
+use bplist_cursor::{Face, face, member_by_head};
+use bplist_objects::Head;
 use bplist_octets::Source;
 use std::alloc::{AllocError, Global};
 
@@ -31,8 +23,8 @@ pub(crate) enum Members {
 /// A container whose members are listed.
 #[derive(Clone, Copy, Drop)]
 pub(crate) struct Container<'a> {
-    /// The object that holds it.
-    pub node: Node,
+    /// The head of its object, which is read once for all members.
+    pub head: Head,
     /// Which kind of members it has.
     pub members: Members,
     /// How many members it has, or pairs.
@@ -48,11 +40,10 @@ pub(crate) fn add_members<S: Source>(
     container: &Container<'_>,
     lines: &mut Vec<u8>,
 ) -> Result<(), RunFault>
-    requires { container.now.members ≡ Members.Dict → 2 * container.now.count < 2 ^ 64 }
+    requires head { IsSafeHead checked.old.frame container.now.head }
+    requires few { container.now.members ≡ Members.Dict → 2 * container.now.count < 2 ^ 64 }
     ensures reads { OnlyReadsFile (read_failed result) checked.old checked.new }
-    ensures exact { IsTrue checked.old.source.honest
-        → IsVouchedBy checked.old.certificate.heights container.now.node.object.0 → (w : Value)
-        → Holds checked.old.source.octets checked.old.frame container.now.node.object.0 w
+    ensures exact { IsTrue checked.old.source.honest → (w : Value) → IsHeadFor checked.old container.now.head w
         → IsContainer container.now.members container.now.count w
         → Gives (λ _. lines.new.items ≡ lines.old.items ++ first_lines container.now.path.now w container.now.count) result }
 {
@@ -70,23 +61,22 @@ fn add_member<S: Source>(
     i: u64,
     lines: &mut Vec<u8>,
 ) -> Result<(), RunFault>
+    requires head { IsSafeHead checked.old.frame container.now.head }
     requires few { container.now.members ≡ Members.Dict → 2 * container.now.count < 2 ^ 64 }
     requires within { i < container.now.count }
     ensures reads { OnlyReadsFile (read_failed result) checked.old checked.new }
-    ensures exact { IsTrue checked.old.source.honest
-        → IsVouchedBy checked.old.certificate.heights container.now.node.object.0 → (w : Value)
-        → Holds checked.old.source.octets checked.old.frame container.now.node.object.0 w
+    ensures exact { IsTrue checked.old.source.honest → (w : Value) → IsHeadFor checked.old container.now.head w
         → IsContainer container.now.members container.now.count w
         → Gives (λ _. lines.new.items ≡ lines.old.items ++ member_line container.now.path.now w i) result }
 {
     match container.members {
         Members::Array => {
-            let shown = member_face(alloc, checked, container.node, i)?;
+            let shown = member_face(alloc, checked, &container.head, i)?;
             add_index_name(alloc, container.path, i, lines)?;
             Ok(add_value(alloc, &shown, lines)?)
         }
         Members::Set => {
-            let shown = member_face(alloc, checked, container.node, i)?;
+            let shown = member_face(alloc, checked, &container.head, i)?;
             add_index(alloc, i, lines)?;
             Ok(add_value(alloc, &shown, lines)?)
         }
@@ -102,38 +92,37 @@ fn add_pair<S: Source>(
     i: u64,
     lines: &mut Vec<u8>,
 ) -> Result<(), RunFault>
+    requires head { IsSafeHead checked.old.frame container.now.head }
     requires dict { container.now.members ≡ Members.Dict }
     requires few { 2 * container.now.count < 2 ^ 64 }
     requires within { i < container.now.count }
     ensures reads { OnlyReadsFile (read_failed result) checked.old checked.new }
-    ensures exact { IsTrue checked.old.source.honest
-        → IsVouchedBy checked.old.certificate.heights container.now.node.object.0 → (w : Value)
-        → Holds checked.old.source.octets checked.old.frame container.now.node.object.0 w
+    ensures exact { IsTrue checked.old.source.honest → (w : Value) → IsHeadFor checked.old container.now.head w
         → IsContainer container.now.members container.now.count w
         → Gives (λ _. lines.new.items ≡ lines.old.items ++ member_line container.now.path.now w i) result }
 {
-    let key = member_face(alloc, checked, container.node, 2 * i)?;
+    let key = member_face(alloc, checked, &container.head, 2 * i)?;
     let Face::Text(units) = &key else {
         return Err(RunFault::Changed);
     };
-    let shown = member_face(alloc, checked, container.node, 2 * i + 1)?;
+    let shown = member_face(alloc, checked, &container.head, 2 * i + 1)?;
     add_key_name(alloc, container.path, i, units.as_slice(), lines)?;
     Ok(add_value(alloc, &shown, lines)?)
 }
 
-/// The face of member `i` of a node's value.
+/// The face of member `i` of an object with this head.
 fn member_face<S: Source>(
     alloc: Global,
     checked: &mut Checked<S>,
-    node: Node,
+    head: &Head,
     i: u64,
 ) -> Result<Face, RunFault>
+    requires { IsSafeHead checked.old.frame head.now }
     ensures reads { OnlyReadsFile (read_failed result) checked.old checked.new }
-    ensures exact { IsTrue checked.old.source.honest → IsVouchedBy checked.old.certificate.heights node.object.0
-        → (w m : Value) → Holds checked.old.source.octets checked.old.frame node.object.0 w → member_of w i ≡ Some m
+    ensures exact { IsTrue checked.old.source.honest → (w m : Value) → IsHeadFor checked.old head.now w → member_of w i ≡ Some m
         → Gives (λ shown. shown ≡ face_of m) result }
 {
-    match member(checked, node, i)? {
+    match member_by_head(checked, head, i)? {
         Some(member) => Ok(face(alloc, checked, member)?),
         None => Err(RunFault::Changed),
     }

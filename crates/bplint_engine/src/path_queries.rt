@@ -1,8 +1,7 @@
 //! Path texts, and what is asked about the paths.
 ghost use Rattle.std.specs.Prelude.{◌≡◌, ◌∷◌, [], ℕ, List, MatchResult, length, map, string_bytes};
 ghost use Rattle.std.specs.List.{AllZip};
-ghost use Rattle.bplist_cursor.specs.Path.{IsPathOf};
-ghost use Rattle.bplint_engine.specs.PathTexts.{IsWrongAmong, OnPath};
+ghost use Rattle.bplint_engine.specs.Prelude.{IsPathOf, IsWrongAmong, OnPath};
 
 use bplint_lines::RunFault;
 use bplist_cursor::{Path, Query};

@@ -1,15 +1,6 @@
 //! The answer of `print`.
 ghost use Rattle.std.specs.Prelude.{◌≡◌, ◌∷◌, ◌++◌, ℕ, List, [], IfErr, IfOk, IsTrue, OnOk, codes, length, map, string_bytes};
-ghost use Rattle.bplist_octets.specs.Meaning.{OnlyReads};
-ghost use Rattle.bplist_objects.specs.Holds.{Holds};
-ghost use Rattle.bplist_objects.specs.Value.{Value};
-ghost use Rattle.bplist_cert.specs.Valid.{IsVouchedBy};
-ghost use Rattle.bplist_cursor.specs.Kept.{OnlyReadsFile};
-ghost use Rattle.bplist_ascii.specs.Sending.{Takes, TakesPart};
-ghost use Rattle.bplint_lines.specs.Answers.{Leaves, LeavesBy, read_failed};
-ghost use Rattle.bplint_lines.specs.OutputLines.{missing_line};
-ghost use Rattle.bplint_engine.specs.Check.{IsDecoded};
-ghost use Rattle.bplint_engine.specs.Print.{NodeSays, PathSays, PrintSays};
+ghost use Rattle.bplint_engine.specs.Prelude.{OnlyReads, Holds, Value, IsVouchedBy, OnlyReadsFile, Takes, TakesPart, Leaves, LeavesBy, read_failed, missing_line, IsDecoded, NodeSays, PathSays, PrintSays};
 
 use crate::certified_file::check_decoded;
 use crate::delivery::send_output;

@@ -1,10 +1,6 @@
 //! One command over a file and a certificate.
 ghost use Rattle.std.specs.Prelude.{◌≡◌, ℕ, List, [], false, IsTrue, if◌then◌else◌};
-ghost use Rattle.bplist_octets.specs.Meaning.{OnlyReads};
-ghost use Rattle.bplint_engine.specs.Check.{IsDecoded};
-ghost use Rattle.bplint_engine.specs.Commands.{PrintsOnePath};
-ghost use Rattle.bplint_lines.specs.Answers.{Leaves, read_failed};
-ghost use Rattle.bplint_engine.specs.Said.{Says, SaysOver, most, takes_cert};
+ghost use Rattle.bplint_engine.specs.Prelude.{OnlyReads, IsDecoded, PrintsOnePath, Leaves, read_failed, Says, SaysOver, most, takes_cert};
 
 use crate::certify::certify_output;
 use crate::check::check_output;

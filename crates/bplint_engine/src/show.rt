@@ -1,13 +1,8 @@
 //! Values under paths of a file, with no certificate at hand.
 ghost use Rattle.std.specs.Prelude.{◌∷◌, [], IsTrue, map, string_bytes};
-ghost use Rattle.bplist_octets.specs.Meaning.{OnlyReads};
-ghost use Rattle.bplint_lines.specs.Answers.{Leaves, read_failed};
-ghost use Rattle.bplint_engine.specs.Output.{Answers};
-ghost use Rattle.bplint_engine.specs.Get.{GetSays};
-ghost use Rattle.bplint_engine.specs.Print.{PrintSays};
-ghost use Rattle.bplint_engine.specs.Show.{LeastLeads};
+ghost use Rattle.bplint_engine.specs.Prelude.{OnlyReads, Leaves, read_failed, Answers, GetSays, PrintSays, LeastLeads};
 
-use crate::certified_file::check_least;
+use crate::certified_file::checked_by_lint;
 use crate::delivery::send_made;
 use crate::get::answer_queries;
 use crate::output::Output;
@@ -46,7 +41,7 @@ fn show_output<S: Source>(alloc: Global, src: S, texts: &[String]) -> (Result<Ou
         Ok(queries) => queries,
         Err(fault) => return (Err(fault), src),
     };
-    match check_least(alloc, src) {
+    match checked_by_lint(alloc, src) {
         Ok(checked) => answer_queries(alloc, checked, &queries),
         Err((fault, src)) => (Err(fault), src),
     }
@@ -74,7 +69,7 @@ pub fn show_text_on<S: Source, W: Write>(
         Ok(path) => path,
         Err(fault) => return (Err(fault), src),
     };
-    match check_least(alloc, src) {
+    match checked_by_lint(alloc, src) {
         Ok(checked) => print_checked(alloc, checked, &path, limit, out),
         Err((fault, src)) => (Err(fault), src),
     }

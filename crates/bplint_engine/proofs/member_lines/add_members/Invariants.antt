@@ -1,16 +1,13 @@
 use Rattle.std.proofs.Common.{◌≡◌, ◌++◌, IsTrue}
 use Rattle.bplist_objects.specs.Value.{Value}
-use Rattle.bplist_objects.specs.Holds.{Holds}
-use Rattle.bplist_cert.specs.Valid.{IsVouchedBy}
-use Rattle.bplint_engine.specs.Ls.{IsContainer, first_lines}
+use Rattle.bplint_engine.specs.Ls.{IsContainer, IsHeadFor, first_lines}
 use Rattle.bplint_engine.proofs.member_lines.add_members.Given as goal
 
 -- the lines of the members so far stand behind the lines
 abbrev pub invariant-loop-i : goal.invariant-loop-i
 invariant-loop-i g l = record {
   same : l.checked ≡ l.fn.checked;
-  lines : IsTrue l.fn.checked.source.honest → IsVouchedBy l.fn.checked.certificate.heights l.container.node.object.0
-      → (w : Value) → Holds l.fn.checked.source.octets l.fn.checked.frame l.container.node.object.0 w
+  lines : IsTrue l.fn.checked.source.honest → (w : Value) → IsHeadFor l.fn.checked l.container.head w
       → IsContainer l.container.members l.container.count w
       → l.lines.items ≡ l.initial.lines.items ++ first_lines l.container.path.now w l.i;
 }

@@ -8,11 +8,11 @@ use Rattle.bplint_engine.proofs.GetAnswers.{refused_as}
 use Rattle.bplint_engine.proofs.LeastAnswers.{least_fault, path_refused, text_leaves}
 use Rattle.bplint_engine.proofs.show.show_text_on.Goals as goal
 
-pub returns-in-Ok-check_least-clause-exact : goal.returns-in-Ok-check_least-clause-exact
-returns-in-Ok-check_least-clause-exact g c =
-    λ honest. let same = c.in-Ok-check_least.ensures.handed in
+pub returns-in-Ok-checked_by_lint-clause-exact : goal.returns-in-Ok-checked_by_lint-clause-exact
+returns-in-Ok-checked_by_lint-clause-exact g c =
+    λ honest. let same = c.in-Ok-checked_by_lint.ensures.handed in
     let left = rw same at c.print_checked.ensures.exact in
-    text_leaves _ _ _ _ _ _ _ _ _ c.in-Ok.ensures (c.in-Ok-check_least.ensures.exact honest) (c.in-Ok-check_least.ensures.value honest) (left honest)
+    text_leaves _ _ _ _ _ _ _ _ _ c.in-Ok.ensures (c.in-Ok-checked_by_lint.ensures.exact honest) (c.in-Ok-checked_by_lint.ensures.value honest) (left honest)
 
 pub returns-in-Err-clause-exact : goal.returns-in-Err-clause-exact
 returns-in-Err-clause-exact g c =
@@ -28,4 +28,4 @@ returns-clause-exact g c =
     let limit = c.args.limit in
     merely (refused (LeastLeads (PrintSays limit) f (text ∷ [])) limit _ _ _
     (refused_as (LintSays f) (LeastLeads (PrintSays limit) f (text ∷ [])) _ (λ x h. least_fault (PrintSays limit) f (text ∷ []) (c.in-Ok.path ∷ []) x c.in-Ok.ensures h)
-    (c.in-Err-check_least.ensures.exact honest)) (kept_self _))
+    (c.in-Err-checked_by_lint.ensures.exact honest)) (kept_self _))
