@@ -48,7 +48,9 @@ static int refuse(const char *name, bplist_status status, const bplist_verdict *
     fprintf(stderr, "%s: breaks rule %" PRIu32 " (%s)", name, verdict->rule, rule);
     if (verdict->has_object)
         fprintf(stderr, " at object %" PRIu32, verdict->object);
-    fprintf(stderr, ", place %" PRIu64 "\n", verdict->place);
+    if (verdict->circle == 0)
+        fprintf(stderr, ", place %" PRIu64, verdict->place);
+    fputc('\n', stderr);
     return 1;
 }
 

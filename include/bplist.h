@@ -105,7 +105,8 @@ enum {
     BPLIST_NOT_UTF8 = 13,
     /* The buffer is too short. The length that is wanted is in the outputs. */
     BPLIST_SHORT = 14,
-    /* The value has no old-style text. */
+    /* The value has no old-style text: one of its parts is neither data, text, array nor
+       dictionary. */
     BPLIST_NO_TEXT = 15,
     /* There is no rule with that number. */
     BPLIST_NO_RULE = 16
@@ -150,8 +151,9 @@ typedef struct bplist_handle {
  * BPLIST_FAULT: `rule` is the number of the first broken rule, 1 to 32, `has_object`
  * 1 where an object breaks it and else 0, `object` that object and `place` the place
  * that shows it: for rules 24 to 27 and 32 in the certificate, else in the file. For
- * rule 23, where references go round in a circle, `object` is the first object of
- * the circle, `circle` is how many it has, and bplist_circle gives them all.
+ * rule 23, where references go round in a circle, `has_object` is 1, `object` is the
+ * first object of the circle, `circle` is how many it has, and bplist_circle gives
+ * them all; `place` is 0 and means nothing.
  */
 typedef struct bplist_verdict {
     uint32_t rule;

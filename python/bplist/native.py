@@ -132,7 +132,10 @@ def _path() -> str:
 
 
 def _load() -> ctypes.CDLL:
-    library = ctypes.CDLL(_path())
+    try:
+        library = ctypes.CDLL(_path())
+    except OSError as fault:
+        raise OSError(f"{fault} (BPLIST_LIBRARY may hold the path of {SONAME})") from None
     for name, arguments in _CALLS.items():
         call = getattr(library, f"bplist_{name}")
         call.argtypes = arguments

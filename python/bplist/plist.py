@@ -226,7 +226,8 @@ class Plist:
         return self._value(found.object)
 
     def text(self, limit: int = TEXT) -> str:
-        """The top in the old-style text form. `TooLarge` above the limit; ValueError where a part has no such form."""
+        """The top in the old-style text form. `TooLarge` above the limit; ValueError where a part has no such form: only
+        data, texts, arrays and dictionaries have."""
         return self._text(self._top, limit)
 
     def plain(self, limit: int = NODES) -> typing.Any:

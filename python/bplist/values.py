@@ -24,8 +24,38 @@ class Date(float):
     """A date that datetime.datetime can't hold: its seconds since 2001-01-01 00:00:00 UTC."""
 
 
+def _are_equal(one: Container, other: Container) -> bool:
+    """Whether two containers have equal members. Each pair of containers is compared once, with no recursion."""
+    pairs: list[tuple[typing.Any, typing.Any]] = [(one, other)]
+    met = set()
+    while pairs:
+        a, b = pairs.pop()
+        if not (isinstance(a, Container) and isinstance(b, Container)):
+            if a != b:
+                return False
+            continue
+        if a._is(b) or (a._object, b._object) in met:
+            continue
+        met.add((a._object, b._object))
+        if type(a) is not type(b) or len(a) != len(b):
+            return False
+        if isinstance(a, Dict):
+            mine, others = dict(a.items()), dict(b.items())
+            if mine.keys() != others.keys():
+                return False
+            pairs.extend((mine[key], others[key]) for key in mine)
+        else:
+            pairs.extend(zip(a, b))
+    return True
+
+
 class Container:
-    """A container of a property list, which it keeps open."""
+    """A container of a property list, which it keeps open.
+
+    Two containers of one kind are equal where they are one object of one property list, which is seen without reading, or
+    where their members are equal: those of arrays and sets in the order of the file, those of dictionaries by their keys.
+    A dictionary is compared with any mapping too, an array with a list. Containers have no hash.
+    """
 
     __slots__ = ("_plist", "_object", "_count")
 
@@ -36,6 +66,17 @@ class Container:
 
     def __len__(self) -> int:
         return self._count
+
+    def __eq__(self, other: object) -> bool:
+        return _are_equal(self, other) if isinstance(other, Container) else self._equals_plain(other)
+
+    def _equals_plain(self, other: object) -> bool:
+        """Whether a value that is no container of a property list is equal."""
+        return NotImplemented
+
+    def _is(self, other: Container) -> bool:
+        """Whether both are one object of one property list."""
+        return self._plist is other._plist and self._object == other._object
 
     @property
     def object(self) -> int:
@@ -73,6 +114,9 @@ class Array(Container, collections.abc.Sequence):
 
     def __iter__(self):
         return map(self._member, range(self._count))
+
+    def _equals_plain(self, other: object) -> bool:
+        return list(self) == other if isinstance(other, list) else NotImplemented
 
 
 class Set(Container, collections.abc.Iterable):
@@ -122,6 +166,9 @@ class Dict(Container, collections.abc.Mapping):
 
     def values(self) -> Values:
         return Values(self)
+
+    def _equals_plain(self, other: object) -> bool:
+        return collections.abc.Mapping.__eq__(self, other)
 
 
 CONTAINERS = {Kind.ARRAY: Array, Kind.SET: Set, Kind.DICT: Dict}

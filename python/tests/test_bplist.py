@@ -50,6 +50,13 @@ def plain_of(value):
     return value
 
 
+def plist_of(*objects):
+    """The property list of a file of these objects, one behind the other, whose top is the first."""
+    places = [8 + sum(map(len, objects[:n])) for n in range(len(objects) + 1)]
+    trailer = bytes(6) + b"\x01\x01" + len(objects).to_bytes(8, "big") + bytes(8) + places.pop().to_bytes(8, "big")
+    return bplist.loads(b"bplist00" + b"".join(objects) + bytes(places) + trailer)
+
+
 class Tables(unittest.TestCase):
     def test_verdicts(self):
         """Each file of the tables is opened, or refused with rule, object and place."""
@@ -148,6 +155,35 @@ class Values(unittest.TestCase):
         with self.assertRaises(IndexError):
             value["list"][3]
 
+    def test_equal(self):
+        """A container equals itself, and what has equal members: of this file, of another one, or of plistlib."""
+        value, other = self.plist.value, bplist.loads(plistlib.dumps(self.tree, fmt=plistlib.FMT_BINARY)).value
+        self.assertEqual(value, self.plist.at(""))
+        self.assertEqual(value, other)
+        self.assertEqual(value, self.tree)
+        self.assertEqual(self.tree, value)
+        self.assertEqual(value["list"], value["list"])
+        self.assertEqual(value["list"], self.tree["list"])
+        self.assertEqual(value["list"][1:], other["list"][1:])
+        self.assertEqual(value["list"].index(other["list"][1]), 1)
+        self.assertNotEqual(value["list"], [1, [2, {"a": 4}], []])
+        self.assertNotEqual(value["list"], (1, [2, {"a": 3}], []))
+        self.assertNotEqual(value["list"], value[""])
+        self.assertNotEqual(value["list"][2], value["list"][1])
+        self.assertNotEqual(value[""], {"~/": 1, "a": 1})
+        self.assertNotEqual(value[""], bplist.loads(plistlib.dumps({"~": 1}, fmt=plistlib.FMT_BINARY)).value)
+        for container in (value, value["list"]):
+            with self.assertRaises(TypeError):
+                hash(container)
+
+    def test_equal_when_closed(self):
+        """That two containers are one object is seen without reading."""
+        one, other = self.plist.value, self.plist.value
+        self.plist.close()
+        self.assertEqual(one, other)
+        with self.assertRaises(bplist.Closed):
+            one == bplist.loads(plistlib.dumps(self.tree, fmt=plistlib.FMT_BINARY)).value
+
     def test_paths(self):
         self.assertEqual(self.plist.at("/list/1/1/a"), 3)
         self.assertEqual(self.plist.at("//~0~1"), 1)
@@ -241,6 +277,24 @@ class Edges(unittest.TestCase):
             with self.assertRaises(bplist.TooLarge) as caught:
                 plist.plain()
             self.assertEqual(caught.exception.size, 2**64 - 1)
+
+    def test_shared_are_equal(self):
+        """Two trees of 2^65 - 1 nodes each are compared by their 65 objects."""
+        value = bplist.loads(doubling(64, b"\x09")).value
+        self.assertEqual(value, bplist.loads(doubling(64, b"\x09")).value)
+        self.assertNotEqual(value, bplist.loads(doubling(64, b"\x08")).value)
+        self.assertNotEqual(value, value[0])
+
+    def test_sets_are_equal(self):
+        """Sets are equal where their members are, in the order of the file; a set equals no array and no list."""
+        sets = [plist_of(top, b"\x09", b"\x08").value for top in (b"\xc2\x01\x02", b"\xc2\x01\x02", b"\xc2\x02\x01", b"\xc1\x01")]
+        self.assertEqual(sets[0], sets[1])
+        self.assertNotEqual(sets[0], sets[2])
+        self.assertNotEqual(sets[0], sets[3])
+        self.assertNotEqual(sets[0], plist_of(b"\xa2\x01\x02", b"\x09", b"\x08").value)
+        self.assertNotEqual(sets[0], [True, False])
+        with self.assertRaises(TypeError):
+            hash(sets[0])
 
     def test_circle(self):
         file = b"bplist00" + b"\xa1\x00" + b"\x08" + bytes(6) + b"\x01\x01" + (1).to_bytes(8, "big") + bytes(8)
@@ -364,19 +418,50 @@ class Files(unittest.TestCase):
             thread.join()
         self.assertEqual(seen, [(2, 5)] * 200)
 
+    def walk(self, folder, path):
+        """The lines of the example on a folder and a path, sorted."""
+        printed = io.StringIO()
+        words = ["walk_backup.py", folder, path]
+        with mock.patch.object(sys, "argv", words), contextlib.redirect_stdout(printed):
+            runpy.run_path(str(ROOT / "examples/walk_backup.py"), run_name="__main__")
+        return sorted(printed.getvalue().splitlines())
+
     def test_walk_backup(self):
         """The example lists each file of a folder that is not sound, and the value of those that are."""
         broken = os.path.join(self.folder.name, "broken")
         with open(broken, "wb") as file:
             file.write(b"bplist00")
-        printed = io.StringIO()
-        words = ["walk_backup.py", self.folder.name, "/a/1"]
-        with mock.patch.object(sys, "argv", words), contextlib.redirect_stdout(printed):
-            runpy.run_path(str(ROOT / "examples/walk_backup.py"), run_name="__main__")
+        lines = self.walk(self.folder.name, "/a/1")
         short = "fault TooShort object none place 8: "
-        lines = sorted(printed.getvalue().splitlines())
         self.assertEqual(lines[1], f"{self.path}: 2")
         self.assertTrue(lines[0].startswith(f"{broken}: {short}"), lines[0])
+        self.assertEqual(self.walk(self.folder.name, "/b")[1], f"{self.path}: missing '/b'")
+
+    def test_walk_goes_on(self):
+        """What can't be read has a line in the example, and the walk goes on."""
+        made = bplist.open
+        odd = os.fsencode(self.folder.name) + b"/\xff"
+        with open(odd, "wb") as file, open(self.path, "rb") as given:
+            file.write(given.read())
+
+        def opened(path):
+            if os.fspath(path) == self.path:
+                raise PermissionError(13, "Permission denied", path)
+            return made(path)
+
+        with mock.patch("bplist.open", opened):
+            lines = self.walk(self.folder.name, "/a/1")
+        self.assertEqual(lines, [f"{self.folder.name}/\\xff: 2", f"{self.path}: Permission denied"])
+        absent = self.folder.name + "/none"
+        self.assertEqual(self.walk(absent, ""), [f"{absent}: No such file or directory"])
+
+    def test_walk_of_no_path(self):
+        """A wrong path text ends the example: a line and status 2."""
+        for path in ("a", "/~", "/\udcff"):
+            said = io.StringIO()
+            with contextlib.redirect_stderr(said), self.assertRaises(SystemExit) as ended:
+                self.walk(self.folder.name, path)
+            self.assertEqual((ended.exception.code, said.getvalue().count("\n")), (2, 1))
 
 
 class Changes(unittest.TestCase):
