@@ -68,13 +68,6 @@ def imports_of(text):
     return found
 
 
-def resolved(word, imports):
-    """The definition's place that a word names by these imports."""
-    first, _, rest = word.partition(".")
-    crate, file, name = imports.get(first, (None, None, None))
-    return (crate, file, name or rest.split(".")[0])
-
-
 def definitions_of(crate, path):
     """The definitions of a file, in their order."""
     found, comment, modules, mutual = [], [], [], None
@@ -124,6 +117,15 @@ class Specs:
             self.by_name.update({(crate, path.stem, name): one for name in one.declares()})
         return definitions
 
+    def resolved(self, word, imports):
+        """The definition's place that a word names by these imports, through a Prelude that passes it on."""
+        first, _, rest = word.partition(".")
+        crate, file, name = imports.get(first, (None, None, None))
+        name = name or rest.split(".")[0]
+        if file == "Prelude" and (crate, file) in self.imports:
+            return self.resolved(name, self.imports[crate, file])
+        return (crate, file, name)
+
     def reachable(self, cited):
         """The definitions that these cite, and those that they cite."""
         seen, open_ = set(), [self.by_name[place] for place in cited if place in self.by_name]
@@ -134,7 +136,7 @@ class Specs:
             seen.add(one)
             imports = self.imports[one.crate, one.file]
             words = one.cites() + [word for module in one.modules for word in words_of(module)]
-            places = (resolved(word, imports) for word in words)
+            places = (self.resolved(word, imports) for word in words)
             open_ += [self.by_name[place] for place in places if place in self.by_name]
         return seen
 
@@ -194,9 +196,9 @@ def public_part(item, names):
     return "\n".join(re.findall(r"^    pub (?:const )?fn .*?^    }$", item, re.M | re.S))
 
 
-def cited_by(root, crate, calls):
+def cited_by(specs, crate, calls):
     """What the contracts of a crate's public calls cite, or those of these calls and types alone, where some are given."""
-    source = root / "crates" / crate / "src"
+    source = specs.root / "crates" / crate / "src"
     lib = source / "lib.rt"
     names = exported(lib.read_text()) if lib.exists() else set()
     names &= calls or names
@@ -207,14 +209,14 @@ def cited_by(root, crate, calls):
         for item in items(text):
             if calls and "#[unsafe(no_mangle)]" in item and not calls & set(re.findall(r"fn (\w+)", item)):
                 continue
-            cited |= {resolved(word, imports) for word in words_of(clauses(public_part(item, names)))}
+            cited |= {specs.resolved(word, imports) for word in words_of(clauses(public_part(item, names)))}
     return cited
 
 
 def reachable(calls):
     """The definitions of each crate that contracts of public calls lead to, in reading order, and those that they cite."""
     specs = Specs(HERE)
-    cited = {place for crate in specs.by_crate for place in cited_by(HERE, crate, calls)}
+    cited = {place for crate in specs.by_crate for place in cited_by(specs, crate, calls)}
     found = specs.reachable(cited)
     cited = {specs.by_name[place] for place in cited if place in specs.by_name}
     return {crate: [one for one in all_ if one in found] for crate, all_ in specs.by_crate.items()}, cited, specs
