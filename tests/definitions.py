@@ -20,9 +20,11 @@ that only definitions cite; a reader of the promises has to believe these too. D
 each file names its source: Apple's published CFBinaryPList.c, a standard, or `profile`, a choice of this project.
 `tests/definitions.py --write` makes this page, and the gate compares.
 
-The calls of the theorem lead to {} definitions of {} lines, all public calls to {} of {}.
+| who relies on | has to believe definitions | of lines |
+|---|---|---|
 """
 THEOREM = {"check", "answer_all", "Certificate", "Checked", "Source"}
+PROGRAM = {"bplint_lines", "bplint_map", "bplint_engine"}
 
 DECLARED = re.compile(r"( *)(?:abbrev|unfoldable) pub (\S+)|( *)pub (?:record|data) (\S+)")
 IMPORT = re.compile(r"use Rattle\.(\w+)\.specs\.([\w.]+?)(?:\.\{([^}]*)\}| as (\w+))")
@@ -213,10 +215,11 @@ def cited_by(specs, crate, calls):
     return cited
 
 
-def reachable(calls):
-    """The definitions of each crate that contracts of public calls lead to, in reading order, and those that they cite."""
+def reachable(calls, of=()):
+    """The definitions of each crate that contracts of public calls lead to, in reading order, and those that they cite: of these
+    crates' calls, or all."""
     specs = Specs(HERE)
-    cited = {place for crate in specs.by_crate for place in cited_by(specs, crate, calls)}
+    cited = {place for crate in of or specs.by_crate for place in cited_by(specs, crate, calls)}
     found = specs.reachable(cited)
     cited = {specs.by_name[place] for place in cited if place in specs.by_name}
     return {crate: [one for one in all_ if one in found] for crate, all_ in specs.by_crate.items()}, cited, specs
@@ -247,11 +250,18 @@ def count(calls):
     return 0
 
 
-def head(found):
-    """What the page begins with."""
-    theorem, _, _ = reachable(THEOREM)
-    both = ([one for listed in given.values() for one in listed] for given in (theorem, found))
-    return HEAD.format(*(number for all_ in both for number in (len(all_), lines_of(all_))))
+def head():
+    """What the page begins with: how much the calls of each part lead to."""
+    library = {crate for crate in crates(HERE) if crate.startswith("bplist_")} - {"bplist_c"}
+    parts = {
+        "the theorem": reachable(THEOREM),
+        "the library in Rattle": reachable(set(), library),
+        "the program": reachable(set(), PROGRAM),
+        "the C library": reachable(set(), {"bplist_c"}),
+        "all of them": reachable(set()),
+    }
+    rows = [(part, [one for listed in found.values() for one in listed]) for part, (found, _, _) in parts.items()]
+    return HEAD + "".join(f"| {part} | {len(found)} | {lines_of(found):,} |\n" for part, found in rows)
 
 
 def main():
@@ -259,7 +269,7 @@ def main():
         return count(set(sys.argv[2:]))
     found, cited, _ = reachable(set())
     sections = {crate: section(crate, listed, cited) for crate, listed in found.items() if listed}
-    sections = {"all": head(found), **sections}
+    sections = {"all": head(), **sections}
     page = HERE / "docs/DEFINITIONS.md"
     if "--write" in sys.argv[1:]:
         page.write_text("".join(sections.values()))

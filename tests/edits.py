@@ -12,13 +12,13 @@ the verdict and the goals. The verdicts:
   unread   the prover could not take the function at all, which says nothing either
   PROVED   nothing refuses it
 
-An edit is named FUNCTION--what by the function that it changes, and passes where it is refused by one of the first three. The last line is `N passed, M failed`, and the status is 1 where
-one failed.
+An edit is named FUNCTION--what by the function that it changes, and passes where it is refused by one of the first three. The last
+line is `N passed, M failed`, and the status is 1 where one failed.
 
 Edits of different functions are tried together, in a copy of the crate over what its last check kept, so a crate takes a
 few checks; crates are tried side by side. Functions that no edit of the check turns are not proved there: their proofs are
 holes, and a call takes its callee by its contract. An edit that is not refused so is tried once more with all proofs as they
-are. The crates that the edits are of must be built, and those below them.
+are. The crates below must be built as they stand: over others a verdict would say nothing, so that none is given.
 """
 import concurrent.futures
 import copy
@@ -254,8 +254,18 @@ def edits_of(crate, names, has_more):
     return edits
 
 
+def is_built(rt, library):
+    """Whether a library was built after its files were last written."""
+    rlib = pathlib.Path(library.rlib)
+    written = max(os.path.getmtime(it) for it in rt.rtlib.files_of(library.folder))
+    return rlib.is_dir() and written <= rlib.stat().st_mtime
+
+
 def try_crate(rt, crate, names, has_more):
     """Tries a crate's edits, prints a line for each, and says how many there are and how many failed."""
+    for library in crate.below():
+        if not is_built(rt, library):
+            raise ValueError(f"{crate.name}: {library.name} below it is not built as it stands: run `rt lib` in crates/{library.name}")
     edits, failed = edits_of(crate, names, has_more), 0
     for edit, goals in tried(rt, crate, edits):
         failed += verdict(goals) not in REFUSED
