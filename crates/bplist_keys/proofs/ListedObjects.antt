@@ -1,8 +1,7 @@
 -- Which objects have a weight, and which of them are listed, while they are weighed one by one.
-use Rattle.std.proofs.Common.{◌≡◌, ◌≢◌, ℕ, ◌+◌, ◌<◌, ◌≤◌, List, [], ◌∷◌, ◌++◌, length, slice_index, set, All, Contains, refl, sym, ◌∙◌, subst, inl, inr, arith}
+use Rattle.std.proofs.Common.{◌≡◌, ◌≢◌, ℕ, ◌+◌, ◌<◌, ◌≤◌, List, [], ◌∷◌, ◌++◌, length, slice_index, set, Contains, refl, sym, ◌∙◌, subst, inl, inr, arith}
 use Rattle.std.proofs.lemmas.Bool.{cases_eq, cases_lt}
 use Rattle.std.proofs.lemmas.List.{get_or-set_same, get_or-set_other, get_or_past, get_or_append_left, get_or_push, length_push}
-use Rattle.std.proofs.lemmas.List.Elements.{All-from_get_or}
 use Rattle.bplist_objects.specs.declared.frame.Frame.{Frame}
 use Rattle.bplist_keys.specs.declared.weight.Weight.{Weight}
 use Rattle.bplist_keys.specs.Weights.{Weighs, AreWeighed}
@@ -101,10 +100,6 @@ module _ (n : ℕ) (named weights texts : List ℕ) (l : AreListed n named weigh
           let zero : w ≡ 0 = omega (arith, none) in
           subst (λ v. AreListed (n + 1) named (set weights n v) after) (sym zero) (subst (AreListed (n + 1) named (set weights n 0)) (sym (other zero)) listed_out)
     ]
-
--- the texts that are listed have a weight
-pub texts_weigh : (n : ℕ) (named weights texts : List ℕ) → AreListed n named weights texts → All (λ m. 0 < slice_index weights m) texts
-texts_weigh n named weights texts l = All-from_get_or (λ m. 0 < slice_index weights m) texts 0 (λ k low. (l.weighed k low).1)
 
 module _ (f : List ℕ) (F : Frame) (by : Weight) (named : List ℕ) where
   -- those below n that are named have their weights

@@ -7,15 +7,6 @@ use Rattle.bplist_objects.specs.Claims.{FailsAt}
 use Rattle.bplist_keys.specs.declared.class_table.KeyLookup.{KeyLookup}
 use Rattle.bplist_keys.specs.declared.class_table.KeyLookup.TheVariants.{NotText, First, Repeated}
 
--- none was looked up yet
-pub seen_none : (key : ℕ → ℕ) (classes : List ℕ) (n : ℕ) (seen : List ℕ) → IsNew seen n → HaveSeenKeys key classes n seen 0 None
-seen_none key classes n seen new = record {
-  texts = λ i l. absurd (omega (arith, l));
-  stamped = λ i l. absurd (omega (arith, l));
-  only = λ x e. absurd (new x e);
-  first = λ i j a b. absurd (omega (arith, b));
-}
-
 module _ (key : ℕ → ℕ) (classes : List ℕ) (n k : ℕ) (seen : List ℕ) (again : Option ℕ) (s : HaveSeenKeys key classes n seen k again) where
   more_texts : 0 < slice_index classes (key k) → HaveClasses key classes (k + 1)
   more_texts some i low = elim (cases_eq i k) [

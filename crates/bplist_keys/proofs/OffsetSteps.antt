@@ -2,9 +2,8 @@
 use Rattle.std.proofs.Common.{◌≡◌, ℕ, ◌+◌, ◌-◌, ◌^◌, ◌<◌, min, inl, inr, List, length, slice_index, ap, ◌∙◌, subst, arith}
 use Rattle.std.proofs.lemmas.Bool.{cases_lt}
 use Rattle.bplist_objects.specs.declared.frame.Frame.{Frame}
-use Rattle.bplist_objects.specs.Frame.{off, IsFrame}
+use Rattle.bplist_objects.specs.Frame.{off}
 use Rattle.bplist_objects.specs.FrameRules.{AreEntriesLow}
-use Rattle.bplist_objects.proofs.FrameTies.{numbered}
 use Rattle.bplist_keys.specs.Offsets.{AreOffsets32}
 use Rattle.bplist_keys.specs.Texts.{AreOffsets}
 
@@ -27,6 +26,3 @@ module _ (f : List ℕ) (F : Frame) (places : List ℕ) (kept : AreOffsets32 f F
   -- a place below the table is kept as it is
   pub kept_offsets : F.table < 2 ^ 32 → AreEntriesLow f F → AreOffsets f F places
   kept_offsets fits low n within = let l = low n within in omega (arith, l, kept n within)
-
-  pub framed_offsets : IsFrame f F → AreOffsets f F places
-  framed_offsets frame = let is = numbered frame in kept_offsets (omega (arith, is.table_late, is.large)) is.offsets
