@@ -96,27 +96,6 @@ pub fn check_body<S: Source>(
     }
 }
 
-/// The head of object `n`, whose place is known, or the first of rules 14 to 20 that it breaks.
-fn head_by_rules<S: Source>(
-    src: &mut S,
-    frame: &Frame,
-    n: ObjectNo,
-    place: u64,
-) -> Result<Head, ObjectFault>
-    requires safe { IsSafe (length (S.means src.old).octets) frame.now }
-    requires within { n.0 < frame.now.objects }
-    ensures reads { OnlyReads (read_failed result) (S.means src.old) (S.means src.new) }
-    ensures rules { HonestlyBy (S.means src.old) frame.now (λ f F. place ≡ off f F n.0
-        → Gives (λ head. HasHead f F n.0 head × KeepsAll (KeepsByObject f F n.0) object_rules)
-        (IsObjectFault f F n.0 object_rules) result) }
-    ensures safe { IfOk result (IsSafeHead frame.now) }
-    ensures behind { IfOk result (λ head. place < head.body) }
-{
-    let head = shape_at(src, frame, n, place)?;
-    check_body(src, frame, n, place, &head)?;
-    Ok(head)
-}
-
 /// The head of object `n`, or the first of rules 14 to 20 that it breaks.
 ///
 /// `place` is the object's place as `offset_of` answers it. Over the file that the frame is of, with that
@@ -142,7 +121,9 @@ pub fn head_at<S: Source>(
     ensures safe { IfOk result (IsSafeHead frame.now) }
     ensures behind { IfOk result (λ head. place < head.body) }
 {
-    head_by_rules(src, frame, n, place)
+    let head = shape_at(src, frame, n, place)?;
+    check_body(src, frame, n, place, &head)?;
+    Ok(head)
 }
 
 /// The head of object `n`, or the first of rules 14 to 20 that it breaks, with the object and the place,
