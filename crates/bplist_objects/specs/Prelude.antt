@@ -17,7 +17,7 @@ pub use Rattle.bplist_objects.specs.ObjectRules.{BreaksByObject, IsObjectFault, 
 pub use Rattle.bplist_objects.specs.Reach.{Chain, Founded, Refs}
 pub use Rattle.bplist_objects.specs.Rules.{IsFirstFault, KeepsAll}
 pub use Rattle.bplist_objects.specs.Safe.{IsSafe, IsSafeBody, IsSafeFrame, IsSafeHead, MayCount, ref_count}
-pub use Rattle.bplist_objects.specs.Scan.{AreBelow, IsFirstNotBelow, nth_number}
+pub use Rattle.bplist_objects.specs.Scan.{AreBelow, AreNumbers, IsFirstNotBelow, MeanNumbers, nth_number}
 pub use Rattle.bplist_objects.specs.SmallFiles.{small_file}
 pub use Rattle.bplist_objects.specs.Spelled.{refs_at, spelled_at}
 pub use Rattle.bplist_objects.specs.Trailer.{frame_of_trailer}

@@ -7,7 +7,7 @@ use crate::fault::{ObjectFault, broken};
 use crate::frame::{Frame, ObjectNo};
 use crate::head::{Head, shape_at};
 use crate::kind::Kind;
-use crate::numbers::wide_in;
+use crate::numbers::{Width, wide_in};
 use crate::offset_table::offset_of;
 use crate::refs::refs_of;
 use crate::rule::Rule;
@@ -65,7 +65,10 @@ fn check_refs<S: Source>(
 {
     let _len = src.len();
     let refs = refs_of(head);
-    match first_not_below(src, head.body, frame.ref_size, refs, frame.objects as u64)? {
+    let width = Width {
+        bytes: frame.ref_size,
+    };
+    match first_not_below(src, head.body, width, refs, frame.objects as u64)? {
         None => Ok(()),
         Some(i) => Err(broken(Rule::RefHigh, n, head.body + i * frame.ref_size as u64)),
     }
