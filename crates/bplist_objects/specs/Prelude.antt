@@ -3,11 +3,10 @@ pub use Rattle.bplist_octets.specs.Meaning.{Honestly, OnlyReads, last_count}
 pub use Rattle.bplist_octets.specs.Octets.{num, part}
 pub use Rattle.bplist_objects.specs.Announced.{Announces, HasHead, HasLongCount, IsLongOf, Marks, is_counted, item_size, kind_at, markers_of}
 pub use Rattle.bplist_objects.specs.Answers.{Gives, Never, read_failed}
-pub use Rattle.bplist_objects.specs.BodyFaults.{IsAsciiFault, IsRefFault, IsUidFault}
 pub use Rattle.bplist_objects.specs.CountFaults.{IsLongCountFault}
 pub use Rattle.bplist_objects.specs.File.{FileHolds}
 pub use Rattle.bplist_objects.specs.Frame.{IsFrame, Keeps, frame_rules, number_rules, off, trailer}
-pub use Rattle.bplist_objects.specs.FrameRules.{AreEntriesLow, Breaks, IsEntryFault, IsFrameFault, IsTrailer, IsTrailerFault}
+pub use Rattle.bplist_objects.specs.FrameRules.{Breaks, IsFrameFault, IsTrailer, IsTrailerFault}
 pub use Rattle.bplist_objects.specs.Framed.{HonestlyBy, HonestlyIn, frame_in}
 pub use Rattle.bplist_objects.specs.Heads.{Content, HasShape, IsHeadOf, Spells, content_at, refs}
 pub use Rattle.bplist_objects.specs.Holds.{Holds}

@@ -4,8 +4,10 @@ ghost use Rattle.std.specs.Prelude.{◌≡◌, ℕ, ◌^◌, ◌≤◌, ◌<◌,
 ghost use Rattle.bplist_objects.specs.Prelude.{part, num, OnlyReads, Honestly, trailer as spelled, Keeps, IsFrame, number_rules, KeepsAll, IsFirstFault, Breaks, IsTrailer, IsTrailerFault, IsFrameFault, IsSafeFrame, frame_of_trailer, Magic, Frame as frame, Gives, Never, read_failed};
 
 use crate::fault::{Fault, ObjectFault};
-use crate::offset_table::check_entries;
+use crate::numbers::Width;
+use crate::offset_table::high_entry;
 use crate::rule::Rule;
+use crate::scan::first_not_below;
 use bplist_octets::{Source, sized};
 
 /// The number of an object, from 0: the number of its entry in the offset table.
@@ -190,6 +192,10 @@ pub fn frame_of<S: Source>(src: &mut S) -> Result<Frame, ObjectFault>
     ensures safe { IfOk result (IsSafeFrame (length (S.means src.old).octets)) }
 {
     let frame = trailer_of(src)?;
-    check_entries(src, &frame)?;
-    Ok(frame)
+    let bytes = frame.offset_size;
+    let objects = frame.objects as u64;
+    match first_not_below(src, frame.table, Width { bytes }, objects, frame.table)? {
+        None => Ok(frame),
+        Some(i) => Err(high_entry(&frame, ObjectNo(i as u32), src.len()).into()),
+    }
 }

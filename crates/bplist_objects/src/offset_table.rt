@@ -1,13 +1,12 @@
 //! The offset table, whose entries are the places of the objects.
 
 ghost use Rattle.std.specs.Prelude.{◌≡◌, ℕ, ◌+◌, ◌*◌, ◌≤◌, ◌<◌, length, slice_index, IfOk, OnOk, is_err};
-ghost use Rattle.bplist_objects.specs.Prelude.{OnlyReads, Honestly, off, IsSafe, AreEntriesLow, IsEntryFault, Gives, read_failed, OffsetHigh};
+ghost use Rattle.bplist_objects.specs.Prelude.{OnlyReads, Honestly, off, IsSafe, OffsetHigh};
 
-use crate::fault::{Fault, ObjectFault};
+use crate::fault::Fault;
 use crate::frame::{Frame, ObjectNo};
 use crate::numbers::{Width, number_in, numbers_in};
 use crate::rule::Rule;
-use crate::scan::first_not_below;
 use bplist_octets::{ReadFault, Source};
 
 /// The place of an entry of the offset table, in a file of so many bytes.
@@ -70,21 +69,5 @@ pub fn high_entry(frame: &Frame, n: ObjectNo, len: u64) -> Fault
         rule: Rule::OffsetHigh,
         object: Some(n),
         place: entry_place(frame, n.0, len),
-    }
-}
-
-/// Looks at every entry of the offset table.
-pub(crate) fn check_entries<S: Source>(src: &mut S, frame: &Frame) -> Result<(), ObjectFault>
-    requires { IsSafe (length (S.means src.old).octets) frame.now }
-    ensures reads { OnlyReads (read_failed result) (S.means src.old) (S.means src.new) }
-    ensures exact { Honestly (S.means src.old) (λ f. Gives (λ _. AreEntriesLow f frame.now)
-        (λ fault. (fault.rule ≡ OffsetHigh) × IsEntryFault f frame.now fault.object fault.place) result) }
-{
-    let width = Width {
-        bytes: frame.offset_size,
-    };
-    match first_not_below(src, frame.table, width, frame.objects as u64, frame.table)? {
-        None => Ok(()),
-        Some(i) => Err(high_entry(frame, ObjectNo(i as u32), src.len()).into()),
     }
 }
