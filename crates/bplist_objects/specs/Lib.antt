@@ -16,7 +16,6 @@ pub mod Trailer
 pub mod Safe
 pub mod ObjectRules
 pub mod CountFaults
-pub mod BodyFaults
 pub mod Kinds
 pub mod Units
 pub mod Words

@@ -3,11 +3,10 @@ pub use Rattle.bplist_octets.specs.Meaning.{Honestly, OnlyReads, last_count}
 pub use Rattle.bplist_octets.specs.Octets.{num, part}
 pub use Rattle.bplist_objects.specs.Announced.{Announces, HasHead, HasLongCount, IsLongOf, Marks, is_counted, item_size, kind_at, markers_of}
 pub use Rattle.bplist_objects.specs.Answers.{Gives, Never, read_failed}
-pub use Rattle.bplist_objects.specs.BodyFaults.{IsAsciiFault, IsRefFault, IsUidFault}
 pub use Rattle.bplist_objects.specs.CountFaults.{IsLongCountFault}
 pub use Rattle.bplist_objects.specs.File.{FileHolds}
 pub use Rattle.bplist_objects.specs.Frame.{IsFrame, Keeps, frame_rules, number_rules, off, trailer}
-pub use Rattle.bplist_objects.specs.FrameRules.{AreEntriesLow, Breaks, IsEntryFault, IsFrameFault, IsTrailer, IsTrailerFault}
+pub use Rattle.bplist_objects.specs.FrameRules.{Breaks, IsFrameFault, IsTrailer, IsTrailerFault}
 pub use Rattle.bplist_objects.specs.Framed.{HonestlyBy, HonestlyIn, frame_in}
 pub use Rattle.bplist_objects.specs.Heads.{Content, HasShape, IsHeadOf, Spells, content_at, refs}
 pub use Rattle.bplist_objects.specs.Holds.{Holds}
@@ -17,7 +16,7 @@ pub use Rattle.bplist_objects.specs.ObjectRules.{BreaksByObject, IsObjectFault, 
 pub use Rattle.bplist_objects.specs.Reach.{Chain, Founded, Refs}
 pub use Rattle.bplist_objects.specs.Rules.{IsFirstFault, KeepsAll}
 pub use Rattle.bplist_objects.specs.Safe.{IsSafe, IsSafeBody, IsSafeFrame, IsSafeHead, MayCount, ref_count}
-pub use Rattle.bplist_objects.specs.Scan.{AreBelow, IsFirstNotBelow, nth_number}
+pub use Rattle.bplist_objects.specs.Scan.{AreBelow, AreNumbers, IsFirstNotBelow, MeanNumbers, nth_number}
 pub use Rattle.bplist_objects.specs.SmallFiles.{small_file}
 pub use Rattle.bplist_objects.specs.Spelled.{refs_at, spelled_at}
 pub use Rattle.bplist_objects.specs.Trailer.{frame_of_trailer}

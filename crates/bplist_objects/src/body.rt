@@ -1,75 +1,18 @@
 //! The bodies of objects, and heads by all rules of an object by itself.
 
-ghost use Rattle.std.specs.Prelude.{◌≡◌, ◌+◌, ◌*◌, ◌≤◌, ◌<◌, IfOk, length};
-ghost use Rattle.bplist_objects.specs.Prelude.{OnlyReads, Honestly, HonestlyBy, num_at, off, IsSafe, IsSafeHead, ref_count, Gives, Never, read_failed, KeepsAll, AreBelow, HasHead, Content, content_at, Spells, IsHeadOf, KeepsByObject, IsObjectFault, body_rules, object_rules, IsAsciiFault, IsUidFault, IsRefFault};
+ghost use Rattle.std.specs.Prelude.{◌≡◌, ◌<◌, IfOk, length};
+ghost use Rattle.bplist_objects.specs.Prelude.{OnlyReads, Honestly, HonestlyBy, off, IsSafe, IsSafeHead, Gives, Never, read_failed, KeepsAll, HasHead, Content, content_at, Spells, IsHeadOf, KeepsByObject, IsObjectFault, body_rules, object_rules};
 
 use crate::fault::{ObjectFault, broken};
 use crate::frame::{Frame, ObjectNo};
 use crate::head::{Head, shape_at};
 use crate::kind::Kind;
-use crate::numbers::wide_in;
+use crate::numbers::{Width, wide_in};
 use crate::offset_table::offset_of;
 use crate::refs::refs_of;
 use crate::rule::Rule;
 use crate::scan::{first_high_in, first_not_below};
 use bplist_octets::Source;
-
-/// Looks for a byte of 128 or more in a text of one byte a unit. The head is handed on as a copy, so that the caller's stays in
-/// registers.
-fn check_ascii<S: Source>(src: &mut S, n: ObjectNo, head: Head) -> Result<(), ObjectFault>
-    requires { head.body + head.count ≤ length (S.means src.old).octets }
-    ensures reads { OnlyReads (read_failed result) (S.means src.old) (S.means src.new) }
-    ensures exact { Honestly (S.means src.old) (λ f. Gives
-        (λ _. AreBelow f head.body 1 head.count 128) (IsAsciiFault f n.0 head) result) }
-{
-    let _len = src.len();
-    match first_high_in(src, head.body, head.count)? {
-        None => Ok(()),
-        Some(i) => Err(broken(Rule::NotAscii, n, head.body + i)),
-    }
-}
-
-/// Looks at the number of a UID that stands at `place`.
-fn check_uid<S: Source>(src: &mut S, n: ObjectNo, place: u64, head: Head) -> Result<(), ObjectFault>
-    requires some { 1 ≤ head.count }
-    requires few { head.count ≤ 16 }
-    requires within { head.body + head.count ≤ length (S.means src.old).octets }
-    ensures reads { OnlyReads (read_failed result) (S.means src.old) (S.means src.new) }
-    ensures exact { Honestly (S.means src.old) (λ f. Gives
-        (λ _. num_at f head.body head.count ≤ 4294967295) (IsUidFault f n.0 place head) result) }
-{
-    if wide_in(src, head.body, head.count as u8)? <= 4294967295 {
-        Ok(())
-    } else {
-        Err(broken(Rule::UidLarge, n, place))
-    }
-}
-
-/// Looks for a reference that names no object.
-#[inline(always)]
-fn check_refs<S: Source>(
-    src: &mut S,
-    frame: &Frame,
-    n: ObjectNo,
-    head: &Head,
-) -> Result<(), ObjectFault>
-    requires low { 1 ≤ frame.now.ref_size }
-    requires high { frame.now.ref_size ≤ 8 }
-    requires count { head.now.body + ref_count head.now.kind head.now.count ≤ head.now.«end» }
-    requires within { head.now.body + ref_count head.now.kind head.now.count * frame.now.ref_size
-        ≤ length (S.means src.old).octets }
-    ensures reads { OnlyReads (read_failed result) (S.means src.old) (S.means src.new) }
-    ensures exact { Honestly (S.means src.old) (λ f. Gives
-        (λ _. AreBelow f head.now.body frame.now.ref_size (ref_count head.now.kind head.now.count) frame.now.objects)
-        (IsRefFault f frame.now n.0 head.now) result) }
-{
-    let _len = src.len();
-    let refs = refs_of(head);
-    match first_not_below(src, head.body, frame.ref_size, refs, frame.objects as u64)? {
-        None => Ok(()),
-        Some(i) => Err(broken(Rule::RefHigh, n, head.body + i * frame.ref_size as u64)),
-    }
-}
 
 /// Looks at the body of object `n`, which stands at `place`, by rules 18 to 20, where this is its head as `shape_at` answers
 /// it. `Read` is answered where a read failed.
@@ -89,32 +32,31 @@ pub fn check_body<S: Source>(
         result) }
 {
     match head.kind {
-        Kind::Ascii => check_ascii(src, n, *head),
-        Kind::Uid => check_uid(src, n, place, *head),
-        Kind::Array | Kind::Set | Kind::Dict => check_refs(src, frame, n, head),
+        Kind::Ascii => {
+            let _len = src.len();
+            match first_high_in(src, head.body, head.count)? {
+                None => Ok(()),
+                Some(i) => Err(broken(Rule::NotAscii, n, head.body + i)),
+            }
+        }
+        Kind::Uid => {
+            if wide_in(src, head.body, head.count as u8)? <= 4294967295 {
+                Ok(())
+            } else {
+                Err(broken(Rule::UidLarge, n, place))
+            }
+        }
+        Kind::Array | Kind::Set | Kind::Dict => {
+            let _len = src.len();
+            let bytes = frame.ref_size;
+            let objects = frame.objects as u64;
+            match first_not_below(src, head.body, Width { bytes }, refs_of(head), objects)? {
+                None => Ok(()),
+                Some(i) => Err(broken(Rule::RefHigh, n, head.body + i * bytes as u64)),
+            }
+        }
         _ => Ok(()),
     }
-}
-
-/// The head of object `n`, whose place is known, or the first of rules 14 to 20 that it breaks.
-fn head_by_rules<S: Source>(
-    src: &mut S,
-    frame: &Frame,
-    n: ObjectNo,
-    place: u64,
-) -> Result<Head, ObjectFault>
-    requires safe { IsSafe (length (S.means src.old).octets) frame.now }
-    requires within { n.0 < frame.now.objects }
-    ensures reads { OnlyReads (read_failed result) (S.means src.old) (S.means src.new) }
-    ensures rules { HonestlyBy (S.means src.old) frame.now (λ f F. place ≡ off f F n.0
-        → Gives (λ head. HasHead f F n.0 head × KeepsAll (KeepsByObject f F n.0) object_rules)
-        (IsObjectFault f F n.0 object_rules) result) }
-    ensures safe { IfOk result (IsSafeHead frame.now) }
-    ensures behind { IfOk result (λ head. place < head.body) }
-{
-    let head = shape_at(src, frame, n, place)?;
-    check_body(src, frame, n, place, &head)?;
-    Ok(head)
 }
 
 /// The head of object `n`, or the first of rules 14 to 20 that it breaks.
@@ -142,7 +84,9 @@ pub fn head_at<S: Source>(
     ensures safe { IfOk result (IsSafeHead frame.now) }
     ensures behind { IfOk result (λ head. place < head.body) }
 {
-    head_by_rules(src, frame, n, place)
+    let head = shape_at(src, frame, n, place)?;
+    check_body(src, frame, n, place, &head)?;
+    Ok(head)
 }
 
 /// The head of object `n`, or the first of rules 14 to 20 that it breaks, with the object and the place,

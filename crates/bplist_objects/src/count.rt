@@ -1,7 +1,7 @@
 //! The count of an object: in its marker, or as an integer object behind it.
 
-ghost use Rattle.std.specs.Prelude.{◌≡◌, ℕ, ◌+◌, ◌^◌, ◌≤◌, ◌<◌, List, false, true, IfOk, IfSome, MatchOption, length, slice_index};
-ghost use Rattle.bplist_objects.specs.Prelude.{OnlyReads, Honestly, Gives, read_failed, Marks, markers_of, is_counted, IsLongOf, HasLongCount, Announces, num_at, MayCount, IsLongCountFault};
+ghost use Rattle.std.specs.Prelude.{◌≡◌, ℕ, ◌+◌, ◌^◌, ◌≤◌, ◌<◌, List, true, IfOk, IfSome, MatchOption, length, slice_index};
+ghost use Rattle.bplist_objects.specs.Prelude.{OnlyReads, Honestly, Gives, read_failed, Marks, markers_of, is_counted, IsLongOf, HasLongCount, Announces, MayCount, IsLongCountFault};
 
 use crate::fault::{ObjectFault, broken};
 use crate::frame::ObjectNo;
@@ -86,24 +86,6 @@ pub(crate) fn long_count<S: Source>(
     count_behind(src, table, place, n)
 }
 
-/// The count of an object of a kind whose marker says all.
-#[inline(always)]
-fn fixed_count(kind: Kind, marker: u8) -> u8
-    requires marks { Marks marker kind }
-    requires fixed { is_counted (markers_of kind) ≡ false }
-    ensures announces { (f : List ℕ) (place : ℕ) → slice_index f place ≡ marker → Announces f place kind result (place + 1) }
-    ensures may { MayCount kind result }
-    ensures few { result ≤ 16 }
-{
-    match kind {
-        Kind::Int => power_of_2(marker - 0x10),
-        Kind::Real => power_of_2(marker - 0x20),
-        Kind::Date => 8,
-        Kind::Uid => marker - 0x7f,
-        _ => 0,
-    }
-}
-
 /// The count that a marker of this kind holds, where it does not say that the count stands behind it.
 #[inline(always)]
 pub(crate) fn short_count(kind: Kind, marker: u8) -> Option<u8>
@@ -119,6 +101,10 @@ pub(crate) fn short_count(kind: Kind, marker: u8) -> Option<u8>
             let low = marker % 16;
             if low == 15 { None } else { Some(low) }
         }
-        _ => Some(fixed_count(kind, marker)),
+        Kind::Int => Some(power_of_2(marker - 0x10)),
+        Kind::Real => Some(power_of_2(marker - 0x20)),
+        Kind::Date => Some(8),
+        Kind::Uid => Some(marker - 0x7f),
+        _ => Some(0),
     }
 }

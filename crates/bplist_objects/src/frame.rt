@@ -4,8 +4,10 @@ ghost use Rattle.std.specs.Prelude.{◌≡◌, ℕ, ◌^◌, ◌≤◌, ◌<◌,
 ghost use Rattle.bplist_objects.specs.Prelude.{part, num, OnlyReads, Honestly, trailer as spelled, Keeps, IsFrame, number_rules, KeepsAll, IsFirstFault, Breaks, IsTrailer, IsTrailerFault, IsFrameFault, IsSafeFrame, frame_of_trailer, Magic, Frame as frame, Gives, Never, read_failed};
 
 use crate::fault::{Fault, ObjectFault};
-use crate::offset_table::check_entries;
+use crate::numbers::Width;
+use crate::offset_table::high_entry;
 use crate::rule::Rule;
+use crate::scan::first_not_below;
 use bplist_octets::{Source, sized};
 
 /// The number of an object, from 0: the number of its entry in the offset table.
@@ -68,24 +70,6 @@ fn check_header<S: Source>(src: &mut S) -> Result<(), ObjectFault>
     Ok(())
 }
 
-/// The numbers that the 32 bytes of a trailer spell.
-fn trailer_in(octets: &[u8]) -> Trailer
-    requires { length octets.now ≡ 32 }
-    ensures offset_size { result.offset_size ≡ num (part octets.now 6 1) }
-    ensures ref_size { result.ref_size ≡ num (part octets.now 7 1) }
-    ensures objects { result.objects ≡ num (part octets.now 8 8) }
-    ensures top { result.top ≡ num (part octets.now 16 8) }
-    ensures table { result.table ≡ num (part octets.now 24 8) }
-{
-    Trailer {
-        offset_size: octets[6],
-        ref_size: octets[7],
-        objects: sized(&octets[8..16]),
-        top: sized(&octets[16..24]),
-        table: sized(&octets[24..32]),
-    }
-}
-
 /// A power of 256.
 fn power_of_256(k: u8) -> u64
     requires { k < 8 }
@@ -142,21 +126,6 @@ fn frame_by(trailer: &Trailer, len: u64) -> Result<Frame, Fault>
     })
 }
 
-/// The frame that the trailer gives, or the first of rules 4 to 12 that its numbers break.
-fn numbers_of<S: Source>(src: &mut S) -> Result<Frame, ObjectFault>
-    requires low { 41 ≤ length (S.means src.old).octets }
-    requires high { length (S.means src.old).octets ≤ 4294967295 }
-    ensures reads { OnlyReads (read_failed result) (S.means src.old) (S.means src.new) }
-    ensures exact { Honestly (S.means src.old) (λ f. Gives (λ x. (x ≡ spelled f)
-        × KeepsAll (Keeps f) number_rules) (IsFirstFault (Keeps f) (Breaks f) number_rules) result) }
-    ensures safe { IfOk result (IsSafeFrame (length (S.means src.old).octets)) }
-{
-    let len = src.len();
-    let mut octets = [0u8; 32];
-    src.read_at(len - 32, &mut octets)?;
-    Ok(frame_by(&trailer_in(&octets), len)?)
-}
-
 /// The frame that the trailer gives, or the fault of the first of rules 1 to 12 that is broken, in their
 /// order. It names no object, and its place counts from the file's first byte. The entries of the offset
 /// table are not read: a caller who keeps what they say looks at rule 13 OffsetHigh there, and any other asks
@@ -175,7 +144,16 @@ pub fn trailer_of<S: Source>(src: &mut S) -> Result<Frame, ObjectFault>
         return Err(ObjectFault::Fault(fault_at(Rule::TooShort, len)));
     }
     check_header(src)?;
-    numbers_of(src)
+    let mut octets = [0u8; 32];
+    src.read_at(len - 32, &mut octets)?;
+    let trailer = Trailer {
+        offset_size: octets[6],
+        ref_size: octets[7],
+        objects: sized(&octets[8..16]),
+        top: sized(&octets[16..24]),
+        table: sized(&octets[24..32]),
+    };
+    Ok(frame_by(&trailer, len)?)
 }
 
 /// The frame of the file, or the fault of the first of rules 1 to 13 that is broken, in their order. The
@@ -190,6 +168,10 @@ pub fn frame_of<S: Source>(src: &mut S) -> Result<Frame, ObjectFault>
     ensures safe { IfOk result (IsSafeFrame (length (S.means src.old).octets)) }
 {
     let frame = trailer_of(src)?;
-    check_entries(src, &frame)?;
-    Ok(frame)
+    let bytes = frame.offset_size;
+    let objects = frame.objects as u64;
+    match first_not_below(src, frame.table, Width { bytes }, objects, frame.table)? {
+        None => Ok(frame),
+        Some(i) => Err(high_entry(&frame, ObjectNo(i as u32), src.len()).into()),
+    }
 }

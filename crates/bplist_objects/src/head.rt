@@ -1,7 +1,7 @@
 //! The heads of objects: what marker and count say.
 
-ghost use Rattle.std.specs.Prelude.{◌≡◌, ◌<◌, ◌≤◌, true, IfOk, length, slice_index};
-ghost use Rattle.bplist_objects.specs.Prelude.{OnlyReads, HonestlyBy, off, IsSafe, IsSafeHead, Gives, Never, read_failed, KeepsAll, markers_of, is_counted, IsLongOf, HasHead, HasShape, Head as head, KeepsByObject, IsObjectFault, shape_rules};
+ghost use Rattle.std.specs.Prelude.{◌≡◌, ◌<◌, ◌≤◌, IfOk, length, slice_index};
+ghost use Rattle.bplist_objects.specs.Prelude.{OnlyReads, HonestlyBy, off, IsSafe, IsSafeHead, Gives, Never, read_failed, KeepsAll, HasHead, HasShape, Head as head, KeepsByObject, IsObjectFault, shape_rules};
 
 use crate::count::{long_count, short_count};
 use crate::fault::{ObjectFault, broken};
@@ -24,40 +24,6 @@ pub struct Head {
     pub body: u64,
     /// The place after the object's last byte, from the file's first byte.
     pub end: u64,
-}
-
-/// The head of object `n`, whose place is known, where its marker is one of this kind and says that the count stands behind it.
-#[inline(always)]
-fn long_shape<S: Source>(
-    src: &mut S,
-    frame: &Frame,
-    n: ObjectNo,
-    place: u64,
-    kind: Kind,
-) -> Result<Head, ObjectFault>
-    requires safe { IsSafe (length (S.means src.old).octets) frame.now }
-    requires counted { is_counted (markers_of kind) ≡ true }
-    requires low { 8 ≤ place }
-    requires inside { place < frame.now.table }
-    ensures reads { OnlyReads (read_failed result) (S.means src.old) (S.means src.new) }
-    ensures rules { HonestlyBy (S.means src.old) frame.now (λ f F. place ≡ off f F n.0
-        → IsLongOf (markers_of kind) (slice_index f place)
-        → Gives (λ head. HasHead f F n.0 head × KeepsAll (KeepsByObject f F n.0) shape_rules)
-        (IsObjectFault f F n.0 shape_rules) result) }
-    ensures safe { IfOk result (IsSafeHead frame.now) }
-    ensures behind { IfOk result (λ head. place < head.body) }
-{
-    let (count, body) = long_count(src, frame.table, place, n)?;
-    let unit = item_size(kind, frame.ref_size);
-    if count as u128 * unit as u128 > (frame.table - body) as u128 {
-        return Err(broken(Rule::Extent, n, place));
-    }
-    Ok(Head {
-        kind,
-        count,
-        body,
-        end: body + count * unit as u64,
-    })
 }
 
 /// The marker of object `n`, whose place is known.
@@ -110,7 +76,17 @@ pub(crate) fn head_by_marker<S: Source>(
     };
     // Most counts stand in the marker, and the few numbers that they are need no wide product.
     let Some(count) = short_count(kind, marker) else {
-        return long_shape(src, frame, n, place, kind);
+        let (count, body) = long_count(src, frame.table, place, n)?;
+        let unit = item_size(kind, frame.ref_size);
+        if count as u128 * unit as u128 > (frame.table - body) as u128 {
+            return Err(broken(Rule::Extent, n, place));
+        }
+        return Ok(Head {
+            kind,
+            count,
+            body,
+            end: body + count * unit as u64,
+        });
     };
     let body = place + 1;
     let size = count as u64 * item_size(kind, frame.ref_size) as u64;
@@ -123,27 +99,6 @@ pub(crate) fn head_by_marker<S: Source>(
         body,
         end: body + size,
     })
-}
-
-/// The head of object `n`, whose place is known, by the rules of marker and count.
-#[inline(always)]
-fn shape_by_rules<S: Source>(
-    src: &mut S,
-    frame: &Frame,
-    n: ObjectNo,
-    place: u64,
-) -> Result<Head, ObjectFault>
-    requires safe { IsSafe (length (S.means src.old).octets) frame.now }
-    requires within { n.0 < frame.now.objects }
-    ensures reads { OnlyReads (read_failed result) (S.means src.old) (S.means src.new) }
-    ensures rules { HonestlyBy (S.means src.old) frame.now (λ f F. place ≡ off f F n.0
-        → Gives (λ head. HasHead f F n.0 head × KeepsAll (KeepsByObject f F n.0) shape_rules)
-        (IsObjectFault f F n.0 shape_rules) result) }
-    ensures safe { IfOk result (IsSafeHead frame.now) }
-    ensures behind { IfOk result (λ head. place < head.body) }
-{
-    let marker = marker_at(src, frame, n, place)?;
-    head_by_marker(src, frame, n, place, marker)
 }
 
 /// The head of object `n`, by marker and count alone, or the first of rules 14 to 17 that it breaks.
@@ -172,7 +127,8 @@ pub fn shape_at<S: Source>(
     ensures safe { IfOk result (IsSafeHead frame.now) }
     ensures behind { IfOk result (λ head. place < head.body) }
 {
-    shape_by_rules(src, frame, n, place)
+    let marker = marker_at(src, frame, n, place)?;
+    head_by_marker(src, frame, n, place, marker)
 }
 
 /// The head of object `n`, by marker and count alone, or the first of rules 14 to 17 that it breaks, with

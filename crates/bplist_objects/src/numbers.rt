@@ -1,10 +1,7 @@
 //! Numbers of one to sixteen bytes at a place of a source.
 
 ghost use Rattle.std.specs.Prelude.{◌≡◌, ℕ, ◌+◌, ◌*◌, ◌≤◌, ◌<◌, length, IfOk, OnOk, is_err, slice_index};
-ghost use Rattle.bplist_octets.specs.Octets.{part, num};
-ghost use Rattle.bplist_octets.specs.Meaning.{OnlyReads, Honestly};
-ghost use Rattle.bplist_objects.specs.Numbers.{num_at};
-ghost use Rattle.bplist_objects.specs.Scan.{AreNumbers, MeanNumbers};
+ghost use Rattle.bplist_objects.specs.Prelude.{part, num, OnlyReads, Honestly, num_at, AreNumbers, MeanNumbers};
 
 use bplist_octets::{ReadFault, Source, sized, wide};
 
@@ -24,17 +21,23 @@ pub(crate) const FEW_BYTES: usize = 256;
 /// How many bytes the numbers have at most that are read by way of the smallest buffer.
 const FEWEST_BYTES: usize = 64;
 
-/// The number that the `size` bytes from `place` on spell.
+/// How many bytes spell a number.
+#[derive(Clone, Copy, Drop)]
+pub(crate) struct Width {
+    pub(crate) bytes: u8,
+    ghost low: { 1 ≤ bytes },
+    ghost high: { bytes ≤ 8 },
+}
+
+/// The number that the bytes from `place` on spell.
 #[inline(always)]
-pub(crate) fn number_in<S: Source>(src: &mut S, place: u64, size: u8) -> Result<u64, ReadFault>
-    requires low { 1 ≤ size }
-    requires high { size ≤ 8 }
-    requires within { place + size ≤ length (S.means src.old).octets }
+pub(crate) fn number_in<S: Source>(src: &mut S, place: u64, width: Width) -> Result<u64, ReadFault>
+    requires { place + width.bytes ≤ length (S.means src.old).octets }
     ensures reads { OnlyReads (is_err result) (S.means src.old) (S.means src.new) }
-    ensures value { IfOk result (λ x. Honestly (S.means src.old) (λ f. x ≡ num_at f place size)) }
+    ensures value { IfOk result (λ x. Honestly (S.means src.old) (λ f. x ≡ num_at f place width.bytes)) }
 {
     let mut octets = [0u8; 8];
-    let read = &mut octets[..size as usize];
+    let read = &mut octets[..width.bytes as usize];
     src.read_at(place, read)?;
     Ok(sized(read))
 }
@@ -110,91 +113,59 @@ impl Spelled for u16 {
     }
 }
 
-/// The numbers that a block of bytes spells, `size` bytes each.
+/// The numbers that a block of bytes spells.
 #[inline(always)]
-fn spell_block<T: Spelled>(block: &[u8], size: usize, into: &mut [T])
-    requires low { 1 ≤ size }
-    requires high { size ≤ T.most }
-    requires room { length block.now ≡ length into.old * size }
-    ensures numbers { MeanNumbers T.means block.now 0 size into.new }
+fn spell_block<T: Spelled>(block: &[u8], width: Width, into: &mut [T])
+    requires most { width.bytes ≤ T.most }
+    requires room { length block.now ≡ length into.old * width.bytes }
+    ensures { MeanNumbers T.means block.now 0 width.bytes into.new }
 {
+    let size = width.bytes as usize;
     for k in 0..into.len() {
         into[k] = T::spelled(part_of(block, k * size, size));
     }
 }
 
-/// The same, where each usual size has a loop of its own, in which the size is known.
-#[inline(always)]
-fn numbers_of_block<T: Spelled>(block: &[u8], size: usize, into: &mut [T])
-    requires low { 1 ≤ size }
-    requires high { size ≤ T.most }
-    requires room { length block.now ≡ length into.old * size }
-    ensures numbers { MeanNumbers T.means block.now 0 size into.new }
-{
-    match size {
-        1 => spell_block(block, 1, into),
-        2 => spell_block(block, 2, into),
-        4 => spell_block(block, 4, into),
-        _ => spell_block(block, size, into),
-    }
-}
-
-/// Fills `into` by one read of the source, which goes through `block`.
+/// Fills `into` by one read of the source, which goes through `block`. Each usual width has a loop of its own, in which the width
+/// is known.
 #[inline(always)]
 fn read_block<T: Spelled, S: Source>(
     src: &mut S,
     place: u64,
-    size: u8,
+    width: Width,
     block: &mut [u8],
     into: &mut [T],
 ) -> Result<(), ReadFault>
-    requires low { 1 ≤ size }
-    requires high { size ≤ T.most }
-    requires room { length block.old ≡ length into.old * size }
-    requires within { place + length into.old * size ≤ length (S.means src.old).octets }
+    requires most { width.bytes ≤ T.most }
+    requires room { length block.old ≡ length into.old * width.bytes }
+    requires within { place + length into.old * width.bytes ≤ length (S.means src.old).octets }
     ensures reads { OnlyReads (is_err result) (S.means src.old) (S.means src.new) }
-    ensures numbers { OnOk result (Honestly (S.means src.old) (λ f. MeanNumbers T.means f place size into.new)) }
+    ensures numbers { OnOk result (Honestly (S.means src.old) (λ f. MeanNumbers T.means f place width.bytes into.new)) }
 {
     src.read_at(place, block)?;
-    numbers_of_block(block, size as usize, into);
+    match width.bytes {
+        1 => spell_block(block, Width { bytes: 1 }, into),
+        2 => spell_block(block, Width { bytes: 2 }, into),
+        4 => spell_block(block, Width { bytes: 4 }, into),
+        _ => spell_block(block, width, into),
+    }
     Ok(())
-}
-
-/// Fills `into` with a few numbers, by one read, where their bytes have room in a buffer of so many.
-fn read_few<const ROOM: usize, S: Source>(
-    src: &mut S,
-    place: u64,
-    size: u8,
-    into: &mut [u64],
-) -> Result<(), ReadFault>
-    requires low { 1 ≤ size }
-    requires high { size ≤ 8 }
-    requires few { length into.old * size ≤ ROOM }
-    requires room { ROOM ≤ 256 }
-    requires within { place + length into.old * size ≤ length (S.means src.old).octets }
-    ensures reads { OnlyReads (is_err result) (S.means src.old) (S.means src.new) }
-    ensures numbers { OnOk result (Honestly (S.means src.old) (λ f. AreNumbers f place size into.new)) }
-{
-    let mut buffer = [0u8; ROOM];
-    let block = &mut buffer[..into.len() * size as usize];
-    read_block(src, place, size, block, into)
 }
 
 /// Fills `into` with many numbers, block by block: `BLOCK` of them at once, by way of a buffer of `ROOM` bytes.
 pub(crate) fn read_many<const BLOCK: usize, const ROOM: usize, T: Spelled, S: Source>(
     src: &mut S,
     place: u64,
-    size: u8,
+    width: Width,
     into: &mut [T],
 ) -> Result<(), ReadFault>
-    requires low { 1 ≤ size }
-    requires high { size ≤ T.most }
+    requires most { width.bytes ≤ T.most }
     requires some { 1 ≤ BLOCK }
     requires room { BLOCK * T.most ≤ ROOM }
     requires small { ROOM ≤ 4096 }
-    requires within { place + length into.old * size ≤ length (S.means src.old).octets }
+    requires within { place + length into.old * width.bytes ≤ length (S.means src.old).octets }
     ensures reads { OnlyReads (is_err result) (S.means src.old) (S.means src.new) }
-    ensures numbers { OnOk result (Honestly (S.means src.old) (λ f. MeanNumbers T.means f place size into.new)) }
+    ensures numbers { OnOk result (Honestly (S.means src.old) (λ f. MeanNumbers T.means f place width.bytes into.new)) }
 {
     let _len = src.len();
     let mut buffer = [0u8; ROOM];
@@ -202,36 +173,37 @@ pub(crate) fn read_many<const BLOCK: usize, const ROOM: usize, T: Spelled, S: So
     let mut done = 0usize;
     while done < count {
         let now = (count - done).min(BLOCK);
-        let block = &mut buffer[..now * size as usize];
-        let at = place + done as u64 * size as u64;
-        read_block(src, at, size, block, &mut into[done..done + now])?;
+        let block = &mut buffer[..now * width.bytes as usize];
+        let at = place + done as u64 * width.bytes as u64;
+        read_block(src, at, width, block, &mut into[done..done + now])?;
         done += now;
     }
     Ok(())
 }
 
-/// Fills `into` with the numbers of `size` bytes each that stand one behind the other from `place` on.
+/// Fills `into` with the numbers that stand one behind the other from `place` on.
 pub(crate) fn numbers_in<S: Source>(
     src: &mut S,
     place: u64,
-    size: u8,
+    width: Width,
     into: &mut [u64],
 ) -> Result<(), ReadFault>
-    requires low { 1 ≤ size }
-    requires high { size ≤ 8 }
-    requires within { place + length into.old * size ≤ length (S.means src.old).octets }
+    requires { place + length into.old * width.bytes ≤ length (S.means src.old).octets }
     ensures reads { OnlyReads (is_err result) (S.means src.old) (S.means src.new) }
-    ensures numbers { OnOk result (Honestly (S.means src.old) (λ f. AreNumbers f place size into.new)) }
+    ensures numbers { OnOk result (Honestly (S.means src.old) (λ f. AreNumbers f place width.bytes into.new)) }
 {
     let count = into.len();
     if count == 0 {
         return Ok(());
     }
     if count > FEW as usize {
-        return read_many::<BLOCK, BLOCK_BYTES, u64, S>(src, place, size, into);
+        return read_many::<BLOCK, BLOCK_BYTES, u64, S>(src, place, width, into);
     }
-    if count * size as usize <= FEWEST_BYTES {
-        return read_few::<FEWEST_BYTES, S>(src, place, size, into);
+    let size = count * width.bytes as usize;
+    if size <= FEWEST_BYTES {
+        let mut buffer = [0u8; FEWEST_BYTES];
+        return read_block(src, place, width, &mut buffer[..size], into);
     }
-    read_few::<FEW_BYTES, S>(src, place, size, into)
+    let mut buffer = [0u8; FEW_BYTES];
+    read_block(src, place, width, &mut buffer[..size], into)
 }

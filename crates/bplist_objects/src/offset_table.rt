@@ -1,13 +1,12 @@
 //! The offset table, whose entries are the places of the objects.
 
 ghost use Rattle.std.specs.Prelude.{◌≡◌, ℕ, ◌+◌, ◌*◌, ◌≤◌, ◌<◌, length, slice_index, IfOk, OnOk, is_err};
-ghost use Rattle.bplist_objects.specs.Prelude.{OnlyReads, Honestly, off, IsSafe, AreEntriesLow, IsEntryFault, Gives, read_failed, OffsetHigh};
+ghost use Rattle.bplist_objects.specs.Prelude.{OnlyReads, Honestly, off, IsSafe, OffsetHigh};
 
-use crate::fault::{Fault, ObjectFault};
+use crate::fault::Fault;
 use crate::frame::{Frame, ObjectNo};
-use crate::numbers::{number_in, numbers_in};
+use crate::numbers::{Width, number_in, numbers_in};
 use crate::rule::Rule;
-use crate::scan::first_not_below;
 use bplist_octets::{ReadFault, Source};
 
 /// The place of an entry of the offset table, in a file of so many bytes.
@@ -32,7 +31,8 @@ pub fn offset_of<S: Source>(src: &mut S, frame: &Frame, n: ObjectNo) -> Result<u
     ensures value { IfOk result (λ place. Honestly (S.means src.old) (λ f. place ≡ off f frame.now n.0)) }
 {
     let place = entry_place(frame, n.0, src.len());
-    number_in(src, place, frame.offset_size)
+    let bytes = frame.offset_size;
+    number_in(src, place, Width { bytes })
 }
 
 /// Fills `into` with the places of the objects from number `from` on, as `offset_of` answers each. The
@@ -50,8 +50,9 @@ pub fn read_offsets<S: Source>(
         → slice_index into.new k ≡ off f frame.now (from + k))) }
 {
     let _len = src.len();
-    let place = frame.table + from as u64 * frame.offset_size as u64;
-    numbers_in(src, place, frame.offset_size, into)
+    let bytes = frame.offset_size;
+    let place = frame.table + from as u64 * bytes as u64;
+    numbers_in(src, place, Width { bytes }, into)
 }
 
 /// The fault of object `n` by rule 13 OffsetHigh, in a file of `len` bytes: it stands where the entry does. The
@@ -68,25 +69,5 @@ pub fn high_entry(frame: &Frame, n: ObjectNo, len: u64) -> Fault
         rule: Rule::OffsetHigh,
         object: Some(n),
         place: entry_place(frame, n.0, len),
-    }
-}
-
-/// Looks at every entry of the offset table.
-pub(crate) fn check_entries<S: Source>(src: &mut S, frame: &Frame) -> Result<(), ObjectFault>
-    requires { IsSafe (length (S.means src.old).octets) frame.now }
-    ensures reads { OnlyReads (read_failed result) (S.means src.old) (S.means src.new) }
-    ensures exact { Honestly (S.means src.old) (λ f. Gives (λ _. AreEntriesLow f frame.now)
-        (λ fault. (fault.rule ≡ OffsetHigh) × IsEntryFault f frame.now fault.object fault.place) result) }
-{
-    let first = first_not_below(
-        src,
-        frame.table,
-        frame.offset_size,
-        frame.objects as u64,
-        frame.table,
-    )?;
-    match first {
-        None => Ok(()),
-        Some(i) => Err(high_entry(frame, ObjectNo(i as u32), src.len()).into()),
     }
 }

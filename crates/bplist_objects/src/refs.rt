@@ -6,7 +6,7 @@ ghost use Rattle.bplist_objects.specs.Prelude.{OnlyReads, Honestly, IsSafe, IsSa
 use crate::frame::Frame;
 use crate::head::Head;
 use crate::kind::Kind;
-use crate::numbers::{number_in, numbers_in};
+use crate::numbers::{Width, number_in, numbers_in};
 use bplist_octets::{ReadFault, Source};
 
 /// How many references an object with this head has: the count of an Array or a Set, twice the count of a
@@ -37,7 +37,8 @@ pub fn ref_at<S: Source>(src: &mut S, frame: &Frame, head: &Head, i: u64) -> Res
         (λ f. slice_index (refs (content_at f frame.now head.now)) i ≡ x)) }
 {
     let _len = src.len();
-    number_in(src, head.body + i * frame.ref_size as u64, frame.ref_size)
+    let bytes = frame.ref_size;
+    number_in(src, head.body + i * bytes as u64, Width { bytes })
 }
 
 /// Fills `into` with the numbers of the references from number `from` on, as `ref_at` answers each. After a
@@ -57,10 +58,6 @@ pub fn read_refs<S: Source>(
         → slice_index into.new k ≡ nth_number f head.now.body frame.now.ref_size (from + k))) }
 {
     let _len = src.len();
-    numbers_in(
-        src,
-        head.body + from * frame.ref_size as u64,
-        frame.ref_size,
-        into,
-    )
+    let bytes = frame.ref_size;
+    numbers_in(src, head.body + from * bytes as u64, Width { bytes }, into)
 }

@@ -3,17 +3,16 @@
 ghost use Rattle.std.specs.Prelude.{◌≡◌, ◌+◌, ◌*◌, ◌≤◌, ◌<◌, length, IsTrue, IfOk, IfSome, MatchOption, is_err};
 ghost use Rattle.bplist_objects.specs.Prelude.{OnlyReads, Honestly, AreBelow, IsFirstNotBelow};
 
-use crate::numbers::{BLOCK_BYTES, FEW, FEW_BYTES, part_of};
+use crate::numbers::{BLOCK_BYTES, FEW, FEW_BYTES, Width, part_of};
 use bplist_octets::{ReadFault, Source, first_high, sized};
 
 /// Whether each number of a block is below the bound. There is no way out of the loop, so that it takes several at a time.
 #[inline(always)]
-fn is_block_below(block: &[u8], size: usize, count: usize, bound: u64) -> bool
-    requires low { 1 ≤ size }
-    requires high { size ≤ 8 }
-    requires room { length block.now ≡ count * size }
-    ensures { IsTrue result → AreBelow block.now 0 size count bound }
+fn is_block_below(block: &[u8], width: Width, count: usize, bound: u64) -> bool
+    requires { length block.now ≡ count * width.bytes }
+    ensures { IsTrue result → AreBelow block.now 0 width.bytes count bound }
 {
+    let size = width.bytes as usize;
     let mut below = true;
     for i in 0..count {
         if bound <= sized(part_of(block, i * size, size)) {
@@ -23,31 +22,22 @@ fn is_block_below(block: &[u8], size: usize, count: usize, bound: u64) -> bool
     below
 }
 
-/// The same, where each usual size has a loop of its own, in which the size is known.
-fn are_below(block: &[u8], size: usize, count: usize, bound: u64) -> bool
-    requires low { 1 ≤ size }
-    requires high { size ≤ 8 }
-    requires room { length block.now ≡ count * size }
-    ensures { IsTrue result → AreBelow block.now 0 size count bound }
+/// The first of the numbers of a block that is not below the bound. Most often there is none, and each usual width has a loop of
+/// its own that finds that, in which the width is known.
+fn first_in_block(block: &[u8], width: Width, count: usize, bound: u64) -> Option<usize>
+    requires { length block.now ≡ count * width.bytes }
+    ensures { MatchOption result (AreBelow block.now 0 width.bytes count bound) (IsFirstNotBelow block.now 0 width.bytes count bound) }
 {
-    match size {
-        1 => is_block_below(block, 1, count, bound),
-        2 => is_block_below(block, 2, count, bound),
-        4 => is_block_below(block, 4, count, bound),
-        _ => is_block_below(block, size, count, bound),
-    }
-}
-
-/// The first of the numbers of a block that is not below the bound.
-fn first_in_block(block: &[u8], size: usize, count: usize, bound: u64) -> Option<usize>
-    requires low { 1 ≤ size }
-    requires high { size ≤ 8 }
-    requires room { length block.now ≡ count * size }
-    ensures { MatchOption result (AreBelow block.now 0 size count bound) (IsFirstNotBelow block.now 0 size count bound) }
-{
-    if are_below(block, size, count, bound) {
+    let below = match width.bytes {
+        1 => is_block_below(block, Width { bytes: 1 }, count, bound),
+        2 => is_block_below(block, Width { bytes: 2 }, count, bound),
+        4 => is_block_below(block, Width { bytes: 4 }, count, bound),
+        _ => is_block_below(block, width, count, bound),
+    };
+    if below {
         return None;
     }
+    let size = width.bytes as usize;
     for i in 0..count {
         if sized(part_of(block, i * size, size)) >= bound {
             return Some(i);
@@ -60,18 +50,16 @@ fn first_in_block(block: &[u8], size: usize, count: usize, bound: u64) -> Option
 fn first_by_blocks<const ROOM: usize, S: Source>(
     src: &mut S,
     place: u64,
-    size: u8,
+    width: Width,
     count: u64,
     bound: u64,
 ) -> Result<Option<u64>, ReadFault>
-    requires low { 1 ≤ size }
-    requires high { size ≤ 8 }
     requires some { 8 ≤ ROOM }
     requires fits { ROOM ≤ 4096 }
-    requires within { place + count * size ≤ length (S.means src.old).octets }
+    requires within { place + count * width.bytes ≤ length (S.means src.old).octets }
     ensures reads { OnlyReads (is_err result) (S.means src.old) (S.means src.new) }
     ensures found { IfOk result (λ found. Honestly (S.means src.old)
-        (λ f. MatchOption found (AreBelow f place size count bound) (IsFirstNotBelow f place size count bound))) }
+        (λ f. MatchOption found (AreBelow f place width.bytes count bound) (IsFirstNotBelow f place width.bytes count bound))) }
     ensures inside { IfOk result (λ found. IfSome found (λ i. i < count)) }
 {
     let _len = src.len();
@@ -79,9 +67,9 @@ fn first_by_blocks<const ROOM: usize, S: Source>(
     let mut done = 0u64;
     while done < count {
         let now = (count - done).min(ROOM as u64 / 8);
-        let block = &mut buffer[..now as usize * size as usize];
-        src.read_at(place + done * size as u64, block)?;
-        if let Some(i) = first_in_block(block, size as usize, now as usize, bound) {
+        let block = &mut buffer[..now as usize * width.bytes as usize];
+        src.read_at(place + done * width.bytes as u64, block)?;
+        if let Some(i) = first_in_block(block, width, now as usize, bound) {
             return Ok(Some(done + i as u64));
         }
         done += now;
@@ -89,29 +77,27 @@ fn first_by_blocks<const ROOM: usize, S: Source>(
     Ok(None)
 }
 
-/// The first of `count` numbers of `size` bytes each from `place` on that is not below the bound. A few are one read.
+/// The first of `count` numbers from `place` on that is not below the bound. A few are one read.
 pub(crate) fn first_not_below<S: Source>(
     src: &mut S,
     place: u64,
-    size: u8,
+    width: Width,
     count: u64,
     bound: u64,
 ) -> Result<Option<u64>, ReadFault>
-    requires low { 1 ≤ size }
-    requires high { size ≤ 8 }
-    requires within { place + count * size ≤ length (S.means src.old).octets }
+    requires within { place + count * width.bytes ≤ length (S.means src.old).octets }
     ensures reads { OnlyReads (is_err result) (S.means src.old) (S.means src.new) }
     ensures found { IfOk result (λ found. Honestly (S.means src.old)
-        (λ f. MatchOption found (AreBelow f place size count bound) (IsFirstNotBelow f place size count bound))) }
+        (λ f. MatchOption found (AreBelow f place width.bytes count bound) (IsFirstNotBelow f place width.bytes count bound))) }
     ensures inside { IfOk result (λ found. IfSome found (λ i. i < count)) }
 {
     if count == 0 {
         return Ok(None);
     }
     if count > FEW {
-        return first_by_blocks::<BLOCK_BYTES, S>(src, place, size, count, bound);
+        return first_by_blocks::<BLOCK_BYTES, S>(src, place, width, count, bound);
     }
-    first_by_blocks::<FEW_BYTES, S>(src, place, size, count, bound)
+    first_by_blocks::<FEW_BYTES, S>(src, place, width, count, bound)
 }
 
 /// How many bytes of a text are read at once at most.
@@ -144,28 +130,6 @@ fn search_part<S: Source>(
     }
 }
 
-/// The first byte of a short text that is 128 or more. What the text leaves of the buffer is 0, so that all of it is looked at.
-#[inline(always)]
-fn first_high_of_short<S: Source>(
-    src: &mut S,
-    place: u64,
-    count: u64,
-) -> Result<Option<u64>, ReadFault>
-    requires short { count ≤ 64 }
-    requires within { place + count ≤ length (S.means src.old).octets }
-    ensures reads { OnlyReads (is_err result) (S.means src.old) (S.means src.new) }
-    ensures found { IfOk result (λ found. Honestly (S.means src.old)
-        (λ f. MatchOption found (AreBelow f place 1 count 128) (IsFirstNotBelow f place 1 count 128))) }
-    ensures inside { IfOk result (λ found. IfSome found (λ i. i < count)) }
-{
-    let mut buffer = [0u8; SHORT_TEXT];
-    src.read_at(place, &mut buffer[..count as usize])?;
-    match first_high(&buffer) {
-        None => Ok(None),
-        Some(_) => search_part(src, place, count, 0, &mut buffer[..count as usize]),
-    }
-}
-
 /// The first of `count` bytes from `place` on that is 128 or more: its number among them. The bytes lie in the source. An
 /// error is a failed read.
 pub fn first_high_in<S: Source>(
@@ -180,7 +144,13 @@ pub fn first_high_in<S: Source>(
     ensures inside { IfOk result (λ found. IfSome found (λ i. i < count)) }
 {
     if count <= SHORT_TEXT as u64 {
-        return first_high_of_short(src, place, count);
+        let mut buffer = [0u8; SHORT_TEXT];
+        src.read_at(place, &mut buffer[..count as usize])?;
+        // What the text leaves of the buffer is 0, so that all of it is looked at.
+        return match first_high(&buffer) {
+            None => Ok(None),
+            Some(_) => search_part(src, place, count, 0, &mut buffer[..count as usize]),
+        };
     }
     let mut buffer = [0u8; TEXT_PART];
     let mut done = 0u64;

@@ -5,7 +5,7 @@ ghost use Rattle.bplist_objects.specs.Prelude.{part, OnlyReads, last_count, Hone
 
 use crate::head::Head;
 use crate::kind::item_size;
-use crate::numbers::read_many;
+use crate::numbers::{Width, read_many};
 use bplist_octets::{ReadFault, Source};
 use std::cmp::Ordering;
 
@@ -35,8 +35,9 @@ pub fn read_units<S: Source>(
     ensures units { OnOk result (Honestly (S.means src.old)
         (λ f. into.new ≡ part (units_of f head.now) from (length into.old))) }
 {
-    let size = item_size(head.kind, 1);
-    read_many::<BLOCK, BLOCK_BYTES, u16, S>(src, head.body + from * size as u64, size, into)
+    let bytes = item_size(head.kind, 1);
+    let place = head.body + from * bytes as u64;
+    read_many::<BLOCK, BLOCK_BYTES, u16, S>(src, place, Width { bytes }, into)
 }
 
 /// Unit `i` of a text.

@@ -10,6 +10,6 @@ pub overflow_add-head : goal.overflow_add-head
 overflow_add-head g c =
     omega (arith, refs_within (length (g.S.Source.means c.args.src.now).octets) c.args.from (length c.args.into.now) c.args.frame.now c.args.head.now c.requires.safe c.requires.head c.requires.within)
 
-pub numbers_in-requires-clause-within : goal.numbers_in-requires-clause-within
-numbers_in-requires-clause-within g c =
+pub numbers_in-requires : goal.numbers_in-requires
+numbers_in-requires g c =
     refs_within (length (g.S.Source.means c.args.src.now).octets) c.args.from (length c.args.into.now) c.args.frame.now c.args.head.now c.requires.safe c.requires.head c.requires.within

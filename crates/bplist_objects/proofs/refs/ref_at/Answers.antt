@@ -13,8 +13,8 @@ pub overflow_add-head : goal.overflow_add-head
 overflow_add-head g c =
     omega (arith, refs_within (length (g.S.Source.means c.args.src.now).octets) c.args.i 1 c.args.frame.now c.args.head.now c.requires.safe c.requires.head (omega arith))
 
-pub number_in-requires-clause-within : goal.number_in-requires-clause-within
-number_in-requires-clause-within g c =
+pub number_in-requires : goal.number_in-requires
+number_in-requires g c =
     omega (arith, refs_within (length (g.S.Source.means c.args.src.now).octets) c.args.i 1 c.args.frame.now c.args.head.now c.requires.safe c.requires.head (omega arith))
 
 pub returns-clause-reference : goal.returns-clause-reference

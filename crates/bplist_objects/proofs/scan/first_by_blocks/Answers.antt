@@ -4,18 +4,18 @@ use Rattle.bplist_objects.proofs.scan.first_by_blocks.Goals as goal
 
 pub read_at-requires : goal.read_at-requires
 read_at-requires g c =
-    let len : length (take (c.min-now.result * c.args.size) c.loop-done.buffer) ≡ c.min-now.result * c.args.size = search rules in
+    let len : length (take (c.min-now.result * c.args.width.bytes) c.loop-done.buffer) ≡ c.min-now.result * c.args.width.bytes = search rules in
     let small : c.loop-done.done + c.min-now.result ≤ c.args.count = omega arith in
-    rw (len, c.loop-done.invariant.same) (block_within c.args.place c.args.count c.args.size (length (g.S.Source.means c.args.src.now).octets) c.loop-done.done c.min-now.result c.requires.within small)
+    rw (len, c.loop-done.invariant.same) (block_within c.args.place c.args.count c.args.width.bytes (length (g.S.Source.means c.args.src.now).octets) c.loop-done.done c.min-now.result c.requires.within small)
 
 pub returns-in-Some-clause-found : goal.returns-in-Some-clause-found
 returns-in-Some-clause-found g c = λ honest.
     let file = (g.S.Source.means c.args.src.now).octets in
     let v = c.loop-done.invariant in
-    let len : length (take (c.min-now.result * c.args.size) c.loop-done.buffer) ≡ c.min-now.result * c.args.size = search rules in
+    let len : length (take (c.min-now.result * c.args.width.bytes) c.loop-done.buffer) ≡ c.min-now.result * c.args.width.bytes = search rules in
     let small : c.loop-done.done + c.min-now.result ≤ c.args.count = omega arith in
     let filled = (rw (len, v.same) at c.in_ok-read_at.ensures.filled) honest in
-    first-block file c.read_at.new.into c.args.place c.args.size c.loop-done.done c.min-now.result filled c.args.bound c.args.count c.in-Some.i small (v.low honest) c.in-Some.ensures
+    first-block file c.read_at.new.into c.args.place c.args.width.bytes c.loop-done.done c.min-now.result filled c.args.bound c.args.count c.in-Some.i small (v.low honest) c.in-Some.ensures
 
 pub loop-done-preserved : goal.loop-done-preserved
 loop-done-preserved g c = record {
@@ -24,7 +24,7 @@ loop-done-preserved g c = record {
   low = λ honest.
       let file = (g.S.Source.means c.args.src.now).octets in
       let v = c.loop-done.invariant in
-      let len : length (take (c.min-now.result * c.args.size) c.loop-done.buffer) ≡ c.min-now.result * c.args.size = search rules in
+      let len : length (take (c.min-now.result * c.args.width.bytes) c.loop-done.buffer) ≡ c.min-now.result * c.args.width.bytes = search rules in
       let filled = (rw (len, v.same) at c.in_ok-read_at.ensures.filled) honest in
-      below-block file c.read_at.new.into c.args.place c.args.size c.loop-done.done c.min-now.result filled c.args.bound c.min-now.result (omega arith) (v.low honest) c.in_default.ensures;
+      below-block file c.read_at.new.into c.args.place c.args.width.bytes c.loop-done.done c.min-now.result filled c.args.bound c.min-now.result (omega arith) (v.low honest) c.in_default.ensures;
 }

@@ -9,7 +9,7 @@ invariant-loop-done g l =
     record {
       same : means l.src ≡ means l.fn.src;
       reached : l.done ≤ l.count;
-      low : IsTrue (means l.fn.src).honest → AreBelow (means l.fn.src).octets l.place l.size l.done l.bound;
+      low : IsTrue (means l.fn.src).honest → AreBelow (means l.fn.src).octets l.place l.width.bytes l.done l.bound;
     }
 
 abbrev pub decreases-loop-done : goal.decreases-loop-done

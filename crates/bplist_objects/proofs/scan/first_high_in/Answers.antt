@@ -2,7 +2,7 @@ use Rattle.std.proofs.Common.{◌≡◌, ◌+◌, ◌∙◌, ap, length, take, d
 use Rattle.std.proofs.lemmas.List.{length-take-le}
 use Rattle.bplist_octets.specs.Octets.{part}
 use Rattle.bplist_objects.proofs.ScanLaws.{low_front, low-part}
-use Rattle.bplist_objects.proofs.scan.first_high_of_short.Goals as goal
+use Rattle.bplist_objects.proofs.scan.first_high_in.Goals as goal
 
 pub returns-in-None-clause-found : goal.returns-in-None-clause-found
 returns-in-None-clause-found g c = λ honest k l.
