@@ -2,12 +2,12 @@
 use Rattle.std.proofs.Common.{◌≡◌, ℕ, List, [], ◌++◌, slice_index, slice_index_or, drop, Option, Some, None, Bool, true, false, refl, ap, ap₂, arith}
 use Rattle.bplist_octets.specs.Meaning.{Meaning, OnlyReads}
 use Rattle.bplist_objects.specs.declared.frame.Frame.{Frame}
-use Rattle.bplist_objects.specs.Safe.{frame_numbers}
+use Rattle.bplist_objects.specs.Framed.{with_frame}
 use Rattle.bplist_cert.specs.Lists.{Keyed}
 use Rattle.bplist_cert.specs.CheckedFile.{CheckedFile, meaning_of, key_numbers}
 
-frame_same : (a b : Frame) → frame_numbers a ≡ frame_numbers b → a ≡ b
-frame_same a b e =
+frame_same : (a b : Frame) (m : Meaning) → slice_index_or (with_frame a m).extra 0 [] ≡ slice_index_or (with_frame b m).extra 0 [] → a ≡ b
+frame_same a b m e =
     let s = ap (λ xs. slice_index xs 0) e in
     let r = ap (λ xs. slice_index xs 1) e in
     let n = ap (λ xs. slice_index xs 2) e in
@@ -26,7 +26,7 @@ keys_same (Some j) (Some k) xs ys e = (
 
 extra_same : (old new : CheckedFile) → (meaning_of new).extra ≡ (meaning_of old).extra → (new.source.extra ≡ old.source.extra) × (new.frame ≡ old.frame) × (new.certificate ≡ old.certificate)
 extra_same old new e =
-    let frame = frame_same new.frame old.frame (ap (λ xs. slice_index_or xs 0 []) e) in
+    let frame = frame_same new.frame old.frame old.source (ap (λ xs. slice_index_or xs 0 []) e) in
     let heights : new.certificate.heights ≡ old.certificate.heights = ap (λ xs. slice_index_or xs 1 []) e in
     let rest = keys_same new.certificate.keys old.certificate.keys new.source.extra old.source.extra (ap (λ xs. drop 2 xs) e) in
     let keys = rest.0 in

@@ -3,7 +3,8 @@ use Rattle.std.specs.Prelude.{◌≡◌, ℕ, IsTrue, List, [], ◌∷◌, ◌++
 use Rattle.bplist_octets.specs.Meaning.{Meaning}
 use Rattle.bplist_objects.specs.declared.frame.Frame.{Frame}
 use Rattle.bplist_objects.specs.Frame.{IsFrame}
-use Rattle.bplist_objects.specs.Safe.{IsSafeFrame, frame_numbers}
+use Rattle.bplist_objects.specs.Safe.{IsSafeFrame}
+use Rattle.bplist_objects.specs.Framed.{with_frame}
 use Rattle.bplist_cert.specs.Lists.{Keyed, Lists}
 use Rattle.bplist_cert.specs.Sorted.{IsAccepted}
 
@@ -27,10 +28,9 @@ key_numbers (Some keyed) = (2 ∷ []) ∷ keyed.starts ∷ keyed.positions ∷ [
 
 -- as a source: what its source means, with frame and certificate beside it
 abbrev pub meaning_of : CheckedFile → Meaning
-meaning_of checked = record checked.source {
-  extra =
-      frame_numbers checked.frame ∷ checked.certificate.heights ∷ (key_numbers checked.certificate.keys ++ checked.source.extra);
-}
+meaning_of checked = with_frame checked.frame (record checked.source {
+  extra = checked.certificate.heights ∷ (key_numbers checked.certificate.keys ++ checked.source.extra);
+})
 
 -- P holds of the bytes and the frame, if the source is honest
 abbrev pub HonestlyChecked : CheckedFile → (List ℕ → Frame → Type 0) → Type 0

@@ -11,7 +11,7 @@ use Rattle.bplist_objects.proofs.Fronts.{one_head}
 use Rattle.bplist_cert.proofs.VouchedObjects.{object_holds, references_lower}
 use Rattle.bplist_cert.specs.Valid.{IsVouchedBy, IsValid}
 use Rattle.bplist_cert.specs.CheckedFile.{CheckedFile, IsChecked}
-use Rattle.bplist_cursor.specs.Look.{stepped, look, look_from, on_either}
+use Rattle.bplist_cursor.specs.Look.{stepped, look, look_from}
 use Rattle.bplist_cursor.specs.Leads.{Leads}
 use Rattle.bplist_cursor.specs.Found.{LeadTo, IsHeld}
 use Rattle.bplist_cursor.specs.KeySearch.{halvings, halvings_at, RisesAtMost}
@@ -27,6 +27,10 @@ use Rattle.bplist_cursor.specs.declared.faults.CursorFault.{CursorFault}
 use Rattle.bplist_cursor.proofs.Counts.{few_refs}
 use Rattle.bplist_cursor.proofs.StepObjects.{leads_held}
 use Rattle.bplist_cursor.proofs.StepReferences.{taken_there}
+
+-- what follows where there is a value, or else where there is none
+abbrev pub on_either : {T E R : Type 0} → Result T E → (T → R) → (E → R) → R
+on_either r go stop = elim r [ Ok v ↦ go v | Err e ↦ stop e ]
 
 pub split_at : {X : Type 0} (units : X → List ℕ) (xs : List X) (k : ℕ) (d : X) → k < length xs → drop k (map units xs) ≡ units (slice_index_or xs k d) ∷ drop (suc k) (map units xs)
 split_at units [] k d l = absurd (omega arith)

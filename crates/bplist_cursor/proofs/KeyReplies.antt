@@ -13,7 +13,7 @@ use Rattle.bplist_cert.specs.Valid.{SpellsText}
 use Rattle.bplist_cursor.specs.declared.reply.Reply.TheVariants as replies
 use Rattle.bplist_cursor.specs.declared.reply.Query.{Query}
 use Rattle.bplist_cursor.specs.declared.reply.Query.TheVariants as queries
-use Rattle.bplist_cursor.specs.Look.{look, on_either}
+use Rattle.bplist_cursor.specs.Look.{look}
 use Rattle.bplist_cursor.specs.Replies.{reply, face, keys_reply}
 use Rattle.bplist_cursor.specs.Nodes.{cap, nodes}
 use Rattle.bplist_cursor.specs.Queries.{steps_in, reply_at}
@@ -56,6 +56,6 @@ module _ (f : List ℕ) (F : Frame) where
 
 -- the reply of a value is that of what the query's path leads to
 pub reply_found : (v w : Value) (query : Query) → look v (steps_in query) ≡ Ok w → reply v query ≡ reply_at w query
-reply_found v w (queries.Get steps) e = ap (λ r. on_either r (λ w. replies.Face (face w)) (λ m. replies.Missing m.0 m.1)) e
-reply_found v w (queries.Keys steps) e = ap (λ r. on_either r keys_reply (λ m. replies.Missing m.0 m.1)) e
-reply_found v w (queries.Size steps) e = ap (λ r. on_either r (λ w. replies.Size (cap (nodes w))) (λ m. replies.Missing m.0 m.1)) e
+reply_found v w (queries.Get steps) e = rw (e, reply) refl
+reply_found v w (queries.Keys steps) e = rw (e, reply) refl
+reply_found v w (queries.Size steps) e = rw (e, reply) refl

@@ -1,5 +1,5 @@
 -- Looking up a key by halving a sorted key list. Source: profile.
-use Rattle.std.specs.Prelude.{◌≡◌, ℕ, ◌+◌, ◌<◌, ◌≤◌, List, [], ◌∷◌, length, slice_index, Option, Some, None}
+use Rattle.std.specs.Prelude.{◌≡◌, ℕ, ◌+◌, ◌<◌, ◌≤◌, List, [], ◌∷◌, length, slice_index, Option, Some, None, Ok, Err}
 use Rattle.std.specs.Int.Digits.{digits_of}
 use Rattle.std.specs.declared.cmp.Ordering.{Ordering}
 use Rattle.std.specs.declared.cmp.Ordering.TheVariants.{Less}
@@ -11,7 +11,7 @@ use Rattle.bplist_objects.specs.Heads.{Content, Spells}
 use Rattle.bplist_objects.specs.Units.{compare_units}
 use Rattle.bplist_cert.specs.CheckedFile.{CheckedFile}
 use Rattle.bplist_cert.specs.Lists.{Keyed}
-use Rattle.bplist_cursor.specs.Look.{stepped, on_either}
+use Rattle.bplist_cursor.specs.Look.{stepped}
 use Rattle.bplist_cursor.specs.declared.faults.Unread.{Unread}
 use Rattle.bplist_cursor.specs.declared.faults.Unread.TheVariants.{Changed}
 
@@ -27,7 +27,7 @@ halvings_at v = elim v [ dict ps ↦ length (digits_of 2 (length (keys ps))) | _
 -- the sum, over the dictionaries met, of the binary digits of their count of pairs
 abbrev pub halvings : Value → List (List ℕ) → ℕ
 halvings v [] = 0
-halvings v (s ∷ steps) = halvings_at v + on_either (stepped v s) (λ w. halvings w steps) (λ why. 0)
+halvings v (s ∷ steps) = halvings_at v + (elim (stepped v s) [ Ok w ↦ halvings w steps | Err why ↦ 0 ])
 
 -- with key lists the counter rises by at most this
 abbrev pub RisesAtMost : CheckedFile → ℕ → ℕ → ℕ → Type 0

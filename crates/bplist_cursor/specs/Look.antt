@@ -15,15 +15,10 @@ stepped (array vs) s =
     ok_or (option_map (λ e. e.1) (find (λ e. bytes_eq (decimal e.0) s) (enumerate_from 0 (members vs)))) NoIndex
 stepped _ s = Err NotSteppable
 
--- what follows where there is a value, or else where there is none
-abbrev pub on_either : {T E R : Type 0} → Result T E → (T → R) → (E → R) → R
-on_either (Ok v) go stop = go v
-on_either (Err e) go stop = stop e
-
 -- where the steps from number k on lead, or the number of the first that can't be taken, and why
 abbrev pub look_from : ℕ → Value → List (List ℕ) → Result Value (ℕ × Why)
 look_from k v [] = Ok v
-look_from k v (s ∷ steps) = on_either (stepped v s) (λ w. look_from (k + 1) w steps) (λ why. Err (k, why))
+look_from k v (s ∷ steps) = elim (stepped v s) [ Ok w ↦ look_from (k + 1) w steps | Err why ↦ Err (k, why) ]
 
 -- where the steps lead, or the first that can't be taken, and why
 abbrev pub look : Value → List (List ℕ) → Result Value (ℕ × Why)

@@ -1,5 +1,5 @@
 -- What a value replies to a query. Source: profile.
-use Rattle.std.specs.Prelude.{length}
+use Rattle.std.specs.Prelude.{length, Ok, Err}
 use Rattle.bplist_objects.specs.Value.{null, boolean, int, real, date, bytes, text, uid, Value, leaf, array, set, dict, keys}
 use Rattle.bplist_cursor.specs.declared.faces.Face.{Face}
 use Rattle.bplist_cursor.specs.declared.faces.Face.TheVariants as faces
@@ -7,7 +7,7 @@ use Rattle.bplist_cursor.specs.declared.reply.Query.{Query}
 use Rattle.bplist_cursor.specs.declared.reply.Query.TheVariants as queries
 use Rattle.bplist_cursor.specs.declared.reply.Reply.{Reply}
 use Rattle.bplist_cursor.specs.declared.reply.Reply.TheVariants as replies
-use Rattle.bplist_cursor.specs.Look.{look, on_either}
+use Rattle.bplist_cursor.specs.Look.{look}
 use Rattle.bplist_cursor.specs.Members.{members}
 use Rattle.bplist_cursor.specs.Nodes.{cap, nodes}
 
@@ -31,6 +31,6 @@ keys_reply v = elim v [ dict ps ↦ replies.Keys (keys ps) | _ ↦ replies.NoKey
 
 -- a value's reply to a query
 abbrev pub reply : Value → Query → Reply
-reply v (queries.Get steps) = on_either (look v steps) (λ w. replies.Face (face w)) (λ m. replies.Missing m.0 m.1)
-reply v (queries.Keys steps) = on_either (look v steps) keys_reply (λ m. replies.Missing m.0 m.1)
-reply v (queries.Size steps) = on_either (look v steps) (λ w. replies.Size (cap (nodes w))) (λ m. replies.Missing m.0 m.1)
+reply v (queries.Get steps) = elim (look v steps) [ Ok w ↦ replies.Face (face w) | Err (k, why) ↦ replies.Missing k why ]
+reply v (queries.Keys steps) = elim (look v steps) [ Ok w ↦ keys_reply w | Err (k, why) ↦ replies.Missing k why ]
+reply v (queries.Size steps) = elim (look v steps) [ Ok w ↦ replies.Size (cap (nodes w)) | Err (k, why) ↦ replies.Missing k why ]

@@ -7,7 +7,7 @@ use Rattle.bplist_objects.specs.declared.head.Head.{Head}
 use Rattle.bplist_objects.specs.Frame.{off}
 use Rattle.bplist_objects.specs.Heads.{HasShape}
 use Rattle.bplist_objects.specs.Holds.{AreDistinct}
-use Rattle.bplist_objects.specs.Extents.{HasExtent, TakeOctets, AtMost, Sums, HaveRoom, IsOverfull}
+use Rattle.bplist_objects.specs.Extents.{TakeOctets, AtMost, Sums, HaveRoom, IsOverfull}
 use Rattle.bplist_objects.specs.Announced.{markers_of}
 use Rattle.bplist_objects.proofs.AnnouncedHeads.{announced_short}
 use Rattle.bplist_objects.proofs.HeadLaws.{head_parts}
@@ -15,14 +15,18 @@ use Rattle.bplist_objects.proofs.Fronts.{one_shape}
 use Rattle.bplist_objects.proofs.Lists.{all_weaker, all_at, all_from, distinct_none, distinct_head, distinct_rest, distinct_more}
 
 module _ (f : List ℕ) (F : Frame) where
+  -- object n takes e bytes, from its place to its end
+  abbrev pub HasExtent : ℕ → ℕ → Type 0
+  HasExtent n e = (head : Head) × HasShape f F n head × (head.end ≡ off f F n + e)
+
   -- an object has one extent
-  pub extent_one : (n e e' : ℕ) → HasExtent f F n e → HasExtent f F n e' → e ≡ e'
+  pub extent_one : (n e e' : ℕ) → HasExtent n e → HasExtent n e' → e ≡ e'
   extent_one n e e' h h' =
       let s = ap (λ (x : Head). x.end) (one_shape f F n h.0 h'.0 h.1 h'.1) in
       omega (arith, h.2, h'.2, s)
 
   -- an object with a head takes what lies between its place and the head's end
-  pub shape_extent : (n : ℕ) (head : Head) → HasShape f F n head → HasExtent f F n (head.«end» - off f F n)
+  pub shape_extent : (n : ℕ) (head : Head) → HasShape f F n head → HasExtent n (head.«end» - off f F n)
   shape_extent n head h =
       let parts = head_parts f F n head h.has in
       (head, h, omega (arith, (announced_short f (off f F n) (markers_of head.kind) head.count head.body parts.0).0, parts.1))
@@ -48,7 +52,7 @@ module _ (f : List ℕ) (F : Frame) where
   first_or_later x m xs (zero, l, e) = inl e
   first_or_later x m xs (suc i, l, e) = inr (i, omega (arith, l), e)
 
-  left : (S : ℕ → Type 0) (n e : ℕ) → HasExtent f F n e → (ns : List ℕ) (t : ℕ) → AreDistinct ns → AllByRecursion (λ m. S m × (m < suc n)) ns → TakeOctets f F ns t → Left S n e ns t
+  left : (S : ℕ → Type 0) (n e : ℕ) → HasExtent n e → (ns : List ℕ) (t : ℕ) → AreDistinct ns → AllByRecursion (λ m. S m × (m < suc n)) ns → TakeOctets f F ns t → Left S n e ns t
   left S n e h [] t d a w = record { rest = []; sum = 0; differ = distinct_none; below = tt; take = refl; most = omega (arith, w); part = λ m c. c }
   left S n e h (x ∷ xs) t d a w = go (left S n e h xs w.1 (distinct_rest x xs d) a.1 w.3) (cases_lt x n)
     where
@@ -68,7 +72,7 @@ module _ (f : List ℕ) (F : Frame) where
           by m c (inr q) = later x m xs (l.part m q)
       go l (inr le) =
           let xn : x ≡ n = omega (arith, a.0.1) in
-          let same : w.0 ≡ e = extent_one n w.0 e (subst (λ y. HasExtent f F y w.0) xn w.2) h in
+          let same : w.0 ≡ e = extent_one n w.0 e (subst (λ y. HasExtent y w.0) xn w.2) h in
           record {
             rest = xs;
             sum = w.1;
@@ -87,7 +91,7 @@ module _ (f : List ℕ) (F : Frame) where
   most_none S [] r d a t = omega (arith, t)
   most_none S (x ∷ xs) r d a t = absurd (omega (arith, a.0.1))
 
-  pub most_more : (S : ℕ → Type 0) (n e t : ℕ) → HasExtent f F n e → AtMost f F (λ m. S m × (m < n)) t → AtMost f F (λ m. S m × (m < suc n)) (t + e)
+  pub most_more : (S : ℕ → Type 0) (n e t : ℕ) → HasExtent n e → AtMost f F (λ m. S m × (m < n)) t → AtMost f F (λ m. S m × (m < suc n)) (t + e)
   most_more S n e t h most ns r d a w =
       let l = left S n e h ns r d a w in
       let b = most l.rest l.sum l.differ l.below l.take in
@@ -104,7 +108,7 @@ module _ (f : List ℕ) (F : Frame) where
     pub sums_none : Sums f F S 0 0
     sums_none = record { objects = []; differ = distinct_none; inside = tt; take_all = refl; most = most_none S }
 
-    pub sums_more : (n e t : ℕ) → S n → HasExtent f F n e → Sums f F S n t → Sums f F S (suc n) (t + e)
+    pub sums_more : (n e t : ℕ) → S n → HasExtent n e → Sums f F S n t → Sums f F S (suc n) (t + e)
     sums_more n e t on extent s = record {
       objects = n ∷ s.objects;
       differ = distinct_more n s.objects (λ c. let l = (all_at _ s.objects n s.inside c).1 in omega arith) s.differ;

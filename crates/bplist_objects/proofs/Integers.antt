@@ -1,5 +1,5 @@
 -- Integers in two's complement, as bytes spell them and as the machine reads them.
-use Rattle.std.proofs.Common.{◌≡◌, ℕ, zero, suc, ◌-◌, ◌*◌, ◌^◌, ◌<◌, ◌≤◌, ◌⊎◌, inl, inr, List, [], ◌∷◌, length, get_or, refl, ap, subst, arith, pos, ◌-ℤ◌}
+use Rattle.std.proofs.Common.{◌≡◌, ℕ, zero, suc, ◌-◌, ◌*◌, ◌^◌, ◌<◌, ◌≤◌, ◌⊎◌, inl, inr, List, [], ◌∷◌, length, get_or, slice_index, nat_lt, if◌then◌else◌, refl, ap, subst, arith, ℤ, pos, ◌-ℤ◌}
 use Rattle.std.proofs.Math.Nat.{mul-le-mul_right, pow-succ'}
 use Rattle.std.proofs.lemmas.Bool.{cases_lt, lt-ltb, le-ltb, lt-leb}
 use Rattle.std.proofs.lemmas.Int.{ints}
@@ -9,7 +9,7 @@ use Rattle.bplist_objects.specs.declared.kind.Kind.{Kind}
 use Rattle.bplist_objects.specs.declared.kind.Kind.TheVariants.{Int}
 use Rattle.bplist_objects.specs.Safe.{MayCount}
 use Rattle.bplist_octets.proofs.Spelled.{num-lt}
-use Rattle.bplist_objects.specs.Numbers.{integer, signed}
+use Rattle.bplist_objects.specs.Numbers.{integer}
 
 -- the number of bytes is small, 8 or 16
 pub widths : (n w : ℕ) → w ≤ 4 → n ≡ 2 ^ w → (1 ≤ n) × ((n ≤ 4) ⊎ ((n ≡ 8) ⊎ (n ≡ 16)))
@@ -40,6 +40,10 @@ unfolding num
 first_high x xs half e l =
     let least : 128 * 256 ^ length xs ≤ x * 256 ^ length xs = mul-le-mul_right (256 ^ length xs) l in
     omega (arith, least, pow-succ' 256 (length xs), e)
+
+-- the two's complement number of these bytes
+abbrev pub signed : List ℕ → ℤ
+signed l = if nat_lt (slice_index l 0) 128 then pos (num l) else pos (num l) -ℤ pos (256 ^ length l)
 
 -- what the bytes mean in two's complement, by the half in which their number lies
 pub signed_low : (l : List ℕ) (half : ℕ) → 1 ≤ length l → 256 ^ length l ≡ 2 * half → ((k : ℕ) → get_or l k 0 < 256)

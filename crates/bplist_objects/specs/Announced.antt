@@ -49,12 +49,11 @@ all_kinds =
 unfoldable pub kind_at : ℕ → Option Kind
 kind_at marker = find (λ kind. is_marker_of (markers_of kind) marker) all_kinds
 
--- the count that stands behind the marker, and the place after it, if there is one
+-- the count that stands behind the marker as the number of an Int, and the place after it, if there is one
 abbrev pub long_found : List ℕ → ℕ → Option (ℕ × ℕ)
 long_found f place =
-    if nat_le 16 (slice_index f (place + 1)) && nat_le (slice_index f (place + 1)) 20
-    then Some (num_at f (place + 2) (2 ^ (slice_index f (place + 1) - 16)), place + 2 + 2 ^ (slice_index f (place + 1) - 16))
-    else None
+    let size = 2 ^ (slice_index f (place + 1) - 16) in
+    if is_marker_of (markers_of kinds.Int) (slice_index f (place + 1)) then Some (num_at f (place + 2) size, place + 2 + size) else None
 
 -- the count and the body that a marker of this form announces
 abbrev pub count_found : List ℕ → ℕ → Markers → Option (ℕ × ℕ)

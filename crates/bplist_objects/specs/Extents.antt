@@ -8,14 +8,10 @@ use Rattle.bplist_objects.specs.Heads.{HasShape}
 use Rattle.bplist_objects.specs.Holds.{AreDistinct}
 
 module _ (f : List ℕ) (F : Frame) where
-  -- object n takes e bytes, from its place to its end
-  abbrev pub HasExtent : ℕ → ℕ → Type 0
-  HasExtent n e = (head : Head) × HasShape f F n head × (head.end ≡ off f F n + e)
-
-  -- these objects take t bytes together
+  -- these objects take t bytes together, each from its place to its end
   abbrev pub TakeOctets : List ℕ → ℕ → Type 0
   TakeOctets [] t = t ≡ 0
-  TakeOctets (n ∷ ns) t = (e r : ℕ) × HasExtent n e × TakeOctets ns r × (t ≡ e + r)
+  TakeOctets (n ∷ ns) t = (e r : ℕ) × ((head : Head) × HasShape f F n head × (head.end ≡ off f F n + e)) × TakeOctets ns r × (t ≡ e + r)
 
   -- no distinct objects of S take more than t bytes together
   abbrev pub AtMost : (ℕ → Type 0) → ℕ → Type 0

@@ -3,7 +3,7 @@ use Rattle.std.specs.Prelude.{ℕ, List, [], ◌∷◌, length, get_or, IsTrue}
 use Rattle.bplist_octets.specs.Meaning.{Meaning}
 use Rattle.bplist_objects.specs.declared.frame.Frame.{Frame}
 use Rattle.bplist_objects.specs.Frame.{IsFrame}
-use Rattle.bplist_objects.specs.Safe.{IsSafeFrame, frame_numbers}
+use Rattle.bplist_objects.specs.Safe.{IsSafeFrame}
 
 -- P holds of the bytes and this frame, if the source is honest and the frame the bytes' own
 abbrev pub HonestlyBy : Meaning → Frame → (List ℕ → Frame → Type 0) → Type 0
@@ -18,9 +18,9 @@ frame_by _ = record { offset_size = 0; ref_size = 0; objects = 0; top = record {
 abbrev pub frame_in : Meaning → Frame
 frame_in m = frame_by (get_or m.extra 0 [])
 
--- the meaning of a source that also holds this frame
+-- the meaning of a source that also holds this frame, as its five numbers
 abbrev pub with_frame : Frame → Meaning → Meaning
-with_frame F m = record m { extra = frame_numbers F ∷ m.extra }
+with_frame F m = record m { extra = (F.offset_size ∷ F.ref_size ∷ F.objects ∷ F.top.0 ∷ F.table ∷ []) ∷ m.extra }
 
 -- the source can be read with its frame, which is the bytes' own if it is honest
 pub record IsFramed (m : Meaning) : Type 0 where

@@ -43,19 +43,17 @@ KeepsByObject f F n RefHigh =
     (head : Head) → HasHead f F n head → AreBelow f head.body F.ref_size (ref_count head.kind head.count) F.objects
 KeepsByObject f F n _ = Unit {0}
 
--- where object n breaks a rule of 14 to 17, or rule 19
-abbrev pub place_of : List ℕ → Frame → ℕ → Rule → ℕ
-place_of f F n rule = elim rule [ OffsetLow ↦ F.table + n * F.offset_size | Count ↦ off f F n + 1 | _ ↦ off f F n ]
-
 -- object n breaks this rule at this place
 abbrev pub BreaksByObject : List ℕ → Frame → ℕ → Rule → ℕ → Type 0
+BreaksByObject f F n OffsetLow place = (KeepsByObject f F n OffsetLow → ⊥) × (place ≡ F.table + n * F.offset_size)
+BreaksByObject f F n Count place = (KeepsByObject f F n Count → ⊥) × (place ≡ off f F n + 1)
 BreaksByObject f F n NotAscii place =
     (head : Head) × (i : ℕ) × HasHead f F n head × (head.kind ≡ kinds.Ascii)
     × IsFirstNotBelow f head.body 1 head.count 128 i × (place ≡ head.body + i)
 BreaksByObject f F n RefHigh place =
     (head : Head) × (i : ℕ) × HasHead f F n head
     × IsFirstNotBelow f head.body F.ref_size (ref_count head.kind head.count) F.objects i × (place ≡ head.body + i * F.ref_size)
-BreaksByObject f F n rule place = (KeepsByObject f F n rule → ⊥) × (place ≡ place_of f F n rule)
+BreaksByObject f F n rule place = (KeepsByObject f F n rule → ⊥) × (place ≡ off f F n)
 
 -- the same, if this is the object named
 abbrev pub BreaksAt : List ℕ → Frame → ℕ → Rule → Option ObjectNo → ℕ → Type 0

@@ -1,5 +1,5 @@
 -- With which frames and heads the parts of a file can be read, whatever its source gives. Source: profile.
-use Rattle.std.specs.Prelude.{◌≡◌, ℕ, ◌+◌, ◌*◌, ◌<◌, ◌≤◌, List, [], ◌∷◌}
+use Rattle.std.specs.Prelude.{◌≡◌, ℕ, ◌+◌, ◌*◌, ◌<◌, ◌≤◌}
 use Rattle.bplist_objects.specs.declared.frame.Frame.{Frame}
 use Rattle.bplist_objects.specs.declared.head.Head.{Head}
 use Rattle.bplist_objects.specs.declared.kind.Kind.{Kind}
@@ -44,7 +44,3 @@ pub record IsSafeBody (len : ℕ) (head : Head) : Type 0 where
   pub may : MarkersCount (markers_of head.kind) head.count
   pub body : head.body + head.count * item_size 1 head.kind ≤ head.«end»
   pub within : head.«end» ≤ len
-
--- a frame as numbers
-abbrev pub frame_numbers : Frame → List ℕ
-frame_numbers frame = frame.offset_size ∷ frame.ref_size ∷ frame.objects ∷ frame.top.0 ∷ frame.table ∷ []

@@ -1,5 +1,5 @@
 -- What the first look at an object finds. Source: profile.
-use Rattle.std.specs.Prelude.{◌≡◌, ℕ, ◌+◌, ◌-◌, ◌*◌, ◌<◌, ◌≤◌, ◌⊎◌, Bool, true, false, IsTrue, nat_eq, if◌then◌else◌, List, Option, Some, None}
+use Rattle.std.specs.Prelude.{◌≡◌, ℕ, ◌+◌, ◌-◌, ◌*◌, ◌<◌, ◌≤◌, ◌⊎◌, Bool, true, false, IsTrue, nat_eq, nat_lt, if◌then◌else◌, List, Option, Some, None}
 use Rattle.std.specs.Option.{option_map, option_and_then}
 use Rattle.bplist_objects.specs.declared.frame.Frame.{Frame}
 use Rattle.bplist_objects.specs.declared.kind.Kind.{Kind}
@@ -13,10 +13,9 @@ use Rattle.bplist_objects.specs.Safe.{IsSafeHead, ref_count}
 use Rattle.bplist_objects.specs.Announced.{Markers, plain, counted, markers_of, item_size, kind_at, HasHead}
 use Rattle.bplist_objects.specs.ObjectRules.{KeepsByObject, shape_rules, object_rules}
 
--- a rule looks into bodies of this kind
+-- a rule looks into bodies of this kind: rules 18 and 19, or rule 20 where there are references
 abbrev pub is_looked_into : Kind → Bool
-is_looked_into kind =
-    elim kind [ kinds.Ascii ↦ true | kinds.Uid ↦ true | kinds.Array ↦ true | kinds.Set ↦ true | kinds.Dict ↦ true | _ ↦ false ]
+is_looked_into kind = elim kind [ kinds.Ascii ↦ true | kinds.Uid ↦ true | other ↦ nat_lt 0 (ref_count other 1) ]
 
 -- the count that a marker of this form holds, if it does not follow
 abbrev pub count_in : Markers → ℕ → Option ℕ

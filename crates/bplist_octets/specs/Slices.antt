@@ -1,21 +1,12 @@
 -- Where slices stand in memory. Source of these definitions: the kit's references.
-use Rattle.std.specs.Prelude.{◌≡◌, ◌+◌, ℕ, List, [], ◌∷◌, true}
+use Rattle.std.specs.Prelude.{◌≡◌, ◌+◌, ℕ, List, [], ◌∷◌, true, get_or, slice_index}
 use denote.Ref.{Bor}
 use Rattle.bplist_octets.specs.Meaning.{Meaning}
 
--- where the slice stands: a block of memory, and a place in it
-abbrev pub address : Bor (List ℕ) → List ℕ
-address s = s.ref_ptr.0 ∷ s.ref_ptr.1 ∷ []
-
--- what a source over the slice means
+-- what a source over the slice means; it also holds where the slice stands, a block of memory and a place in it
 abbrev pub source_over : Bor (List ℕ) → Meaning
-source_over s = record { octets = s.now; honest = true; failures = 0; extra = address s ∷ [] }
+source_over s = record { octets = s.now; honest = true; failures = 0; extra = (s.ref_ptr.0 ∷ s.ref_ptr.1 ∷ []) ∷ [] }
 
--- the address in the first of these lists
-abbrev pub address_in : List (List ℕ) → ℕ × ℕ
-address_in ((block ∷ place ∷ _) ∷ _) = (block, place)
-address_in _ = (0, 0)
-
--- the slice is no copy: it stands in memory at this place of the bytes that the source holds
+-- the slice is no copy: it stands in memory at this place of the bytes of the source over a slice
 abbrev pub StandsAt : Meaning → ℕ → Bor (List ℕ) → Type 0
-StandsAt m at s = s.ref_ptr ≡ ((address_in m.extra).0, (address_in m.extra).1 + at)
+StandsAt m at s = let address = get_or m.extra 0 [] in s.ref_ptr ≡ (slice_index address 0, slice_index address 1 + at)

@@ -1,13 +1,16 @@
-use Rattle.std.proofs.Common.{arith, ◌≡◌, ℕ, ◌+◌, ◌∙◌, refl, ap}
+use Rattle.std.proofs.Common.{arith, ◌≡◌, ℕ, ◌+◌, ◌∙◌, List, [], get_or, slice_index, refl, ap}
 use Rattle.bplist_octets.proofs.Sources.{slice_never_fails}
 use Rattle.bplist_octets.specs.Meaning.{Meaning}
 use Rattle.bplist_octets.specs.Octets.{part}
-use Rattle.bplist_octets.specs.Slices.{address_in}
 use Rattle.bplist_objects.specs.Answers.{read_failed}
 use Rattle.bplist_objects.specs.declared.head.Head.{Head}
 use Rattle.bplist_cert.specs.Valid.{IsVouchedBy}
 use Rattle.bplist_cursor.proofs.LentBodies.{spells_bytes, other_head, no_error}
 use Rattle.bplist_cursor.proofs.bytes.bytes_of.Goals as goal
+
+-- the address in the first of these lists
+abbrev address_in : List (List ℕ) → ℕ × ℕ
+address_in lists = (slice_index (get_or lists 0 []) 0, slice_index (get_or lists 0 []) 1)
 
 pub returns-in_default-clause-bytes : goal.returns-in_default-clause-bytes
 returns-in_default-clause-bytes c = λ bytes vouched s.
