@@ -33,9 +33,9 @@ pub use Rattle.bplist_cert.specs.CheckedFile.{CheckedFile, IsChecked, meaning_of
 pub use Rattle.bplist_cert.specs.DictKeys.{AreInOrder, ComesAfter, IsFirstKeyless, IsKey, IsKeylessFault, IsText, IsTwiceFault, KeysAreTexts, KeysDiffer}
 pub use Rattle.bplist_cert.specs.Encoding.{Fits, IsCertRefusal, IsOctetsFault, key_words, magic, octets_of, words}
 pub use Rattle.bplist_cert.specs.Heights.{AreLower, AreMet, AreMetBy, IsFirstUnmet, IsFirstUnmetBy, IsHeightFault, IsUnmetFault, Meets, rule_of}
-pub use Rattle.bplist_cert.specs.KeyOffsets.{AreOffsetsOf, AreRefs, IsFirstOther, IsOffsetOf, ReferToTexts}
+pub use Rattle.bplist_cert.specs.KeyOffsets.{AreOffsetsOf, ArePlaces, AreRefs, IsFirstOther, IsOffsetOf, ReferToTexts}
 pub use Rattle.bplist_cert.specs.KeyPairs.{AreFewKeys, AreKnown, Ascends, Follows, HaveTextShapes, IsReadKey, IsSafeKey}
-pub use Rattle.bplist_cert.specs.KeyRepeats.{BreaksKeys, HasGoodKeys, IsFirstKeysFault, KeysAreSound}
+pub use Rattle.bplist_cert.specs.KeyRepeats.{BreaksKeys, HasGoodKeys, HaveGoodKeys, HaveNamedKeys, IsFirstKeysFault, KeysAreSound}
 pub use Rattle.bplist_cert.specs.KeysLooks.{AreSeen, HaveGoodLists, IsListed, IsLookOf, keys_of}
 pub use Rattle.bplist_cert.specs.Lists.{AreKeyed, AreWords, HasCount, HasStarts, IsCertificate, IsWhole, Keyed, Lists, list_of, lists}
 pub use Rattle.bplist_cert.specs.Looks.{IsShownFault, KeepBeforeKeysBelow}

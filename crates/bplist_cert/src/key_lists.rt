@@ -1,7 +1,7 @@
 //! Whether the key lists of vouched dictionaries have the keys in order, which are texts: rules 21 and 32.
 
-ghost use Rattle.std.specs.Prelude.{◌≡◌, ◌+◌, ◌≤◌, ◌<◌, ℕ, List, Some, IsTrue, false, IfOk, IfSome, OnOk, MatchOption, ⊤, is_err, length, slice_index};
-ghost use Rattle.bplist_cert.specs.Prelude.{OnlyReads, Gives, Never, read_failed, off, Frame as frame, HasHead, frame_in, HonestlyIn, KeepsAll, KeepsByObject, object_rules, IsSafeBody, IsSafeHead, IsTextKind, Head as head, Dict, ref, HasTextShape, IsTextHead, lists, IsWhole, list_of, HasOrder, IsKeysFault, KeysAreTexts, AreInOrder, KeysAreSound, HasGoodKeys, BreaksKeys, IsFirstKeysFault, AreFewKeys, Ascends, AreKnown, HaveTextShapes, Follows, IsReadKey, IsSafeKey, AreLow, IsVouchedBy, KeepBeforeKeysBelow, IsListed, HaveGoodLists};
+ghost use Rattle.std.specs.Prelude.{◌≡◌, ◌+◌, ◌≤◌, ◌<◌, ℕ, List, Some, IsTrue, false, IfOk, IfSome, OnOk, MatchOption, ⊤, is_err, length};
+ghost use Rattle.bplist_cert.specs.Prelude.{OnlyReads, Gives, Never, read_failed, off, ArePlaces, Frame as frame, HasHead, frame_in, HonestlyIn, KeepsAll, KeepsByObject, object_rules, IsSafeBody, IsSafeHead, IsTextKind, Head as head, Dict, ref, HasTextShape, IsTextHead, lists, IsWhole, list_of, HasOrder, IsKeysFault, KeysAreTexts, AreInOrder, KeysAreSound, HasGoodKeys, HaveGoodKeys, BreaksKeys, IsFirstKeysFault, AreFewKeys, Ascends, AreKnown, HaveTextShapes, Follows, IsReadKey, IsSafeKey, AreLow, KeepBeforeKeysBelow, IsListed, HaveGoodLists};
 
 use crate::certificate::KeyLists;
 use crate::key_kinds::check_texts;
@@ -366,8 +366,7 @@ pub(crate) fn look_at_lists<P: Offsets>(
     requires starts { length look.old.keys.now.starts ≡ (frame_in (P.means src.old)).objects }
     ensures reads { OnlyReads (read_failed result) (P.means src.old) (P.means src.new) }
     ensures keys { look.new.keys ≡ look.old.keys }
-    ensures exact { HonestlyIn (P.means src.old) (λ f F. ((k : ℕ) → k < length places.now
-        → slice_index places.now k ≡ off f F (from + k))
+    ensures exact { HonestlyIn (P.means src.old) (λ f F. ArePlaces f F from places.now
         → KeepBeforeKeysBelow f F heights.now (from + length places.now)
         → HaveGoodLists f F heights.now from look.old
         → Gives (λ _. HaveGoodLists f F heights.now (from + length places.now) look.new) Never result) }
@@ -403,8 +402,7 @@ pub(crate) fn check_key_orders<P: Offsets>(
     ensures reads { OnlyReads (read_failed result) (P.means src.old) (P.means src.new) }
     ensures exact { HonestlyIn (P.means src.old) (λ f F. KeepBeforeKeysBelow f F seen.now.heights.now seen.now.bound
         → HaveGoodLists f F seen.now.heights.now seen.now.bound look.old
-        → Gives (λ _. (n : ℕ) → n < seen.now.bound → IsVouchedBy seen.now.heights.now n
-        → HasGoodKeys f F (Some look.old.keys.now) n)
+        → Gives (λ _. HaveGoodKeys f F seen.now.heights.now (Some look.old.keys.now) seen.now.bound)
         (IsFirstKeysFault f F (lists seen.now.heights.now (Some look.old.keys.now)) seen.now.bound) result) }
 {
     let _frame = src.frame();

@@ -1,7 +1,7 @@
 //! The objects that the vouched dictionaries name as keys.
 
-ghost use Rattle.std.specs.Prelude.{◌≡◌, ◌+◌, ◌<◌, ◌≤◌, ℕ, IfOk, IfSome, length, slice_index};
-ghost use Rattle.bplist_cert.specs.Prelude.{OnlyReads, Gives, Never, read_failed, off, frame_in, HonestlyIn, KeepsAll, KeepsByObject, object_rules, HasNamedKeys, IsMarked, IsVouchedBy, KeepBeforeKeysBelow, Judges, refused_read};
+ghost use Rattle.std.specs.Prelude.{◌≡◌, ◌+◌, ◌<◌, ◌≤◌, ℕ, IfOk, IfSome, length};
+ghost use Rattle.bplist_cert.specs.Prelude.{OnlyReads, Gives, Never, read_failed, off, frame_in, HonestlyIn, KeepsAll, KeepsByObject, object_rules, HasNamedKeys, HaveNamedKeys, ArePlaces, IsMarked, IsVouchedBy, KeepBeforeKeysBelow, Judges, refused_read};
 
 use crate::refusal::Refusal;
 use crate::vouched_prefix::VouchedPrefix;
@@ -50,12 +50,9 @@ fn name_block<P: Framed>(
     requires all { length named.old.marks.items ≡ (frame_in (P.means src.old)).objects }
     ensures reads { OnlyReads (read_failed result) (P.means src.old) (P.means src.new) }
     ensures all { length named.new.marks.items ≡ (frame_in (P.means src.old)).objects }
-    ensures exact { HonestlyIn (P.means src.old) (λ f F. ((k : ℕ) → k < length places.now
-        → slice_index places.now k ≡ off f F (from + k))
-        → KeepBeforeKeysBelow f F heights.now (from + length places.now)
-        → ((m : ℕ) → m < from → IsVouchedBy heights.now m → HasNamedKeys f F named.old.marks.items m)
-        → Gives (λ _. (m : ℕ) → m < from + length places.now → IsVouchedBy heights.now m
-        → HasNamedKeys f F named.new.marks.items m) Never result) }
+    ensures exact { HonestlyIn (P.means src.old) (λ f F. ArePlaces f F from places.now
+        → KeepBeforeKeysBelow f F heights.now (from + length places.now) → HaveNamedKeys f F heights.now from named.old.marks.items
+        → Gives (λ _. HaveNamedKeys f F heights.now (from + length places.now) named.new.marks.items) Never result) }
 {
     let _frame = src.frame();
     for (i, place) in places.iter().enumerate() {
@@ -80,12 +77,10 @@ pub(crate) fn name_wanted<P: Framed>(
     requires all { IfSome named.old (λ keys. length keys.marks.items ≡ (frame_in (P.means src.old)).objects) }
     ensures reads { OnlyReads (read_failed result) (P.means src.old) (P.means src.new) }
     ensures all { IfSome named.new (λ keys. length keys.marks.items ≡ (frame_in (P.means src.old)).objects) }
-    ensures exact { HonestlyIn (P.means src.old) (λ f F. ((k : ℕ) → k < length places.now
-        → slice_index places.now k ≡ off f F (from + k))
+    ensures exact { HonestlyIn (P.means src.old) (λ f F. ArePlaces f F from places.now
         → KeepBeforeKeysBelow f F heights.now (from + length places.now)
-        → IfSome named.old (λ keys. (m : ℕ) → m < from → IsVouchedBy heights.now m → HasNamedKeys f F keys.marks.items m)
-        → Gives (λ _. IfSome named.new (λ keys. (m : ℕ) → m < from + length places.now → IsVouchedBy heights.now m
-        → HasNamedKeys f F keys.marks.items m)) Never result) }
+        → IfSome named.old (λ keys. HaveNamedKeys f F heights.now from keys.marks.items)
+        → Gives (λ _. IfSome named.new (λ keys. HaveNamedKeys f F heights.now (from + length places.now) keys.marks.items)) Never result) }
 {
     match named {
         Some(named) => name_block(src, heights, from, places, named),
@@ -103,8 +98,7 @@ pub(crate) fn seen_keys<P: Framed>(
     ensures reads { OnlyReads (refused_read result) (P.means src.old) (P.means src.new) }
     ensures all { IfOk result (λ named. length named.marks.items ≡ (frame_in (P.means src.old)).objects) }
     ensures exact { HonestlyIn (P.means src.old) (λ f F. KeepBeforeKeysBelow f F seen.now.heights.now seen.now.bound
-        → Judges (λ named. (n : ℕ) → n < seen.now.bound → IsVouchedBy seen.now.heights.now n
-        → HasNamedKeys f F named.marks.items n) Never result) }
+        → Judges (λ named. HaveNamedKeys f F seen.now.heights.now seen.now.bound named.marks.items) Never result) }
 {
     let objects = src.frame().objects;
     let mut named = NamedKeys::new(alloc, objects)?;

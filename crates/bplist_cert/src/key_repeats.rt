@@ -1,7 +1,7 @@
 //! Whether the keys of vouched dictionaries are texts that differ, by the classes of the texts: rules 21 and 22.
 
 ghost use Rattle.std.specs.Prelude.{◌≡◌, ◌<◌, ℕ, None, IfOk, IfSome, OnOk, IsTrue, MatchOption, is_err, ⊤, length};
-ghost use Rattle.bplist_cert.specs.Prelude.{OnlyReads, frame_in, HonestlyIn, Never, IsSafeHead, HasHead, KeepsAll, KeepsByObject, object_rules, Head as head, Dict, ref, HasNamedKeys, AreClassed, IsStamped, IsNew, AreClasses, failed_to_read, lists, IsVouchedBy, KeysAreTexts, KeysDiffer, IsTwiceFault, KeepBeforeKeysBelow, AreLow, IsKeysFault, KeysAreSound, HasGoodKeys, BreaksKeys, IsFirstKeysFault, Judges, refused_read};
+ghost use Rattle.bplist_cert.specs.Prelude.{OnlyReads, frame_in, HonestlyIn, Never, IsSafeHead, HasHead, KeepsAll, KeepsByObject, object_rules, Head as head, Dict, ref, HaveNamedKeys, AreClassed, IsStamped, IsNew, AreClasses, failed_to_read, lists, KeysAreTexts, KeysDiffer, IsTwiceFault, KeepBeforeKeysBelow, AreLow, Honestly, IsKeysFault, KeysAreSound, HasGoodKeys, HaveGoodKeys, BreaksKeys, IsFirstKeysFault, Judges, refused_read};
 
 use crate::key_kinds::{check_texts, keyless};
 use crate::key_names::seen_keys;
@@ -94,8 +94,7 @@ fn check_classes<P: Offsets>(
     requires within { n.0 < (frame_in (P.means src.old)).objects }
     ensures reads { OnlyReads (refused_read result) (P.means src.old) (P.means src.new) }
     ensures same { look.new.table.classes.table.items ≡ look.old.table.classes.table.items }
-    ensures low { IsTrue (P.means src.old).honest → AreLow (P.means src.old).octets look.old.low.slots
-        → AreLow (P.means src.old).octets look.new.low.slots }
+    ensures low { Honestly (P.means src.old) (λ f. AreLow f look.old.low.slots → AreLow f look.new.low.slots) }
     ensures stamped { IsStamped n.0 look.old.table.seen.items look.new.table.seen.items }
     ensures exact { HonestlyIn (P.means src.old) (λ f F. IsNew look.old.table.seen.items n.0
         → AreLow f look.old.low.slots → AreClassed f F look.old.table.classes.table.items head.now
@@ -126,8 +125,7 @@ fn check_dict_repeats<P: Offsets>(
     requires within { n < (frame_in (P.means src.old)).objects }
     ensures reads { OnlyReads (refused_read result) (P.means src.old) (P.means src.new) }
     ensures same { look.new.table.classes.table.items ≡ look.old.table.classes.table.items }
-    ensures low { IsTrue (P.means src.old).honest → AreLow (P.means src.old).octets look.old.low.slots
-        → AreLow (P.means src.old).octets look.new.low.slots }
+    ensures low { Honestly (P.means src.old) (λ f. AreLow f look.old.low.slots → AreLow f look.new.low.slots) }
     ensures stamped { IsStamped n look.old.table.seen.items look.new.table.seen.items }
     ensures exact { HonestlyIn (P.means src.old) (λ f F. KeepsAll (KeepsByObject f F n) object_rules → IsNew look.old.table.seen.items n
         → AreLow f look.old.low.slots
@@ -154,8 +152,8 @@ fn check_named<P: Offsets>(
     requires all_named { length named.marks.items ≡ (frame_in (P.means src.old)).objects }
     ensures reads { OnlyReads (refused_read result) (P.means src.old) (P.means src.new) }
     ensures exact { HonestlyIn (P.means src.old) (λ f F. KeepBeforeKeysBelow f F seen.now.heights.now seen.now.bound
-        → ((n : ℕ) → n < seen.now.bound → IsVouchedBy seen.now.heights.now n → HasNamedKeys f F named.marks.items n)
-        → Judges (λ _. (n : ℕ) → n < seen.now.bound → IsVouchedBy seen.now.heights.now n → HasGoodKeys f F None n)
+        → HaveNamedKeys f F seen.now.heights.now seen.now.bound named.marks.items
+        → Judges (λ _. HaveGoodKeys f F seen.now.heights.now None seen.now.bound)
         (IsFirstKeysFault f F (lists seen.now.heights.now None) seen.now.bound) result) }
 {
     let _frame = src.frame();
@@ -184,10 +182,8 @@ fn named_keys<P: Framed>(
     ensures reads { OnlyReads (refused_read result) (P.means src.old) (P.means src.new) }
     ensures all { IfOk result (λ named. length named.marks.items ≡ (frame_in (P.means src.old)).objects) }
     ensures exact { HonestlyIn (P.means src.old) (λ f F. KeepBeforeKeysBelow f F seen.now.heights.now seen.now.bound
-        → IfSome named (λ keys. (n : ℕ) → n < seen.now.bound → IsVouchedBy seen.now.heights.now n
-        → HasNamedKeys f F keys.marks.items n)
-        → Judges (λ named. (n : ℕ) → n < seen.now.bound → IsVouchedBy seen.now.heights.now n
-        → HasNamedKeys f F named.marks.items n) Never result) }
+        → IfSome named (λ keys. HaveNamedKeys f F seen.now.heights.now seen.now.bound keys.marks.items)
+        → Judges (λ named. HaveNamedKeys f F seen.now.heights.now seen.now.bound named.marks.items) Never result) }
 {
     match named {
         Some(named) => Ok(named),
@@ -209,9 +205,8 @@ pub(crate) fn check_key_repeats<P: Offsets>(
     requires named { IfSome named (λ keys. length keys.marks.items ≡ (frame_in (P.means src.old)).objects) }
     ensures reads { OnlyReads (refused_read result) (P.means src.old) (P.means src.new) }
     ensures exact { HonestlyIn (P.means src.old) (λ f F. KeepBeforeKeysBelow f F seen.now.heights.now seen.now.bound
-        → IfSome named (λ keys. (n : ℕ) → n < seen.now.bound → IsVouchedBy seen.now.heights.now n
-        → HasNamedKeys f F keys.marks.items n)
-        → Judges (λ _. (n : ℕ) → n < seen.now.bound → IsVouchedBy seen.now.heights.now n → HasGoodKeys f F None n)
+        → IfSome named (λ keys. HaveNamedKeys f F seen.now.heights.now seen.now.bound keys.marks.items)
+        → Judges (λ _. HaveGoodKeys f F seen.now.heights.now None seen.now.bound)
         (IsFirstKeysFault f F (lists seen.now.heights.now None) seen.now.bound) result) }
 {
     let frame = src.frame();
