@@ -1,7 +1,7 @@
 //! The keys of dictionaries: rule 21.
 
-ghost use Rattle.std.specs.Prelude.{◌≡◌, ◌↔◌, IsTrue, ◌+◌, ◌*◌, ◌≤◌, ◌<◌, length, IfOk, IfSome, MatchOption, Some, is_err};
-ghost use Rattle.bplist_cert.specs.Prelude.{OnlyReads, Honestly, frame_in, HonestlyIn, off, IsSafeHead, IsSafeBody, IsTextKind, HasHead, KeepsAll, KeepsByObject, IsObjectFault, object_rules, Gives, Never, read_failed, Dict, KeyKind, Head as head_record, IsText, IsKey, KeysAreTexts, IsFirstKeyless, IsKeylessFault, AreLow, IsOffsetOf, AreOffsetsOf, ReferToTexts, IsFirstOther};
+ghost use Rattle.std.specs.Prelude.{◌≡◌, ◌↔◌, IsTrue, ◌+◌, ◌*◌, ◌<◌, length, IfOk, IfSome, MatchOption, Some, is_err};
+ghost use Rattle.bplist_cert.specs.Prelude.{OnlyReads, Honestly, frame_in, HonestlyIn, IsSafeHead, Gives, read_failed, Dict, KeyKind, Head as head_record, IsText, KeysAreTexts, IsKeylessFault, AreLow, IsOffsetOf, AreOffsetsOf, ReferToTexts, IsFirstOther};
 
 use crate::key_offsets::{BLOCK, read_ahead};
 use crate::low_bytes::LowBytes;
@@ -61,38 +61,6 @@ fn first_other<P: Framed>(
     Ok(None)
 }
 
-/// The first key of a dictionary that is no text.
-fn first_keyless<P: Offsets>(
-    src: &mut P,
-    low: &mut LowBytes,
-    head: &Head,
-) -> Result<Option<u64>, ReadFault>
-    requires head { IsSafeHead (frame_in (P.means src.old)) head.now }
-    requires dict { head.now.kind ≡ Dict }
-    ensures reads { OnlyReads (is_err result) (P.means src.old) (P.means src.new) }
-    ensures low { Honestly (P.means src.old) (λ f. AreLow f low.old.slots → AreLow f low.new.slots) }
-    ensures found { IfOk result (λ found. HonestlyIn (P.means src.old)
-        (λ f F. AreLow f low.old.slots
-        → MatchOption found (KeysAreTexts f F head.now head.now.count) (IsFirstKeyless f F head.now))) }
-    ensures inside { IfOk result (λ found. IfSome found (λ i. i < head.now.count)) }
-{
-    let count = head.count;
-    let mut refs = [0u64; BLOCK];
-    let mut found = [0u64; BLOCK];
-    let mut done = 0u64;
-    while done < count {
-        let now = (count - done).min(BLOCK as u64);
-        let block = &mut refs[..now as usize];
-        let places = &mut found[..now as usize];
-        read_ahead(src, head, done, block, places)?;
-        if let Some(i) = first_other(src, low, block, places)? {
-            return Ok(Some(done + i as u64));
-        }
-        done += now;
-    }
-    Ok(None)
-}
-
 /// Looks for a key of dictionary `n`, whose head this is, that is no text: rule 21. The fault is that of the first such
 /// key, at its reference, counted from the file's first byte. `Read` where a read failed.
 pub(crate) fn check_texts<P: Offsets>(
@@ -108,10 +76,21 @@ pub(crate) fn check_texts<P: Offsets>(
     ensures exact { HonestlyIn (P.means src.old) (λ f F. AreLow f low.old.slots
         → Gives (λ _. KeysAreTexts f F head.now head.now.count) (IsKeylessFault f F n.0 head.now) result) }
 {
-    match first_keyless(src, low, head)? {
-        None => Ok(()),
-        Some(i) => Err(ObjectFault::Fault(keyless(src, n, head, i))),
+    let count = head.count;
+    let mut refs = [0u64; BLOCK];
+    let mut found = [0u64; BLOCK];
+    let mut done = 0u64;
+    while done < count {
+        let now = (count - done).min(BLOCK as u64);
+        let block = &mut refs[..now as usize];
+        let places = &mut found[..now as usize];
+        read_ahead(src, head, done, block, places)?;
+        if let Some(i) = first_other(src, low, block, places)? {
+            return Err(ObjectFault::Fault(keyless(src, n, head, done + i as u64)));
+        }
+        done += now;
     }
+    Ok(())
 }
 
 /// The fault of key `i` of dictionary `n`.

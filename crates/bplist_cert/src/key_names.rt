@@ -88,18 +88,24 @@ pub(crate) fn name_wanted<P: Framed>(
     }
 }
 
-/// The objects that the vouched dictionaries which were seen name as keys.
+/// The objects that the vouched dictionaries which were seen name as keys, which are given or found.
 pub(crate) fn seen_keys<P: Framed>(
     alloc: Global,
     src: &mut P,
     seen: &VouchedPrefix,
+    given: Option<NamedKeys>,
 ) -> Result<NamedKeys, Refusal>
-    requires { length seen.now.heights.now ≡ (frame_in (P.means src.old)).objects }
+    requires heights { length seen.now.heights.now ≡ (frame_in (P.means src.old)).objects }
+    requires given { IfSome given (λ keys. length keys.marks.items ≡ (frame_in (P.means src.old)).objects) }
     ensures reads { OnlyReads (refused_read result) (P.means src.old) (P.means src.new) }
     ensures all { IfOk result (λ named. length named.marks.items ≡ (frame_in (P.means src.old)).objects) }
     ensures exact { HonestlyIn (P.means src.old) (λ f F. KeepBeforeKeysBelow f F seen.now.heights.now seen.now.bound
+        → IfSome given (λ keys. HaveNamedKeys f F seen.now.heights.now seen.now.bound keys.marks.items)
         → Judges (λ named. HaveNamedKeys f F seen.now.heights.now seen.now.bound named.marks.items) Never result) }
 {
+    if let Some(named) = given {
+        return Ok(named);
+    }
     let objects = src.frame().objects;
     let mut named = NamedKeys::new(alloc, objects)?;
     let mut buffer = [0u64; BLOCK];
@@ -130,5 +136,5 @@ pub fn vouched_keys<P: Framed>(
         heights,
         bound: src.frame().objects,
     };
-    seen_keys(alloc, src, &seen)
+    seen_keys(alloc, src, &seen, None)
 }

@@ -1,7 +1,7 @@
 //! What a walk over the vouched objects finds of the keys of dictionaries.
 
-ghost use Rattle.std.specs.Prelude.{◌≡◌, ℕ, List, None, IfOk, IfErr, length};
-ghost use Rattle.bplist_cert.specs.Prelude.{Frame as frame, HasCount, keys_of, IsLookOf, AreSeen};
+ghost use Rattle.std.specs.Prelude.{◌≡◌, ◌+◌, ◌≤◌, ℕ, List, None, IfOk, IfErr, length};
+ghost use Rattle.bplist_cert.specs.Prelude.{OnlyReads, Gives, Never, read_failed, frame_in, HonestlyIn, Frame as frame, HasCount, lists, ArePlaces, KeepBeforeKeysBelow, HaveGoodKeys, IsFirstKeysFault, Judges, MayRefuse, refused_read, keys_of, IsLookOf, AreSeen};
 
 use crate::certificate::KeyLists;
 use crate::key_lists::{ListLook, check_key_orders, look_at_lists};
@@ -42,16 +42,6 @@ pub(crate) fn keys_look(
 }
 
 impl KeysLook<'_> {
-    ghost use Rattle.std.specs.Prelude.{◌+◌, ◌≤◌};
-    ghost use Rattle.bplist_octets.specs.Meaning.{OnlyReads};
-    ghost use Rattle.bplist_objects.specs.Answers.{Gives, Never, read_failed};
-    ghost use Rattle.bplist_objects.specs.Framed.{frame_in, HonestlyIn};
-    ghost use Rattle.bplist_cert.specs.Lists.{lists};
-    ghost use Rattle.bplist_cert.specs.KeyOffsets.{ArePlaces};
-    ghost use Rattle.bplist_cert.specs.Looks.{KeepBeforeKeysBelow};
-    ghost use Rattle.bplist_cert.specs.KeyRepeats.{HaveGoodKeys, IsFirstKeysFault};
-    ghost use Rattle.bplist_cert.specs.Refusals.{Judges, MayRefuse, refused_read};
-
     /// What was found counts no more, and a walk looks at no keys.
     pub(crate) fn forget(&mut self)
         ensures keys { keys_of self.new ≡ keys_of self.old }
