@@ -98,24 +98,8 @@ fn read_few<P: Offsets>(src: &mut P, head: &Head, into: &mut [u64]) -> Result<()
     read_refs_in(src, head, 0, &mut into[..head.count as usize])
 }
 
-/// The number of the reference to key `i`, which is among these where the keys are few.
-fn ref_among<P: Offsets>(src: &mut P, head: &Head, few: &[u64], i: u64) -> Result<u64, ReadFault>
-    requires head { IsSafeHead (frame_in (P.means src.old)) head.now }
-    requires dict { head.now.kind ≡ Dict }
-    requires room { length few.now ≡ 32 }
-    requires within { i < head.now.count }
-    ensures reads { OnlyReads (is_err result) (P.means src.old) (P.means src.new) }
-    ensures exact { HonestlyIn (P.means src.old) (λ f F. AreFewKeys f F head.now few.now
-        → IfOk result (λ m. m ≡ ref f F head.now i)) }
-{
-    let frame = src.frame();
-    if head.count <= FEW as u64 {
-        return Ok(few[i as usize]);
-    }
-    ref_at(src, &frame, head, i)
-}
-
-/// The object that the key at a position of a dictionary names, where there are such a key and such an object.
+/// The object that the key at a position of a dictionary names, where there are such a key and such an object. Its number is among
+/// these where the keys are few.
 fn key_at<P: Offsets>(
     src: &mut P,
     head: &Head,
@@ -133,9 +117,13 @@ fn key_at<P: Offsets>(
     if position as u64 >= head.count {
         return Ok(None);
     }
-    let objects = src.frame().objects;
-    let m = ref_among(src, head, few, position as u64)?;
-    if m >= objects as u64 {
+    let frame = src.frame();
+    let m = if head.count <= FEW as u64 {
+        few[position as usize]
+    } else {
+        ref_at(src, &frame, head, position as u64)?
+    };
+    if m >= frame.objects as u64 {
         return Ok(None);
     }
     Ok(Some(m as u32))

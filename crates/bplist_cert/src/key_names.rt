@@ -38,7 +38,7 @@ fn name_object<P: Framed>(
 
 /// Names the keys of the vouched dictionaries among the objects from number `from` on, which stand at these places. An object
 /// of height 1 has no references.
-fn name_block<P: Framed>(
+pub(crate) fn name_block<P: Framed>(
     src: &mut P,
     heights: &[u32],
     from: u32,
@@ -62,30 +62,6 @@ fn name_block<P: Framed>(
         }
     }
     Ok(())
-}
-
-/// The same, where keys are named.
-pub(crate) fn name_wanted<P: Framed>(
-    src: &mut P,
-    heights: &[u32],
-    from: u32,
-    places: &[u64],
-    named: &mut Option<NamedKeys>,
-) -> Result<(), ObjectFault>
-    requires heights { length heights.now ≡ (frame_in (P.means src.old)).objects }
-    requires within { from + length places.now ≤ (frame_in (P.means src.old)).objects }
-    requires all { IfSome named.old (λ keys. length keys.marks.items ≡ (frame_in (P.means src.old)).objects) }
-    ensures reads { OnlyReads (read_failed result) (P.means src.old) (P.means src.new) }
-    ensures all { IfSome named.new (λ keys. length keys.marks.items ≡ (frame_in (P.means src.old)).objects) }
-    ensures exact { HonestlyIn (P.means src.old) (λ f F. ArePlaces f F from places.now
-        → KeepBeforeKeysBelow f F heights.now (from + length places.now)
-        → IfSome named.old (λ keys. HaveNamedKeys f F heights.now from keys.marks.items)
-        → Gives (λ _. IfSome named.new (λ keys. HaveNamedKeys f F heights.now (from + length places.now) keys.marks.items)) Never result) }
-{
-    match named {
-        Some(named) => name_block(src, heights, from, places, named),
-        None => Ok(()),
-    }
 }
 
 /// The objects that the vouched dictionaries which were seen name as keys, which are given or found.

@@ -5,7 +5,7 @@ ghost use Rattle.bplist_cert.specs.Prelude.{OnlyReads, Gives, Never, read_failed
 
 use crate::certificate::KeyLists;
 use crate::key_lists::{ListLook, check_key_orders, look_at_lists};
-use crate::key_names::name_wanted;
+use crate::key_names::name_block;
 use crate::key_repeats::check_key_repeats;
 use crate::refusal::Refusal;
 use crate::vouched_prefix::VouchedPrefix;
@@ -75,7 +75,8 @@ impl KeysLook<'_> {
             → Gives (λ _. AreSeen f F heights.now (from + length places.now) self.new) Never result) }
     {
         match self {
-            KeysLook::Named(named) => name_wanted(src, heights, from, places, named),
+            KeysLook::Named(Some(named)) => name_block(src, heights, from, places, named),
+            KeysLook::Named(None) => Ok(()),
             KeysLook::Listed(look) => look_at_lists(src, heights, from, places, look),
         }
     }
