@@ -1,5 +1,5 @@
 -- How the rules of marker and count are kept and broken.
-use Rattle.std.proofs.Common.{◌≡◌, ℕ, ◌+◌, ◌*◌, ◌<◌, ◌≤◌, true, List, slice_index, Option, Some, None, IsSome, sym, arith, refl, inl, inr, subst}
+use Rattle.std.proofs.Common.{◌≡◌, ℕ, ◌+◌, ◌*◌, ◌<◌, ◌≤◌, List, slice_index, Option, Some, None, IsSome, sym, arith, refl, inl, inr, subst}
 use Rattle.std.proofs.Math.Nat.{mul-le-mul_left}
 use Rattle.std.proofs.lemmas.Bool.{false≢true}
 use Rattle.bplist_objects.specs.declared.rule.Rule.TheVariants.{Extent}
@@ -10,8 +10,7 @@ use Rattle.bplist_objects.specs.declared.kind.Kind.{Kind}
 use Rattle.bplist_objects.specs.declared.kind.Kind.TheVariants as kinds
 use Rattle.bplist_objects.specs.Rules.{KeepsAll}
 use Rattle.bplist_objects.specs.Frame.{off}
-use Rattle.bplist_objects.specs.Safe.{MarkersCount, MayCount}
-use Rattle.bplist_objects.specs.Announced.{kind_at, head_found, Markers, plain, counted, markers_of, is_counted, Marks, IsLongOf, IsIntMarker, HasLongCount, AnnouncesAs, HasHead, item_size}
+use Rattle.bplist_objects.specs.Announced.{kind_at, head_found, Markers, plain, counted, markers_of, Marks, IsLongOf, IsIntMarker, HasLongCount, AnnouncesAs, HasHead, item_size}
 use Rattle.bplist_objects.specs.ObjectRules.{KeepsByObject, IsObjectFault, shape_rules}
 use Rattle.bplist_objects.specs.CountFaults.{IsLongCountFault}
 use Rattle.bplist_objects.specs.Answers.{GivesFault}
@@ -90,15 +89,7 @@ module _ (f : List ℕ) (F : Frame) (n : ℕ) (far : 8 ≤ off f F n) where
       let head : Head = record { kind = kind; count = count; body = body; «end» = body + count * item_size F.ref_size kind } in
       shape_extent head (head_announced f F n head (announced_behind f o (markers_of kind) count body long has, refl)) (no_room F.table body count (item_size F.ref_size kind) (item_size-pos F.ref_size kind low) late) fault rule object place
 
--- a kind whose count may stand behind the marker may have any
-pub counted_may : (kind : Kind) (count : ℕ) → is_counted (markers_of kind) ≡ true → MayCount kind count
-counted_may kind count h = go (markers_of kind) h
-  where
-    go : (form : Markers) → is_counted form ≡ true → MarkersCount form count
-    go (plain low high says) e = absurd (false≢true e)
-    go (counted high) e = tt
-
--- the same of what a call answers
+-- what a call answers that is wrong with a long count is the first that is wrong with the object
 pub shape_count : (f : List ℕ) (F : Frame) (n place : ℕ) (kind : Kind) (e : ObjectFault) → 1 ≤ F.ref_size → place ≡ off f F n → 8 ≤ place → IsLongOf (markers_of kind) (slice_index f place) → GivesFault (IsLongCountFault f F.table place n) e → GivesFault (IsObjectFault f F n shape_rules) e
 shape_count f F n place kind (errors.Read _) low at far long h = tt
 shape_count f F n place kind (errors.Fault fault) low at far long h =
