@@ -89,7 +89,7 @@ module _ (f : List ℕ) (F : Frame) (n : ℕ) (far : 8 ≤ off f F n) where
       let head : Head = record { kind = kind; count = count; body = body; «end» = body + count * item_size F.ref_size kind } in
       shape_extent head (head_announced f F n head (announced_behind f o (markers_of kind) count body long has, refl)) (no_room F.table body count (item_size F.ref_size kind) (item_size-pos F.ref_size kind low) late) fault rule object place
 
--- the same of what a call answers
+-- what a call answers that is wrong with a long count is the first that is wrong with the object
 pub shape_count : (f : List ℕ) (F : Frame) (n place : ℕ) (kind : Kind) (e : ObjectFault) → 1 ≤ F.ref_size → place ≡ off f F n → 8 ≤ place → IsLongOf (markers_of kind) (slice_index f place) → GivesFault (IsLongCountFault f F.table place n) e → GivesFault (IsObjectFault f F n shape_rules) e
 shape_count f F n place kind (errors.Read _) low at far long h = tt
 shape_count f F n place kind (errors.Fault fault) low at far long h =

@@ -1,13 +1,14 @@
 -- The names that the clauses of this crate cite, passed on from one place. Declares nothing.
 pub use Rattle.bplist_octets.specs.Meaning.{Honestly, OnlyReads, last_count}
 pub use Rattle.bplist_octets.specs.Octets.{num, part}
+pub use Rattle.bplist_octets.specs.Windows.{borrowed}
 pub use Rattle.bplist_objects.specs.Announced.{Announces, HasHead, HasLongCount, IsLongOf, Marks, is_counted, item_size, kind_at, markers_of}
 pub use Rattle.bplist_objects.specs.Answers.{Gives, Never, read_failed}
 pub use Rattle.bplist_objects.specs.CountFaults.{IsLongCountFault}
 pub use Rattle.bplist_objects.specs.File.{FileHolds}
 pub use Rattle.bplist_objects.specs.Frame.{IsFrame, Keeps, frame_rules, number_rules, off, trailer}
 pub use Rattle.bplist_objects.specs.FrameRules.{Breaks, IsFrameFault, IsTrailer, IsTrailerFault}
-pub use Rattle.bplist_objects.specs.Framed.{HonestlyBy, HonestlyIn, frame_in}
+pub use Rattle.bplist_objects.specs.Framed.{HonestlyBy, HonestlyIn, IsFramed, frame_in, with_frame}
 pub use Rattle.bplist_objects.specs.Heads.{Content, HasShape, IsHeadOf, Spells, content_at, refs}
 pub use Rattle.bplist_objects.specs.Holds.{Holds}
 pub use Rattle.bplist_objects.specs.Kinds.{IsLeafKind}
@@ -24,7 +25,7 @@ pub use Rattle.bplist_objects.specs.Units.{IsTextKind, compare_units, units_of}
 pub use Rattle.bplist_objects.specs.Value.{Value, array, boolean, bytes, date, dict, int, no_pairs, no_values, pair, real, text, uid, value}
 pub use Rattle.bplist_objects.specs.Visits.{IsSafeVisit, IsVisited, size_said}
 pub use Rattle.bplist_objects.specs.Words.{number_of, word_of}
-pub use Rattle.bplist_objects.specs.declared.fault.ObjectFault.TheVariants.{Read}
+pub use Rattle.bplist_objects.specs.declared.fault.ObjectFault.TheVariants.{Fault, Read}
 pub use Rattle.bplist_objects.specs.declared.frame.Frame.{Frame}
 pub use Rattle.bplist_objects.specs.declared.frame.ObjectNo.{ObjectNo}
 pub use Rattle.bplist_objects.specs.declared.head.Head.{Head}

@@ -94,7 +94,6 @@ pub(crate) fn short_count(kind: Kind, marker: u8) -> Option<u8>
         (IsLongOf (markers_of kind) marker × (is_counted (markers_of kind) ≡ true))
         (λ count. (f : List ℕ) (place : ℕ) → slice_index f place ≡ marker → Announces f place kind count (place + 1)) }
     ensures may { IfSome result (MayCount kind) }
-    ensures few { IfSome result (λ count. count ≤ 16) }
 {
     match kind {
         Kind::Bytes | Kind::Ascii | Kind::Wide | Kind::Array | Kind::Set | Kind::Dict => {

@@ -1,7 +1,7 @@
 //! The frame of a file: the five numbers of its trailer.
 
 ghost use Rattle.std.specs.Prelude.{◌≡◌, ℕ, ◌^◌, ◌≤◌, ◌<◌, List, length, IfOk, MatchResult};
-ghost use Rattle.bplist_objects.specs.Prelude.{part, num, OnlyReads, Honestly, trailer as spelled, Keeps, IsFrame, number_rules, KeepsAll, IsFirstFault, Breaks, IsTrailer, IsTrailerFault, IsFrameFault, IsSafeFrame, frame_of_trailer, Magic, Frame as frame, Gives, Never, read_failed};
+ghost use Rattle.bplist_objects.specs.Prelude.{OnlyReads, Honestly, trailer as spelled, Keeps, IsFrame, number_rules, KeepsAll, IsFirstFault, Breaks, IsTrailer, IsTrailerFault, IsFrameFault, IsSafeFrame, frame_of_trailer, Magic, Frame as frame, Gives, Never, read_failed};
 
 use crate::fault::{Fault, ObjectFault};
 use crate::numbers::Width;
@@ -42,9 +42,7 @@ struct Trailer {
 const HEADER: [u8; 8] = *b"bplist00";
 
 fn fault_at(rule: Rule, place: u64) -> Fault
-    ensures rule { result.rule ≡ rule }
-    ensures object { result.object ≡ None }
-    ensures place { result.place ≡ place }
+    ensures { result ≡ record { rule = rule; object = None; place = place } }
 {
     Fault {
         rule,

@@ -1,10 +1,7 @@
 //! Sources that know their frame.
 
 ghost use Rattle.std.specs.Prelude.{◌≡◌, length, IsTrue};
-ghost use Rattle.bplist_octets.specs.Windows.{borrowed};
-ghost use Rattle.bplist_objects.specs.Frame.{IsFrame};
-ghost use Rattle.bplist_objects.specs.Safe.{IsSafeFrame};
-ghost use Rattle.bplist_objects.specs.Framed.{IsFramed, frame_in, with_frame};
+ghost use Rattle.bplist_objects.specs.Prelude.{borrowed, IsFrame, IsSafeFrame, IsFramed, frame_in, with_frame};
 
 use crate::frame::Frame;
 use bplist_octets::{ReadFault, Source};
