@@ -14,8 +14,7 @@ use Rattle.bplist_cursor.specs.declared.reply.Reply.TheVariants as replies
 use Rattle.bplist_cursor.specs.declared.reply.Query.{Query}
 use Rattle.bplist_cursor.specs.declared.reply.Query.TheVariants as queries
 use Rattle.bplist_cursor.specs.Look.{look}
-use Rattle.bplist_cursor.specs.Replies.{reply, face, keys_reply}
-use Rattle.bplist_cursor.specs.Nodes.{cap, nodes}
+use Rattle.bplist_cursor.specs.Replies.{reply, keys_reply}
 use Rattle.bplist_cursor.specs.Queries.{steps_in, reply_at}
 
 module _ (f : List ℕ) (F : Frame) where

@@ -7,6 +7,6 @@ use Rattle.bplist_octets.specs.Meaning.{Meaning}
 abbrev pub source_over : Bor (List ℕ) → Meaning
 source_over s = record { octets = s.now; honest = true; failures = 0; extra = (s.ref_ptr.0 ∷ s.ref_ptr.1 ∷ []) ∷ [] }
 
--- the slice is no copy: it stands in memory at this place of the bytes of the source over a slice
+-- the slice is no copy: it stands in memory at this place of the slice that the source is over
 abbrev pub StandsAt : Meaning → ℕ → Bor (List ℕ) → Type 0
 StandsAt m at s = let address = get_or m.extra 0 [] in s.ref_ptr ≡ (slice_index address 0, slice_index address 1 + at)
