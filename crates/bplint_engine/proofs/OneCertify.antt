@@ -31,7 +31,7 @@ one_written false hex f F x y c d xs ys l m is is' line line' =
 one_written true hex f F x y c d xs ys l m (certificate, up) (certificate', up') line line' =
     let other = subst (λ hs. ∥ IsUpgraded f F hs d ∥₁) (same_heights f F y x m l) up' in
     open_bytes up xs ys (λ u. open_bytes other xs ys (λ w.
-    line ∙ ap (λ z. written hex (octets_of z)) (one_upgraded f F x.certificate.heights c d certificate certificate' u w) ∙ sym line'))
+    line ∙ ap (λ z. written hex (octets_of z)) (one_upgraded f F x.certificate.heights c d u w) ∙ sym line'))
 
 pub one_certified : (sorted hex : Bool) (f : List ℕ) (a b : Answer) → CertifySays sorted hex f a → CertifySays sorted hex f b → a ≡ b
 one_certified sorted hex f (gives s xs) (gives t ys) (F, x, c, is, l, are, all, line) (G, y, d, is', m, are', all', line') =

@@ -1,25 +1,33 @@
 -- The key lists of a certificate of least heights are one.
-use Rattle.std.proofs.Common.{◌≡◌, ℕ, zero, suc, ◌+◌, ◌-◌, ◌<◌, ◌≤◌, List, [], ◌∷◌, slice_index, slice_index_or, length, inl, inr, Bool, true, false, cond, nat_lt, Less, Option, Some, None, is_some, unwrap_or, refl, sym, ap, ◌∙◌, subst, arith}
+use Rattle.std.proofs.Common.{◌≡◌, ℕ, zero, suc, ◌+◌, ◌-◌, ◌*◌, ◌<◌, ◌≤◌, List, [], ◌∷◌, slice_index, slice_index_or, length, inl, inr, Bool, true, false, cond, nat_lt, Less, Option, Some, None, is_some, unwrap_or, refl, sym, ap, ◌∙◌, subst, arith}
 use Rattle.std.specs.List.{AllZip}
+use Rattle.std.specs.Option.{option_and_then}
 use Rattle.std.proofs.lemmas.Bool.{cases_lt, cases_order, false≢true}
 use Rattle.std.proofs.lemmas.List.{ext_get_or}
 use Rattle.std.proofs.lemmas.List.Elements.{All-get_or, All-from_recursion}
+use Rattle.std.proofs.lemmas.List.FromFn.{get_or-map-range_with_len}
 use Rattle.bplist_octets.specs.Octets.{part}
 use Rattle.bplist_objects.specs.declared.frame.Frame.{Frame}
-use Rattle.bplist_objects.specs.Heads.{Content, Spells}
-use Rattle.bplist_objects.specs.Spelled.{spelled_at}
+use Rattle.bplist_objects.specs.declared.head.Head.{Head}
+use Rattle.bplist_objects.specs.declared.kind.Kind.{Kind}
+use Rattle.bplist_objects.specs.declared.kind.Kind.TheVariants as kinds
+use Rattle.bplist_objects.specs.Announced.{head_found, HasHead}
+use Rattle.bplist_objects.specs.Heads.{Content, content_of, Spells}
+use Rattle.bplist_objects.specs.Numbers.{nums_at}
 use Rattle.bplist_objects.specs.Units.{compare_units}
 use Rattle.bplist_objects.proofs.Fronts.{one_head}
 use Rattle.bplist_objects.proofs.Parts.{get_or-part}
-use Rattle.bplist_objects.proofs.SpelledContents.{spells_iff}
+use Rattle.bplist_objects.proofs.HeadTies.{spells_body}
+use Rattle.bplist_objects.proofs.References.{length-nums_at}
 use Rattle.bplist_objects.proofs.UnitOrder.{compare_units-less_less, compare_units-not_less}
-use Rattle.bplist_cert.specs.Lists.{Lists, IsCertificate, HasStarts}
-use Rattle.bplist_cert.specs.Sorted.{Ascend, IsSorted, AreListed}
-use Rattle.bplist_cert.specs.Valid.{IsVouchedBy, SpellsText}
+use Rattle.bplist_cert.specs.Lists.{Lists, lists}
+use Rattle.bplist_cert.specs.Sorted.{Ascend, IsSorted, IsAccepted}
+use Rattle.bplist_cert.specs.Valid.{IsVouchedBy, SpellsText, IsValid}
+use Rattle.bplist_cert.proofs.AcceptedCertificates.{vouched_shape}
 use Rattle.bplist_cert.proofs.AllNumbers.{onto}
 use Rattle.bplist_lint.specs.Linted.{is_vouched}
-use Rattle.bplist_lint.specs.ReachRules.{sum_below}
 use Rattle.bplist_lint.specs.Upgraded.{pairs_of, pairs, pairs_below, IsUpgraded}
+use Rattle.bplist_lint.proofs.RangeSums.{found_next}
 
 -- ---- positions whose units ascend
 module _ (us : List (List ℕ)) (n : ℕ) where
@@ -129,15 +137,6 @@ module _ (f : List ℕ) (F : Frame) where
   one_sorted ks xs ys s t =
       one_rising s.units (length ks) xs ys (rising s.units ks xs s refl) (rising s.units ks ys t (one_texts ks t.units s.units t.texts s.texts))
 
--- ---- sums
--- what is below a sum is within one of its parts
-part_of : (g : ℕ → ℕ) (n p : ℕ) → p < sum_below g n → (m : ℕ) × (m < n) × (sum_below g m ≤ p) × (p < sum_below g m + g m)
-part_of g zero p l = absurd (omega (arith, l))
-part_of g (suc n) p l = elim (cases_lt p (sum_below g n)) [
-  | inl low ↦ let r = part_of g n p low in (r.0, omega (arith, r.1), r.2, r.3)
-  | inr high ↦ (n, omega arith, omega (arith, high), omega (arith, l))
-]
-
 vouched_by : (h : ℕ) → nat_lt 0 h ≡ true → 1 ≤ h
 vouched_by zero e = absurd (false≢true e)
 vouched_by (suc h) e = omega arith
@@ -155,52 +154,67 @@ module _ (f : List ℕ) (F : Frame) (heights : List ℕ) where
   abbrev many_of : ℕ → ℕ
   many_of n = unwrap_or (pairs f F heights n) 0
 
-  module _ (n : ℕ) (has : 0 < many_of n) where
-    listed_by : (b : Bool) (o : Option Content) → is_vouched heights n ≡ b → spelled_at f F n ≡ o → IsListedDict n
-    listed_by b o vouched spelled = go b o vouched spelled (λ i. cond (vouched i) (pairs_of (spelled i)) None)
-      where
-        none : pairs f F heights n ≡ None → ⊥
-        none e = let z = ap (λ o. unwrap_or o 0) e in omega (arith, has, z)
+  -- each position is one of an object
+  part_of : (n p : ℕ) → p < pairs_below f F heights n → (m : ℕ) × (m < n) × (pairs_below f F heights m ≤ p) × (p < pairs_below f F heights m + many_of m)
+  part_of zero p l = absurd (omega (arith, l))
+  part_of (suc n) p l = elim (cases_lt p (pairs_below f F heights n)) [
+    | inl low ↦ let r = part_of n p low in (r.0, omega (arith, r.1), r.2, r.3)
+    | inr high ↦ (n, omega arith, omega (arith, high), omega (arith, l, found_next (pairs f F heights) n))
+  ]
 
-        go : (b : Bool) (o : Option Content) → is_vouched heights n ≡ b → spelled_at f F n ≡ o → pairs f F heights n ≡ cond b (pairs_of o) None → IsListedDict n
-        go false o v e many = absurd (none many)
-        go true None v e many = absurd (none many)
-        go true (Some (Content.leaf l)) v e many = absurd (none many)
-        go true (Some (Content.array ms)) v e many = absurd (none many)
-        go true (Some (Content.set ms)) v e many = absurd (none many)
-        go true (Some (Content.dict ks ms)) v e many = record {
-          vouched = vouched_by (slice_index heights n) v;
-          ks = ks;
-          ms = ms;
-          spells = (spells_iff f F n (Content.dict ks ms)).1 e;
-          many = many;
+  module _ (valid : IsValid f F heights) (n : ℕ) (has : 0 < many_of n) where
+    none : pairs f F heights n ≡ None → ⊥
+    none e = let z = ap (λ o. unwrap_or o 0) e in omega (arith, has, z)
+
+    -- a vouched object with this head
+    listed_with : (v : IsVouchedBy heights n) (head : Head) → HasHead f F n head → (kind : Kind) → head.kind ≡ kind → pairs f F heights n ≡ pairs_of (record { kind = kind; count = head.count; body = head.body; «end» = head.«end» })
+        → IsListedDict n
+    listed_with v head e kinds.Dict is many =
+        let o = valid.vouched n v in
+        let body = spells_body f F n head o.content (vouched_shape f F heights valid n v head e) o.spells in
+        record {
+          vouched = v;
+          ks = nums_at f head.body F.ref_size head.count;
+          ms = nums_at f (head.body + head.count * F.ref_size) F.ref_size head.count;
+          spells = subst (λ k. Spells f F n (content_of f F k head.count head.body)) is (subst (Spells f F n) body o.spells);
+          many = many ∙ ap Some (sym (length-nums_at f head.body F.ref_size head.count));
         }
+    listed_with v head e _ is many = absurd (none many)
+
+    listed_by : (b : Bool) (o : Option Head) → is_vouched heights n ≡ b → head_found f F n ≡ o → pairs f F heights n ≡ cond b (option_and_then pairs_of o) None → IsListedDict n
+    listed_by false o v e many = absurd (none many)
+    listed_by true None v e many = absurd (none many)
+    listed_by true (Some head) v e many = listed_with (vouched_by (slice_index heights n) v) head e head.kind refl many
 
     listed_dict : IsListedDict n
-    listed_dict = listed_by (is_vouched heights n) (spelled_at f F n) refl refl
+    listed_dict = listed_by (is_vouched heights n) (head_found f F n) refl refl refl
 
   -- ---- the key lists
-  module _ (c : Lists) (is : IsCertificate c) (u : IsUpgraded f F heights c) where
-    all_starts : length u.keyed.starts ≡ F.objects
-    all_starts = subst (HasStarts c.heights) u.keys is.starts ∙ u.accepted.valid.count
+  module _ (c : Lists) (u : IsUpgraded f F heights c) where
+    accepted_lists : IsAccepted f F (lists heights (Some u.keyed))
+    accepted_lists = subst (IsAccepted f F) u.is u.accepted
+
+    start_of : (n : ℕ) → n < F.objects → slice_index u.keyed.starts n ≡ cond (is_some (pairs f F heights n)) (pairs_below f F heights n) 0
+    start_of n low =
+        ap (λ xs. slice_index xs n) u.starts
+        ∙ get_or-map-range_with_len (λ m. cond (is_some (pairs f F heights m)) (pairs_below f F heights m) 0) 0 F.objects n n 0 low (omega arith)
 
     -- the key list of a dictionary
     list_there : (n : ℕ) → n < F.objects → (x : IsListedDict n) → IsSorted f F x.ks (part u.keyed.positions (pairs_below f F heights n) (length x.ks))
     list_there n low x =
-        let listed = subst (AreListed f F c.heights) u.keys u.accepted.listed in
-        let own = (listed n x.ks x.ms (subst (λ hs. IsVouchedBy hs n) (sym u.same) x.vouched) x.spells).1 in
-        subst (λ k. IsSorted f F x.ks (part u.keyed.positions k (length x.ks))) (u.starts n low ∙ ap (λ o. cond (is_some o) (pairs_below f F heights n) 0) x.many) own
+        let own = (accepted_lists.listed n x.ks x.ms x.vouched x.spells).1 in
+        subst (λ k. IsSorted f F x.ks (part u.keyed.positions k (length x.ks))) (start_of n low ∙ ap (λ o. cond (is_some o) (pairs_below f F heights n) 0) x.many) own
 
-  module _ (c d : Lists) (is : IsCertificate c) (js : IsCertificate d) (u : IsUpgraded f F heights c) (w : IsUpgraded f F heights d) where
+  module _ (c d : Lists) (u : IsUpgraded f F heights c) (w : IsUpgraded f F heights d) where
     same_position : (p : ℕ) → p < pairs_below f F heights F.objects → slice_index u.keyed.positions p ≡ slice_index w.keyed.positions p
     same_position p low =
-        let own = part_of many_of F.objects p low in
-        let x = listed_dict own.0 (omega (arith, own.2, own.3)) in
+        let own = part_of F.objects p low in
+        let x = listed_dict (accepted_lists c u).valid own.0 (omega (arith, own.2, own.3)) in
         let long = ap (λ o. unwrap_or o 0) x.many in
         let i = p - pairs_below f F heights own.0 in
         let at : pairs_below f F heights own.0 + i ≡ p = omega (arith, own.2) in
         let within : i < length x.ks = omega (arith, own.2, own.3, long) in
-        let same = one_sorted f F x.ks _ _ (list_there c is u own.0 own.1 x) (list_there d js w own.0 own.1 x) in
+        let same = one_sorted f F x.ks _ _ (list_there c u own.0 own.1 x) (list_there d w own.0 own.1 x) in
         sym (get_or-part u.keyed.positions (pairs_below f F heights own.0) (length x.ks) i 0 within ∙ ap (slice_index u.keyed.positions) at)
         ∙ ap (λ xs. slice_index xs i) same
         ∙ get_or-part w.keyed.positions (pairs_below f F heights own.0) (length x.ks) i 0 within ∙ ap (slice_index w.keyed.positions) at
@@ -208,13 +222,8 @@ module _ (f : List ℕ) (F : Frame) (heights : List ℕ) where
     -- the certificate with key lists is one
     pub one_upgraded : c ≡ d
     one_upgraded =
-        let many = all_starts c is u in
-        let others = all_starts d js w in
-        let starts : u.keyed.starts ≡ w.keyed.starts =
-        ext_get_or 0 u.keyed.starts w.keyed.starts (many ∙ sym others) (λ n low. u.starts n (omega (arith, low, many)) ∙ sym (w.starts n (omega (arith, low, many)))) in
+        let starts : u.keyed.starts ≡ w.keyed.starts = u.starts ∙ sym w.starts in
         let positions : u.keyed.positions ≡ w.keyed.positions =
         ext_get_or 0 u.keyed.positions w.keyed.positions (u.total ∙ sym w.total) (λ p low. same_position p (omega (arith, low, u.total))) in
         let keyed : u.keyed ≡ w.keyed = λ i. record { starts = starts i; positions = positions i } in
-        let heights_same : c.heights ≡ d.heights = u.same ∙ sym w.same in
-        let keys : c.keys ≡ d.keys = u.keys ∙ ap Some keyed ∙ sym w.keys in
-        λ i. record { heights = heights_same i; keys = keys i }
+        u.is ∙ ap (λ k. lists heights (Some k)) keyed ∙ sym w.is

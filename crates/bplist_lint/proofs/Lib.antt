@@ -5,6 +5,7 @@ pub mod FirstWithout
 pub mod HeightSteps
 pub mod TrailSteps
 pub mod ObjectReferences
+pub mod RangeSums
 pub mod TallySteps
 pub mod Walks
 pub mod ReachedObjects

@@ -3,24 +3,22 @@ use Rattle.std.proofs.Common.{◌≡◌, ◌≢◌, inl, inr, ℕ, zero, suc, �
 use Rattle.std.proofs.Math.Seq.{drop-append_seam, take-length}
 use Rattle.std.proofs.lemmas.Bool.{cases_eq}
 use Rattle.std.proofs.lemmas.List.{get_or-set_same, get_or-set_other, length-append, length-drop, drop-append-le, take-append-le}
+use Rattle.std.proofs.lemmas.List.FromFn.{fill_by_all}
 use Rattle.bplist_octets.specs.Octets.{part}
 use Rattle.bplist_objects.specs.declared.frame.Frame.{Frame}
 use Rattle.bplist_objects.specs.declared.kind.Kind.{Kind}
 use Rattle.bplist_objects.specs.declared.kind.Kind.TheVariants as kinds
 use Rattle.bplist_objects.specs.declared.head.Head.{Head}
 use Rattle.bplist_objects.specs.Frame.{off}
-use Rattle.bplist_objects.specs.Heads.{Content, HasShape, Spells, content_of, content_at}
-use Rattle.bplist_objects.specs.Announced.{markers_of, HasHead, item_size}
+use Rattle.bplist_objects.specs.Heads.{HasShape}
+use Rattle.bplist_objects.specs.Announced.{markers_of, head_found, HasHead, item_size}
 use Rattle.bplist_objects.specs.Extents.{HaveRoom}
-use Rattle.bplist_objects.specs.Spelled.{spelled_at}
 use Rattle.bplist_objects.proofs.HeadLaws.{head_parts}
 use Rattle.bplist_objects.proofs.AnnouncedHeads.{announced_short}
 use Rattle.bplist_objects.proofs.Lists.{all_weaker}
 use Rattle.bplist_objects.proofs.ExtentSums.{shape_extent, sums_none, sums_more, sums_same}
 use Rattle.bplist_objects.proofs.BodyLaws.{HasHead-unique}
-use Rattle.bplist_objects.proofs.HeadTies.{shape_announced, spells_body}
-use Rattle.bplist_objects.proofs.SpelledContents.{spells_iff}
-use Rattle.bplist_objects.proofs.References.{length-nums_at}
+use Rattle.bplist_objects.proofs.HeadTies.{shape_announced}
 use Rattle.bplist_cert.specs.Lists.{Keyed}
 use Rattle.bplist_cert.specs.Valid.{IsVouchedBy, IsValid}
 use Rattle.bplist_cert.specs.DictKeys.{AreInOrder}
@@ -28,6 +26,7 @@ use Rattle.bplist_lint.specs.KeyLists.{IsListed}
 use Rattle.bplist_cert.proofs.AcceptedCertificates.{accepted, keeps_all}
 use Rattle.bplist_lint.specs.Linted.{is_vouched}
 use Rattle.bplist_lint.specs.Upgraded.{pairs_of, pairs, pairs_below, Listed, IsUpgraded}
+use Rattle.bplist_lint.proofs.RangeSums.{found_next}
 use Rattle.bplist_lint.proofs.TallySteps.{next_is}
 
 -- ---- parts of lists
@@ -41,28 +40,25 @@ part_front xs ys s c within =
 part_back : (xs ys : List ℕ) (c : ℕ) → length ys ≡ c → part (xs ++ ys) (length xs) c ≡ ys
 part_back xs ys c is = ap (take c) (drop-append_seam xs ys) ∙ ap (λ k. take k ys) (sym is) ∙ take-length ys
 
--- ---- contents by their kind
-module _ (f : List ℕ) (F : Frame) where
-  dict_pairs : (kind : Kind) (count body : ℕ) → kind ≡ kinds.Dict → pairs_of (Some (content_of f F kind count body)) ≡ Some count
-  dict_pairs kinds.Dict count body e = ap Some (length-nums_at f body F.ref_size count)
-  dict_pairs _ count body e = absurd (cc e)
+-- ---- pairs by their kind
+-- a head of this kind, with the other parts of another
+abbrev with_kind : Head → Kind → Head
+with_kind head kind = record { kind = kind; count = head.count; body = head.body; «end» = head.«end» }
 
-  other_pairs : (kind : Kind) (count body : ℕ) → (kind ≡ kinds.Dict → ⊥) → pairs_of (Some (content_of f F kind count body)) ≡ None
-  other_pairs kinds.Null count body no_dict = refl
-  other_pairs kinds.False count body no_dict = refl
-  other_pairs kinds.True count body no_dict = refl
-  other_pairs kinds.Int count body no_dict = refl
-  other_pairs kinds.Real count body no_dict = refl
-  other_pairs kinds.Date count body no_dict = refl
-  other_pairs kinds.Bytes count body no_dict = refl
-  other_pairs kinds.Ascii count body no_dict = refl
-  other_pairs kinds.Wide count body no_dict = refl
-  other_pairs kinds.Uid count body no_dict = refl
-  other_pairs kinds.Array count body no_dict = refl
-  other_pairs kinds.Set count body no_dict = refl
-  other_pairs kinds.Dict count body no_dict = absurd (no_dict refl)
+dict_pairs : (head : Head) → head.kind ≡ kinds.Dict → pairs_of head ≡ Some head.count
+dict_pairs head e = ap (λ kind. pairs_of (with_kind head kind)) e
+
+other_pairs : (head : Head) → (head.kind ≡ kinds.Dict → ⊥) → pairs_of head ≡ None
+other_pairs head = by head.kind
+  where
+    by : (kind : Kind) → (kind ≡ kinds.Dict → ⊥) → pairs_of (with_kind head kind) ≡ None
+    by kinds.Dict no_dict = absurd (no_dict refl)
+    by _ no_dict = refl
 
 module _ (f : List ℕ) (F : Frame) (heights : List ℕ) where
+  pairs_next : (n : ℕ) → pairs_below f F heights (suc n) ≡ pairs_below f F heights n + unwrap_or (pairs f F heights n) 0
+  pairs_next n = found_next (pairs f F heights) n
+
   -- nothing is listed
   pub listed_none : (starts : List ℕ) → ((m : ℕ) → slice_index starts m ≡ 0) → Listed f F heights 0 starts []
   listed_none starts zeros = record {
@@ -81,7 +77,7 @@ module _ (f : List ℕ) (F : Frame) (heights : List ℕ) where
     listed_over none =
         let off_n : is_vouched heights n ≡ false = rw none refl in
         subst (λ k. Listed f F heights k starts positions) (next_is n) (record {
-          total = rw off_n (omega (arith, l.total));
+          total = let one = rw off_n at (pairs_next n) in omega (arith, one, l.total);
           begins = λ m low. elim (cases_eq m n) [
             | inl e ↦ rw (e, off_n) (l.later n (omega arith))
             | inr ne ↦ l.begins m (omega arith)
@@ -109,7 +105,7 @@ module _ (f : List ℕ) (F : Frame) (heights : List ℕ) where
           let at_n : slice_index (set starts n st) n ≡ st = get_or-set_same starts n st 0 room in
           let other_at : (m : ℕ) → m ≢ n → slice_index (set starts n st) m ≡ slice_index starts m = λ m ne. get_or-set_other starts n m st 0 ne in
           record {
-            total = omega (arith, long, l.total, many);
+            total = omega (arith, pairs_next n, long, l.total, many);
             begins = λ m low. elim (cases_eq m n) [
               | inl e ↦ rw e (at_n ∙ begin)
               | inr ne ↦ other_at m ne ∙ l.begins m (omega arith)
@@ -127,65 +123,62 @@ module _ (f : List ℕ) (F : Frame) (heights : List ℕ) where
             few = omega (arith, long, l.few, short);
           }
 
-      module _ (content : Content) (spells : Spells f F n content) where
-        spelled : spelled_at f F n ≡ Some (content_at f F head)
-        spelled = (spells_iff f F n content).0 spells ∙ ap Some (spells_body f F n head content shape spells)
+      found : head_found f F n ≡ Some head
+      found = shape_announced f F n head shape
 
-        same_head : (other : Head) → HasHead f F n other → head ≡ other
-        same_head other has = HasHead-unique f F n head other (shape_announced f F n head shape) has
+      same_head : (other : Head) → HasHead f F n other → head ≡ other
+      same_head other has = HasHead-unique f F n head other found has
 
-        -- an object that is no dictionary
-        pub listed_other : (head.kind ≡ kinds.Dict → ⊥) → Listed f F heights (n + 1) (set starts n 0) positions
-        listed_other no_dict =
-            let o = other_pairs f F head.kind head.count head.body no_dict in
-            let empty : positions ++ [] ≡ positions = search rules in
-            subst (λ k. Listed f F heights k (set starts n 0) positions) (next_is n) (subst (Listed f F heights (suc n) (set starts n 0)) empty
-            (step 0 [] (rw (on_n, spelled, o) refl) (rw (on_n, spelled, o) refl) (omega arith) (λ other has dict. absurd (no_dict (rw (← same_head other has) at dict)))))
+      -- an object that is no dictionary
+      pub listed_other : (head.kind ≡ kinds.Dict → ⊥) → Listed f F heights (n + 1) (set starts n 0) positions
+      listed_other no_dict =
+          let o = other_pairs head no_dict in
+          let empty : positions ++ [] ≡ positions = search rules in
+          subst (λ k. Listed f F heights k (set starts n 0) positions) (next_is n) (subst (Listed f F heights (suc n) (set starts n 0)) empty
+          (step 0 [] (rw (on_n, found, o) refl) (rw (on_n, found, o) refl) (omega arith) (λ other has dict. absurd (no_dict (rw (← same_head other has) at dict)))))
 
-        -- how far the bytes of a dictionary go
-        pairs_within : head.kind ≡ kinds.Dict → 1 ≤ F.ref_size → head.count ≤ head.«end» - off f F n
-        pairs_within dict low =
-            let u : item_size F.ref_size head.kind ≡ 2 * F.ref_size = ap (item_size F.ref_size) dict in
-            let parts = head_parts f F n head shape.has in
-            let end : head.«end» ≡ head.body + head.count * (2 * F.ref_size) = parts.1 ∙ ap (λ x. head.body + head.count * x) u in
-            let behind = (announced_short f (off f F n) (markers_of head.kind) head.count head.body parts.0).0 in
-            count_within head.count F.ref_size head.body head.«end» (off f F n) low end (omega (arith, behind))
-          where
-            count_within : (count r body last place : ℕ) → 1 ≤ r → last ≡ body + count * (2 * r) → place ≤ body → count ≤ last - place
-            count_within count zero body last place low is from = absurd (omega arith)
-            count_within count (suc r) body last place low is from =
-                let more : count * (2 * suc r) ≡ count * 2 + count * (2 * r) = omega arith in
-                omega arith
+      -- how far the bytes of a dictionary go
+      pairs_within : head.kind ≡ kinds.Dict → 1 ≤ F.ref_size → head.count ≤ head.«end» - off f F n
+      pairs_within dict low =
+          let u : item_size F.ref_size head.kind ≡ 2 * F.ref_size = ap (item_size F.ref_size) dict in
+          let parts = head_parts f F n head shape.has in
+          let end : head.«end» ≡ head.body + head.count * (2 * F.ref_size) = parts.1 ∙ ap (λ x. head.body + head.count * x) u in
+          let behind = (announced_short f (off f F n) (markers_of head.kind) head.count head.body parts.0).0 in
+          count_within head.count F.ref_size head.body head.«end» (off f F n) low end (omega (arith, behind))
+        where
+          count_within : (count r body last place : ℕ) → 1 ≤ r → last ≡ body + count * (2 * r) → place ≤ body → count ≤ last - place
+          count_within count zero body last place low is from = absurd (omega arith)
+          count_within count (suc r) body last place low is from =
+              let more : count * (2 * suc r) ≡ count * 2 + count * (2 * r) = omega arith in
+              omega arith
 
-        -- a dictionary, with its key list behind the positions
-        pub listed_dict : head.kind ≡ kinds.Dict → 1 ≤ F.ref_size → (after : List ℕ) → IsListed f F head positions after → Listed f F heights (n + 1) (set starts n (length positions)) after
-        listed_dict dict low after is =
-            let d = dict_pairs f F head.kind head.count head.body dict in
-            let long = length-append positions is.list in
-            let short = pairs_within dict low in
-            subst (λ k. Listed f F heights k (set starts n (length positions)) after) (next_is n) (subst (Listed f F heights (suc n) (set starts n (length positions))) (sym is.behind)
-            (step (length positions) is.list (rw (on_n, spelled, d) is.count) (rw (on_n, spelled, d) l.total) (omega (arith, is.count, short))
-            (λ other has k.
-            subst (λ (h : Head). (length positions + h.count ≤ length (positions ++ is.list)) × AreInOrder f F h (part (positions ++ is.list) (length positions) h.count) h.count) (same_head other has)
-            (omega (arith, long, is.count), subst (λ xs. AreInOrder f F head xs head.count) (sym (part_back positions is.list head.count is.count)) is.order))))
+      -- a dictionary, with its key list behind the positions
+      pub listed_dict : head.kind ≡ kinds.Dict → 1 ≤ F.ref_size → (after : List ℕ) → IsListed f F head positions after → Listed f F heights (n + 1) (set starts n (length positions)) after
+      listed_dict dict low after is =
+          let d = dict_pairs head dict in
+          let long = length-append positions is.list in
+          let short = pairs_within dict low in
+          subst (λ k. Listed f F heights k (set starts n (length positions)) after) (next_is n) (subst (Listed f F heights (suc n) (set starts n (length positions))) (sym is.behind)
+          (step (length positions) is.list (rw (on_n, found, d) is.count) (rw (on_n, found, d) l.total) (omega (arith, is.count, short))
+          (λ other has k.
+          subst (λ (h : Head). (length positions + h.count ≤ length (positions ++ is.list)) × AreInOrder f F h (part (positions ++ is.list) (length positions) h.count) h.count) (same_head other has)
+          (omega (arith, long, is.count), subst (λ xs. AreInOrder f F head xs head.count) (sym (part_back positions is.list head.count is.count)) is.order))))
 
-        -- there is room for the positions
-        pub listed_room : head.kind ≡ kinds.Dict → 1 ≤ F.ref_size → HaveRoom f F (IsVouchedBy heights) → length positions + head.count + 8 ≤ F.table
-        listed_room dict low have =
-            let short = pairs_within dict low in
-            let s = sums_more f F (IsVouchedBy heights) n (head.«end» - off f F n) l.used vouched (shape_extent f F n head shape) l.sums in
-            let all = have s.objects _ s.differ (all_weaker _ _ (λ m k. k.0) s.objects s.inside) s.take_all in
-            omega (arith, all, l.few, short)
+      -- there is room for the positions
+      pub listed_room : head.kind ≡ kinds.Dict → 1 ≤ F.ref_size → HaveRoom f F (IsVouchedBy heights) → length positions + head.count + 8 ≤ F.table
+      listed_room dict low have =
+          let short = pairs_within dict low in
+          let s = sums_more f F (IsVouchedBy heights) n (head.«end» - off f F n) l.used vouched (shape_extent f F n head shape) l.sums in
+          let all = have s.objects _ s.differ (all_weaker _ _ (λ m k. k.0) s.objects s.inside) s.take_all in
+          omega (arith, all, l.few, short)
 
   -- all are listed
   module _ (valid : IsValid f F heights) (keyed : Keyed) (count : length keyed.starts ≡ F.objects) (l : Listed f F heights F.objects keyed.starts keyed.positions) where
     pub upgraded : IsUpgraded f F heights (record { heights = heights; keys = Some keyed })
     upgraded = record {
-      same = refl;
       keyed = keyed;
-      keys = refl;
-      count = count;
-      starts = l.begins;
+      is = refl;
+      starts = fill_by_all (λ n. cond (is_some (pairs f F heights n)) (pairs_below f F heights n) 0) keyed.starts F.objects 0 count l.begins;
       total = l.total;
       accepted = accepted f F (record { heights = heights; keys = Some keyed }) (record {
         framed = valid.frame;

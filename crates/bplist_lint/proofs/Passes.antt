@@ -36,7 +36,8 @@ use Rattle.bplist_lint.specs.Linted.{is_vouched, KeepsRules, IsLintedBy, HasNoHe
 use Rattle.bplist_lint.proofs.HeldValues.{formed_holds, holds_formed}
 use Rattle.bplist_lint.proofs.KeptRules.{kept_spells}
 use Rattle.bplist_lint.proofs.OffsetSteps.{kept_low, kept_high}
-use Rattle.bplist_lint.proofs.Walks.{sum_alike, same_mark}
+use Rattle.bplist_lint.proofs.RangeSums.{sum_next}
+use Rattle.bplist_lint.proofs.Walks.{same_mark}
 use Rattle.bplist_lint.proofs.ReferenceGraph.{circle_iff}
 use Rattle.bplist_lint.proofs.LintAnswers.{formed_by_valid, least_lowest, lint_yes}
 use Rattle.bplist_lint.proofs.FirstFaults.{fault_not_formed, circle_not_formed}
@@ -64,7 +65,7 @@ vouched_counted heights zero l = refl
 vouched_counted heights (suc n) l =
     let more = rw (add-one n) at (sum_by_more (λ h. cond (nat_lt 0 h) 1 0) heights n 0 (omega (arith, l))) in
     let before = vouched_counted heights n (omega (arith, l)) in
-    omega (arith, more, before)
+    omega (arith, sum_next (λ m. cond (is_vouched heights m) 1 0) n, more, before)
 
 module _ (f : List ℕ) (F : Frame) where
   -- the marked objects are those with a height
@@ -76,12 +77,12 @@ module _ (f : List ℕ) (F : Frame) where
 
     pub same_number : reached.tally.reached ≡ count_by (nat_lt 0) heights
     same_number =
-        s.walked.tallied.reached ∙ sum_alike _ _ F.objects (λ m low. ap (λ b. cond b 1 0) (same_objects m))
+        s.walked.tallied.reached ∙ ap (λ p. number_below p F.objects) (λ i m. same_objects m i)
         ∙ ap (number_below (is_vouched heights)) (sym least.count) ∙ vouched_counted heights (length heights) (omega arith)
         ∙ ap (count_by (nat_lt 0)) (take-length heights)
 
     pub same_references : reached.tally.references ≡ references_below f F (is_vouched heights) F.objects
-    same_references = s.walked.tallied.references ∙ sum_alike _ _ F.objects (λ m low. ap (λ b. cond b (length (refs_at f F m)) 0) (same_objects m))
+    same_references = s.walked.tallied.references ∙ ap (λ p. references_below f F p F.objects) (λ i m. same_objects m i)
 
   -- the answer
   pub linted : IsFrame f F → (reached : Reached) → KeepsRules f F reached → reached.tally.references + 8 ≤ F.table → (lint : Lint) → lint.certificate.keys ≡ None

@@ -1,12 +1,12 @@
 -- Running tallies of the reached objects.
-use Rattle.std.proofs.Common.{◌≡◌, ℕ, suc, ◌+◌, ◌-◌, ◌<◌, ◌≤◌, inl, inr, Bool, false, List, [], ◌∷◌, length, get_or, refl, sym, ap, subst, arith, Some}
+use Rattle.std.proofs.Common.{◌≡◌, ℕ, suc, ◌+◌, ◌-◌, ◌<◌, ◌≤◌, inl, inr, Bool, false, cond, List, [], ◌∷◌, get_or, refl, sym, subst, arith, Some}
 use Rattle.std.proofs.lemmas.Bool.{cases_eq}
 use Rattle.bplist_objects.specs.declared.rule.Rule.TheVariants as rules
 use Rattle.bplist_objects.specs.declared.fault.Fault.{Fault}
 use Rattle.bplist_objects.specs.declared.frame.Frame.{Frame}
 use Rattle.bplist_objects.specs.declared.head.Head.{Head}
 use Rattle.bplist_objects.specs.Frame.{off, IsFrame}
-use Rattle.bplist_objects.specs.Heads.{IsHeadOf, content_at}
+use Rattle.bplist_objects.specs.Heads.{IsHeadOf}
 use Rattle.bplist_objects.specs.Announced.{HasHead}
 use Rattle.bplist_objects.specs.Safe.{ref_count}
 use Rattle.bplist_objects.specs.Rules.{KeepsAll}
@@ -16,11 +16,10 @@ use Rattle.bplist_objects.specs.Extents.{Sums}
 use Rattle.bplist_objects.proofs.ExtentSums.{shape_extent, sums_none, sums_more, sums_same, not_overfull, overfull}
 use Rattle.bplist_objects.proofs.RuleLaws.{first_fault_after, first_fault_among, kept_all_after}
 use Rattle.bplist_objects.proofs.HeadTies.{head_tie}
-use Rattle.bplist_objects.proofs.References.{length-refs}
-use Rattle.bplist_objects.proofs.ReachedObjects.{refs_spelled}
 use Rattle.bplist_keys.specs.Marks.{IsMarked}
-use Rattle.bplist_lint.specs.ReachRules.{KeepsByReach, BreaksAtReach, IsReachFault, Tallied}
+use Rattle.bplist_lint.specs.ReachRules.{KeepsByReach, BreaksAtReach, IsReachFault, is_marked, Tallied}
 use Rattle.bplist_lint.specs.declared.tally.Tally.{Tally}
+use Rattle.bplist_lint.proofs.RangeSums.{sum_next, references_are, references_next}
 
 pub next_is : (n : ℕ) → suc n ≡ n + 1
 next_is n = omega arith
@@ -34,8 +33,8 @@ module _ (f : List ℕ) (F : Frame) where
       | inr ne ↦ t.kept m (omega arith) r
     ];
     sums = sums_same f F (Reach f F) n tally.used unreached t.sums;
-    reached = rw unmarked (omega (arith, t.reached));
-    references = rw unmarked (omega (arith, t.references));
+    reached = let one = rw unmarked at (sum_next (λ m. cond (is_marked marks m) 1 0) n) in omega (arith, one, t.reached);
+    references = let one = rw unmarked at (references_next f F (is_marked marks) n) in omega (arith, one, t.references);
   })
 
   pub tallied_none : (marks : List Bool) → Tallied f F marks 0 (record { reached = 0; used = 0; references = 0 })
@@ -81,6 +80,6 @@ module _ (f : List ℕ) (F : Frame) where
           | inr ne ↦ t.kept m (omega arith) r
         ];
         sums = subst (Sums f F (Reach f F) (suc n)) (sym bytes) sums_with;
-        reached = rw marked (omega (arith, one, t.reached));
-        references = rw marked (omega (arith, more, t.references, ap length (refs_spelled f F n (content_at f F head) is_head.1), length-refs f F head.kind head.count head.body));
+        reached = let next = rw marked at (sum_next (λ m. cond (is_marked marks m) 1 0) n) in omega (arith, next, one, t.reached);
+        references = let next = rw marked at (references_next f F (is_marked marks) n) in omega (arith, next, more, t.references, references_are f F n head has);
       })

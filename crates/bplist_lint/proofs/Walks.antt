@@ -11,22 +11,19 @@ use Rattle.bplist_objects.specs.ObjectRules.{KeepsByObject, object_rules}
 use Rattle.bplist_objects.specs.Reach.{Reach, top, next}
 use Rattle.bplist_objects.specs.Extents.{Sums}
 use Rattle.bplist_objects.specs.Rules.{KeepsAll}
-use Rattle.bplist_objects.specs.Safe.{ref_count}
 use Rattle.bplist_objects.specs.Spelled.{refs_at}
-use Rattle.bplist_objects.specs.Heads.{content_at}
 use Rattle.bplist_objects.proofs.Lists.{none_in}
-use Rattle.bplist_objects.proofs.ReachedObjects.{refs_iff, refs_spelled}
-use Rattle.bplist_objects.proofs.References.{length-refs}
-use Rattle.bplist_objects.proofs.HeadTies.{head_tie}
+use Rattle.bplist_objects.proofs.ReachedObjects.{refs_iff}
 use Rattle.bplist_keys.specs.Classes.{HasNamedKeys}
 use Rattle.bplist_keys.specs.Marks.{IsMarked}
 use Rattle.bplist_lint.specs.declared.tally.Tally.{Tally}
 use Rattle.bplist_lint.specs.declared.walk.Reached.{Reached}
 use Rattle.bplist_lint.specs.ReferenceGraph.{AreChildless}
-use Rattle.bplist_lint.specs.ReachRules.{sum_below, number_below, references_below, is_marked, Tallied}
+use Rattle.bplist_lint.specs.ReachRules.{number_below, references_below, is_marked, Tallied}
 use Rattle.bplist_lint.specs.Tallies.{IsTalliedWith}
 use Rattle.bplist_lint.specs.ReachWalk.{Noted, extent_by, extent, extents_below, IsVisited, IsWalkState, IsWalked, AreNamed}
 use Rattle.bplist_lint.proofs.MarkSteps.{apart_none, apart_push, apart_front, apart_last, fresh-set}
+use Rattle.bplist_lint.proofs.RangeSums.{sum_below, sum_next, references_of, references_are, extents_sum, references_sum, extents_next, references_next}
 use Rattle.bplist_lint.proofs.ReachSteps.{marked_within}
 use Rattle.bplist_lint.proofs.TallySteps.{tallied_none, tallied_over, tallied_more, next_is}
 use Rattle.bplist_lint.proofs.ListWrites.{seen-set, unwritten}
@@ -34,21 +31,21 @@ use Rattle.bplist_lint.proofs.ListWrites.{seen-set, unwritten}
 -- ---- sums below a number
 sum_of_none : (g : ℕ → ℕ) (n : ℕ) → ((m : ℕ) → g m ≡ 0) → sum_below g n ≡ 0
 sum_of_none g zero none = refl
-sum_of_none g (suc n) none = let before = sum_of_none g n none in let here = none n in omega arith
+sum_of_none g (suc n) none = let before = sum_of_none g n none in let here = none n in omega (arith, sum_next g n)
 
 pub sum_alike : (g k : ℕ → ℕ) (n : ℕ) → ((m : ℕ) → m < n → g m ≡ k m) → sum_below g n ≡ sum_below k n
 sum_alike g k zero same = refl
 sum_alike g k (suc n) same =
     let before = sum_alike g k n (λ m low. same m (omega arith)) in
     let here = same n (omega arith) in
-    omega arith
+    omega (arith, sum_next g n, sum_next k n)
 
 -- a sum of fewer is no greater
 sum_grows : (g : ℕ → ℕ) (n m : ℕ) → n ≤ m → sum_below g n ≤ sum_below g m
 sum_grows g n zero low = let z : n ≡ 0 = omega arith in rw z (omega arith)
 sum_grows g n (suc m) low = elim (cases_eq n (suc m)) [
   | inl e ↦ rw e (omega arith)
-  | inr ne ↦ let before = sum_grows g n m (omega arith) in omega arith
+  | inr ne ↦ let before = sum_grows g n m (omega arith) in omega (arith, sum_next g m)
 ]
 
 -- one number more of which something is added
@@ -58,11 +55,11 @@ sum_turned g k (suc n) i low same none = elim (cases_eq i n) [
   | inl e ↦
       let before = sum_alike g k n (λ m l. same m (omega arith)) in
       let here : k n ≡ 0 = rw e at none in
-      rw e (omega arith)
+      rw e (omega (arith, sum_next g n, sum_next k n))
   | inr ne ↦
       let before = sum_turned g k n i (omega arith) same none in
       let here = same n (λ q. ne (sym q)) in
-      omega arith
+      omega (arith, sum_next g n, sum_next k n)
 ]
 
 -- the sum over what is marked, with one mark more
@@ -109,8 +106,8 @@ module _ (f : List ℕ) (F : Frame) where
         each = λ m h. absurd (no1 m h);
         childless_known = λ m h. absurd (no1 m h);
         reached = sym (sum (λ m. 1));
-        used = sym (sum (extent f F));
-        references = sym (sum (λ m. length (refs_at f F m)));
+        used = sym (extents_sum f F _ F.objects ∙ sum (extent f F));
+        references = sym (references_sum f F _ F.objects ∙ sum (references_of f F));
       }
 
   -- ---- between visits
@@ -177,8 +174,6 @@ module _ (f : List ℕ) (F : Frame) where
         let here : n < length w.visited = omega (arith, w.all_visited) in
         let on = w.waiting n (Contains-push stack n) in
         let at_n : Reach f F n = w.sound n on.0 in
-        let spelled = (head_tie f F n frame within head).0 (has, kept) in
-        let references : length (refs_at f F n) ≡ ref_count head.kind head.count = ap length (refs_spelled f F n (content_at f F head) spelled.1) ∙ length-refs f F head.kind head.count head.body in
         let own : IsVisited f F marks' keys' n = record { head = head; has = has; kept = kept; all = s.all; named = named } in
         record {
           visited = set w.visited n true;
@@ -211,8 +206,8 @@ module _ (f : List ℕ) (F : Frame) where
           ];
           childless_known = known;
           reached = let sum = sum_marked (λ m. 1) w.visited F.objects n within here on.1 in omega (arith, sum, t.reached, w.reached);
-          used = let sum = sum_marked (extent f F) w.visited F.objects n within here on.1 in let one = extent_is n head has in omega (arith, sum, one, t.used, w.used);
-          references = let sum = sum_marked (λ m. length (refs_at f F m)) w.visited F.objects n within here on.1 in omega (arith, sum, references, t.references, w.references);
+          used = let sum = sum_marked (extent f F) w.visited F.objects n within here on.1 in let one = extent_is n head has in omega (arith, extents_sum f F (is_marked w.visited) F.objects, extents_sum f F (is_marked (set w.visited n true)) F.objects, sum, one, t.used, w.used);
+          references = let sum = sum_marked (references_of f F) w.visited F.objects n within here on.1 in let one = references_are f F n head has in omega (arith, references_sum f F (is_marked w.visited) F.objects, references_sum f F (is_marked (set w.visited n true)) F.objects, sum, one, t.references, w.references);
         }
 
   -- ---- the end
@@ -237,7 +232,10 @@ module _ (f : List ℕ) (F : Frame) where
     used_below n low =
         let part = sum_grows (λ m. cond (is_marked reached.marks.items m) (extent f F m) 0) n F.objects low in
         let whole = same_sum (extent f F) in
-        omega (arith, part, whole, w.used, room)
+        omega (arith, extents_sum f F (is_marked reached.marks.items) n, extents_sum f F (is_marked w.visited) F.objects, part, whole, w.used, room)
+
+    number_next : (n : ℕ) → number_below (is_marked reached.marks.items) (suc n) ≡ number_below (is_marked reached.marks.items) n + cond (is_marked reached.marks.items n) 1 0
+    number_next n = sum_next (λ m. cond (is_marked reached.marks.items m) 1 0) n
 
     -- one object more of those in their order
     tallied_next : (n : ℕ) → n < F.objects → (before t : Tally) → before.reached ≡ number_below (is_marked reached.marks.items) n → before.used ≡ extents_below f F (is_marked reached.marks.items) n
@@ -247,19 +245,19 @@ module _ (f : List ℕ) (F : Frame) where
         let v = (w.each n (visited_as n marked)).2 in
         let has : HasHead f F n v.head = v.has in
         let is : extent f F n ≡ v.head.«end» - off f F n = extent_is n v.head has in
-        let bound = rw marked at (used_below (suc n) low) in
-        let spelled = (head_tie f F n frame low v.head).0 (has, v.kept) in
-        let references : length (refs_at f F n) ≡ ref_count v.head.kind v.head.count = ap length (refs_spelled f F n (content_at f F v.head) spelled.1) ∙ length-refs f F v.head.kind v.head.count v.head.body in
-        let one1 = rw marked at one in
-        let bytes1 = rw marked at bytes in
-        let more1 = rw marked at more in
+        let references = references_are f F n v.head has in
+        let bound = used_below (suc n) low in
+        let next1 = rw marked at (extents_next f F (is_marked reached.marks.items) n) in
+        let one1 = rw marked at (one ∙ number_next n) in
+        let bytes1 = bytes ∙ next1 in
+        let more1 = rw marked at (more ∙ references_next f F (is_marked reached.marks.items) n) in
         tallied_more f F frame n low (w.sound n marked) reached.marks.items before so_far v.head has v.kept marked
-        (omega (arith, bound, is, bytes0)) t (omega (arith, one1, one0)) (omega (arith, bytes1, bytes0, is)) (omega (arith, more1, more0, references))
+        (omega (arith, bound, next1, is, bytes0)) t (omega (arith, one1, one0)) (omega (arith, bytes1, bytes0, is)) (omega (arith, more1, more0, references))
     tallied_next n low before t one0 bytes0 more0 one bytes more so_far false unmarked =
         let over = tallied_over f F reached.marks.items n before unmarked (λ r. false≢true (sym unmarked ∙ reach_marked n r)) so_far in
-        let one1 = rw unmarked at one in
-        let bytes1 = rw unmarked at bytes in
-        let more1 = rw unmarked at more in
+        let one1 = rw unmarked at (one ∙ number_next n) in
+        let bytes1 = rw unmarked at (bytes ∙ extents_next f F (is_marked reached.marks.items) n) in
+        let more1 = rw unmarked at (more ∙ references_next f F (is_marked reached.marks.items) n) in
         let same : t.used ≡ before.used = omega (arith, bytes1, bytes0) in
         let one2 : t.reached ≡ before.reached = omega (arith, one1, one0) in
         let more2 : t.references ≡ before.references = omega (arith, more1, more0) in
@@ -285,7 +283,7 @@ module _ (f : List ℕ) (F : Frame) where
     walked = record {
       marked = λ n. (w.sound n, reach_marked n);
       childless = w.childless_known;
-      tallied = tallied_to F.objects (omega arith) reached.tally (w.reached ∙ same_sum (λ m. 1)) (w.used ∙ same_sum (extent f F)) (w.references ∙ same_sum (λ m. length (refs_at f F m)));
+      tallied = tallied_to F.objects (omega arith) reached.tally (w.reached ∙ same_sum (λ m. 1)) (w.used ∙ extents_sum f F _ F.objects ∙ same_sum (extent f F) ∙ sym (extents_sum f F _ F.objects)) (w.references ∙ references_sum f F _ F.objects ∙ same_sum (references_of f F) ∙ sym (references_sum f F _ F.objects));
     }
 
     pub walking_end : IsWalked f F reached × AreNamed f F keys

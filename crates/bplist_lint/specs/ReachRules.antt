@@ -1,31 +1,28 @@
 -- The rules of the objects that the top reaches, 14 to 20 and 31: how each is kept, and how it is broken and where, and the first fault of them.
 -- Source: profile.
-use Rattle.std.specs.Prelude.{◌≡◌, ℕ, zero, suc, ◌+◌, Bool, false, cond, List, [], ◌∷◌, ◌++◌, length, slice_index_or, Option, Some}
+use Rattle.std.specs.Prelude.{◌≡◌, ℕ, Bool, false, List, [], ◌∷◌, ◌++◌, slice_index_or, Option, Some, sum_by, count_by, filter, filter_map}
+use Rattle.std.specs.List.{range_with_len}
 use Rattle.bplist_objects.specs.declared.rule.Rule.{Rule}
 use Rattle.bplist_objects.specs.declared.rule.Rule.TheVariants as rules
 use Rattle.bplist_objects.specs.declared.fault.Fault.{Fault}
 use Rattle.bplist_objects.specs.declared.frame.Frame.{Frame}
 use Rattle.bplist_objects.specs.declared.frame.ObjectNo.{ObjectNo}
 use Rattle.bplist_objects.specs.Frame.{off}
+use Rattle.bplist_objects.specs.Safe.{ref_count}
+use Rattle.bplist_objects.specs.Announced.{head_found}
 use Rattle.bplist_objects.specs.Rules.{KeepBelow, IsLeastFault}
 use Rattle.bplist_objects.specs.ObjectRules.{KeepsByObject, BreaksAt, object_rules}
 use Rattle.bplist_objects.specs.Reach.{Reach}
 use Rattle.bplist_objects.specs.Extents.{Sums, IsOverfull}
-use Rattle.bplist_objects.specs.Spelled.{refs_at}
 use Rattle.bplist_lint.specs.declared.tally.Tally.{Tally}
 
 -- the rules of a reached object, in order
 abbrev pub reach_rules : List Rule
 reach_rules = object_rules ++ rules.Overfull ∷ []
 
--- the sum of g below n
-abbrev pub sum_below : (ℕ → ℕ) → ℕ → ℕ
-sum_below g zero = 0
-sum_below g (suc n) = sum_below g n + g n
-
 -- how many objects below n satisfy p
 abbrev pub number_below : (ℕ → Bool) → ℕ → ℕ
-number_below p n = sum_below (λ m. cond (p m) 1 0) n
+number_below p n = count_by p (range_with_len 0 n)
 
 -- the object is marked
 abbrev pub is_marked : List Bool → ℕ → Bool
@@ -51,9 +48,9 @@ module _ (f : List ℕ) (F : Frame) where
   abbrev pub IsReachFault : Fault → Type 0
   IsReachFault fault = IsLeastFault KeepsByReach reach_rules (Reach f F) BreaksAtReach fault
 
-  -- how many references the objects below n that satisfy p have
+  -- how many references the heads of the objects below n that satisfy p announce
   abbrev pub references_below : (ℕ → Bool) → ℕ → ℕ
-  references_below p n = sum_below (λ m. cond (p m) (length (refs_at f F m)) 0) n
+  references_below p n = sum_by (λ head. ref_count head.kind head.count) (filter_map (head_found f F) (filter p (range_with_len 0 n)))
 
   -- so far the reached objects, which are marked, keep the rules, and this is their tally
   pub record Tallied (marks : List Bool) (n : ℕ) (tally : Tally) : Type 0 where

@@ -1,5 +1,6 @@
 -- The one walk over the reached objects: what it knows between two visits, and at its end. Source: profile.
-use Rattle.std.specs.Prelude.{◌≡◌, ◌≢◌, ◌⊎◌, ◌↔◌, ℕ, ◌-◌, ◌<◌, ◌≤◌, Bool, true, false, cond, All, List, length, slice_index, vec_len, Contains, Option, Some, None, Result, Ok, Err}
+use Rattle.std.specs.Prelude.{◌≡◌, ◌≢◌, ◌⊎◌, ◌↔◌, ℕ, ◌-◌, ◌<◌, ◌≤◌, Bool, true, false, All, List, length, slice_index, vec_len, Contains, Option, Some, None, Result, Ok, Err, sum_by, filter}
+use Rattle.std.specs.List.{range_with_len}
 use Rattle.bplist_objects.specs.declared.fault.ObjectFault.{ObjectFault}
 use Rattle.bplist_objects.specs.declared.fault.ObjectFault.TheVariants as object_faults
 use Rattle.bplist_objects.specs.declared.frame.Frame.{Frame}
@@ -20,7 +21,7 @@ use Rattle.bplist_lint.specs.declared.walk.Progress.{Progress}
 use Rattle.bplist_lint.specs.declared.walk.Reached.{Reached}
 use Rattle.bplist_lint.specs.ReachSearch.{HasMarks}
 use Rattle.bplist_lint.specs.ReferenceGraph.{AreChildless}
-use Rattle.bplist_lint.specs.ReachRules.{sum_below, number_below, references_below, is_marked, Tallied}
+use Rattle.bplist_lint.specs.ReachRules.{number_below, references_below, is_marked, Tallied}
 use Rattle.bplist_lint.specs.Tallies.{IsRoomy}
 
 -- ---- why the walk ended
@@ -84,7 +85,7 @@ module _ (f : List ℕ) (F : Frame) where
 
   -- how many bytes the objects that p holds of take together among those below n
   abbrev pub extents_below : (ℕ → Bool) → ℕ → ℕ
-  extents_below p n = sum_below (λ m. cond (p m) (extent m) 0) n
+  extents_below p n = sum_by extent (filter p (range_with_len 0 n))
 
   -- object n keeps rules 14 to 20, its references are marked, and its keys are named
   pub record IsVisited (marks keys : List Bool) (n : ℕ) : Type 0 where

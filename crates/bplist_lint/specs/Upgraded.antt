@@ -1,31 +1,30 @@
 -- The key lists of vouched dictionaries, one behind the other. Source: profile.
-use Rattle.std.specs.Prelude.{◌≡◌, ℕ, ◌<◌, ◌≤◌, cond, List, length, slice_index, Option, Some, None, is_some, unwrap_or}
+use Rattle.std.specs.Prelude.{◌≡◌, ℕ, ◌<◌, ◌≤◌, cond, List, length, slice_index, Option, Some, None, is_some, map, sum, filter_map}
+use Rattle.std.specs.List.{range_with_len}
+use Rattle.std.specs.Option.{option_and_then}
 use Rattle.bplist_objects.specs.declared.frame.Frame.{Frame}
 use Rattle.bplist_objects.specs.declared.head.Head.{Head}
 use Rattle.bplist_objects.specs.declared.kind.Kind.TheVariants.{Dict}
-use Rattle.bplist_objects.specs.Announced.{HasHead}
-use Rattle.bplist_objects.specs.Heads.{Content, dict}
+use Rattle.bplist_objects.specs.Announced.{head_found, HasHead}
 use Rattle.bplist_objects.specs.Extents.{Sums}
-use Rattle.bplist_objects.specs.Spelled.{spelled_at}
-use Rattle.bplist_cert.specs.Lists.{Keyed, Lists}
+use Rattle.bplist_cert.specs.Lists.{Keyed, Lists, lists}
 use Rattle.bplist_cert.specs.Valid.{IsVouchedBy}
 use Rattle.bplist_cert.specs.Sorted.{IsAccepted}
 use Rattle.bplist_cert.specs.CheckRules.{HasOrder}
-use Rattle.bplist_lint.specs.ReachRules.{sum_below}
 use Rattle.bplist_lint.specs.Linted.{is_vouched}
 
--- how many pairs a dictionary has
-abbrev pub pairs_of : Option Content → Option ℕ
-pairs_of content = elim content [ Some (dict ks ms) ↦ Some (length ks) | _ ↦ None ]
+-- how many pairs the head of a dictionary announces
+abbrev pub pairs_of : Head → Option ℕ
+pairs_of head = elim head.kind [ Dict ↦ Some head.count | _ ↦ None ]
 
 module _ (f : List ℕ) (F : Frame) (heights : List ℕ) where
   -- how many positions the key list of object n has, if it is a vouched dictionary
   abbrev pub pairs : ℕ → Option ℕ
-  pairs n = cond (is_vouched heights n) (pairs_of (spelled_at f F n)) None
+  pairs n = cond (is_vouched heights n) (option_and_then pairs_of (head_found f F n)) None
 
   -- how many positions the key lists of the objects below n have together
   abbrev pub pairs_below : ℕ → ℕ
-  pairs_below n = sum_below (λ m. unwrap_or (pairs m) 0) n
+  pairs_below n = sum (filter_map pairs (range_with_len 0 n))
 
   -- so far the vouched dictionaries have their key lists
   pub record Listed (n : ℕ) (starts positions : List ℕ) : Type 0 where
@@ -40,10 +39,8 @@ module _ (f : List ℕ) (F : Frame) (heights : List ℕ) where
 
   -- the certificate keeps its heights and gets the key lists of the vouched dictionaries, one after the other
   pub record IsUpgraded (certificate : Lists) : Type 0 where
-    pub same : certificate.heights ≡ heights
     pub keyed : Keyed
-    pub keys : certificate.keys ≡ Some keyed
-    pub count : length keyed.starts ≡ F.objects
-    pub starts : (n : ℕ) → n < F.objects → slice_index keyed.starts n ≡ cond (is_some (pairs n)) (pairs_below n) 0
+    pub is : certificate ≡ lists heights (Some keyed)
+    pub starts : keyed.starts ≡ map (λ n. cond (is_some (pairs n)) (pairs_below n) 0) (range_with_len 0 F.objects)
     pub total : length keyed.positions ≡ pairs_below F.objects
     pub accepted : IsAccepted f F certificate

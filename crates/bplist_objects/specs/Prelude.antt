@@ -14,12 +14,11 @@ pub use Rattle.bplist_objects.specs.Holds.{Holds}
 pub use Rattle.bplist_objects.specs.Kinds.{IsLeafKind}
 pub use Rattle.bplist_objects.specs.Numbers.{integer, num_at}
 pub use Rattle.bplist_objects.specs.ObjectRules.{BreaksByObject, IsObjectFault, KeepsByObject, body_rules, object_rules, shape_rules}
-pub use Rattle.bplist_objects.specs.Reach.{Chain, Founded, Refs}
+pub use Rattle.bplist_objects.specs.Reach.{Chain, Founded}
 pub use Rattle.bplist_objects.specs.Rules.{IsFirstFault, KeepsAll}
 pub use Rattle.bplist_objects.specs.Safe.{IsSafe, IsSafeBody, IsSafeFrame, IsSafeHead, MayCount, ref_count}
 pub use Rattle.bplist_objects.specs.Scan.{AreBelow, AreNumbers, IsFirstNotBelow, MeanNumbers, nth_number}
 pub use Rattle.bplist_objects.specs.SmallFiles.{small_file}
-pub use Rattle.bplist_objects.specs.Spelled.{refs_at, spelled_at}
 pub use Rattle.bplist_objects.specs.Trailer.{frame_of_trailer}
 pub use Rattle.bplist_objects.specs.Units.{IsTextKind, compare_units, units_of}
 pub use Rattle.bplist_objects.specs.Value.{Value, array, boolean, bytes, date, dict, int, no_pairs, no_values, pair, real, text, uid, value}

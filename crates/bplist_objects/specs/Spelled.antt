@@ -1,5 +1,5 @@
--- What an object spells as a function of the file, for contracts that walk along references. Source: as in Heads, which it is
--- tied to by the law `spells_iff_computed`.
+-- What an object spells as a function of the file, for contracts inside crates that walk along references. Source: as in Heads, which
+-- the lemmas `spells_iff` and `refs_iff` tie it to.
 use Rattle.std.specs.Prelude.{ℕ, Bool, ◌&&◌, nat_lt, nat_le, if◌then◌else◌, List, [], length, Option, Some, None}
 use Rattle.std.specs.List.{list_all}
 use Rattle.std.specs.Option.{option_and_then, option_map_or}

@@ -1,8 +1,8 @@
 //! Laws of the definitions: each is the contract of a function that does nothing.
 
-ghost use Rattle.std.specs.Prelude.{◌≡◌, ◌↔◌, ◌⊎◌, ℕ, ◌+◌, ◌*◌, ◌^◌, ◌<◌, ◌≤◌, true, List, [], ◌∷◌, Contains, length, slice_index, Option, Some};
+ghost use Rattle.std.specs.Prelude.{◌≡◌, ◌↔◌, ◌⊎◌, ℕ, ◌+◌, ◌*◌, ◌^◌, ◌<◌, ◌≤◌, true, List, [], ◌∷◌, length, slice_index, Option};
 ghost use Rattle.bplist_objects.specs.declared.fault.Fault.{Fault as fault};
-ghost use Rattle.bplist_objects.specs.Prelude.{Frame as frame, ObjectNo as object_no, Head as head, Rule as rule, Keeps, frame_rules, IsFrame, Value, boolean, array, value, no_values, dict, pair, no_pairs, Content, refs, content_at, HasShape, Spells, IsHeadOf, Holds, FileHolds, KeepsAll, nth_number, Breaks, IsFrameFault, HasHead, KeepsByObject, BreaksByObject, shape_rules, object_rules, IsObjectFault, ref_count, IsSafe, IsSafeFrame, IsSafeHead, spelled_at, refs_at, Refs, Chain, Founded, small_file};
+ghost use Rattle.bplist_objects.specs.Prelude.{Frame as frame, ObjectNo as object_no, Head as head, Rule as rule, Keeps, frame_rules, IsFrame, Value, boolean, array, value, no_values, dict, pair, no_pairs, Content, refs, content_at, HasShape, Spells, IsHeadOf, Holds, FileHolds, KeepsAll, nth_number, Breaks, IsFrameFault, HasHead, KeepsByObject, BreaksByObject, shape_rules, object_rules, IsObjectFault, ref_count, IsSafe, IsSafeFrame, IsSafeHead, Chain, Founded, small_file};
 ghost use Rattle.bplist_objects.specs.Value.{leaf};
 
 /// At one place marker and count say at most one head.
@@ -92,12 +92,6 @@ pub fn references_fit()
         → h.body + (i + 1) * F.ref_size ≤ F.table }
     ensures counts { (len : ℕ) (F : frame) (h : head) → IsSafe len F → len < 2 ^ 64 → IsSafeHead F h
         → (ref_count h.kind h.count < 2 ^ 64) × (h.count < 2 ^ 64) }
-{}
-
-/// What an object spells is a function of the file, of its frame and of the object's number, and so are its references.
-pub fn spells_iff_computed()
-    ensures content { (f : List ℕ) (F : frame) (n : ℕ) (c : Content) → Spells f F n c ↔ (spelled_at f F n ≡ Some c) }
-    ensures references { (f : List ℕ) (F : frame) (n m : ℕ) → Refs f F n m ↔ Contains (refs_at f F n) m }
 {}
 
 /// No chain of references leads from a founded object to itself.

@@ -54,7 +54,7 @@ pub use kind::Kind;
 pub use laws::{
     fault_excludes, founded_has_no_circle, keeps_iff_frame, keeps_iff_spells, kept_iff_head,
     kept_is_not_broken, kept_or_fault, one_first_fault, one_head, one_shape, one_value,
-    one_value_of_file, references_by_index, references_fit, rows_hold, spells_iff_computed,
+    one_value_of_file, references_by_index, references_fit, rows_hold,
 };
 pub use leaf::{int_of, octets_at, uid_of};
 pub use leaf_laws::{leaves_by_parts, units_are_ordered};

@@ -26,9 +26,8 @@ returns-then-head-start-clause-exact g c = λ honest named heights starts ranked
     let head = c.in_ok-head.head in
     let has = (c.in_ok-head.ensures.rules honest).0 in
     let shape = vouched_shape f F heights valid n v head has in
-    let o = valid.vouched n v in
     let begin : c.len-start.result ≡ length c.args.lists.now.positions.items = omega (arith, c.args.lists.now.positions.ok.0, c.len-start.ensures) in
-    let fits = listed_room f F heights n starts c.args.lists.now.positions.items l v room head shape o.content o.spells c.in-Dict.is (numbered valid.frame).ref_size.0 valid.room in
+    let fits = listed_room f F heights n starts c.args.lists.now.positions.items l v room head shape c.in-Dict.is (numbered valid.frame).ref_size.0 valid.room in
     omega (arith, fits, begin, (numbered valid.frame).table_late, (numbered valid.frame).large, c.if-head-start.true)
 
 pub returns-in_err-list-in-Dict-clause-exact : goal.returns-in_err-list-in-Dict-clause-exact
@@ -53,10 +52,9 @@ returns-in_ok-list-in-Dict-clause-exact g c = λ honest named heights starts ran
     let keys = vouched_keys f F heights valid n v head has c.in-Dict.is in
     let have = have_ranks f F named c.args.lists.now.ranks.table.items ranked n given head has c.in-Dict.is keys.0 keys.1 in
     let shape = vouched_shape f F heights valid n v head has in
-    let o = valid.vouched n v in
     let begin : c.len-start.result ≡ length c.args.lists.now.positions.items = omega (arith, c.args.lists.now.positions.ok.0, c.len-start.ensures) in
     let listed = (rw c.in_ok-head.ensures.reads at c.in_ok-list-in-Dict.ensures.exact) honest have in
-    rw begin (listed_dict f F heights n starts c.args.lists.now.positions.items l v room head shape o.content o.spells c.in-Dict.is (numbered valid.frame).ref_size.0 c.list.new.self.positions.items listed)
+    rw begin (listed_dict f F heights n starts c.args.lists.now.positions.items l v room head shape c.in-Dict.is (numbered valid.frame).ref_size.0 c.list.new.self.positions.items listed)
 
 pub returns-in_default : goal.returns-in_default
 returns-in_default g c = record {
@@ -70,6 +68,5 @@ returns-in_default g c = record {
       let head = c.in_ok-head.head in
       let has = (c.in_ok-head.ensures.rules honest).0 in
       let shape = vouched_shape f F heights valid n v head has in
-      let o = valid.vouched n v in
-      listed_other f F heights n starts c.args.lists.now.positions.items l v room head shape o.content o.spells c.in_default.not-Dict;
+      listed_other f F heights n starts c.args.lists.now.positions.items l v room head shape c.in_default.not-Dict;
 }

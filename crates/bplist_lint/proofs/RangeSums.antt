@@ -1,0 +1,79 @@
+-- Sums over the numbers below a bound, and those over the objects below it.
+use Rattle.std.proofs.Common.{◌≡◌, ℕ, zero, suc, ◌+◌, Bool, true, false, cond, List, [], ◌∷◌, ◌++◌, Option, Some, None, unwrap_or, sum, sum_by, filter, filter_map, refl, sym, ap, ◌∙◌, arith}
+use Rattle.std.specs.List.{range_with_len, cons_option}
+use Rattle.std.specs.Option.{option_map_or}
+use Rattle.std.proofs.lemmas.List.Sums.{sum_by-cons, sum_by_push}
+use Rattle.bplist_objects.specs.declared.frame.Frame.{Frame}
+use Rattle.bplist_objects.specs.declared.head.Head.{Head}
+use Rattle.bplist_objects.specs.Announced.{head_found, HasHead}
+use Rattle.bplist_objects.specs.Safe.{ref_count}
+use Rattle.bplist_lint.specs.ReachRules.{references_below}
+use Rattle.bplist_lint.specs.ReachWalk.{extent, extents_below}
+
+-- the sum of g below n
+abbrev pub sum_below : (ℕ → ℕ) → ℕ → ℕ
+sum_below g n = sum_by g (range_with_len 0 n)
+
+range_more : (a n : ℕ) → range_with_len a (suc n) ≡ range_with_len a n ++ (a + n) ∷ []
+range_more a zero = let e : a ≡ a + 0 = omega arith in ap (λ k. k ∷ []) e
+range_more a (suc n) = let e : a + 1 + n ≡ a + suc n = omega arith in ap (λ l. a ∷ l) (range_more (a + 1) n ∙ ap (λ k. range_with_len (a + 1) n ++ k ∷ []) e)
+
+-- one number more
+pub sum_next : (g : ℕ → ℕ) (n : ℕ) → sum_below g (suc n) ≡ sum_below g n + g n
+sum_next g n = let e : 0 + n ≡ n = omega arith in ap (sum_by g) (range_more 0 n) ∙ sum_by_push g (range_with_len 0 n) (0 + n) ∙ ap (λ k. sum_below g n + g k) e
+
+-- the sum over those of which p holds
+sum_chosen : (g : ℕ → ℕ) (p : ℕ → Bool) (xs : List ℕ) → sum_by g (filter p xs) ≡ sum_by (λ m. cond (p m) (g m) 0) xs
+sum_chosen g p [] = refl
+sum_chosen g p (x ∷ xs) = one (p x) ∙ ap (λ k. cond (p x) (g x) 0 + k) (sum_chosen g p xs) ∙ sym (sum_by-cons (λ m. cond (p m) (g m) 0) x xs)
+  where
+    one : (b : Bool) → sum_by g (cond b (x ∷ filter p xs) (filter p xs)) ≡ cond b (g x) 0 + sum_by g (filter p xs)
+    one true = sum_by-cons g x (filter p xs)
+    one false = omega arith
+
+-- the sum over what h finds
+pub sum_found : {X : Type 0} (g : X → ℕ) (h : ℕ → Option X) (xs : List ℕ) → sum_by g (filter_map h xs) ≡ sum_by (λ m. option_map_or g (h m) 0) xs
+sum_found g h [] = refl
+sum_found g h (x ∷ xs) = one (h x) ∙ ap (λ k. option_map_or g (h x) 0 + k) (sum_found g h xs) ∙ sym (sum_by-cons (λ m. option_map_or g (h m) 0) x xs)
+  where
+    one : (o : Option _) → sum_by g (cons_option o (filter_map h xs)) ≡ option_map_or g o 0 + sum_by g (filter_map h xs)
+    one None = omega arith
+    one (Some y) = sum_by-cons g y (filter_map h xs)
+
+-- one number more, for which h may find one
+pub found_next : (h : ℕ → Option ℕ) (n : ℕ) → sum (filter_map h (range_with_len 0 (suc n))) ≡ sum (filter_map h (range_with_len 0 n)) + unwrap_or (h n) 0
+found_next h n =
+    let whole = sum_found (λ k. k) h (range_with_len 0 (suc n)) in
+    let before = sum_found (λ k. k) h (range_with_len 0 n) in
+    let one = sum_next (λ m. option_map_or (λ k. k) (h m) 0) n in
+    omega (arith, whole, before, one, same (h n))
+  where
+    same : (o : Option ℕ) → option_map_or (λ k. k) o 0 ≡ unwrap_or o 0
+    same None = refl
+    same (Some k) = refl
+
+module _ (f : List ℕ) (F : Frame) where
+  -- how many references the head of object n has
+  abbrev pub references_of : ℕ → ℕ
+  references_of n = option_map_or (λ head. ref_count head.kind head.count) (head_found f F n) 0
+
+  pub references_are : (n : ℕ) (head : Head) → HasHead f F n head → references_of n ≡ ref_count head.kind head.count
+  references_are n head has = ap (λ found. option_map_or (λ head. ref_count head.kind head.count) found 0) has
+
+  module _ (p : ℕ → Bool) (n : ℕ) where
+    pub extents_sum : extents_below f F p n ≡ sum_below (λ m. cond (p m) (extent f F m) 0) n
+    extents_sum = sum_chosen (extent f F) p (range_with_len 0 n)
+
+    pub references_sum : references_below f F p n ≡ sum_below (λ m. cond (p m) (references_of m) 0) n
+    references_sum = sum_found (λ head. ref_count head.kind head.count) (head_found f F) (filter p (range_with_len 0 n)) ∙ sum_chosen references_of p (range_with_len 0 n)
+
+  module _ (p : ℕ → Bool) (n : ℕ) where
+    pub extents_next : extents_below f F p (suc n) ≡ extents_below f F p n + cond (p n) (extent f F n) 0
+    extents_next =
+        let one = sum_next (λ m. cond (p m) (extent f F m) 0) n in
+        omega (arith, one, extents_sum p n, extents_sum p (suc n))
+
+    pub references_next : references_below f F p (suc n) ≡ references_below f F p n + cond (p n) (references_of n) 0
+    references_next =
+        let one = sum_next (λ m. cond (p m) (references_of m) 0) n in
+        omega (arith, one, references_sum p n, references_sum p (suc n))
