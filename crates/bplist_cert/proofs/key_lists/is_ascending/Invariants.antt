@@ -12,7 +12,7 @@ invariant-loop-position g l =
       same : means l.src ≡ means l.fn.src;
       inside : IfSome l.before (λ last. (last.object < (frame_in (means l.fn.src)).objects) × IsSafeKey (length (means l.fn.src).octets) last);
       pairs : HonestlyIn (means l.fn.src) (λ f F. AreKnown f F l.fn.pairs → AreKnown f F l.pairs);
-      ascend : HonestlyIn (means l.fn.src) (λ f F. AreKnown f F l.fn.pairs → AscendTo f F l.head l.list l.position-index);
+      ascend : HonestlyIn (means l.fn.src) (λ f F. AreKnown f F l.fn.pairs → AscendTo f F l.dict.head l.list l.position-index);
       read : HonestlyIn (means l.fn.src) (λ f F. AreKnown f F l.fn.pairs → IfSome l.before (IsReadKey f F));
-      last : HonestlyIn (means l.fn.src) (λ f F. IsLast f F l.head l.list l.position-index l.before);
+      last : HonestlyIn (means l.fn.src) (λ f F. IsLast f F l.dict.head l.list l.position-index l.before);
     }

@@ -14,7 +14,7 @@ invariant-loop-j g l =
     record {
       same : means l.src ≡ means l.fn.src;
       runs : IsTrue (means l.fn.src).honest → AreRuns (means l.fn.src).octets l.fn.runs.slots → AreRuns (means l.fn.src).octets l.runs.slots;
-      ordered : HonestlyIn (means l.fn.src) (λ f F. AreRuns f l.fn.runs.slots → KeysAreTexts f F l.head l.head.count → AreInOrder f F l.head l.list l.j);
-      last : HonestlyIn (means l.fn.src) (λ f F. KeysAreTexts f F l.head l.head.count → IsBefore f F l.head l.list l.j l.before);
+      ordered : HonestlyIn (means l.fn.src) (λ f F. AreRuns f l.fn.runs.slots → KeysAreTexts f F l.dict.head l.dict.head.count → AreInOrder f F l.dict.head l.list l.j);
+      last : HonestlyIn (means l.fn.src) (λ f F. KeysAreTexts f F l.dict.head l.dict.head.count → IsBefore f F l.dict.head l.list l.j l.before);
       safe : IfSome l.before (λ key. IsTextKind key.kind × IsSafeBody (length (means l.fn.src).octets) key);
     }
