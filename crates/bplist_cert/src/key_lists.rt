@@ -1,7 +1,7 @@
 //! Whether the key lists of vouched dictionaries have the keys in order, which are texts: rules 21 and 32.
 
 ghost use Rattle.std.specs.Prelude.{◌≡◌, ◌+◌, ◌≤◌, ◌<◌, ℕ, List, Some, IsTrue, false, IfOk, IfSome, OnOk, MatchOption, ⊤, is_err, length};
-ghost use Rattle.bplist_cert.specs.Prelude.{OnlyReads, Gives, Never, read_failed, off, ArePlaces, Frame as frame, HasHead, frame_in, HonestlyIn, KeepsAll, KeepsByObject, object_rules, IsSafeBody, IsSafeHead, IsTextKind, Head as head, Dict, ref, HasTextShape, IsTextHead, lists, IsWhole, list_of, HasOrder, AreInOrder, KeysAreSound, HasGoodKeys, HaveGoodKeys, BreaksKeys, IsFirstKeysFault, AreFewKeys, AreKnown, HaveTextShapes, Follows, IsReadKey, IsSafeKey, AreLow, KeepBeforeKeysBelow, IsListed, HaveGoodLists};
+ghost use Rattle.bplist_cert.specs.Prelude.{OnlyReads, Gives, Never, read_failed, off, ArePlaces, Frame as frame, HasHead, frame_in, HonestlyIn, KeepsAll, KeepsByObject, object_rules, IsSafeHead, Head as head, Dict, ref, HasTextShape, IsTextHead, lists, IsWhole, list_of, HasOrder, AreInOrder, KeysAreSound, HasGoodKeys, HaveGoodKeys, BreaksKeys, IsFirstKeysFault, AreFewKeys, AreKnown, HaveTextShapes, Follows, IsReadKey, IsSafeKey, IsSafeText, AreLow, KeepBeforeKeysBelow, IsListed, HaveGoodLists};
 
 use crate::certificate::KeyLists;
 use crate::dictionary::Dictionary;
@@ -26,12 +26,11 @@ struct ReadKey {
 
 /// The head of a key, where its marker and count are those of a text. It is not read a second time.
 fn head_of<P: Offsets>(src: &mut P, key: &ReadKey) -> Result<Option<Head>, ReadFault>
-    requires within { key.now.object < (frame_in (P.means src.old)).objects }
-    requires head { IsSafeKey (length (P.means src.old).octets) key.now }
+    requires { IsSafeKey (P.means src.old) key.now }
     ensures reads { OnlyReads (is_err result) (P.means src.old) (P.means src.new) }
     ensures exact { HonestlyIn (P.means src.old) (λ f F. IsReadKey f F key.now
         → IfOk result (λ found. MatchOption found (HasTextShape f F key.now.object → ⊥) (IsTextHead f F key.now.object))) }
-    ensures safe { IfOk result (λ found. IfSome found (λ head. IsTextKind head.kind × IsSafeBody (length (P.means src.old).octets) head)) }
+    ensures safe { IfOk result (λ found. IfSome found (IsSafeText (length (P.means src.old).octets))) }
 {
     match key.head {
         Some(head) => Ok(Some(head)),
@@ -46,10 +45,10 @@ fn follows<P: Offsets>(
     m: u32,
     pairs: &mut OrderedPairs,
 ) -> Result<Option<ReadKey>, ReadFault>
-    requires before { IfSome before.now (λ last. (last.object < (frame_in (P.means src.old)).objects) × IsSafeKey (length (P.means src.old).octets) last) }
+    requires before { IfSome before.now (IsSafeKey (P.means src.old)) }
     requires within { m < (frame_in (P.means src.old)).objects }
     ensures reads { OnlyReads (is_err result) (P.means src.old) (P.means src.new) }
-    ensures key { IfOk result (λ found. IfSome found (λ key. (key.object ≡ m) × IsSafeKey (length (P.means src.old).octets) key)) }
+    ensures key { IfOk result (λ found. IfSome found (λ key. (key.object ≡ m) × IsSafeKey (P.means src.old) key)) }
     ensures exact { HonestlyIn (P.means src.old) (λ f F. AreKnown f F pairs.old → IfSome before.now (IsReadKey f F)
         → IfOk result (λ found. AreKnown f F pairs.new
         × IfSome found (λ key. IsReadKey f F key × Follows f F before.now m))) }
