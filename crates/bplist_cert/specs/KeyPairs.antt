@@ -1,7 +1,9 @@
 -- Key lists by the markers and counts of the keys: pairs of texts in order. Source: profile.
-use Rattle.std.specs.Prelude.{◌≡◌, ℕ, ◌+◌, ◌*◌, ◌<◌, ◌≤◌, List, slice_index, Option, Some, None, IfSome}
+use Rattle.std.specs.Prelude.{◌≡◌, ℕ, ◌+◌, ◌*◌, ◌<◌, ◌≤◌, List, length, slice_index, Option, Some, None, IfSome}
 use Rattle.std.specs.declared.cmp.Ordering.TheVariants.{Less}
+use Rattle.bplist_octets.specs.Meaning.{Meaning}
 use Rattle.bplist_objects.specs.declared.frame.Frame.{Frame}
+use Rattle.bplist_objects.specs.Framed.{frame_in}
 use Rattle.bplist_objects.specs.declared.head.Head.{Head}
 use Rattle.bplist_objects.specs.Units.{IsTextKind, compare_units}
 use Rattle.bplist_keys.specs.Runs.{AreRuns}
@@ -11,9 +13,13 @@ use Rattle.bplist_keys.specs.Texts.{HasTextShape, IsTextHead, text_units}
 use Rattle.bplist_objects.specs.Safe.{IsSafeBody}
 use Rattle.bplist_objects.specs.Scan.{ref}
 
--- the head of a key, where it was read, is that of a text with its body inside a file of so many bytes
-abbrev pub IsSafeKey : ℕ → ReadKey → Type 0
-IsSafeKey len key = IfSome key.head (λ head. IsTextKind head.kind × IsSafeBody len head)
+-- a head is that of a text with its body inside a file of so many bytes
+abbrev pub IsSafeText : ℕ → Head → Type 0
+IsSafeText len head = IsTextKind head.kind × IsSafeBody len head
+
+-- a key is an object of the file, and its head, where it was read, that of a text inside
+abbrev pub IsSafeKey : Meaning → ReadKey → Type 0
+IsSafeKey m key = (key.object < (frame_in m).objects) × IfSome key.head (IsSafeText (length m.octets))
 
 module _ (f : List ℕ) (F : Frame) where
   -- the head of a key, where it was read, is that of its text

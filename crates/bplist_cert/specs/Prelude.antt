@@ -13,9 +13,8 @@ pub use Rattle.bplist_objects.specs.Holds.{Holds}
 pub use Rattle.bplist_objects.specs.ObjectRules.{KeepsByObject, body_rules, object_rules}
 pub use Rattle.bplist_objects.specs.Reach.{Chain, Reach, Refs}
 pub use Rattle.bplist_objects.specs.Rules.{KeepsAll}
-pub use Rattle.bplist_objects.specs.Safe.{IsSafeBody, IsSafeFrame, IsSafeHead, ref_count}
+pub use Rattle.bplist_objects.specs.Safe.{IsSafeFrame, IsSafeHead, ref_count}
 pub use Rattle.bplist_objects.specs.Scan.{ref}
-pub use Rattle.bplist_objects.specs.Units.{IsTextKind}
 pub use Rattle.bplist_objects.specs.Value.{Value}
 pub use Rattle.bplist_objects.specs.declared.frame.Frame.{Frame}
 pub use Rattle.bplist_objects.specs.declared.frame.ObjectNo.{ObjectNo}
@@ -34,7 +33,7 @@ pub use Rattle.bplist_cert.specs.DictKeys.{AreInOrder, ComesAfter, IsKey, IsKeyl
 pub use Rattle.bplist_cert.specs.Encoding.{Fits, IsCertRefusal, IsOctetsFault, key_words, magic, octets_of, words}
 pub use Rattle.bplist_cert.specs.Heights.{AreLower, AreMet, AreMetBy, IsFirstUnmet, IsFirstUnmetBy, IsHeightFault, IsUnmetFault, Meets, rule_of}
 pub use Rattle.bplist_cert.specs.KeyOffsets.{AreOffsetsOf, ArePlaces, AreRefs, IsFirstOther, IsOffsetOf, ReferToTexts}
-pub use Rattle.bplist_cert.specs.KeyPairs.{AreFewKeys, AreKnown, Ascends, Follows, HaveTextShapes, IsReadKey, IsSafeKey}
+pub use Rattle.bplist_cert.specs.KeyPairs.{AreFewKeys, AreKnown, Ascends, Follows, HaveTextShapes, IsReadKey, IsSafeKey, IsSafeText}
 pub use Rattle.bplist_cert.specs.KeyRepeats.{BreaksKeys, HasGoodKeys, HaveGoodKeys, HaveNamedKeys, IsFirstKeysFault, KeysAreSound}
 pub use Rattle.bplist_cert.specs.KeysLooks.{AreSeen, HaveGoodLists, IsListed, IsLookOf, keys_of}
 pub use Rattle.bplist_cert.specs.Lists.{AreKeyed, AreWords, HasCount, HasStarts, IsCertificate, IsWhole, Keyed, Lists, list_of, lists}

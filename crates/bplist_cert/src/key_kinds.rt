@@ -1,8 +1,9 @@
 //! The keys of dictionaries: rule 21.
 
 ghost use Rattle.std.specs.Prelude.{◌≡◌, ◌↔◌, IsTrue, ◌+◌, ◌*◌, ◌<◌, length, IfOk, IfSome, MatchOption, Some, is_err};
-ghost use Rattle.bplist_cert.specs.Prelude.{OnlyReads, Honestly, frame_in, HonestlyIn, IsSafeHead, Gives, read_failed, Dict, KeyKind, Head as head_record, IsText, KeysAreTexts, IsKeylessFault, AreLow, IsOffsetOf, AreOffsetsOf, ReferToTexts, IsFirstOther};
+ghost use Rattle.bplist_cert.specs.Prelude.{OnlyReads, Honestly, frame_in, HonestlyIn, IsSafeHead, Gives, read_failed, KeyKind, Head as head_record, IsText, KeysAreTexts, IsKeylessFault, AreLow, IsOffsetOf, AreOffsetsOf, ReferToTexts, IsFirstOther};
 
+use crate::dictionary::Dictionary;
 use crate::key_offsets::{BLOCK, read_ahead};
 use crate::low_bytes::LowBytes;
 use bplist_keys::Offsets;
@@ -66,17 +67,15 @@ fn first_other<P: Framed>(
 pub(crate) fn check_texts<P: Offsets>(
     src: &mut P,
     low: &mut LowBytes,
-    n: ObjectNo,
-    head: &Head,
+    dict: &Dictionary,
 ) -> Result<(), ObjectFault>
-    requires head { IsSafeHead (frame_in (P.means src.old)) head.now }
-    requires dict { head.now.kind ≡ Dict }
+    requires head { IsSafeHead (frame_in (P.means src.old)) dict.now.head }
     ensures reads { OnlyReads (read_failed result) (P.means src.old) (P.means src.new) }
     ensures low { Honestly (P.means src.old) (λ f. AreLow f low.old.slots → AreLow f low.new.slots) }
     ensures exact { HonestlyIn (P.means src.old) (λ f F. AreLow f low.old.slots
-        → Gives (λ _. KeysAreTexts f F head.now head.now.count) (IsKeylessFault f F n.0 head.now) result) }
+        → Gives (λ _. KeysAreTexts f F dict.now.head dict.now.head.count) (IsKeylessFault f F dict.now.n.0 dict.now.head) result) }
 {
-    let count = head.count;
+    let count = dict.head.count;
     let mut refs = [0u64; BLOCK];
     let mut found = [0u64; BLOCK];
     let mut done = 0u64;
@@ -84,9 +83,9 @@ pub(crate) fn check_texts<P: Offsets>(
         let now = (count - done).min(BLOCK as u64);
         let block = &mut refs[..now as usize];
         let places = &mut found[..now as usize];
-        read_ahead(src, head, done, block, places)?;
+        read_ahead(src, &dict.head, done, block, places)?;
         if let Some(i) = first_other(src, low, block, places)? {
-            return Err(ObjectFault::Fault(keyless(src, n, head, done + i as u64)));
+            return Err(ObjectFault::Fault(keyless(src, dict, done + i as u64)));
         }
         done += now;
     }
@@ -94,16 +93,15 @@ pub(crate) fn check_texts<P: Offsets>(
 }
 
 /// The fault of key `i` of dictionary `n`.
-pub(crate) fn keyless<P: Framed>(src: &P, n: ObjectNo, head: &Head, i: u64) -> Fault
-    requires head { IsSafeHead (frame_in (P.means src.now)) head.now }
-    requires dict { head.now.kind ≡ Dict }
-    requires within { i < head.now.count }
-    ensures { (result.rule ≡ KeyKind) × (result.object ≡ Some n)
-        × (result.place ≡ head.now.body + i * (frame_in (P.means src.now)).ref_size) }
+pub(crate) fn keyless<P: Framed>(src: &P, dict: &Dictionary, i: u64) -> Fault
+    requires head { IsSafeHead (frame_in (P.means src.now)) dict.now.head }
+    requires within { i < dict.now.head.count }
+    ensures { (result.rule ≡ KeyKind) × (result.object ≡ Some dict.now.n)
+        × (result.place ≡ dict.now.head.body + i * (frame_in (P.means src.now)).ref_size) }
 {
     Fault {
         rule: Rule::KeyKind,
-        object: Some(n),
-        place: ref_place(src, head, i),
+        object: Some(dict.n),
+        place: ref_place(src, &dict.head, i),
     }
 }

@@ -1,9 +1,10 @@
 //! Whether the key lists of vouched dictionaries have the keys in order, which are texts: rules 21 and 32.
 
 ghost use Rattle.std.specs.Prelude.{◌≡◌, ◌+◌, ◌≤◌, ◌<◌, ℕ, List, Some, IsTrue, false, IfOk, IfSome, OnOk, MatchOption, ⊤, is_err, length};
-ghost use Rattle.bplist_cert.specs.Prelude.{OnlyReads, Gives, Never, read_failed, off, ArePlaces, Frame as frame, HasHead, frame_in, HonestlyIn, KeepsAll, KeepsByObject, object_rules, IsSafeBody, IsSafeHead, IsTextKind, Head as head, Dict, ref, HasTextShape, IsTextHead, lists, IsWhole, list_of, HasOrder, AreInOrder, KeysAreSound, HasGoodKeys, HaveGoodKeys, BreaksKeys, IsFirstKeysFault, AreFewKeys, AreKnown, HaveTextShapes, Follows, IsReadKey, IsSafeKey, AreLow, KeepBeforeKeysBelow, IsListed, HaveGoodLists};
+ghost use Rattle.bplist_cert.specs.Prelude.{OnlyReads, Gives, Never, read_failed, off, ArePlaces, Frame as frame, HasHead, frame_in, HonestlyIn, KeepsAll, KeepsByObject, object_rules, IsSafeHead, Head as head, Dict, ref, HasTextShape, IsTextHead, lists, IsWhole, list_of, HasOrder, AreInOrder, KeysAreSound, HasGoodKeys, HaveGoodKeys, BreaksKeys, IsFirstKeysFault, AreFewKeys, AreKnown, HaveTextShapes, Follows, IsReadKey, IsSafeKey, IsSafeText, AreLow, KeepBeforeKeysBelow, IsListed, HaveGoodLists};
 
 use crate::certificate::KeyLists;
+use crate::dictionary::Dictionary;
 use crate::key_kinds::check_texts;
 use crate::key_order::{check_order, comes_after, part_of};
 use crate::key_pairs::OrderedPairs;
@@ -25,12 +26,11 @@ struct ReadKey {
 
 /// The head of a key, where its marker and count are those of a text. It is not read a second time.
 fn head_of<P: Offsets>(src: &mut P, key: &ReadKey) -> Result<Option<Head>, ReadFault>
-    requires within { key.now.object < (frame_in (P.means src.old)).objects }
-    requires head { IsSafeKey (length (P.means src.old).octets) key.now }
+    requires { IsSafeKey (P.means src.old) key.now }
     ensures reads { OnlyReads (is_err result) (P.means src.old) (P.means src.new) }
     ensures exact { HonestlyIn (P.means src.old) (λ f F. IsReadKey f F key.now
         → IfOk result (λ found. MatchOption found (HasTextShape f F key.now.object → ⊥) (IsTextHead f F key.now.object))) }
-    ensures safe { IfOk result (λ found. IfSome found (λ head. IsTextKind head.kind × IsSafeBody (length (P.means src.old).octets) head)) }
+    ensures safe { IfOk result (λ found. IfSome found (IsSafeText (length (P.means src.old).octets))) }
 {
     match key.head {
         Some(head) => Ok(Some(head)),
@@ -45,10 +45,10 @@ fn follows<P: Offsets>(
     m: u32,
     pairs: &mut OrderedPairs,
 ) -> Result<Option<ReadKey>, ReadFault>
-    requires before { IfSome before.now (λ last. (last.object < (frame_in (P.means src.old)).objects) × IsSafeKey (length (P.means src.old).octets) last) }
+    requires before { IfSome before.now (IsSafeKey (P.means src.old)) }
     requires within { m < (frame_in (P.means src.old)).objects }
     ensures reads { OnlyReads (is_err result) (P.means src.old) (P.means src.new) }
-    ensures key { IfOk result (λ found. IfSome found (λ key. (key.object ≡ m) × IsSafeKey (length (P.means src.old).octets) key)) }
+    ensures key { IfOk result (λ found. IfSome found (λ key. (key.object ≡ m) × IsSafeKey (P.means src.old) key)) }
     ensures exact { HonestlyIn (P.means src.old) (λ f F. AreKnown f F pairs.old → IfSome before.now (IsReadKey f F)
         → IfOk result (λ found. AreKnown f F pairs.new
         × IfSome found (λ key. IsReadKey f F key × Follows f F before.now m))) }
@@ -85,43 +85,42 @@ fn follows<P: Offsets>(
 }
 
 /// Reads the references to the keys of a dictionary where they are few.
-fn read_few<P: Offsets>(src: &mut P, head: &Head, into: &mut [u64]) -> Result<(), ReadFault>
-    requires head { IsSafeHead (frame_in (P.means src.old)) head.now }
-    requires dict { head.now.kind ≡ Dict }
+fn read_few<P: Offsets>(src: &mut P, dict: &Dictionary, into: &mut [u64]) -> Result<(), ReadFault>
+    requires head { IsSafeHead (frame_in (P.means src.old)) dict.now.head }
     requires room { length into.old ≡ 32 }
     ensures reads { OnlyReads (is_err result) (P.means src.old) (P.means src.new) }
-    ensures few { HonestlyIn (P.means src.old) (λ f F. OnOk result (AreFewKeys f F head.now into.new)) }
+    ensures few { HonestlyIn (P.means src.old) (λ f F. OnOk result (AreFewKeys f F dict.now.head into.new)) }
 {
-    if head.count > FEW as u64 {
+    if dict.head.count > FEW as u64 {
         return Ok(());
     }
-    read_refs_in(src, head, 0, &mut into[..head.count as usize])
+    read_refs_in(src, &dict.head, 0, &mut into[..dict.head.count as usize])
 }
 
 /// The object that the key at a position of a dictionary names, where there are such a key and such an object. Its number is among
 /// these where the keys are few.
 fn key_at<P: Offsets>(
     src: &mut P,
-    head: &Head,
+    dict: &Dictionary,
     few: &[u64],
     position: u32,
 ) -> Result<Option<u32>, ReadFault>
-    requires head { IsSafeHead (frame_in (P.means src.old)) head.now }
-    requires dict { head.now.kind ≡ Dict }
+    requires head { IsSafeHead (frame_in (P.means src.old)) dict.now.head }
     requires room { length few.now ≡ 32 }
     ensures reads { OnlyReads (is_err result) (P.means src.old) (P.means src.new) }
-    ensures inside { IfOk result (λ found. IfSome found (λ m. (position < head.now.count) × (m < (frame_in (P.means src.old)).objects))) }
-    ensures exact { HonestlyIn (P.means src.old) (λ f F. AreFewKeys f F head.now few.now
-        → IfOk result (λ found. IfSome found (λ m. m ≡ ref f F head.now position))) }
+    ensures inside { IfOk result (λ found. IfSome found (λ m. (position < dict.now.head.count)
+        × (m < (frame_in (P.means src.old)).objects))) }
+    ensures exact { HonestlyIn (P.means src.old) (λ f F. AreFewKeys f F dict.now.head few.now
+        → IfOk result (λ found. IfSome found (λ m. m ≡ ref f F dict.now.head position))) }
 {
-    if position as u64 >= head.count {
+    if position as u64 >= dict.head.count {
         return Ok(None);
     }
     let frame = src.frame();
-    let m = if head.count <= FEW as u64 {
+    let m = if dict.head.count <= FEW as u64 {
         few[position as usize]
     } else {
-        ref_at(src, &frame, head, position as u64)?
+        ref_at(src, &frame, &dict.head, position as u64)?
     };
     if m >= frame.objects as u64 {
         return Ok(None);
@@ -132,23 +131,22 @@ fn key_at<P: Offsets>(
 /// Whether the keys at the positions of a key list are texts by marker and count that ascend.
 fn is_ascending<P: Offsets>(
     src: &mut P,
-    head: &Head,
+    dict: &Dictionary,
     list: &[u32],
     pairs: &mut OrderedPairs,
 ) -> Result<bool, ReadFault>
-    requires head { IsSafeHead (frame_in (P.means src.old)) head.now }
-    requires dict { head.now.kind ≡ Dict }
-    requires whole { length list.now ≡ head.now.count }
+    requires head { IsSafeHead (frame_in (P.means src.old)) dict.now.head }
+    requires whole { length list.now ≡ dict.now.head.count }
     ensures reads { OnlyReads (is_err result) (P.means src.old) (P.means src.new) }
     ensures exact { HonestlyIn (P.means src.old) (λ f F. AreKnown f F pairs.old
         → IfOk result (λ good. AreKnown f F pairs.new
-        × (IsTrue good → HaveTextShapes f F head.now × AreInOrder f F head.now list.now head.now.count))) }
+        × (IsTrue good → HaveTextShapes f F dict.now.head × AreInOrder f F dict.now.head list.now dict.now.head.count))) }
 {
     let mut few = [0u64; FEW];
-    read_few(src, head, &mut few)?;
+    read_few(src, dict, &mut few)?;
     let mut before: Option<ReadKey> = None;
     for position in list {
-        let Some(m) = key_at(src, head, &few, *position)? else {
+        let Some(m) = key_at(src, dict, &few, *position)? else {
             return Ok(false);
         };
         let Some(key) = follows(src, &before, m, pairs)? else {
@@ -196,26 +194,24 @@ impl ListLook<'_> {
     }
 }
 
-/// Whether the key list of dictionary `n` has its keys in order, which are texts by marker and count then.
+/// Whether the key list of a dictionary has its keys in order, which are texts by marker and count then.
 fn has_good_list<P: Offsets>(
     src: &mut P,
     keys: &KeyLists,
-    n: ObjectNo,
-    head: &Head,
+    dict: &Dictionary,
     pairs: &mut OrderedPairs,
 ) -> Result<bool, ReadFault>
-    requires head { IsSafeHead (frame_in (P.means src.old)) head.now }
-    requires dict { head.now.kind ≡ Dict }
-    requires within { n.0 < (frame_in (P.means src.old)).objects }
+    requires head { IsSafeHead (frame_in (P.means src.old)) dict.now.head }
+    requires within { dict.now.n.0 < (frame_in (P.means src.old)).objects }
     requires starts { length keys.now.starts ≡ (frame_in (P.means src.old)).objects }
     ensures reads { OnlyReads (is_err result) (P.means src.old) (P.means src.new) }
     ensures exact { HonestlyIn (P.means src.old) (λ f F. AreKnown f F pairs.old
         → IfOk result (λ good. AreKnown f F pairs.new
-        × (IsTrue good → HaveTextShapes f F head.now × HasOrder f F keys.now n.0 head.now))) }
+        × (IsTrue good → HaveTextShapes f F dict.now.head × HasOrder f F keys.now dict.now.n.0 dict.now.head))) }
 {
-    match key_list(keys, n.0, head.count) {
+    match key_list(keys, dict.n.0, dict.head.count) {
         None => Ok(false),
-        Some(list) => is_ascending(src, head, list, pairs),
+        Some(list) => is_ascending(src, dict, list, pairs),
     }
 }
 
@@ -245,15 +241,19 @@ fn check_dict_order<P: Offsets>(
     let Kind::Dict = head.kind else {
         return Ok(());
     };
-    let good = has_good_list(src, keys, ObjectNo(n), &head, &mut look.pairs)?;
+    let dict = Dictionary {
+        n: ObjectNo(n),
+        head,
+    };
+    let good = has_good_list(src, keys, &dict, &mut look.pairs)?;
     if good && seen.is_whole() {
         return Ok(());
     }
-    check_texts(src, &mut look.low, ObjectNo(n), &head)?;
+    check_texts(src, &mut look.low, &dict)?;
     if good {
         return Ok(());
     }
-    check_order(src, keys, ObjectNo(n), &head, &mut look.pairs.runs)
+    check_order(src, keys, &dict, &mut look.pairs.runs)
 }
 
 /// Whether an object of this height may have keys, or a key list without keys that starts behind all of so many positions. An
@@ -287,7 +287,10 @@ fn is_listed<P: Offsets>(
 {
     let head = shape_in(src, ObjectNo(n), place)?;
     match head.kind {
-        Kind::Dict => Ok(has_good_list(src, keys, ObjectNo(n), &head, pairs)?),
+        Kind::Dict => {
+            let n = ObjectNo(n);
+            Ok(has_good_list(src, keys, &Dictionary { n, head }, pairs)?)
+        }
         _ => Ok(true),
     }
 }

@@ -3,6 +3,7 @@
 ghost use Rattle.std.specs.Prelude.{◌≡◌, ◌<◌, None, IfOk, IfSome, length};
 ghost use Rattle.bplist_cert.specs.Prelude.{OnlyReads, frame_in, HonestlyIn, HasHead, KeepsAll, KeepsByObject, object_rules, Head as head, Dict, HaveNamedKeys, AreClassed, IsStamped, IsNew, AreClasses, failed_to_read, lists, KeepBeforeKeysBelow, AreLow, Honestly, KeysAreSound, HasGoodKeys, HaveGoodKeys, BreaksKeys, IsFirstKeysFault, Judges, refused_read};
 
+use crate::dictionary::Dictionary;
 use crate::key_kinds::{check_texts, keyless};
 use crate::key_names::seen_keys;
 use crate::low_bytes::LowBytes;
@@ -72,18 +73,22 @@ fn check_dict_repeats<P: Offsets>(
     let Kind::Dict = head.kind else {
         return Ok(());
     };
-    let found = look.table.first_wrong(src, n, &head)?;
+    let dict = Dictionary {
+        n: ObjectNo(n),
+        head,
+    };
+    let found = look.table.first_wrong(src, n, &dict.head)?;
     if found.is_none() && seen.is_whole() {
         return Ok(());
     }
-    check_texts(src, &mut look.low, ObjectNo(n), &head)?;
+    check_texts(src, &mut look.low, &dict)?;
     match found {
         None => Ok(()),
-        Some(KeyDefect::NotText(i)) => Err(Refusal::Fault(keyless(src, ObjectNo(n), &head, i))),
+        Some(KeyDefect::NotText(i)) => Err(Refusal::Fault(keyless(src, &dict, i))),
         Some(KeyDefect::Repeated(i)) => Err(Refusal::Fault(Fault {
             rule: Rule::KeyTwice,
-            object: Some(ObjectNo(n)),
-            place: ref_place(src, &head, i),
+            object: Some(dict.n),
+            place: ref_place(src, &dict.head, i),
         })),
     }
 }

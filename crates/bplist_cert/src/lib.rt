@@ -27,6 +27,7 @@ mod certificate;
 mod checked;
 mod checker;
 mod decoding;
+mod dictionary;
 mod encoding;
 mod extents;
 mod heights;

@@ -11,7 +11,7 @@ returns-in-Some-clause-exact g c = λ honest low.
     let refs = (rw v.same at c.in_ok-read_ahead.ensures.refs) honest in
     let placed = (rw v.same at c.in_ok-read_ahead.ensures.found) honest in
     let first = (rw (c.in_ok-read_ahead.ensures.reads, v.same, c.in-Some.is) at c.in_ok-i.ensures.found) honest (v.low honest low) placed in
-    let there = keyless_there m.octets (frame_in m) c.args.head.now c.loop-done.done c.read_ahead.new.refs refs (v.texts honest low) (omega (arith, long, c.min-now.ensures, c.loop-done-test.true)) c.in-Some.i first in
+    let there = keyless_there m.octets (frame_in m) c.args.dict.now.head c.loop-done.done c.read_ahead.new.refs refs (v.texts honest low) (omega (arith, long, c.min-now.ensures, c.loop-done-test.true)) c.in-Some.i first in
     let fault = rw (c.in_ok-i.ensures.reads, c.in_ok-read_ahead.ensures.reads, v.same) at c.keyless.ensures in
     (fault.0, fault.1, (c.loop-done.done + c.in-Some.i, there, fault.2))
 
@@ -28,5 +28,5 @@ loop-done-preserved g c =
           let refs = (rw v.same at c.in_ok-read_ahead.ensures.refs) honest in
           let placed = (rw v.same at c.in_ok-read_ahead.ensures.found) honest in
           let all = (rw (c.in_ok-read_ahead.ensures.reads, v.same, c.in_default.is) at c.in_ok-i.ensures.found) honest (v.low honest low) placed in
-          keys_more m.octets (frame_in m) c.args.head.now c.loop-done.done c.read_ahead.new.refs refs (v.texts honest low) c.min-now.result (omega (arith, long)) (λ k lt. all k (omega (arith, long, lt)));
+          keys_more m.octets (frame_in m) c.args.dict.now.head c.loop-done.done c.read_ahead.new.refs refs (v.texts honest low) c.min-now.result (omega (arith, long)) (λ k lt. all k (omega (arith, long, lt)));
     }

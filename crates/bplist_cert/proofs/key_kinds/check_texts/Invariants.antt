@@ -12,7 +12,7 @@ invariant-loop-done g l =
       same : means l.src ≡ means l.fn.src;
       reached : l.done ≤ l.count;
       low : IsTrue (means l.fn.src).honest → AreLow (means l.fn.src).octets l.fn.low.slots → AreLow (means l.fn.src).octets l.low.slots;
-      texts : HonestlyIn (means l.fn.src) (λ f F. AreLow f l.fn.low.slots → KeysAreTexts f F l.head l.done);
+      texts : HonestlyIn (means l.fn.src) (λ f F. AreLow f l.fn.low.slots → KeysAreTexts f F l.dict.head l.done);
     }
 
 abbrev pub decreases-loop-done : goal.decreases-loop-done

@@ -1,4 +1,4 @@
-use Rattle.std.proofs.Common.{◌≡◌, ◌<◌, ◌∙◌, sym, subst, arith}
+use Rattle.std.proofs.Common.{◌≡◌, ◌∙◌, subst, arith}
 use Rattle.std.proofs.lemmas.Bool.{false≢true}
 use Rattle.bplist_objects.specs.declared.frame.Frame.{Frame}
 use Rattle.bplist_objects.specs.Framed.{frame_in}
@@ -26,10 +26,10 @@ loop-position-preserved g c =
     let exact = rw (c.in-Some-2.is, c.in_ok-m.ensures.reads, v.same) at c.in_ok-key.ensures.exact in
     record {
       same = c.in_ok-key.ensures.reads ∙ c.in_ok-m.ensures.reads ∙ v.same;
-      inside = (subst (λ m. m < F.objects) (sym key.0) inside.1, rw (c.in_ok-m.ensures.reads, v.same) at key.1);
+      inside = rw (c.in_ok-m.ensures.reads, v.same) at key.1;
       pairs = λ honest pairs. (exact honest (v.pairs honest pairs) (v.read honest pairs)).0;
       ascend = λ honest pairs.
-          ascend_more f F c.args.head.now c.args.list.now c.loop-position.position-index c.loop-position.before c.in-Some.m (v.ascend honest pairs) inside.0 (is honest (few honest)) (v.last honest)
+          ascend_more f F c.args.dict.now.head c.args.list.now c.loop-position.position-index c.loop-position.before c.in-Some.m (v.ascend honest pairs) inside.0 (is honest (few honest)) (v.last honest)
           (exact honest (v.pairs honest pairs) (v.read honest pairs)).1.1;
       read = λ honest pairs. (exact honest (v.pairs honest pairs) (v.read honest pairs)).1.0;
       last = λ honest. (c.loop-position.position-index, omega arith, key.0 ∙ is honest (few honest));
@@ -40,6 +40,6 @@ returns-clause-exact g c = λ honest pairs.
     let f = (g.P.Source.means c.args.src.now).octets in
     let F : Frame = frame_in (g.P.Source.means c.args.src.now) in
     let v = c.loop-position.invariant in
-    let e : c.loop-position.position-index ≡ c.args.head.now.count = omega (arith, c.requires.whole, c.loop-position-test.false, c.loop-position.auto.position-index-end) in
-    let so = subst (AscendTo f F c.args.head.now c.args.list.now) e (v.ascend honest pairs) in
-    (v.pairs honest pairs, λ _. (shapes_all f F c.args.head.now c.args.list.now so, in_order_all f F c.args.head.now c.args.list.now so))
+    let e : c.loop-position.position-index ≡ c.args.dict.now.head.count = omega (arith, c.requires.whole, c.loop-position-test.false, c.loop-position.auto.position-index-end) in
+    let so = subst (AscendTo f F c.args.dict.now.head c.args.list.now) e (v.ascend honest pairs) in
+    (v.pairs honest pairs, λ _. (shapes_all f F c.args.dict.now.head c.args.list.now so, in_order_all f F c.args.dict.now.head c.args.list.now so))

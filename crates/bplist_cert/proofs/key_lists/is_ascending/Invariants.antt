@@ -1,5 +1,5 @@
-use Rattle.std.proofs.Common.{◌≡◌, ◌<◌, IfSome, length}
-use Rattle.bplist_objects.specs.Framed.{frame_in, HonestlyIn}
+use Rattle.std.proofs.Common.{◌≡◌, IfSome}
+use Rattle.bplist_objects.specs.Framed.{HonestlyIn}
 use Rattle.bplist_cert.specs.KeyPairs.{AreKnown, IsReadKey, IsSafeKey}
 use Rattle.bplist_cert.proofs.KeyPairs.{AscendTo, IsLast}
 use Rattle.bplist_cert.proofs.key_lists.is_ascending.Given as goal
@@ -10,9 +10,9 @@ invariant-loop-position g l =
     let means = g.P.Source.means in
     record {
       same : means l.src ≡ means l.fn.src;
-      inside : IfSome l.before (λ last. (last.object < (frame_in (means l.fn.src)).objects) × IsSafeKey (length (means l.fn.src).octets) last);
+      inside : IfSome l.before (IsSafeKey (means l.fn.src));
       pairs : HonestlyIn (means l.fn.src) (λ f F. AreKnown f F l.fn.pairs → AreKnown f F l.pairs);
-      ascend : HonestlyIn (means l.fn.src) (λ f F. AreKnown f F l.fn.pairs → AscendTo f F l.head l.list l.position-index);
+      ascend : HonestlyIn (means l.fn.src) (λ f F. AreKnown f F l.fn.pairs → AscendTo f F l.dict.head l.list l.position-index);
       read : HonestlyIn (means l.fn.src) (λ f F. AreKnown f F l.fn.pairs → IfSome l.before (IsReadKey f F));
-      last : HonestlyIn (means l.fn.src) (λ f F. IsLast f F l.head l.list l.position-index l.before);
+      last : HonestlyIn (means l.fn.src) (λ f F. IsLast f F l.dict.head l.list l.position-index l.before);
     }

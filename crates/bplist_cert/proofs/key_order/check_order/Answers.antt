@@ -13,8 +13,8 @@ returns-in-Some-clause-exact g c = λ honest runs texts.
     let f = (g.P.Source.means c.args.src.now).octets in
     let F : Frame = frame_in (g.P.Source.means c.args.src.now) in
     let keyed : Keyed = c.args.keys.now in
-    let head = c.args.head.now in
-    let n = c.args.n.0 in
+    let head = c.args.dict.now.head in
+    let n = c.args.dict.now.n.0 in
     let first = (rw c.in-Some.is at c.in_ok-first_unordered.ensures.exact) honest runs texts in
     let objects : c.frame-count.result.objects ≡ F.objects = ap (λ (x : Frame). x.objects) c.frame-count.ensures.frame in
     let positions : c.deref.result.now ≡ keyed.positions = c.deref.ensures.value ∙ ap (λ (k : Keyed). k.positions) c.keys.view_is in
@@ -23,7 +23,7 @@ returns-in-Some-clause-exact g c = λ honest runs texts.
     ∙ get_or_default keyed.starts n c.index.result.now 0 (omega (arith, c.requires.starts, c.requires.within)) in
     let list : c.part_of-list.result.now ≡ list_of keyed n head.count = c.part_of-list.ensures.part ∙ ap₂ (λ xs p. part xs p head.count) positions start in
     let whole : slice_index keyed.starts n + head.count ≤ length keyed.positions =
-    omega (arith, c.if-start-head.false, c.len.ensures, c.deref.ensures.len, ap length positions, start) in
+    omega (arith, c.if-start-dict.false, c.len.ensures, c.deref.ensures.len, ap length positions, start) in
     let place : 16 + 8 * c.frame-count.result.objects + 4 * (c.index.result.now + c.in-Some.j) ≡ 16 + 8 * F.objects + 4 * (slice_index keyed.starts n + c.in-Some.j) =
     omega (arith, objects, start) in
     (refl, refl, inr (whole, (c.in-Some.j, subst (λ xs. FailsAt (AreInOrder f F head xs) head.count c.in-Some.j) list first, place)))

@@ -4,11 +4,11 @@ use Rattle.bplist_objects.specs.Framed.{frame_in}
 use Rattle.bplist_cert.proofs.OrderedLists.{in_order, out_of_order, order_more}
 use Rattle.bplist_cert.proofs.key_order.first_unordered.Goals as goal
 
-pub returns-then-position-head-clause-exact : goal.returns-then-position-head-clause-exact
-returns-then-position-head-clause-exact g c = λ honest runs texts. (
+pub returns-then-position-dict-clause-exact : goal.returns-then-position-dict-clause-exact
+returns-then-position-dict-clause-exact g c = λ honest runs texts. (
   omega (arith, c.loop-j-test.true, c.requires.whole),
   c.loop-j.invariant.ordered honest runs texts,
-  λ more. let low = (more c.loop-j.j (omega arith)).0 in omega (arith, low, c.if-position-head.true),
+  λ more. let low = (more c.loop-j.j (omega arith)).0 in omega (arith, low, c.if-position-dict.true),
 )
 
 pub returns-in_default-clause-exact : goal.returns-in_default-clause-exact
@@ -31,7 +31,7 @@ returns-then-not-branch-clause-exact g c = λ honest runs texts.
     let after = (rw (c.in_ok-key.ensures.reads, c.loop-j.invariant.same) at c.in_ok-comes_after.ensures.value) honest (c.loop-j.invariant.runs honest runs) in (
       omega (arith, c.loop-j-test.true, c.requires.whole),
       c.loop-j.invariant.ordered honest runs texts,
-      λ more. out_of_order f F c.args.head.now c.args.list.now c.loop-j.j c.loop-j.before (c.loop-j.invariant.last honest texts) c.in-Some.key key c.in_ok-comes_after.field-0 after c.if-not-branch.true
+      λ more. out_of_order f F c.args.dict.now.head c.args.list.now c.loop-j.j c.loop-j.before (c.loop-j.invariant.last honest texts) c.in-Some.key key c.in_ok-comes_after.field-0 after c.if-not-branch.true
           (more c.loop-j.j (omega arith)),
     )
 
@@ -44,8 +44,8 @@ loop-j-preserved g c = record {
       let F : Frame = frame_in (g.P.Source.means c.args.src.now) in
       let key = (rw (c.loop-j.invariant.same, c.in-Some.is) at c.in_ok-key.ensures.exact) honest texts in
       let after = (rw (c.in_ok-key.ensures.reads, c.loop-j.invariant.same) at c.in_ok-comes_after.ensures.value) honest (c.loop-j.invariant.runs honest runs) in
-      order_more f F c.args.head.now c.args.list.now c.loop-j.j (c.loop-j.invariant.ordered honest runs texts)
-      (in_order f F c.args.head.now c.args.list.now c.loop-j.j c.loop-j.before (c.loop-j.invariant.last honest texts) c.in-Some.key key (omega (arith, c.if-position-head.false)) c.in_ok-comes_after.field-0 after c.if-not-branch.false);
+      order_more f F c.args.dict.now.head c.args.list.now c.loop-j.j (c.loop-j.invariant.ordered honest runs texts)
+      (in_order f F c.args.dict.now.head c.args.list.now c.loop-j.j c.loop-j.before (c.loop-j.invariant.last honest texts) c.in-Some.key key (omega (arith, c.if-position-dict.false)) c.in_ok-comes_after.field-0 after c.if-not-branch.false);
   last = λ honest texts.
       let key = (rw (c.loop-j.invariant.same, c.in-Some.is) at c.in_ok-key.ensures.exact) honest texts in
       (c.loop-j.j, omega arith, key);

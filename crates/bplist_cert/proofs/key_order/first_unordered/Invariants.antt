@@ -1,9 +1,8 @@
 use Rattle.std.proofs.Common.{◌≡◌, IsTrue, length, IfSome}
 use Rattle.bplist_objects.specs.Framed.{HonestlyIn}
-use Rattle.bplist_objects.specs.Safe.{IsSafeBody}
-use Rattle.bplist_objects.specs.Units.{IsTextKind}
 use Rattle.bplist_keys.specs.Runs.{AreRuns}
 use Rattle.bplist_cert.specs.DictKeys.{KeysAreTexts, AreInOrder}
+use Rattle.bplist_cert.specs.KeyPairs.{IsSafeText}
 use Rattle.bplist_cert.proofs.OrderedLists.{IsBefore}
 use Rattle.bplist_cert.proofs.key_order.first_unordered.Given as goal
 
@@ -14,7 +13,7 @@ invariant-loop-j g l =
     record {
       same : means l.src ≡ means l.fn.src;
       runs : IsTrue (means l.fn.src).honest → AreRuns (means l.fn.src).octets l.fn.runs.slots → AreRuns (means l.fn.src).octets l.runs.slots;
-      ordered : HonestlyIn (means l.fn.src) (λ f F. AreRuns f l.fn.runs.slots → KeysAreTexts f F l.head l.head.count → AreInOrder f F l.head l.list l.j);
-      last : HonestlyIn (means l.fn.src) (λ f F. KeysAreTexts f F l.head l.head.count → IsBefore f F l.head l.list l.j l.before);
-      safe : IfSome l.before (λ key. IsTextKind key.kind × IsSafeBody (length (means l.fn.src).octets) key);
+      ordered : HonestlyIn (means l.fn.src) (λ f F. AreRuns f l.fn.runs.slots → KeysAreTexts f F l.dict.head l.dict.head.count → AreInOrder f F l.dict.head l.list l.j);
+      last : HonestlyIn (means l.fn.src) (λ f F. KeysAreTexts f F l.dict.head l.dict.head.count → IsBefore f F l.dict.head l.list l.j l.before);
+      safe : IfSome l.before (IsSafeText (length (means l.fn.src).octets));
     }
