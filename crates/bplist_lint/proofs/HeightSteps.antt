@@ -1,5 +1,5 @@
 -- Steps of the walk that finds the least heights.
-use Rattle.std.proofs.Common.{◌≡◌, ◌≢◌, ℕ, zero, suc, ◌+◌, ◌<◌, ◌≤◌, max, ◌⊎◌, inl, inr, Bool, true, false, cond, List, [], ◌∷◌, ◌++◌, length, get_or, map, set, take, slice_index, count_by, Contains, refl, sym, ◌∙◌, ap, arith, add-one}
+use Rattle.std.proofs.Common.{◌≡◌, ◌≢◌, ℕ, zero, suc, ◌+◌, ◌*◌, ◌<◌, ◌≤◌, max, ◌⊎◌, inl, inr, Bool, true, false, cond, List, [], ◌∷◌, ◌++◌, length, get_or, map, set, take, slice_index, count_by, Contains, refl, sym, ◌∙◌, ap, arith, add-one}
 use Rattle.std.specs.Int.{from_bool}
 use Rattle.std.proofs.Math.ListN.{get_or-eq_default}
 use Rattle.std.proofs.lemmas.Bool.{cases_eq, cases_lt}
@@ -10,7 +10,7 @@ use Rattle.bplist_lint.specs.Graph.{Ends, Least, greatest, IsPart}
 use Rattle.bplist_lint.specs.Graph.Ends.{ends}
 use Rattle.bplist_lint.specs.Graph.Least.{above}
 use Rattle.bplist_keys.specs.Marks.{IsMarked}
-use Rattle.bplist_lint.specs.HeightWalks.{state_at, is_new, is_founded, first_state, work, Standing, IsHeightWalk, AreLeastOf}
+use Rattle.bplist_lint.specs.HeightWalks.{state_at, is_founded, first_state, Standing, IsHeightWalk, AreLeastOf}
 use Rattle.bplist_lint.specs.declared.heights.State.{State}
 use Rattle.bplist_lint.specs.declared.heights.State.TheVariants.{New, Open, Founded, Circular}
 use Rattle.bplist_lint.proofs.MarkSteps.{apart_none, apart_push, apart_front, apart_last}
@@ -18,11 +18,27 @@ use Rattle.bplist_lint.proofs.ReferenceParts.{take_part}
 use Rattle.bplist_lint.proofs.ListWrites.{count-set, push_cases, at_set}
 
 -- ---- states
+-- nothing is known of the object yet
+abbrev pub is_new : State → Bool
+is_new New = true
+is_new _ = false
+
+-- what is left to do: each object on the stack, and twice each object of which nothing is known
+abbrev pub work : List State → List ℕ → ℕ
+work states stack = 2 * count_by is_new states + length stack
+
 -- an object of which something is known is one of those that have a state
 state_within : (states : List State) (n : ℕ) → state_at states n ≢ New → n < length states
 state_within states n known = elim (cases_lt n (length states)) [
   | inl low ↦ low
   | inr high ↦ absurd (known (get_or-eq_default states New high))
+]
+
+-- what is known of an object stays known where another state is written, or its own
+pub stays_known : (states : List State) (n : ℕ) (state : State) → n < length states → state ≢ New → (m : ℕ) → state_at states m ≢ New → state_at (set states n state) m ≢ New
+stays_known states n state within old m known e = elim (at_set states n state New m within) [
+  | inl c ↦ old (sym c.1 ∙ e)
+  | inr c ↦ known (sym c.1 ∙ e)
 ]
 
 -- the states and heights before the first look
@@ -97,12 +113,6 @@ module _ (size : ℕ) (states : List State) (heights stack : List ℕ) where
           | inr is ↦ inr (opened n is)
         ];
       }
-
--- the object on top waits again, and one more is open
-pub work_open : (states : List State) (stack : List ℕ) (n m : ℕ) → m < length states → state_at states m ≡ New → work (set states m Open) ((stack ++ n ∷ []) ++ m ∷ []) < work states (stack ++ n ∷ [])
-work_open states stack n m within new =
-    let long = length_push (stack ++ n ∷ []) m in
-    omega (arith, long, rw new at (count-set is_new states m Open New within))
 
 -- ---- the object on top of the stack
 module _ (size : ℕ) (states : List State) (heights stack : List ℕ) (n : ℕ) (s : Standing size states heights (stack ++ n ∷ [])) where

@@ -1,9 +1,10 @@
 -- What the search for the reached objects keeps true.
-use Rattle.std.proofs.Common.{◌≡◌, ℕ, zero, suc, ◌+◌, ◌-◌, ◌*◌, ◌/◌, ◌%◌, ◌∙◌, ◌<◌, ◌≤◌, ◌↔◌, inl, inr, Bool, true, false, List, [], ◌∷◌, ◌++◌, length, set, replicate, Contains, sym, ap, ap₂, subst, arith}
+use Rattle.std.proofs.Common.{◌≡◌, ℕ, zero, suc, ◌+◌, ◌-◌, ◌*◌, ◌/◌, ◌%◌, ◌∙◌, ◌<◌, ◌≤◌, ◌↔◌, inl, inr, Bool, true, false, not, All, Vec, Global, List, [], ◌∷◌, ◌++◌, length, get_or, set, count_by, replicate, Contains, refl, sym, ap, ap₂, subst, arith}
 use Rattle.std.proofs.Math.Nat.{add-mul, div-mul-le_self, le-div_iff_mul-le, mod-lt}
 use Rattle.std.proofs.lemmas.Nat.{div-mul-add, mod-mul-add, div-add-mod', mul-add-lt}
+use Rattle.std.proofs.lemmas.Grind.{elements}
 use Rattle.std.proofs.lemmas.Bool.{false≢true, cases_eq, cases_lt}
-use Rattle.std.proofs.lemmas.List.{get_or-set_same, get_or-set_other, get_or_default, length-replicate}
+use Rattle.std.proofs.lemmas.List.{get_or-set_same, get_or-set_other, get_or_default, length-replicate, length-set, length_push}
 use Rattle.std.proofs.lemmas.List.Elements.{Contains-append_left, Contains-push, Contains-push_cases}
 use Rattle.bplist_objects.specs.declared.frame.Frame.{Frame}
 use Rattle.bplist_objects.specs.declared.head.Head.{Head}
@@ -18,9 +19,11 @@ use Rattle.bplist_objects.proofs.Lists.{none_in}
 use Rattle.bplist_objects.proofs.ReachedObjects.{refs_iff}
 use Rattle.bplist_objects.proofs.References.{length-refs, nth-refs}
 use Rattle.bplist_keys.specs.Marks.{IsMarked}
-use Rattle.bplist_lint.specs.ReachSearch.{HasMarks, row_length, place_index, index_count, reference_at, AreGood, AreFollowed, Looked, IsSearching}
+use Rattle.bplist_lint.specs.ReachSearch.{IsReady, HasMarks, row_length, place_index, index_count, reference_at, AreGood, AreFollowed, Looked, IsSearching}
 use Rattle.bplist_lint.specs.BitSets.{IsIn}
-use Rattle.bplist_lint.proofs.ListWrites.{seen-set, unwritten}
+use Rattle.bplist_lint.specs.declared.bit_set.BitSet.{BitSet}
+use Rattle.bplist_lint.specs.declared.reach.Search.{Search}
+use Rattle.bplist_lint.proofs.ListWrites.{seen-set, unwritten, count-set}
 
 pub marked_within : (marks : List Bool) (n : ℕ) → IsMarked marks n → n < length marks
 marked_within [] n h = absurd (false≢true h)
@@ -72,6 +75,17 @@ module _ (F : Frame) (some : 1 ≤ F.ref_size) (place k : ℕ) (within : place +
       let fit = mul-add-lt (place % F.ref_size) (row_length F) (place / F.ref_size + k) F.ref_size (mod-lt place some) column in
       omega (arith, number_is, fit)
 
+-- the object on top of the stack was taken, and places were looked at
+pub ready_popped : (F : Frame) (search : Search) (stack : Vec ℕ Global) (good : BitSet) (n : ℕ) → IsReady F search → search.stack.items ≡ stack.items ++ n ∷ [] → good.size ≡ search.good.size → IsReady F (record search { stack = stack; good = good })
+ready_popped F search stack good n r popped size =
+    let all = r.stack_in in
+    record {
+      all_marks = r.all_marks;
+      stack_in = grind (arith, elements);
+      good_size = size ∙ r.good_size;
+      followed_size = r.followed_size;
+    }
+
 -- what was looked at so far
 module _ (references : List ℕ) (marks : List Bool) (stack : List ℕ) where
   pub looked_none : Looked references marks stack marks stack
@@ -94,6 +108,35 @@ module _ (references : List ℕ) (marks : List Bool) (stack : List ℕ) where
       | inr e ↦ rw (← e) (inr (get_or-set_same marks' m true false fits))
     ];
   }
+
+-- object m is marked, and went onto the stack where it was not marked before
+pub record Takes (m : ℕ) (marks : List Bool) (stack : List ℕ) (marks' : List Bool) (stack' : List ℕ) : Type 0 where
+  pub all : length marks' ≡ length marks
+  pub marked : IsMarked marks' m
+  pub keeps : (k : ℕ) → IsMarked marks k → IsMarked marks' k
+  pub stack_in : (size : ℕ) → m < size → All (λ k. k < size) stack → All (λ k. k < size) stack'
+  pub work : count_by not marks' + length stack' ≤ count_by not marks + length stack
+  pub looked : (references : List ℕ) (first : List Bool) (begun : List ℕ) → Contains references m → Looked references first begun marks stack → Looked references first begun marks' stack'
+
+pub takes_new : (m : ℕ) (marks : List Bool) (stack : List ℕ) → m < length marks → get_or marks m false ≡ false → Takes m marks stack (set marks m true) (stack ++ m ∷ [])
+takes_new m marks stack fits unmarked = record {
+  all = length-set marks m true;
+  marked = get_or-set_same marks m true false fits;
+  keeps = λ k h. seen-set marks m k fits h;
+  stack_in = λ size low all. grind (arith, elements);
+  work = omega (arith, rw unmarked at (count-set not marks m true false fits), length_push stack m);
+  looked = λ references first begun among s. looked_more references first begun marks stack m s among fits;
+}
+
+pub takes_old : (m : ℕ) (marks : List Bool) (stack : List ℕ) → IsMarked marks m → Takes m marks stack marks stack
+takes_old m marks stack marked = record {
+  all = refl;
+  marked = marked;
+  keeps = λ k h. h;
+  stack_in = λ size low all. all;
+  work = omega arith;
+  looked = λ references first begun among s. s;
+}
 
 module _ (f : List ℕ) (F : Frame) where
   -- one object of the stack was looked at

@@ -1,5 +1,5 @@
 -- The states, the heights and the stack of the walk that finds the least heights, and what it keeps true of them. Source: profile.
-use Rattle.std.specs.Prelude.{◌≡◌, ◌≢◌, ◌⊎◌, ℕ, suc, ◌+◌, ◌*◌, ◌<◌, ◌≤◌, Bool, true, false, List, length, map, slice_index_or, slice_index, count_by, Contains, ⊤}
+use Rattle.std.specs.Prelude.{◌≡◌, ◌≢◌, ◌⊎◌, ℕ, suc, ◌<◌, ◌≤◌, Bool, true, false, List, length, map, slice_index_or, slice_index, count_by, Contains, ⊤}
 use Rattle.bplist_lint.specs.Graph.{Graph, IsWhole, Ends, Least, greatest}
 use Rattle.bplist_keys.specs.Marks.{IsMarked}
 use Rattle.bplist_lint.specs.ReachSearch.{HasMarks}
@@ -13,11 +13,6 @@ use Rattle.bplist_lint.specs.declared.heights.Finding.TheVariants as looks
 abbrev pub state_at : List State → ℕ → State
 state_at states n = slice_index_or states n New
 
--- nothing is known of the object yet
-abbrev pub is_new : State → Bool
-is_new New = true
-is_new _ = false
-
 -- the object is known to be founded
 abbrev pub is_founded : State → Bool
 is_founded Founded = true
@@ -27,10 +22,6 @@ is_founded _ = false
 abbrev pub first_state : Bool → State
 first_state true = Founded
 first_state false = New
-
--- what is left to do: each object on the stack, and twice each object of which nothing is known
-abbrev pub work : List State → List ℕ → ℕ
-work states stack = 2 * count_by is_new states + length stack
 
 -- the states, the heights and the stack agree, whatever the references are
 pub record Standing (size : ℕ) (states : List State) (heights stack : List ℕ) : Type 0 where

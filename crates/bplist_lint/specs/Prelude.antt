@@ -28,7 +28,7 @@ pub use Rattle.bplist_cert.specs.Valid.{IsValid, IsVouchedBy}
 pub use Rattle.bplist_cert.specs.declared.refusal.Refusal.{Refusal}
 pub use Rattle.bplist_lint.specs.FileFault.{IsCircle, IsFileCircle, IsFileFault, IsFramedCircle, IsObjectsFault}
 pub use Rattle.bplist_lint.specs.Graph.{AreLeast, AreObjects, AreWhole, Ends, IsCircleOf, IsFirstWithout, IsWhole, Reaches}
-pub use Rattle.bplist_lint.specs.HeightWalks.{AreClosed, AreLeastOf, Finds, IsHeightWalk, Shows, Standing, first_state, state_at, work}
+pub use Rattle.bplist_lint.specs.HeightWalks.{AreClosed, AreLeastOf, Finds, IsHeightWalk, Shows, Standing, first_state, state_at}
 pub use Rattle.bplist_lint.specs.KeyClasses.{IsWrongFault}
 pub use Rattle.bplist_lint.specs.KeyLists.{AreAbove, AreRanked, HaveRanks, IsListed, positions_in, ranks_in}
 pub use Rattle.bplist_lint.specs.KeyRules.{BreaksAtKeys, IsKeysFault, KeepKeysBelow, KeepsByKeys, key_rules}

@@ -1,8 +1,8 @@
 //! Which objects are founded, and their least heights.
 
-ghost use Rattle.std.specs.Prelude.{◌≡◌, ◌≢◌, ℕ, ◌+◌, ◌^◌, ◌<◌, ◌≤◌, Bool, List, [], ◌∷◌, ◌++◌, IsTrue, length, map, set, slice_index, vec_len, IfOk, OnOk};
+ghost use Rattle.std.specs.Prelude.{◌≡◌, ◌≢◌, ℕ, ◌+◌, ◌^◌, ◌<◌, Bool, List, [], ◌∷◌, ◌++◌, IsTrue, length, map, set, vec_len, IfOk, OnOk};
 ghost use Rattle.std.specs.Int.{from_bool};
-ghost use Rattle.bplist_lint.specs.Prelude.{OnlyReads, failed_to_read, IsWhole, AreObjects, IsMarked, Finds, Shows, Standing, IsHeightWalk, AreClosed, AreLeastOf, state_at, first_state, work};
+ghost use Rattle.bplist_lint.specs.Prelude.{OnlyReads, failed_to_read, IsWhole, AreObjects, IsMarked, Finds, Shows, Standing, IsHeightWalk, AreClosed, AreLeastOf, state_at, first_state};
 ghost use Rattle.bplist_lint.specs.declared.heights.State.TheVariants as states;
 
 use crate::references::{BLOCK, References};
@@ -83,19 +83,6 @@ impl HeightWalk {
     {
         self.states[m as usize] = State::Open;
         self.stack.push(m)?;
-        Ok(())
-    }
-
-    /// Puts object `n` on the stack again. The next look at it begins at reference `i`, or before.
-    fn put_back(&mut self, n: u32, i: u64) -> Result<(), AllocError>
-        requires { n < vec_len self.old.heights }
-        ensures states { self.new.states.items ≡ self.old.states.items }
-        ensures heights { (m : ℕ) → m ≢ n → slice_index self.new.heights.items m ≡ slice_index self.old.heights.items m }
-        ensures all { vec_len self.new.heights ≡ vec_len self.old.heights }
-        ensures stack { OnOk result (self.new.stack.items ≡ self.old.stack.items ++ n ∷ []) }
-    {
-        self.heights[n as usize] = i.min(u32::MAX as u64) as u32;
-        self.stack.push(n)?;
         Ok(())
     }
 
@@ -183,33 +170,8 @@ impl HeightWalk {
         self.look(graph, n, 0)
     }
 
-    /// Goes on at object `n`, which was on top of the stack: settles it, or opens an object that has to be settled before.
-    fn step<R: References>(&mut self, graph: &mut R, n: u32) -> Result<(), Failure>
-        requires fits { (R.graph graph.old).size < 2 ^ 32 }
-        requires standing { Standing (R.graph graph.old).size self.old.states.items self.old.heights.items (self.old.stack.items ++ n ∷ []) }
-        ensures same { R.graph graph.new ≡ R.graph graph.old }
-        ensures reads { OnlyReads (failed_to_read result) (R.means graph.old) (R.means graph.new) }
-        ensures standing { OnOk result (Standing (R.graph graph.old).size self.new.states.items self.new.heights.items self.new.stack.items) }
-        ensures less { OnOk result (work self.new.states.items self.new.stack.items
-            < work self.old.states.items (self.old.stack.items ++ n ∷ [])) }
-        ensures keeps { OnOk result ((m : ℕ) → state_at self.old.states.items m ≢ states.New → state_at self.new.states.items m ≢ states.New) }
-        ensures walking { OnOk result (IsTrue (R.means graph.old).honest → (marks : List Bool) → AreClosed (R.graph graph.old) marks
-            → IsHeightWalk (R.graph graph.old).refs marks self.old.states.items self.old.heights.items (self.old.stack.items ++ n ∷ [])
-            → IsHeightWalk (R.graph graph.old).refs marks self.new.states.items self.new.heights.items self.new.stack.items) }
-    {
-        match self.look_on(graph, n)? {
-            Finding::New(i, m) => {
-                self.put_back(n, i)?;
-                self.open(m)?;
-            }
-            Finding::Circular => self.settle(n, State::Circular, 0),
-            Finding::Founded(best) => self.settle(n, State::Founded, best + 1),
-        }
-        Ok(())
-    }
-
-    /// Walks from object `n`, where nothing is known of it: settles it, and what it leads to. The stack is empty before and
-    /// after.
+    /// Walks from object `n`, where nothing is known of it: settles it, and what it leads to. The object on top of the stack is
+    /// settled, or one is opened that has to be settled before. The stack is empty before and after.
     fn settle_from<R: References>(&mut self, graph: &mut R, n: u32) -> Result<(), Failure>
         requires fits { (R.graph graph.old).size < 2 ^ 32 }
         requires n_in { n < (R.graph graph.old).size }
@@ -232,7 +194,16 @@ impl HeightWalk {
         }
         self.open(n)?;
         while let Some(m) = self.stack.pop() {
-            self.step(graph, m)?;
+            match self.look_on(graph, m)? {
+                Finding::New(i, next) => {
+                    // The next look at it begins at reference `i`, or before.
+                    self.heights[m as usize] = i.min(u32::MAX as u64) as u32;
+                    self.stack.push(m)?;
+                    self.open(next)?;
+                }
+                Finding::Circular => self.settle(m, State::Circular, 0),
+                Finding::Founded(best) => self.settle(m, State::Founded, best + 1),
+            }
         }
         Ok(())
     }

@@ -1,6 +1,6 @@
 //! The linter.
 
-ghost use Rattle.std.specs.Prelude.{◌≡◌, ◌↔◌, ℕ, ◌+◌, ◌≤◌, ◌<◌, IsTrue, IfOk, IfSome, MatchOption, length, map, slice_index, vec_len, ⊤};
+ghost use Rattle.std.specs.Prelude.{◌≡◌, ◌↔◌, ℕ, ◌<◌, IsTrue, IfOk, IfSome, MatchOption, length, map, slice_index, vec_len, ⊤};
 ghost use Rattle.bplist_lint.specs.Prelude.{OnlyReads, frame_in, HonestlyIn, Reach, AreOffsets, refs_at, Value, FileHolds, Never, HasShape, Head as head, failed_to_read, IsMarked, AreLeast, IsCircleOf, AreChildless, number, IsReachFault, KeepReachBelow, KeepKeysBelow, HasRoomFor, IsWalked, AreNamed, IsObjectsFault, IsFileFault, IsFileCircle, IsFramedCircle, Lints, lint_failed, no_circle, KeepsRules, IsLintedBy, IsLinted, IsLintedWithKind, HasNoHeights};
 
 use crate::answer::Lint;
@@ -129,34 +129,6 @@ fn check_rules_by_table<P: Offsets>(
     Ok((reached, None))
 }
 
-/// Looks at the reached objects by rules 14 to 22 and 31, first each by itself and then at the keys of each, where the
-/// places of all objects are given. They are answered again, but where many objects are keys.
-///
-/// What many keys take and the places would come to more than 12 bytes an object together. So the places are given up before
-/// many keys are looked at.
-fn check_rules<P: Offsets>(
-    alloc: Global,
-    src: &mut P,
-    places: Vec<u32>,
-) -> Result<(Reached, Option<Vec<u32>>), LintRefusal>
-    requires all { length places.items ≡ (frame_in (P.means src.old)).objects }
-    requires placed { HonestlyIn (P.means src.old) (λ f F. AreOffsets f F places.items) }
-    ensures reads { OnlyReads (lint_failed result) (P.means src.old) (P.means src.new) }
-    ensures fits { IfOk result (λ known. HasRoomFor (frame_in (P.means src.old)) known.0) }
-    ensures all { IfOk result (λ known. IfSome known.1 (λ places. length places.items ≡ (frame_in (P.means src.old)).objects)) }
-    ensures placed { HonestlyIn (P.means src.old) (λ f F. IfOk result (λ known. IfSome known.1 (λ places. AreOffsets f F places.items))) }
-    ensures exact { HonestlyIn (P.means src.old) (λ f F.
-        Lints (λ known. KeepsRules f F known.0) (IsObjectsFault f F) no_circle result) }
-{
-    let (reached, many) = check_rules_by_table(alloc, src, &places)?;
-    let Some(named) = many else {
-        return Ok((reached, Some(places)));
-    };
-    drop(places);
-    check_keys(alloc, src, &reached.marks, &reached.childless, named)?;
-    Ok((reached, None))
-}
-
 /// What the linter says of a file whose reached objects keep rules 14 to 22 and 31.
 fn heights_or_circle<P: Offsets>(
     alloc: Global,
@@ -193,33 +165,39 @@ fn heights_or_circle<P: Offsets>(
     })
 }
 
-/// What the linter says of a file whose reached objects keep rules 14 to 22 and 31, where the places of all objects may be
-/// given. They are given up where more than a quarter of the objects may wait for others: these and the places would come to
-/// more than 12 bytes an object together.
+/// What the linter says of a file whose frame and places keep rules 1 to 13: it looks at the reached objects by rules 14 to 22
+/// and 31, first each by itself and then at the keys of each, and then for the heights or the circle.
+///
+/// What many keys take and the places would come to more than 12 bytes an object together. So the places are given up before
+/// many keys are looked at. They are given up too where more than a quarter of the objects may wait for others: these and the
+/// places would come to as much.
 fn lint_reached<P: Offsets>(
     alloc: Global,
     src: &mut P,
-    reached: Reached,
-    places: Option<Vec<u32>>,
+    places: Vec<u32>,
 ) -> Result<Lint, LintRefusal>
-    requires fits { HasRoomFor (frame_in (P.means src.old)) reached }
-    requires all { IfSome places (λ places. length places.items ≡ (frame_in (P.means src.old)).objects) }
-    requires placed { HonestlyIn (P.means src.old) (λ f F. IfSome places (λ places. AreOffsets f F places.items)) }
-    requires sifted { HonestlyIn (P.means src.old) (λ f F. KeepsRules f F reached) }
+    requires all { length places.items ≡ (frame_in (P.means src.old)).objects }
+    requires placed { HonestlyIn (P.means src.old) (λ f F. AreOffsets f F places.items) }
     ensures reads { OnlyReads (lint_failed result) (P.means src.old) (P.means src.new) }
     ensures exact { HonestlyIn (P.means src.old) (λ f F.
-        Lints (IsLintedBy f F) Never (IsFramedCircle f F) result) }
+        Lints (IsLintedBy f F) (IsObjectsFault f F) (IsFramedCircle f F) result) }
 {
-    let Some(places) = places else {
-        return heights_or_circle(alloc, src, reached);
-    };
+    let (reached, many) = check_rules_by_table(alloc, src, &places)?;
+    if let Some(named) = many {
+        drop(places);
+        check_keys(alloc, src, &reached.marks, &reached.childless, named)?;
+        let lint = heights_or_circle(alloc, src, reached)?;
+        return Ok(lint);
+    }
     if reached.containers() > places.len() / 4 {
         drop(places);
-        return heights_or_circle(alloc, src, reached);
+        let lint = heights_or_circle(alloc, src, reached)?;
+        return Ok(lint);
     }
     let frame = src.frame();
     let mut table = OffsetTable::new(src, frame, &places);
-    heights_or_circle(alloc, &mut table, reached)
+    let lint = heights_or_circle(alloc, &mut table, reached)?;
+    Ok(lint)
 }
 
 /// What the linter says of a file whose frame and places keep rules 1 to 13, and beside a yes the kind of the top.
@@ -235,8 +213,7 @@ fn lint_objects<P: Offsets>(
         Lints (λ answer. IsLintedBy f F answer.0 × ((x : head) → HasShape f F F.top.0 x → answer.1 ≡ x.kind))
         (IsObjectsFault f F) (IsFramedCircle f F) result) }
 {
-    let (reached, places) = check_rules(alloc, src, places)?;
-    let lint = lint_reached(alloc, src, reached, places)?;
+    let lint = lint_reached(alloc, src, places)?;
     let frame = src.frame();
     let head = object_shape(src, frame.top.0)?;
     Ok((lint, head.kind))

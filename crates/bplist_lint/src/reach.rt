@@ -1,7 +1,7 @@
 //! Which objects the top reaches, in a file whose arrays may lie in one another: each place of a reference is followed
 //! once, however many arrays it lies in.
 
-ghost use Rattle.std.specs.Prelude.{◌≡◌, ◌↔◌, ℕ, Bool, All, Contains, List, ◌+◌, ◌^◌, ◌≤◌, ◌<◌, [], ◌∷◌, ◌++◌, true, not, IsTrue, IfOk, OnOk, is_err, replicate, count_by, length, vec_len};
+ghost use Rattle.std.specs.Prelude.{◌≡◌, ◌↔◌, ℕ, ◌+◌, ◌^◌, ◌≤◌, ◌<◌, true, false, not, IsTrue, IfOk, OnOk, is_err, replicate, count_by, vec_len};
 ghost use Rattle.bplist_lint.specs.Prelude.{OnlyReads, frame_in, HonestlyIn, content_at, refs, Reach, IsSafeHead, ref_count, AreBelow, failed_to_read, IsMarked, HasMarks, place_index, index_count, IsReady, AreGood, AreFollowed, Looked, Searching};
 
 use crate::bit_set::BitSet;
@@ -56,29 +56,6 @@ impl Search {
             good: BitSet::new(alloc, numbers)?,
             followed: BitSet::new(alloc, numbers)?,
         })
-    }
-
-    /// Marks object `m`, and puts it on the stack where it was not marked.
-    fn mark(&mut self, m: u32) -> Result<(), AllocError>
-        requires within { m < vec_len self.old.marks }
-        ensures good { self.new.good ≡ self.old.good }
-        ensures followed { self.new.followed ≡ self.old.followed }
-        ensures all_marks { vec_len self.new.marks ≡ vec_len self.old.marks }
-        ensures stack_in { OnOk result (All (λ k. k < vec_len self.old.marks) self.old.stack.items
-            → All (λ k. k < vec_len self.old.marks) self.new.stack.items) }
-        ensures marked { IsMarked self.new.marks.items m }
-        ensures work { OnOk result (count_by not self.new.marks.items + vec_len self.new.stack
-            ≤ count_by not self.old.marks.items + vec_len self.old.stack) }
-        ensures looked { OnOk result ((references : List ℕ) (marks : List Bool) (stack : List ℕ)
-            → Looked references marks stack self.old.marks.items self.old.stack.items → Contains references m
-            → Looked references marks stack self.new.marks.items self.new.stack.items) }
-        ensures keeps { (k : ℕ) → IsMarked self.old.marks.items k → IsMarked self.new.marks.items k }
-    {
-        if !self.marks[m as usize] {
-            self.marks[m as usize] = true;
-            self.stack.push(m)?;
-        }
-        Ok(())
     }
 }
 
@@ -148,31 +125,12 @@ fn follow<P: Framed>(src: &mut P, head: &Head, search: &mut Search) -> Result<()
     while number < end {
         let reference = ref_at(src, &frame, head, number - first)?;
         let m = object_in(&frame, reference);
+        if !search.marks[m as usize] {
+            search.marks[m as usize] = true;
+            search.stack.push(m)?;
+        }
         search.followed.insert(number);
-        search.mark(m)?;
         number = search.followed.next_outside(number + 1);
-    }
-    Ok(())
-}
-
-/// Marks the references of object `n`.
-fn look_at<P: Offsets>(src: &mut P, n: u32, search: &mut Search) -> Result<(), Failure>
-    requires small { (frame_in (P.means src.old)).table < 2 ^ 32 }
-    requires within { n < (frame_in (P.means src.old)).objects }
-    requires ready { IsReady (frame_in (P.means src.old)) search.old }
-    ensures reads { OnlyReads (failed_to_read result) (P.means src.old) (P.means src.new) }
-    ensures ready { OnOk result (IsReady (frame_in (P.means src.old)) search.new) }
-    ensures work { OnOk result (count_by not search.new.marks.items + vec_len search.new.stack
-        ≤ count_by not search.old.marks.items + vec_len search.old.stack) }
-    ensures searching { OnOk result (HonestlyIn (P.means src.old) (λ f F.
-        Searching f F (search.old.stack.items ++ n ∷ []) search.old → Searching f F search.new.stack.items search.new)) }
-{
-    let Some(head) = shape_there(src, n)? else {
-        return Ok(());
-    };
-    let all = are_good(src, &head, &mut search.good)?;
-    if all {
-        follow(src, &head, search)?;
     }
     Ok(())
 }
@@ -182,16 +140,21 @@ pub fn mark_reached<P: Offsets>(alloc: Global, src: &mut P) -> Result<Marked, Fa
     requires small { (frame_in (P.means src.old)).table < 2 ^ 32 }
     ensures reads { OnlyReads (failed_to_read result) (P.means src.old) (P.means src.new) }
     ensures all { IfOk result (λ marked. vec_len marked.marks ≡ (frame_in (P.means src.old)).objects) }
-    ensures all_childless { IfOk result (λ marked. vec_len marked.childless ≡ (frame_in (P.means src.old)).objects) }
     ensures exact { HonestlyIn (P.means src.old) (λ f F. IfOk result (λ marked.
         (n : ℕ) → IsMarked marked.marks.items n ↔ Reach f F n)) }
-    ensures childless { IfOk result (λ marked. (n : ℕ) → IsMarked marked.childless.items n → ⊥) }
+    ensures childless { IfOk result (λ marked. marked.childless.items ≡ replicate (frame_in (P.means src.old)).objects false) }
     ensures named { IfOk result (λ marked. marked.named.marks.items ≡ replicate (frame_in (P.means src.old)).objects true) }
 {
     let objects = src.frame().objects as usize;
     let mut search = Search::from_top(alloc, src)?;
     while let Some(n) = search.stack.pop() {
-        look_at(src, n, &mut search)?;
+        let Some(head) = shape_there(src, n)? else {
+            continue;
+        };
+        let all = are_good(src, &head, &mut search.good)?;
+        if all {
+            follow(src, &head, &mut search)?;
+        }
     }
     let Search { marks, .. } = search;
     Ok(Marked {

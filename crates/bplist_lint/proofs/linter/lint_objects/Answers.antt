@@ -18,10 +18,10 @@ pub returns-in_err-head-clause-exact : goal.returns-in_err-head-clause-exact
 returns-in_err-head-clause-exact g c = λ honest.
     let f = (g.P.Source.means c.args.src.now).octets in
     let F : Frame = frame_in (g.P.Source.means c.args.src.now) in
-    let here = (rw c.in_ok-reached.ensures.reads at c.in_ok-lint.ensures.exact) honest in
+    let here = c.in_ok-lint.ensures.exact honest in
     let spelled = here.least.least _ top in
     let shape = subst (λ (m : Meaning). HonestlyIn m (λ f F. Gives (HasShape f F c.frame-frame.result.top.0) (IsObjectFault f F c.frame-frame.result.top.0 shape_rules) c.object_shape.result)) c.in_ok-lint.ensures.reads c.object_shape.ensures.exact in
-    let given = (rw (c.in_err-head.was, c.frame-frame.ensures.frame, c.in_ok-lint.ensures.reads, c.in_ok-reached.ensures.reads) at shape) honest in
+    let given = (rw (c.in_err-head.was, c.frame-frame.ensures.frame, c.in_ok-lint.ensures.reads) at shape) honest in
     let p = err_from_is_err_and c.from_residual-in_err-head.result c.from_residual-in_err-head.ensures.1 in
     rw (p.1, p.2) (object_means (IsObjectFault f F F.top.0 shape_rules) (IsObjectsFault f F) (IsFramedCircle f F) c.in_err-head.field-0.0 (λ fault h. absurd (no_shape f F F.top.0 fault spelled.1.shape h spelled.1.has)) given)
 
@@ -29,7 +29,7 @@ pub returns-clause-exact : goal.returns-clause-exact
 returns-clause-exact g c = λ honest.
     let f = (g.P.Source.means c.args.src.now).octets in
     let F : Frame = frame_in (g.P.Source.means c.args.src.now) in
-    let here = (rw c.in_ok-reached.ensures.reads at c.in_ok-lint.ensures.exact) honest in
+    let here = c.in_ok-lint.ensures.exact honest in
     let shape = subst (λ (m : Meaning). HonestlyIn m (λ f F. Gives (HasShape f F c.frame-frame.result.top.0) (IsObjectFault f F c.frame-frame.result.top.0 shape_rules) c.object_shape.result)) c.in_ok-lint.ensures.reads c.object_shape.ensures.exact in
-    let given = (rw (c.in_ok-head.was, c.frame-frame.ensures.frame, c.in_ok-lint.ensures.reads, c.in_ok-reached.ensures.reads) at shape) honest in
+    let given = (rw (c.in_ok-head.was, c.frame-frame.ensures.frame, c.in_ok-lint.ensures.reads) at shape) honest in
     (here, λ x has. ap (λ (h : Head). h.kind) (one_shape f F F.top.0 c.in_ok-head.head x given has))

@@ -1,5 +1,6 @@
-use Rattle.std.proofs.Common.{◌≡◌, ◌+◌, ◌-◌, ◌<◌, arith, inl, inr, ap, sym, subst, ◌∙◌}
+use Rattle.std.proofs.Common.{◌≡◌, ◌+◌, ◌-◌, ◌<◌, false, length, arith, inl, inr, ap, sym, subst, ◌∙◌}
 use Rattle.std.proofs.lemmas.Bool.{cases_lt, cases_eq}
+use Rattle.std.proofs.lemmas.List.{get_or_read}
 use Rattle.bplist_objects.specs.declared.frame.Frame.{Frame}
 use Rattle.bplist_objects.specs.Framed.{frame_in}
 use Rattle.bplist_objects.specs.Heads.{content_at, refs}
@@ -10,9 +11,11 @@ use Rattle.bplist_objects.proofs.References.{length-refs, nth-refs}
 use Rattle.bplist_keys.specs.Marks.{IsMarked}
 use Rattle.bplist_lint.specs.ReachSearch.{place_index, reference_at}
 use Rattle.bplist_lint.specs.declared.bit_set.BitSet.{BitSet}
-use Rattle.bplist_lint.proofs.ReachSteps.{size_small, numbers_low, reference_at_k, all_marked}
+use Rattle.bplist_lint.specs.declared.reach.Search.{Search}
+use Rattle.bplist_lint.proofs.ReachSteps.{Takes, takes_new, takes_old, size_small, numbers_low, reference_at_k, all_marked}
 use Rattle.bplist_lint.proofs.HeightSteps.{among_at}
 use Rattle.bplist_lint.proofs.reach.follow.Goals as goal
+use Rattle.bplist_lint.proofs.reach.follow.Goals.{then-not-index+in_ok-push, else-not-index}
 
 pub refs_of-requires : goal.refs_of-requires
 refs_of-requires g c =
@@ -44,7 +47,11 @@ insert-requires g c =
     let F : Frame = frame_in (g.P.Source.means c.args.src.now) in
     let h = c.args.head.now in
     let low = numbers_low f F h c.frame-frame.ensures.framed.safe.safe.ref_low c.requires.head in
-    omega (arith, low, c.loop-number-test.true, c.place_index-first.ensures, c.refs_of.ensures, c.loop-number.invariant.ready.followed_size)
+    let same : c.if-not-index.search.followed.size ≡ c.loop-number.search.followed.size = elim c.if-not-index.branch [
+      | then-not-index+in_ok-push w ↦ ap (λ (s : Search). s.followed.size) w.search-is
+      | else-not-index w ↦ ap (λ (s : Search). s.followed.size) w.search-is
+    ] in
+    omega (arith, low, same, c.loop-number-test.true, c.place_index-first.ensures, c.refs_of.ensures, c.loop-number.invariant.ready.followed_size)
 
 pub next_outside-number-requires-in-loop-number : goal.next_outside-number-requires-in-loop-number
 next_outside-number-requires-in-loop-number g c =
@@ -52,7 +59,10 @@ next_outside-number-requires-in-loop-number g c =
     let F : Frame = frame_in (g.P.Source.means c.args.src.now) in
     let h = c.args.head.now in
     let low = numbers_low f F h c.frame-frame.ensures.framed.safe.safe.ref_low c.requires.head in
-    let same = ap (λ (s : BitSet). s.size) c.mark.ensures.followed in
+    let same : c.if-not-index.search.followed.size ≡ c.loop-number.search.followed.size = elim c.if-not-index.branch [
+      | then-not-index+in_ok-push w ↦ ap (λ (s : Search). s.followed.size) w.search-is
+      | else-not-index w ↦ ap (λ (s : Search). s.followed.size) w.search-is
+    ] in
     omega (arith, low, same, c.loop-number-test.true, c.place_index-first.ensures, c.refs_of.ensures, c.insert.ensures.size, c.loop-number.invariant.ready.followed_size)
 
 pub loop-number-preserved : goal.loop-number-preserved
@@ -66,40 +76,59 @@ loop-number-preserved g c =
     let low : k < ref_count h.kind h.count = omega (arith, c.loop-number-test.true, c.refs_of.ensures, i.from) in
     let back : place_index F h.body + k ≡ j = omega (arith, c.place_index-first.ensures, i.from) in
     let at_j : reference_at f F j ≡ nth_number f h.body F.ref_size k = ap (reference_at f F) (sym back) ∙ reference_at_k f F h c.frame-frame.ensures.framed.safe.safe.ref_low c.requires.head k low in
-    let next = c.next_outside-number-in-loop-number.ensures in
-    let same = ap (λ v. v.items) next.words ∙ ap (λ (s : BitSet). s.words.items) c.mark.ensures.followed in
-    let before = rw (ap (λ (s : BitSet). s.words.items) c.mark.ensures.followed) at next.before in
+    let before = c.loop-number.search in
+    let marks = before.marks.items in
     let m = c.object_in-m.result in
+    let m_low = rw c.frame-frame.ensures.frame at c.object_in-m.ensures.inside in
+    let fits : m < length marks = omega (arith, m_low, i.ready.all_marks) in
+    let read = get_or_read marks m c.index.result.now fits c.index.ensures false in
+    let after = c.if-not-index.search in
+    let taken : Takes m marks before.stack.items after.marks.items after.stack.items = elim c.if-not-index.branch [
+      | then-not-index+in_ok-push w ↦ rw (w.search-is, w.in_ok-push.ensures.items) (takes_new m marks before.stack.items fits (sym read ∙ w.if-not-index.true))
+      | else-not-index w ↦ rw w.search-is (takes_old m marks before.stack.items (sym read ∙ w.if-not-index.false))
+    ] in
+    let same_good : after.good ≡ before.good = elim c.if-not-index.branch [
+      | then-not-index+in_ok-push w ↦ ap (λ (s : Search). s.good) w.search-is
+      | else-not-index w ↦ ap (λ (s : Search). s.good) w.search-is
+    ] in
+    let same_followed : after.followed ≡ before.followed = elim c.if-not-index.branch [
+      | then-not-index+in_ok-push w ↦ ap (λ (s : Search). s.followed) w.search-is
+      | else-not-index w ↦ ap (λ (s : Search). s.followed) w.search-is
+    ] in
+    let put = rw same_followed at c.insert.ensures in
+    let next = c.next_outside-number-in-loop-number.ensures in
+    let same = ap (λ v. v.items) next.words in
     record {
       reads = c.in_ok-reference.ensures.reads ∙ i.reads;
       ready = record {
-        all_marks = c.mark.ensures.all_marks ∙ i.ready.all_marks;
-        stack_in = (rw i.ready.all_marks at c.in_ok-mark.ensures.stack_in) i.ready.stack_in;
-        good_size = ap (λ (s : BitSet). s.size) c.mark.ensures.good ∙ i.ready.good_size;
-        followed_size = next.size ∙ ap (λ (s : BitSet). s.size) c.mark.ensures.followed ∙ c.insert.ensures.size ∙ i.ready.followed_size;
+        all_marks = omega (arith, taken.all, i.ready.all_marks);
+        stack_in = taken.stack_in _ m_low i.ready.stack_in;
+        good_size = ap (λ (s : BitSet). s.size) same_good ∙ i.ready.good_size;
+        followed_size = next.size ∙ put.size ∙ i.ready.followed_size;
       };
-      good = c.mark.ensures.good ∙ i.good;
+      good = same_good ∙ i.good;
       from = omega (arith, next.from, i.from);
-      work = omega (arith, c.in_ok-mark.ensures.work, i.work);
+      work = omega (arith, taken.work, i.work);
       known = λ q from high. rw same (elim (cases_lt q j) [
-        | inl first ↦ c.insert.ensures.keeps q (i.known q from first)
+        | inl first ↦ put.keeps q (i.known q from first)
         | inr later ↦ elim (cases_eq q j) [
-          | inl e ↦ rw e c.insert.ensures.here
-          | inr ne ↦ before q (omega (arith, later, ne)) high
+          | inl e ↦ rw e put.here
+          | inr ne ↦ next.before q (omega (arith, later, ne)) high
         ]
       ]);
       looked = λ honest below all.
           let value = (rw (c.frame-frame.ensures.frame, i.reads) at c.in_ok-reference.ensures.value) honest in
           let good = below k low in
           let m_is : m ≡ nth_number f h.body F.ref_size k = (rw c.frame-frame.ensures.frame at c.object_in-m.ensures.same) (omega (arith, value, good)) ∙ value in
-          c.in_ok-mark.ensures.looked _ _ _ (i.looked honest below all) (among_at (refs (content_at f F h)) k m (omega (arith, low, length-refs f F h.kind h.count h.body)) (m_is ∙ sym (nth-refs f F h.kind h.count h.body k low)));
-      followed = λ honest below all q is. elim (c.insert.ensures.only q (rw same at is)) [
-        | inl old ↦ c.mark.ensures.keeps _ (i.followed honest below all q old)
+          let among = among_at (refs (content_at f F h)) k m (omega (arith, low, length-refs f F h.kind h.count h.body)) (m_is ∙ sym (nth-refs f F h.kind h.count h.body k low)) in
+          taken.looked _ _ _ among (i.looked honest below all);
+      followed = λ honest below all q is. elim (put.only q (rw same at is)) [
+        | inl old ↦ taken.keeps _ (i.followed honest below all q old)
         | inr e ↦
             let value = (rw (c.frame-frame.ensures.frame, i.reads) at c.in_ok-reference.ensures.value) honest in
             let good = below k low in
             let m_is : m ≡ nth_number f h.body F.ref_size k = (rw c.frame-frame.ensures.frame at c.object_in-m.ensures.same) (omega (arith, value, good)) ∙ value in
-            rw e (subst (IsMarked c.mark.new.self.marks.items) (m_is ∙ sym at_j) c.mark.ensures.marked)
+            rw e (subst (IsMarked after.marks.items) (m_is ∙ sym at_j) taken.marked)
       ];
     }
 

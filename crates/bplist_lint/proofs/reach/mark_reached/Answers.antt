@@ -1,31 +1,65 @@
-use Rattle.std.proofs.Common.{◌≡◌, [], arith, ◌∙◌}
-use Rattle.std.proofs.lemmas.Grind.{common_steps, elements}
-use Rattle.bplist_lint.proofs.ReachSteps.{searching_end}
+use Rattle.std.proofs.Common.{◌≡◌, [], arith, refl, sym, ap, ◌∙◌}
+use Rattle.std.proofs.lemmas.Grind.{common_steps}
+use Rattle.std.proofs.lemmas.Bool.{false≢true}
+use Rattle.std.proofs.lemmas.List.{nil_from_length}
+use Rattle.bplist_objects.specs.declared.frame.Frame.{Frame}
+use Rattle.bplist_objects.specs.Framed.{frame_in}
+use Rattle.bplist_objects.specs.Spelled.{refs_at}
+use Rattle.bplist_lint.specs.declared.bit_set.BitSet.{BitSet}
+use Rattle.bplist_lint.proofs.ObjectReferences.{no_refs_shape, broken_count, refs_as_shape}
+use Rattle.bplist_lint.proofs.ReachSteps.{ready_popped, searching_step, searching_none, searching_end}
 use Rattle.bplist_lint.proofs.reach.mark_reached.Goals as goal
 
-pub look_at-requires-clause-within : goal.look_at-requires-clause-within
-look_at-requires-clause-within g c =
-    let all = c.loop-n.invariant.ready.stack_in in
-    rw c.loop-n.invariant.reads (grind (arith, elements))
+pub loop-n-preserved-in_default-2 : goal.loop-n-preserved-in_default-2
+loop-n-preserved-in_default-2 g c =
+    let i = c.loop-n.invariant in
+    record {
+      reads = c.in_ok-head.ensures.reads ∙ i.reads;
+      ready = ready_popped _ _ _ _ _ i.ready c.in-Some.ensures.items refl;
+      searching = λ honest.
+          let w = rw c.in-Some.ensures.items at (i.searching honest) in
+          let shape = (rw i.reads at c.in_ok-head.ensures.shape) honest in
+          searching_none _ _ c.in-Some.n _ _ _ _ _ w (no_refs_shape _ _ _ (rw c.in_default-2.is at shape)) w.known_good;
+    }
 
-pub look_at-requires-clause-ready : goal.look_at-requires-clause-ready
-look_at-requires-clause-ready g c =
-    let r = c.loop-n.invariant.ready in
-    let all = r.stack_in in
-    rw c.loop-n.invariant.reads (record {
-      all_marks = r.all_marks;
-      stack_in = grind (arith, elements);
-      good_size = r.good_size;
-      followed_size = r.followed_size;
-    })
+pub follow-requires-clause-ready : goal.follow-requires-clause-ready
+follow-requires-clause-ready g c =
+    let i = c.loop-n.invariant in
+    rw (c.in_ok-all.ensures.reads, c.in_ok-head.ensures.reads, i.reads) (ready_popped _ _ _ _ _ i.ready c.in-Some.ensures.items c.are_good.ensures.size)
+
+pub loop-n-preserved-in_ok-follow : goal.loop-n-preserved-in_ok-follow
+loop-n-preserved-in_ok-follow g c =
+    let i = c.loop-n.invariant in
+    record {
+      reads = c.in_ok-follow.ensures.reads ∙ c.in_ok-all.ensures.reads ∙ c.in_ok-head.ensures.reads ∙ i.reads;
+      ready = rw (c.in_ok-all.ensures.reads, c.in_ok-head.ensures.reads, i.reads) at c.in_ok-follow.ensures.ready;
+      searching = λ honest.
+          let w = rw c.in-Some.ensures.items at (i.searching honest) in
+          let has = rw c.in-Some-2.is at ((rw i.reads at c.in_ok-head.ensures.shape) honest) in
+          let exact = (rw (c.in_ok-head.ensures.reads, i.reads) at c.in_ok-all.ensures.exact) honest w.known_good in
+          let good = (rw (c.in_ok-head.ensures.reads, i.reads) at c.in_ok-all.ensures.good) honest w.known_good in
+          let below = exact.0 c.if-all.true in
+          let same = refs_as_shape _ _ c.in-Some.n c.in-Some-2.head has below in
+          let follow = (rw (c.in_ok-all.ensures.reads, c.in_ok-head.ensures.reads, i.reads) at c.in_ok-follow.ensures.exact) honest below w.known_followed in
+          searching_step _ _ c.in-Some.n _ _ _ _ _ _ _ _ w (rw same follow.0) (rw same follow.1) (rw (ap (λ (s : BitSet). s.words.items) c.follow.ensures.good) good) follow.2;
+    }
 
 pub loop-n-preserved : goal.loop-n-preserved
 loop-n-preserved g c =
     let i = c.loop-n.invariant in
     record {
-      reads = c.in_ok-look_at.ensures.reads ∙ i.reads;
-      ready = rw i.reads at c.in_ok-look_at.ensures.ready;
-      searching = λ honest. (rw i.reads at c.in_ok-look_at.ensures.searching) honest (rw c.in-Some.ensures.items at (i.searching honest));
+      reads = c.in_ok-all.ensures.reads ∙ c.in_ok-head.ensures.reads ∙ i.reads;
+      ready = ready_popped _ _ _ _ _ i.ready c.in-Some.ensures.items c.are_good.ensures.size;
+      searching = λ honest.
+          let f = (g.P.Source.means c.args.src.now).octets in
+          let F : Frame = frame_in (g.P.Source.means c.args.src.now) in
+          let n = c.in-Some.n in
+          let w = rw c.in-Some.ensures.items at (i.searching honest) in
+          let has = rw c.in-Some-2.is at ((rw i.reads at c.in_ok-head.ensures.shape) honest) in
+          let exact = (rw (c.in_ok-head.ensures.reads, i.reads) at c.in_ok-all.ensures.exact) honest w.known_good in
+          let good = (rw (c.in_ok-head.ensures.reads, i.reads) at c.in_ok-all.ensures.good) honest w.known_good in
+          let none : refs_at f F n ≡ [] = nil_from_length _ (broken_count f F n c.in-Some-2.head has (λ below. false≢true (sym c.if-all.false ∙ exact.1 below))) in
+          searching_none _ _ n _ _ _ _ _ w none good;
     }
 
 pub returns-clause-exact : goal.returns-clause-exact

@@ -1,7 +1,8 @@
 use Rattle.std.proofs.Common.{◌≡◌, ◌≢◌, ℕ, Bool, List, [], IsTrue}
 use Rattle.bplist_keys.specs.Marks.{IsMarked}
-use Rattle.bplist_lint.specs.HeightWalks.{state_at, Standing, IsHeightWalk, AreClosed, work}
+use Rattle.bplist_lint.specs.HeightWalks.{state_at, Standing, IsHeightWalk, AreClosed}
 use Rattle.bplist_lint.specs.declared.heights.State.TheVariants.{New}
+use Rattle.bplist_lint.proofs.HeightSteps.{work}
 use Rattle.bplist_lint.proofs.heights.HeightWalk.settle_from.Given as goal
 
 abbrev pub invariant-loop-m : goal.invariant-loop-m

@@ -1,0 +1,120 @@
+use Rattle.std.proofs.Common.{◌≡◌, ◌≢◌, ◌<◌, ℕ, ◌++◌, ◌∷◌, [], length, get_or, refl, ◌∙◌, arith}
+use Rattle.std.proofs.lemmas.Grind.{common_steps}
+use Rattle.std.proofs.lemmas.List.{get_or_push, length_push, get_or-set_other}
+use Rattle.bplist_lint.specs.declared.heights.State.TheVariants.{Open, Founded, Circular}
+use Rattle.bplist_lint.proofs.HeightSteps.{work, stays_known, top_within, top_room, top_marked, standing_back, standing_open, standing_settle, work_settle, walking_back, walking_open, walking_settle, not_founded, least_height, among_at}
+use Rattle.bplist_lint.proofs.heights.HeightWalk.settle_from.Goals as goal
+
+pub look_on-requires-clause-n_in : goal.look_on-requires-clause-n_in
+look_on-requires-clause-n_in g c =
+    let i = c.loop-m.invariant in rw i.same (top_within _ _ _ _ _ (rw c.in-Some.ensures.items at i.standing))
+
+pub index_mut-requires : goal.index_mut-requires
+index_mut-requires g c =
+    let s = rw c.in-Some.ensures.items at c.loop-m.invariant.standing in omega (arith, top_within _ _ _ _ _ s, s.all_heights)
+
+pub loop-m-preserved-in-Continue-branch-5 : goal.loop-m-preserved-in-Continue-branch-5
+loop-m-preserved-in-Continue-branch-5 g c =
+    let i = c.loop-m.invariant in
+    let m = c.in-Some.m in
+    let next = c.in-New-2.next in
+    let states = c.loop-m.self.states.items in
+    let heights = c.loop-m.self.heights.items in
+    let stack = c.pop.new.self.items in
+    let s = rw c.in-Some.ensures.items at i.standing in
+    let new = rw c.in-New-2.is at (rw i.same at c.in_ok-i.ensures.finds) in
+    let within : next < length states = omega (arith, new.0, s.all_states) in
+    let heights' = c.open-in-New-2.new.self.heights.items in
+    let long : length heights' ≡ length heights = grind (arith, common_steps) in
+    let others : (k : ℕ) → k ≢ m → get_or heights' k 0 ≡ get_or heights k 0 = λ k ne. rw c.open-in-New-2.ensures.heights (get_or-set_other heights m k c.min.result 0 ne) in
+    record {
+      same = c.look_on.ensures.same ∙ i.same;
+      reads = c.in_ok-i.ensures.reads ∙ i.reads;
+      standing = rw (c.open-in-New-2.ensures.states, c.in_ok-open-in-New-2.ensures.stack, c.in_ok-push-in-New-2.ensures.items)
+          (standing_open _ _ _ _ next (standing_back _ _ _ _ _ s heights' long others) new.0 new.1);
+      sees = rw c.open-in-New-2.ensures.states (stays_known states next Open within (λ e. cc e) c.args.n i.sees);
+      keeps = λ k known. rw c.open-in-New-2.ensures.states (stays_known states next Open within (λ e. cc e) k (i.keeps k known));
+      walking = λ honest marks closed marked w0.
+          let w = rw c.in-Some.ensures.items at (i.walking honest marks closed marked w0) in
+          let whole = closed m (top_marked _ _ _ _ _ _ m s w) in
+          let shows = rw c.in-New-2.is at ((rw (i.same, i.reads) at c.in_ok-i.ensures.shows) honest whole.0) in
+          let back = walking_back _ _ _ _ _ _ m s w heights' others in
+          rw (c.open-in-New-2.ensures.states, c.in_ok-open-in-New-2.ensures.stack, c.in_ok-push-in-New-2.ensures.items)
+          (walking_open _ _ _ _ (stack ++ m ∷ []) next back (rw shows.1 (whole.1 _ shows.0)) within
+          (λ k last. let more = length_push stack m in rw (get_or_push stack m 0 k (omega (arith, more, last))) (among_at _ _ _ shows.0 shows.1)));
+    }
+
+pub settle-requires-clause-within : goal.settle-requires-clause-within
+settle-requires-clause-within g c =
+    let s = rw c.in-Some.ensures.items at c.loop-m.invariant.standing in omega (arith, top_within _ _ _ _ _ s, s.all_heights)
+
+pub loop-m-smaller-in-Circular : goal.loop-m-smaller-in-Circular
+loop-m-smaller-in-Circular g c =
+    let s = rw c.in-Some.ensures.items at c.loop-m.invariant.standing in
+    let less : work c.settle.new.self.states.items c.settle.new.self.stack.items < work c.loop-m.self.states.items c.loop-m.self.stack.items =
+    rw (c.settle.ensures.states, c.settle.ensures.stack, c.in-Some.ensures.items) (work_settle _ _ _ _ c.in-Some.m s Circular refl) in
+    less
+
+pub loop-m-preserved-in-Circular : goal.loop-m-preserved-in-Circular
+loop-m-preserved-in-Circular g c =
+    let i = c.loop-m.invariant in
+    let m = c.in-Some.m in
+    let states = c.loop-m.self.states.items in
+    let s = rw c.in-Some.ensures.items at i.standing in
+    let within : m < length states = omega (arith, top_within _ _ _ _ _ s, s.all_states) in
+    record {
+      same = c.look_on.ensures.same ∙ i.same;
+      reads = c.in_ok-i.ensures.reads ∙ i.reads;
+      standing = rw (c.settle.ensures.states, c.settle.ensures.heights, c.settle.ensures.stack)
+          (standing_settle _ _ _ _ m s Circular 0 (λ e. cc e) refl (λ e. cc e) (λ h. absurd (omega arith)));
+      sees = rw c.settle.ensures.states (stays_known states m Circular within (λ e. cc e) c.args.n i.sees);
+      keeps = λ k known. rw c.settle.ensures.states (stays_known states m Circular within (λ e. cc e) k (i.keeps k known));
+      walking = λ honest marks closed marked w0.
+          let w = rw c.in-Some.ensures.items at (i.walking honest marks closed marked w0) in
+          let whole = closed m (top_marked _ _ _ _ _ _ m s w) in
+          let shows = rw c.in-Circular.is at ((rw (i.same, i.reads) at c.in_ok-i.ensures.shows) honest whole.0) in
+          rw (c.settle.ensures.states, c.settle.ensures.heights, c.settle.ensures.stack)
+          (walking_settle _ _ _ _ _ _ m s w Circular 0 (λ e. cc e) (λ _. not_founded _ _ _ _ _ _ m s w shows.0 shows.1 shows.2));
+    }
+
+pub overflow_add-best : goal.overflow_add-best
+overflow_add-best g c =
+    let i = c.loop-m.invariant in
+    let s = rw c.in-Some.ensures.items at i.standing in
+    let low = (rw c.in-Founded.is at c.in_ok-i.ensures.finds) _ s.low in
+    omega (arith, low, top_room _ _ _ _ _ s, c.requires.fits)
+
+pub settle-requires-in-Founded-clause-within : goal.settle-requires-in-Founded-clause-within
+settle-requires-in-Founded-clause-within g c =
+    let s = rw c.in-Some.ensures.items at c.loop-m.invariant.standing in omega (arith, top_within _ _ _ _ _ s, s.all_heights)
+
+pub loop-m-smaller : goal.loop-m-smaller
+loop-m-smaller g c =
+    let s = rw c.in-Some.ensures.items at c.loop-m.invariant.standing in
+    let less : work c.settle-in-Founded.new.self.states.items c.settle-in-Founded.new.self.stack.items < work c.loop-m.self.states.items c.loop-m.self.stack.items =
+    rw (c.settle-in-Founded.ensures.states, c.settle-in-Founded.ensures.stack, c.in-Some.ensures.items) (work_settle _ _ _ _ c.in-Some.m s Founded refl) in
+    less
+
+pub loop-m-preserved : goal.loop-m-preserved
+loop-m-preserved g c =
+    let i = c.loop-m.invariant in
+    let m = c.in-Some.m in
+    let states = c.loop-m.self.states.items in
+    let s = rw c.in-Some.ensures.items at i.standing in
+    let within : m < length states = omega (arith, top_within _ _ _ _ _ s, s.all_states) in
+    let low = (rw c.in-Founded.is at c.in_ok-i.ensures.finds) _ s.low in
+    let settled = c.settle-in-Founded.ensures in
+    record {
+      same = c.look_on.ensures.same ∙ i.same;
+      reads = c.in_ok-i.ensures.reads ∙ i.reads;
+      standing = rw (settled.states, settled.heights, settled.stack)
+          (standing_settle _ _ _ _ m s Founded _ (λ e. cc e) refl (λ _. omega (arith, low)) (λ _. refl));
+      sees = rw settled.states (stays_known states m Founded within (λ e. cc e) c.args.n i.sees);
+      keeps = λ k known. rw settled.states (stays_known states m Founded within (λ e. cc e) k (i.keeps k known));
+      walking = λ honest marks closed marked w0.
+          let w = rw c.in-Some.ensures.items at (i.walking honest marks closed marked w0) in
+          let whole = closed m (top_marked _ _ _ _ _ _ m s w) in
+          let shows = (rw c.in-Founded.is at ((rw (i.same, i.reads) at c.in_ok-i.ensures.shows) honest whole.0)) refl in
+          rw (settled.states, settled.heights, settled.stack)
+          (walking_settle _ _ _ _ _ _ m s w Founded _ (λ _. least_height _ _ _ _ _ _ m s w c.in-Founded.best shows.0 shows.1) (λ e. cc e));
+    }

@@ -1,0 +1,39 @@
+use Rattle.std.proofs.Common.{inr}
+use Rattle.std.proofs.lemmas.Result.{err_from_is_err_and}
+use Rattle.bplist_objects.specs.declared.frame.Frame.{Frame}
+use Rattle.bplist_objects.specs.Answers.{Never}
+use Rattle.bplist_objects.specs.Framed.{frame_in}
+use Rattle.bplist_lint.specs.FileFault.{IsFramedCircle}
+use Rattle.bplist_lint.proofs.Passes.{check_means, refusal_means}
+use Rattle.bplist_lint.proofs.linter.lint_reached.Goals as goal
+
+pub returns-in_err-check_keys-clause-exact : goal.returns-in_err-check_keys-clause-exact
+returns-in_err-check_keys-clause-exact g c = λ honest.
+    let f = (g.P.Source.means c.args.src.now).octets in
+    let F : Frame = frame_in (g.P.Source.means c.args.src.now) in
+    let p = err_from_is_err_and c.from_residual-in_err-check_keys.result c.from_residual-in_err-check_keys.ensures.1 in
+    let known = c.in_ok-reached.ensures.exact honest in
+    let w = known.0 in
+    let keys = (rw (c.deref-in-Some.ensures.value, c.deref-in-Some-2.ensures.value, c.in_ok-reached.ensures.reads) at c.in_err-check_keys.ensures.exact) honest w.marked w.tallied.kept w.childless (rw c.in-Some.is at known.1) in
+    rw (p.1, p.2) (check_means _ _ (IsFramedCircle f F) c.in_err-check_keys.field-0.0 (λ fault h. inr (w.tallied.kept, h)) keys)
+
+pub heights_or_circle-requires-clause-sifted : goal.heights_or_circle-requires-clause-sifted
+heights_or_circle-requires-clause-sifted g c = rw (c.in_ok-check_keys.ensures.reads, c.in_ok-reached.ensures.reads) (λ honest.
+    let known = c.in_ok-reached.ensures.exact honest in
+    let w = known.0 in
+    record { walked = w; keys = (rw (c.deref-in-Some.ensures.value, c.deref-in-Some-2.ensures.value, c.in_ok-reached.ensures.reads) at c.in_ok-check_keys.ensures.exact) honest w.marked w.tallied.kept w.childless (rw c.in-Some.is at known.1) })
+
+pub returns-in_err-lint-clause-exact : goal.returns-in_err-lint-clause-exact
+returns-in_err-lint-clause-exact g c = λ honest.
+    let f = (g.P.Source.means c.args.src.now).octets in
+    let F : Frame = frame_in (g.P.Source.means c.args.src.now) in
+    let p = err_from_is_err_and c.from_residual-in_err-lint.result c.from_residual-in_err-lint.ensures.1 in
+    rw (p.1, p.2) (refusal_means Never _ (IsFramedCircle f F) _ c.in_err-lint.field-0.0 (λ fault h. absurd h) (λ circle h. h) ((rw (c.in_ok-check_keys.ensures.reads, c.in_ok-reached.ensures.reads) at c.in_err-lint.ensures.exact) honest))
+
+pub heights_or_circle-requires-then-containers-len-clause-sifted : goal.heights_or_circle-requires-then-containers-len-clause-sifted
+heights_or_circle-requires-then-containers-len-clause-sifted g c = rw c.in_ok-reached.ensures.reads (λ honest.
+    let known = c.in_ok-reached.ensures.exact honest in record { walked = known.0; keys = rw c.in_default.is at known.1 })
+
+pub heights_or_circle-requires-2-clause-sifted : goal.heights_or_circle-requires-2-clause-sifted
+heights_or_circle-requires-2-clause-sifted g c = rw (c.new-table.ensures.means, c.new-table.ensures.frame, c.frame-frame.ensures.frame, c.in_ok-reached.ensures.reads) (λ honest.
+    let known = c.in_ok-reached.ensures.exact honest in record { walked = known.0; keys = rw c.in_default.is at known.1 })
