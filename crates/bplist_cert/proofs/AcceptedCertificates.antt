@@ -1,5 +1,5 @@
 -- The rules of the check are kept exactly where the certificate is accepted.
-use Rattle.std.proofs.Common.{◌≡◌, ℕ, suc, ◌<◌, ◌≤◌, ◌⊎◌, inl, inr, List, [], length, drop, slice_index, slice_index_or, Option, Some, None, IfSome, MatchOption, Less, refl, sym, ap, ap₂, ◌∙◌, subst, arith}
+use Rattle.std.proofs.Common.{◌≡◌, ℕ, suc, ◌<◌, ◌≤◌, ◌⊎◌, inl, inr, Bool, true, false, cond, List, [], length, drop, slice_index, slice_index_or, Option, Some, None, IfSome, MatchOption, Less, refl, sym, ap, ap₂, ◌∙◌, subst, arith}
 use Rattle.std.specs.List.{AllByRecursion}
 use Rattle.std.proofs.lemmas.List.{length-take-le, length-drop}
 use Rattle.std.proofs.lemmas.List.Elements.{recursion_from_All, All-from_get_or, All-from_recursion, All-get_or}
@@ -8,6 +8,7 @@ use Rattle.bplist_objects.specs.declared.rule.Rule.{Rule}
 use Rattle.bplist_objects.specs.declared.rule.Rule.TheVariants as rules
 use Rattle.bplist_objects.specs.declared.fault.Fault.{Fault}
 use Rattle.bplist_objects.specs.declared.frame.Frame.{Frame}
+use Rattle.bplist_objects.specs.declared.frame.ObjectNo.{ObjectNo}
 use Rattle.bplist_objects.specs.declared.head.Head.{Head}
 use Rattle.bplist_objects.specs.declared.kind.Kind.{Kind}
 use Rattle.bplist_objects.specs.declared.kind.Kind.TheVariants as kinds
@@ -16,13 +17,14 @@ use Rattle.bplist_objects.specs.Frame.{IsFrame}
 use Rattle.bplist_objects.specs.Heads.{HasShape, dict, refs, content_of, content_at, Spells}
 use Rattle.bplist_objects.specs.Safe.{ref_count}
 use Rattle.bplist_objects.specs.Announced.{HasHead}
-use Rattle.bplist_objects.specs.Rules.{KeepsAll}
+use Rattle.bplist_objects.specs.Rules.{KeepsAll, IsFirstFault}
 use Rattle.bplist_objects.specs.ObjectRules.{KeepsByObject, object_rules}
 use Rattle.bplist_objects.specs.Extents.{IsOverfull}
 use Rattle.bplist_objects.specs.Units.{compare_units}
+use Rattle.bplist_objects.proofs.RuleLaws.{kept_all_after, kept_all_parts}
 use Rattle.bplist_objects.proofs.Lists.{all_weaker}
 use Rattle.bplist_objects.proofs.BodyLaws.{HasHead-unique}
-use Rattle.bplist_objects.proofs.Broken.{no_first_fault, no_object_fault}
+use Rattle.bplist_objects.proofs.Broken.{kept_or_broken, no_first_fault}
 use Rattle.bplist_objects.proofs.References.{length-nums_at, all_refs, each_ref}
 use Rattle.bplist_objects.proofs.HeadTies.{kept_announces, kept_spells, spells_keeps, shape_announced}
 use Rattle.bplist_objects.proofs.FirstFaults.{no_frame}
@@ -32,17 +34,13 @@ use Rattle.bplist_cert.specs.Valid.{IsVouchedBy, IsVouched, IsValid}
 use Rattle.bplist_cert.specs.Sorted.{IsSorted, HasSortedKeys, AreListed, IsAccepted}
 use Rattle.bplist_cert.specs.Looks.{KeepBeforeKeysBelow}
 use Rattle.bplist_cert.specs.DictKeys.{KeysAreTexts, KeysDiffer, AreInOrder}
-use Rattle.bplist_cert.specs.CheckRules.{Asks, KeepsByCheck, BreaksByCheck, BreaksAtCheck, KeepsCheck, IsCheckFault, HasOrder, BreaksOrder, KeepsLast, vouched_rules, last_rule}
+use Rattle.bplist_cert.specs.CheckRules.{is_of_refs, Asks, KeepsByRefs, BreaksByRefs, KeepsRule, BreaksRule, BreaksRuleAt, KeepBelow, IsLeastFault, KeepsCheck, HasOrder, BreaksOrder, KeepsLast, check_rules, key_rules}
+use Rattle.bplist_cert.specs.KeyRepeats.{HasGoodKeys}
 use Rattle.bplist_cert.specs.PairFault.{KeepsPairRules, IsVouchedFault, IsCountFault, IsPairFault}
-use Rattle.bplist_cert.proofs.CheckSteps.{vouched_inside, key_count, last_kept}
+use Rattle.bplist_cert.proofs.CheckSteps.{vouched_inside, good_by_kept, good_keeps}
+use Rattle.bplist_cert.proofs.KeyRepeats.{rules_after}
 use Rattle.bplist_cert.proofs.KeyTies.{HaveKeys, keys_from_rules, rules_from_keys}
 use Rattle.bplist_cert.proofs.TextKeys.{key_refs, texts_are, units_at_key, ordered_differ}
-
--- the rule of keys beside rule 21, by a head
-last_by : (f : List ℕ) (F : Frame) (heights : List ℕ) (keys : Option Keyed) (n : ℕ) (head : Head) → HasHead f F n head → head.kind ≡ kinds.Dict
-    → KeepsByCheck f F (lists heights keys) n (last_rule keys) → KeepsLast f F keys n head
-last_by f F heights None n head has kind k = subst (KeysDiffer f F head) (key_count head kind) (k head has kind)
-last_by f F heights (Some keyed) n head has kind k = k head has kind
 
 -- keys differ where the rule is kept
 last_differs : (f : List ℕ) (F : Frame) (keys : Option Keyed) (n : ℕ) (head : Head) → KeysAreTexts f F head head.count → KeepsLast f F keys n head → KeysDiffer f F head head.count
@@ -56,29 +54,30 @@ dict_refs f F _ count body ks ms e = absurd (cc e)
 
 -- ---- what is kept is accepted
 module _ (f : List ℕ) (F : Frame) (heights : List ℕ) (keys : Option Keyed) (n : ℕ) (frame : IsFrame f F) (lt : n < F.objects) (kept : KeepsCheck f F (lists heights keys) n) where
-  own : KeepsAll (KeepsByObject f F n) object_rules
-  own = kept.0
+  parts : KeepsAll (KeepsByObject f F n) object_rules × KeepsAll (KeepsRule f F (IsVouchedBy heights) (lists heights keys) n) (rules_after (key_rules keys))
+  parts = kept_all_parts (KeepsRule f F (IsVouchedBy heights) (lists heights keys) n) object_rules (rules_after (key_rules keys)) kept
 
-  rest : KeepsAll (KeepsByCheck f F (lists heights keys) n) (vouched_rules keys)
-  rest = kept.1
+  -- its keys are good
+  good : HasGoodKeys f F keys n
+  good = good_by_kept f F (IsVouchedBy heights) heights n keys parts.1.1.1.1
 
   there : (head : Head) × HasHead f F n head
-  there = kept_announces f F n frame lt (own.0, (own.1.0, (own.1.1.0, (own.1.1.1.0, tt))))
+  there = kept_announces f F n frame lt (kept.0, (kept.1.0, (kept.1.1.0, (kept.1.1.1.0, tt))))
 
   vouched : IsVouched f F heights n
   vouched =
       let head = there.0 in
       let has = there.1 in
-      let spells = kept_spells f F n frame lt head has own in
-      let met = rest.1.0 head has in
-      let low = rest.1.1.0 head has in
+      let spells = kept_spells f F n frame lt head has parts.0 in
+      let met = parts.1.1.0 head has in
+      let low = parts.1.1.1.0 head has in
       record {
         content = content_at f F head;
         spells = spells.1;
         lower = all_refs f F (λ m. IsVouchedBy heights m × (slice_index heights m < slice_index heights n)) head.kind head.count head.body (λ i l. (met i l, low i l));
         keys = keys_from_rules f F n head spells.0 (content_at f F head) spells.1 (λ kind.
-            let texts = subst (KeysAreTexts f F head) (key_count head kind) (rest.1.1.1.0 head has kind) in
-            (texts, last_differs f F keys n head texts (last_by f F heights keys n head has kind rest.1.1.1.1.0)));
+            let known = good head has kind in
+            (known.0, last_differs f F keys n head known.0 known.1));
       }
 
 -- a list in order is sorted
@@ -110,10 +109,10 @@ listed f F heights (Some keyed) frame all kept = λ n ks ms v s.
     let k = kept n lt v in
     let head = s.shape in
     let has = shape_announced f F n head s.has in
-    let more = k.1 in
     let is = dict_refs f F head.kind head.count head.body ks ms s.means in
-    let texts = subst (KeysAreTexts f F head) (key_count head is.0) (more.1.1.1.0 head has is.0) in
-    let order = more.1.1.1.1.0 head has is.0 in
+    let known = good f F heights (Some keyed) n frame lt k head has is.0 in
+    let texts = known.0 in
+    let order = known.1 in
     let many = length-nums_at f head.body F.ref_size head.count in
     let whole : length (list_of keyed n head.count) ≡ head.count = length-take-le head.count (drop (slice_index keyed.starts n) keyed.positions) (omega (arith, length-drop (slice_index keyed.starts n) keyed.positions, order.0)) in
     subst (HasSortedKeys f F keyed n) (sym is.1) (
@@ -174,11 +173,9 @@ module _ (f : List ℕ) (F : Frame) (heights : List ℕ) (valid : IsValid f F he
 pub valid_seen : (f : List ℕ) (F : Frame) (heights : List ℕ) → IsValid f F heights → KeepBeforeKeysBelow f F heights F.objects
 valid_seen f F heights valid n lt v =
     let o = valid.vouched n v in
-    record {
-      own = spells_keeps f F n valid.frame lt o.content o.spells;
-      room = not_overfull f F heights valid n v;
-      lower = lower_at f F heights valid n v;
-    }
+    let lower = lower_at f F heights valid n v in
+    kept_all_after (KeepsRule f F (IsVouchedBy heights) (lists heights None) n) object_rules (rules_after []) (spells_keeps f F n valid.frame lt o.content o.spells)
+    (not_overfull f F heights valid n v, (λ head has i l. (lower head has i l).0, (λ head has i l. (lower head has i l).1, tt)))
 
 -- a sorted list is in order
 in_order : (f : List ℕ) (F : Frame) (head : Head) (list : List ℕ) → IsSorted f F (key_refs f F head) list → AreInOrder f F head list head.count
@@ -216,25 +213,8 @@ keeps_all f F certificate a n v =
     let keys = certificate.keys in
     let valid = a.valid in
     let lt = vouched_inside heights F.objects n valid.count v in
-    let seen = valid_seen f F heights valid n lt v in
-    let spells = (valid.vouched n v).spells in
-    let head = spells.shape in
-    let has = shape_announced f F n head spells.has in (
-      seen.own,
-      (
-        seen.room,
-        (
-          λ other h i l. (seen.lower other h i l).0,
-          (
-            λ other h i l. (seen.lower other h i l).1,
-            (
-              λ other h kind. subst (KeysAreTexts f F other) (sym (key_count other kind)) (vouched_keys f F heights valid n v other h kind).0,
-              (last_kept f F heights keys n head has (λ kind. last_there f F heights keys valid a.listed n v head has kind), tt),
-            ),
-          ),
-        ),
-      ),
-    )
+    good_keeps f F heights keys n (valid_seen f F heights valid n lt v) (λ head has kind.
+    ((vouched_keys f F heights valid n v head has kind).0, last_there f F heights keys valid a.listed n v head has kind))
 
 -- ---- what is kept is not broken
 order_broken : (f : List ℕ) (F : Frame) (count : ℕ) (keys : Option Keyed) (n : ℕ) (head : Head) (place : ℕ)
@@ -244,25 +224,39 @@ order_broken f F count (Some keyed) n head place k (inl (short, p)) = omega (ari
 order_broken f F count (Some keyed) n head place k (inr (whole, (j, first, p))) = first.2 (λ i l. k.1 i (omega (arith, l, first.0)))
 
 -- what a rule asks of references it asks of fewer
-pub fewer : (f : List ℕ) (F : Frame) (certificate : Lists) (n : ℕ) (rule : Rule) (head : Head) (m many : ℕ) → m ≤ many → Asks f F certificate n rule head many → Asks f F certificate n rule head m
-fewer f F certificate n rules.ChildNotVouched head m many few a = λ k l. a k (omega (arith, few, l))
-fewer f F certificate n rules.HeightNotLess head m many few a = λ k l. a k (omega (arith, few, l))
-fewer f F certificate n rules.KeyKind head m many few a = λ dict k l. a dict k (omega (arith, few, l))
-fewer f F certificate n rules.KeyTwice head m many few a = λ dict i j low l. a dict i j low (omega (arith, few, l))
-fewer f F certificate n _ head m many few a = tt
+pub fewer : (f : List ℕ) (F : Frame) (heights : List ℕ) (n : ℕ) (rule : Rule) (head : Head) (m many : ℕ) → m ≤ many → Asks f F heights n rule head many → Asks f F heights n rule head m
+fewer f F heights n rules.ChildNotVouched head m many few a = λ k l. a k (omega (arith, few, l))
+fewer f F heights n rules.HeightNotLess head m many few a = λ k l. a k (omega (arith, few, l))
+fewer f F heights n rules.KeyKind head m many few a = λ dict k l. a dict k (omega (arith, few, l))
+fewer f F heights n rules.KeyTwice head m many few a = λ dict i j low l. a dict i j low (omega (arith, few, l))
+fewer f F heights n _ head m many few a = tt
 
-pub broken : (f : List ℕ) (F : Frame) (certificate : Lists) (n : ℕ) (rule : Rule) (place : ℕ) → KeepsByCheck f F certificate n rule → BreaksByCheck f F certificate n rule place → ⊥
-broken f F certificate n rules.Overfull place k b = k b.0
-broken f F certificate n rules.KeyOrder place k (head, has, kind, b) = order_broken f F (length certificate.heights) certificate.keys n head place (k head has kind) b
-broken f F certificate n rule place k b =
-    b.3.2 (fewer f F certificate n rule b.0 (suc b.1) (ref_count b.0.kind b.0.count) (omega (arith, b.3.0)) (k b.0 b.2))
+refs_broken : (f : List ℕ) (F : Frame) (heights : List ℕ) (n : ℕ) (rule : Rule) (place : ℕ) → KeepsByRefs f F heights n rule → BreaksByRefs f F heights n rule place → ⊥
+refs_broken f F heights n rule place k (head, i, has, first, at) = first.2 (fewer f F heights n rule head (suc i) (ref_count head.kind head.count) (omega (arith, first.0)) (k head has))
 
--- a vouched object that keeps all rules has no fault
-pub no_check_fault : (f : List ℕ) (F : Frame) (certificate : Lists) (n : ℕ) (fault : Fault) → KeepsCheck f F certificate n → IsCheckFault f F certificate n fault → ⊥
-no_check_fault f F certificate n fault k (inl h) = no_object_fault f F n object_rules fault k.0 h
-no_check_fault f F certificate n fault k (inr h) =
-    no_first_fault (KeepsByCheck f F certificate n) (BreaksAtCheck f F certificate n) (λ rule object place k b. broken f F certificate n rule place k b.1)
-    (vouched_rules certificate.keys) fault k.1 h.1
+-- what follows from two facts of a rule, whether it is one of references or not
+pub by_class : {A B C D : Type 0} (of_refs : Bool) (R : Type 0) → (A → C → R) → (B → D → R) → cond of_refs A B → cond of_refs C D → R
+by_class true R refs own a c = refs a c
+by_class false R refs own b d = own b d
+
+module _ (f : List ℕ) (F : Frame) (S : ℕ → Type 0) (certificate : Lists) where
+  broken : (n : ℕ) (rule : Rule) (place : ℕ) → KeepsRule f F S certificate n rule → BreaksRule f F S certificate n rule place → ⊥
+  broken n rules.Overfull place k b = k b.0
+  broken n rules.KeyOrder place k b = order_broken f F (length certificate.heights) certificate.keys n b.0 place (k b.0 b.1 b.2) b.3
+  broken n rule place k b = by_class (is_of_refs rule) ⊥ (refs_broken f F certificate.heights n rule place) (kept_or_broken f F n rule place) k b
+
+  -- a rule that an object keeps is not broken by the object that is named
+  pub rule_or_broken : (n : ℕ) (rule : Rule) (object : Option ObjectNo) (place : ℕ) → KeepsRule f F S certificate n rule → BreaksRuleAt f F S certificate n rule object place → ⊥
+  rule_or_broken n rule object place k b = broken n rule place k b.1
+
+  -- an object that keeps rules has no fault of them
+  pub no_rule_fault : (n : ℕ) (listed : List Rule) (fault : Fault) → KeepsAll (KeepsRule f F S certificate n) listed
+      → IsFirstFault (KeepsRule f F S certificate n) (BreaksRuleAt f F S certificate n) listed fault → ⊥
+  no_rule_fault n listed fault = no_first_fault (KeepsRule f F S certificate n) (BreaksRuleAt f F S certificate n) (rule_or_broken n) listed fault
+
+  -- where all objects of S keep rules there is no fault of them
+  pub no_least_fault : (listed : List Rule) (bound : ℕ) → ((n : ℕ) → S n → n < bound) → (a : Fault) → KeepBelow f F S certificate listed bound → IsLeastFault f F S certificate listed a → ⊥
+  no_least_fault listed bound within a kept h = no_rule_fault h.object listed a (kept h.object (within h.object h.member) h.member) h.first
 
 -- where a fault of the pair is found the certificate is not accepted
 pub fault_refutes : (f : List ℕ) (F : Frame) (certificate : Lists) (fault : Fault) → IsPairFault f certificate fault → IsAccepted f F certificate → ⊥
@@ -275,4 +269,6 @@ fault_refutes f F certificate fault (inr (G, frame, h)) a =
         → IsCountFault G certificate.heights fault ⊎ ((length certificate.heights ≡ G.objects) × IsVouchedBy certificate.heights G.top.0 × IsVouchedFault f G certificate fault) → ⊥
     by G b (inl (inl c)) = c.0 b.valid.count
     by G b (inl (inr c)) = omega (arith, c.1, b.valid.top)
-    by G b (inr c) = no_check_fault f G certificate c.2.object fault (keeps_all f G certificate b c.2.object c.2.vouched) c.2.first
+    by G b (inr c) =
+        no_rule_fault f G (IsVouchedBy certificate.heights) certificate c.2.object (check_rules certificate.keys) fault
+        (keeps_all f G certificate b c.2.object c.2.member) c.2.first

@@ -17,8 +17,9 @@ use Rattle.bplist_objects.specs.Answers.{GivesFault, Never}
 use Rattle.bplist_objects.specs.Announced.{HasHead}
 use Rattle.bplist_objects.specs.FrameRules.{IsFrameFault}
 use Rattle.bplist_objects.specs.Rules.{KeepsAll, IsFirstFault}
-use Rattle.bplist_objects.specs.ObjectRules.{KeepsByObject, BreaksAt, IsObjectFault, object_rules}
+use Rattle.bplist_objects.specs.ObjectRules.{KeepsByObject, IsObjectFault, object_rules}
 use Rattle.bplist_objects.specs.Extents.{Sums, IsOverfull}
+use Rattle.bplist_objects.proofs.RuleLaws.{first_fault_after, first_fault_among, kept_all_after}
 use Rattle.bplist_objects.proofs.ExtentSums.{shape_extent, sums_none, sums_more, sums_same, not_overfull, overfull}
 use Rattle.bplist_objects.proofs.BodyLaws.{HasHead-unique}
 use Rattle.bplist_objects.proofs.HeadTies.{kept_spells}
@@ -30,14 +31,15 @@ use Rattle.bplist_cert.specs.Lists.{Keyed, Lists, lists, HasStarts, HasCount}
 use Rattle.bplist_cert.specs.Valid.{IsVouchedBy}
 use Rattle.bplist_cert.specs.Heights.{AreMet, IsHeightFault}
 use Rattle.bplist_objects.specs.Claims.{FailsAt}
-use Rattle.bplist_cert.specs.DictKeys.{KeysAreTexts, KeysDiffer}
-use Rattle.bplist_cert.specs.CheckRules.{Asks, KeepsByCheck, BreaksAtCheck, KeepsCheck, IsCheckFault, vouched_rules, last_rule, HasOrder, KeepsLast, IsLastFault}
+use Rattle.bplist_cert.specs.DictKeys.{KeysAreTexts, KeysDiffer, IsKeylessFault}
+use Rattle.bplist_cert.specs.CheckRules.{Asks, KeepsRule, BreaksRuleAt, KeepsCheck, IsCheckFault, check_rules, rules_before_keys, key_rules, KeepsLast}
 use Rattle.bplist_cert.specs.declared.checker.Look.{Look}
 use Rattle.bplist_cert.specs.declared.checker.Look.TheVariants.{Quick, Exact}
 use Rattle.bplist_cert.specs.Looks.{KeepsBeforeKeys, KeepBeforeKeysBelow, IsShown, IsShownFault}
 use Rattle.bplist_cert.specs.KeyRepeats.{HasGoodKeys, BreaksKeys, IsFirstKeysFault}
 use Rattle.bplist_cert.specs.PairFault.{IsCheckedObject, AreCheckedBelow, IsWalkFault, IsSeenFault, IsVouchedFault, IsPairFault}
 use Rattle.bplist_cert.specs.Refusals.{GivesRefusal, Judges, refusal_of}
+use Rattle.bplist_cert.proofs.KeyRepeats.{rules_after, good_at}
 
 -- the first references of a dictionary are those to its keys
 pub key_count : (head : Head) → head.kind ≡ kinds.Dict → min (ref_count head.kind head.count) head.count ≡ head.count
@@ -60,17 +62,40 @@ any_head : (f : List ℕ) (F : Frame) (n : ℕ) (head : Head) → HasHead f F n 
     → (other : Head) → HasHead f F n other → Claim other (ref_count other.kind other.count)
 any_head f F n head has Claim here other h = subst (λ (x : Head). Claim x (ref_count x.kind x.count)) (HasHead-unique f F n head other has h) here
 
--- the rule of keys beside rule 21, by the head
-pub last_kept : (f : List ℕ) (F : Frame) (heights : List ℕ) (keys : Option Keyed) (n : ℕ) (head : Head) → HasHead f F n head → (head.kind ≡ kinds.Dict → KeepsLast f F keys n head)
-    → KeepsByCheck f F (lists heights keys) n (last_rule keys)
-last_kept f F heights None n head has v = any_head f F n head has (Asks f F (lists heights None) n rules.KeyTwice) (λ dict. subst (KeysDiffer f F head) (sym (key_count head dict)) (v dict))
-last_kept f F heights (Some keyed) n head has v = λ other h. subst (λ (x : Head). x.kind ≡ kinds.Dict → HasOrder f F keyed n x) (HasHead-unique f F n head other has h) v
+module _ (f : List ℕ) (F : Frame) (S : ℕ → Type 0) (heights : List ℕ) (n : ℕ) where
+  -- good keys keep the rules of keys, and keys that keep them are good
+  pub kept_by_good : (keys : Option Keyed) → HasGoodKeys f F keys n → KeepsAll (KeepsRule f F S (lists heights keys) n) (key_rules keys)
+  kept_by_good None good = (
+    λ head has dict. subst (KeysAreTexts f F head) (sym (key_count head dict)) (good head has dict).0,
+    (λ head has dict. subst (KeysDiffer f F head) (sym (key_count head dict)) (good head has dict).1, tt),
+  )
+  kept_by_good (Some keyed) good =
+      (λ head has dict. subst (KeysAreTexts f F head) (sym (key_count head dict)) (good head has dict).0, (λ head has dict. (good head has dict).1, tt))
 
-last_broken : (f : List ℕ) (F : Frame) (heights : List ℕ) (keys : Option Keyed) (n : ℕ) (head : Head) → HasHead f F n head → head.kind ≡ kinds.Dict → (fault : Fault)
-    → IsLastFault f F (length heights) keys n head fault → (fault.rule ≡ last_rule keys) × BreaksAtCheck f F (lists heights keys) n (last_rule keys) fault.object fault.place
-last_broken f F heights None n head has kind fault (rule, object, (i, first, place)) =
-    (rule, (object, (head, i, has, keys_fail head kind (KeysDiffer f F head) (λ m k few d i j lt l. d i j lt (omega (arith, few, l))) i first, place)))
-last_broken f F heights (Some keyed) n head has kind fault (rule, object, broken) = (rule, (object, (head, has, kind, broken)))
+  pub good_by_kept : (keys : Option Keyed) → KeepsAll (KeepsRule f F S (lists heights keys) n) (key_rules keys) → HasGoodKeys f F keys n
+  good_by_kept None k head has dict =
+      (subst (KeysAreTexts f F head) (key_count head dict) (k.0 head has dict), subst (KeysDiffer f F head) (key_count head dict) (k.1.0 head has dict))
+  good_by_kept (Some keyed) k head has dict = (subst (KeysAreTexts f F head) (key_count head dict) (k.0 head has dict), k.1.0 head has dict)
+
+  module _ (fault : Fault) (head : Head) (has : HasHead f F n head) (dict : head.kind ≡ kinds.Dict) where
+    -- rule 21 is broken, or kept
+    keyless : (keys : Option Keyed) → IsKeylessFault f F n head fault → (fault.rule ≡ rules.KeyKind) × BreaksRuleAt f F S (lists heights keys) n rules.KeyKind fault.object fault.place
+    keyless keys (rule, object, (i, first, place)) =
+        (rule, (object, (head, i, has, keys_fail head dict (KeysAreTexts f F head) (λ m k few t i l. t i (omega (arith, few, l))) i first, place)))
+
+    texted : (keys : Option Keyed) → KeysAreTexts f F head head.count → KeepsRule f F S (lists heights keys) n rules.KeyKind
+    texted keys texts = any_head f F n head has (Asks f F heights n rules.KeyKind) (λ _. subst (KeysAreTexts f F head) (sym (key_count head dict)) texts)
+
+  -- the first rule of keys that is broken
+  pub first_of_keys : (keys : Option Keyed) (fault : Fault) → BreaksKeys f F (length heights) keys n fault
+      → IsFirstFault (KeepsRule f F S (lists heights keys) n) (BreaksRuleAt f F S (lists heights keys) n) (key_rules keys) fault
+  first_of_keys None fault (head, has, (dict, inl h)) = inl (keyless fault head has dict None h)
+  first_of_keys None fault (head, has, (dict, inr (texts, (rule, object, (i, first, place))))) =
+      let broken = keys_fail head dict (KeysDiffer f F head) (λ m k few d i j lt l. d i j lt (omega (arith, few, l))) i first in
+      inr (texted fault head has dict None texts, inl (rule, (object, (head, i, has, broken, place))))
+  first_of_keys (Some keyed) fault (head, has, (dict, inl h)) = inl (keyless fault head has dict (Some keyed) h)
+  first_of_keys (Some keyed) fault (head, has, (dict, inr (texts, (rule, object, broken)))) =
+      inr (texted fault head has dict (Some keyed) texts, inl (rule, (object, (head, has, dict, broken))))
 
 -- there are as many starts as objects
 pub starts_counted : (heights : List ℕ) (keys : Option Keyed) (count : ℕ) → length heights ≡ count → HasStarts heights keys → HasCount keys count
@@ -79,17 +104,26 @@ starts_counted heights (Some keyed) count e h = h ∙ e
 
 module _ (f : List ℕ) (F : Frame) (heights : List ℕ) (keys : Option Keyed) (n : ℕ) where
   abbrev Keeps : Rule → Type 0
-  Keeps rule = KeepsByCheck f F (lists heights keys) n rule
+  Keeps rule = KeepsRule f F (IsVouchedBy heights) (lists heights keys) n rule
 
   abbrev Breaks : Rule → Option ObjectNo → ℕ → Type 0
-  Breaks rule object place = BreaksAtCheck f F (lists heights keys) n rule object place
+  Breaks rule object place = BreaksRuleAt f F (IsVouchedBy heights) (lists heights keys) n rule object place
 
   abbrev Broken : Fault → Type 0
   Broken fault = IsCheckFault f F (lists heights keys) n fault
 
+  module _ (s : KeepsBeforeKeys f F heights n) where
+    -- a seen object with good keys keeps all rules
+    pub good_keeps : HasGoodKeys f F keys n → KeepsCheck f F (lists heights keys) n
+    good_keeps good = kept_all_after Keeps rules_before_keys (key_rules keys) s (kept_by_good f F (IsVouchedBy heights) heights n keys good)
+
+    -- the first fault of its keys is its first
+    pub keys_break : (fault : Fault) → BreaksKeys f F (length heights) keys n fault → Broken fault
+    keys_break fault h = first_fault_after Keeps Breaks rules_before_keys (key_rules keys) fault s (first_of_keys f F (IsVouchedBy heights) heights n keys fault h)
+
   -- a fault of the object by itself
   pub object_fault : (e : ObjectFault) → GivesFault (IsObjectFault f F n object_rules) e → GivesRefusal Broken (refusal_of e)
-  object_fault (errors.Fault fault) h = inl h
+  object_fault (errors.Fault fault) h = first_fault_among Keeps Breaks object_rules (rules_after (key_rules keys)) fault h
   object_fault (errors.Read r) h = tt
 
   module _ (frame : IsFrame f F) (lt : n < F.objects) (head : Head) (has : HasHead f F n head) (kept : KeepsAll (KeepsByObject f F n) object_rules) (vouched : IsVouchedBy heights n) (t : ℕ) (sums : Sums f F (IsVouchedBy heights) n t) where
@@ -102,26 +136,30 @@ module _ (f : List ℕ) (F : Frame) (heights : List ℕ) (keys : Option Keyed) (
         let extent = shape_extent f F n head (kept_spells f F n frame lt head has kept).0 in
         sums_more f F (IsVouchedBy heights) n (head.«end» - off f F n) t vouched extent sums
 
+    -- rules 14 to 20 are kept, and this is the first fault of those after them
+    after_own : (fault : Fault) → IsFirstFault Keeps Breaks (rules_after (key_rules keys)) fault → Broken fault
+    after_own fault h = first_fault_after Keeps Breaks object_rules (rules_after (key_rules keys)) fault kept h
+
     -- the sum is too large
     pub overfull_fault : (fault : Fault) → fault.rule ≡ rules.Overfull → fault.object ≡ Some (record { 0 = n }) → fault.place ≡ off f F n → F.table < now + 8 → Broken fault
     overfull_fault fault rule object place large =
-        inr (kept, inl (rule, (object, (overfull f F (IsVouchedBy heights) n now more large, place))))
+        after_own fault (inl (rule, (object, (overfull f F (IsVouchedBy heights) n now more large, place))))
 
     module _ (room : now + 8 ≤ F.table) where
       roomy : IsOverfull f F (IsVouchedBy heights) n → ⊥
       roomy = not_overfull f F (IsVouchedBy heights) n now more room
 
       -- what a rule asks by this head
-      by_head : (rule : Rule) → Asks f F (lists heights keys) n rule head (ref_count head.kind head.count)
-          → (other : Head) → HasHead f F n other → Asks f F (lists heights keys) n rule other (ref_count other.kind other.count)
-      by_head rule = any_head f F n head has (Asks f F (lists heights keys) n rule)
+      by_head : (rule : Rule) → Asks f F heights n rule head (ref_count head.kind head.count)
+          → (other : Head) → HasHead f F n other → Asks f F heights n rule other (ref_count other.kind other.count)
+      by_head rule = any_head f F n head has (Asks f F heights n rule)
 
       -- a fault of the heights
       pub heights_fault : (e : ObjectFault) → GivesFault (IsHeightFault f F heights n head) e → GivesRefusal Broken (refusal_of e)
       heights_fault (errors.Fault fault) (inl (rule, object, (i, first, place))) =
-          inr (kept, inr (roomy, inl (rule, (object, (head, i, has, first, place)))))
+          after_own fault (inr (roomy, inl (rule, (object, (head, i, has, first, place)))))
       heights_fault (errors.Fault fault) (inr (met, (rule, object, (i, first, place)))) =
-          inr (kept, inr (roomy, inr (by_head rules.ChildNotVouched met, inl (rule, (object, (head, i, has, first, place))))))
+          after_own fault (inr (roomy, inr (by_head rules.ChildNotVouched met, inl (rule, (object, (head, i, has, first, place))))))
       heights_fault (errors.Read r) h = tt
 
       module _ (met : AreMet f F heights head Vouched (ref_count head.kind head.count)) (low : AreMet f F heights head (Below (slice_index heights n)) (ref_count head.kind head.count)) where
@@ -130,35 +168,13 @@ module _ (f : List ℕ) (F : Frame) (heights : List ℕ) (keys : Option Keyed) (
         seen = record {
           sums = more;
           room = room;
-          kept = record {
-            own = kept;
-            room = roomy;
-            lower = λ other h k lt. (by_head rules.ChildNotVouched met other h k lt, by_head rules.HeightNotLess low other h k lt);
-          };
+          kept = kept_all_after (KeepsRule f F (IsVouchedBy heights) (lists heights None) n) object_rules (rules_after []) kept
+              (roomy, (by_head rules.ChildNotVouched met, (by_head rules.HeightNotLess low, tt)));
         }
 
         -- the object keeps all rules
         pub held : (head.kind ≡ kinds.Dict → KeysAreTexts f F head head.count × KeepsLast f F keys n head) → IsCheckedObject f F (lists heights keys) Exact n now
-        held last = record {
-          sums = more;
-          room = room;
-          kept = (
-            kept,
-            (
-              roomy,
-              (
-                by_head rules.ChildNotVouched met,
-                (
-                  by_head rules.HeightNotLess low,
-                  (
-                    by_head rules.KeyKind (λ kind. subst (KeysAreTexts f F head) (sym (key_count head kind)) (last kind).0),
-                    (last_kept f F heights keys n head has (λ kind. (last kind).1), tt),
-                  ),
-                ),
-              ),
-            ),
-          );
-        }
+        held last = record { sums = more; room = room; kept = good_keeps seen.kept (good_at f F keys n head has last) }
 
   module _ (look : Look) where
     below_by : ((m : ℕ) → m < n → IsVouchedBy heights m → IsShown f F (lists heights keys) look m) → (IsVouchedBy heights n → IsShown f F (lists heights keys) look n)
@@ -210,16 +226,6 @@ start f F certificate look frame = record {
   kept = λ m lt v. absurd (omega arith);
 }
 
--- good keys keep the rules of keys
-pub good_kept : (f : List ℕ) (F : Frame) (heights : List ℕ) (keys : Option Keyed) (n : ℕ) → HasGoodKeys f F keys n
-    → KeepsByCheck f F (lists heights keys) n rules.KeyKind × KeepsByCheck f F (lists heights keys) n (last_rule keys)
-good_kept f F heights None n good = (
-  λ head has dict. subst (KeysAreTexts f F head) (sym (key_count head dict)) (good head has dict).0,
-  λ head has dict. subst (KeysDiffer f F head) (sym (key_count head dict)) (good head has dict).1,
-)
-good_kept f F heights (Some keyed) n good =
-    (λ head has dict. subst (KeysAreTexts f F head) (sym (key_count head dict)) (good head has dict).0, λ head has dict. (good head has dict).1)
-
 -- where each rule that is broken names an object, the first fault does
 names_object : (keeps : Rule → Type 0) (breaks : Rule → Option ObjectNo → ℕ → Type 0) (o : Option ObjectNo) → ((rule : Rule) (object : Option ObjectNo) (place : ℕ) → breaks rule object place → object ≡ o)
     → (rules : List Rule) (fault : Fault) → IsFirstFault keeps breaks rules fault → fault.object ≡ o
@@ -227,54 +233,30 @@ names_object keeps breaks o names [] fault h = absurd h
 names_object keeps breaks o names (rule ∷ rules) fault (inl h) = names rule fault.object fault.place h.1
 names_object keeps breaks o names (rule ∷ rules) fault (inr h) = names_object keeps breaks o names rules fault h.1
 
--- the fault of an object names it
-fault_object : (f : List ℕ) (F : Frame) (certificate : Lists) (n : ℕ) (fault : Fault) → IsCheckFault f F certificate n fault → fault.object ≡ Some (record { 0 = n })
-fault_object f F certificate n fault (inl h) = names_object (KeepsByObject f F n) (BreaksAt f F n) (Some (record { 0 = n })) (λ rule object place b. b.0) object_rules fault h
-fault_object f F certificate n fault (inr h) =
-    names_object (KeepsByCheck f F certificate n) (BreaksAtCheck f F certificate n) (Some (record { 0 = n })) (λ rule object place b. b.0) (vouched_rules certificate.keys) fault h.1
-
 module _ (f : List ℕ) (F : Frame) (heights : List ℕ) (keys : Option Keyed) where
-  -- the first rule of keys that is broken
-  pub first_of_keys : (n : ℕ) (fault : Fault) → BreaksKeys f F (length heights) keys n fault
-      → IsFirstFault (KeepsByCheck f F (lists heights keys) n) (BreaksAtCheck f F (lists heights keys) n) (rules.KeyKind ∷ last_rule keys ∷ []) fault
-  first_of_keys n fault (head, has, (kind, inl (rule, object, (i, first, place)))) =
-      inl (rule, (object, (head, i, has, keys_fail head kind (KeysAreTexts f F head) (λ m k few t i l. t i (omega (arith, few, l))) i first, place)))
-  first_of_keys n fault (head, has, (kind, inr (texts, last))) =
-      inr (any_head f F n head has (Asks f F (lists heights keys) n rules.KeyKind) (λ _. subst (KeysAreTexts f F head) (sym (key_count head kind)) texts), inl (last_broken f F heights keys n head has kind fault last))
-
-  module _ (n : ℕ) (s : KeepsBeforeKeys f F heights n) where
-    -- a seen object with good keys keeps all rules
-    pub good_keeps : HasGoodKeys f F keys n → KeepsCheck f F (lists heights keys) n
-    good_keeps good =
-        let k = good_kept f F heights keys n good in
-        (s.own, (s.room, ((λ head has i l. (s.lower head has i l).0), ((λ head has i l. (s.lower head has i l).1), (k.0, (k.1, tt))))))
-
-    -- the first fault of its keys is its first
-    pub keys_break : (fault : Fault) → BreaksKeys f F (length heights) keys n fault → IsCheckFault f F (lists heights keys) n fault
-    keys_break fault h =
-        inr (s.own, inr (s.room, inr ((λ head has i l. (s.lower head has i l).0), inr ((λ head has i l. (s.lower head has i l).1), first_of_keys n fault h))))
-
   -- where all vouched objects are seen, and their keys are good, they keep all rules
   pub all_good : (t : ℕ) → AreCheckedBelow f F (lists heights keys) Quick F.objects t → ((n : ℕ) → n < F.objects → IsVouchedBy heights n → HasGoodKeys f F keys n) → AreCheckedBelow f F (lists heights keys) Exact F.objects t
-  all_good t run good = record { sums = run.sums; room = run.room; kept = λ m lt v. good_keeps m (run.kept m lt v) (good m lt v) }
+  all_good t run good = record { sums = run.sums; room = run.room; kept = λ m lt v. good_keeps f F heights keys m (run.kept m lt v) (good m lt v) }
 
   module _ (fault : Fault) where
     -- the first fault of keys is the first of all, where all vouched objects up to it are seen
     pub keys_first : (bound : ℕ) → KeepBeforeKeysBelow f F heights bound → IsFirstKeysFault f F (lists heights keys) bound fault → IsVouchedFault f F (lists heights keys) fault
     keys_first bound seen k = record {
       object = k.object;
-      vouched = k.vouched;
-      first = keys_break k.object (seen k.object k.within k.vouched) fault k.breaks;
-      least = λ m lt v. good_keeps m (seen m (omega (arith, lt, k.within)) v) (k.before m lt v);
+      member = k.vouched;
+      first = keys_break f F heights keys k.object (seen k.object k.within k.vouched) fault k.breaks;
+      least = λ m lt v. good_keeps f F heights keys m (seen m (omega (arith, lt, k.within)) v) (k.before m lt v);
     }
 
     -- the first fault of seen objects is the first of all, where the keys before it are good
     pub seen_first : (s : IsSeenFault f F (lists heights keys) fault) → ((n : ℕ) → n < s.object → IsVouchedBy heights n → HasGoodKeys f F keys n) → IsVouchedFault f F (lists heights keys) fault
-    seen_first s good = record { object = s.object; vouched = s.vouched; first = s.first; least = λ m lt v. good_keeps m (s.seen m lt v) (good m lt v) }
+    seen_first s good = record { object = s.object; member = s.vouched; first = s.first; least = λ m lt v. good_keeps f F heights keys m (s.seen m lt v) (good m lt v) }
 
     -- it names its object, which is one
     pub seen_object : (s : IsSeenFault f F (lists heights keys) fault) → fault.object ≡ Some (record { 0 = s.object })
-    seen_object s = fault_object f F (lists heights keys) s.object fault s.first
+    seen_object s =
+        names_object (KeepsRule f F (IsVouchedBy heights) (lists heights keys) s.object) (BreaksRuleAt f F (IsVouchedBy heights) (lists heights keys) s.object) (Some (record { 0 = s.object })) (λ rule object place b. b.0)
+        (check_rules keys) fault s.first
 
 -- a fault of the file as a whole
 pub frame_fault : (f : List ℕ) (certificate : Lists) (e : ObjectFault) → GivesFault (IsFrameFault f) e → GivesRefusal (IsPairFault f certificate) (refusal_of e)

@@ -171,7 +171,7 @@ module _ (f : List ℕ) (F : Frame) where
           | inl low ↦ inl (t, passed f F heights keys n Exact (omega (arith, low)) t run)
           | inr vouched ↦ elim (held_or_fault n (omega (arith, l)) vouched t run.sums) [
             | inl (u, h) ↦ inl (u, held_more f F heights keys n Exact t run u h)
-            | inr (fault, h) ↦ inr (fault, record { object = n; vouched = vouched; first = h; least = run.kept })
+            | inr (fault, h) ↦ inr (fault, record { object = n; member = vouched; first = h; least = run.kept })
           ]
         ]
       ]

@@ -20,7 +20,7 @@ use Rattle.bplist_cert.specs.DictKeys.{KeysAreTexts, AreInOrder}
 use Rattle.bplist_cert.specs.KeyRepeats.{KeysAreSound, HasGoodKeys}
 use Rattle.bplist_cert.specs.declared.key_lists.ReadKey.{ReadKey}
 use Rattle.bplist_cert.specs.KeyPairs.{Ascends, ArePairs, Follows, HaveTextShapes}
-use Rattle.bplist_cert.proofs.KeyRepeats.{good_low, no_keys, keys_inside, sound_keys}
+use Rattle.bplist_cert.proofs.KeyRepeats.{seen_own, good_low, no_keys, keys_inside, sound_keys}
 use Rattle.bplist_cert.proofs.AllNumbers.{onto}
 use Rattle.bplist_cert.proofs.TextObjects.{text_there}
 
@@ -133,7 +133,7 @@ module _ (f : List ℕ) (F : Frame) where
   pub listed_good : IsFrame f F → (heights : List ℕ) → KeepBeforeKeysBelow f F heights F.objects → (keyed : Keyed) (n : ℕ) → n < F.objects → IsVouchedBy heights n → IsListed f F keyed n → HasGoodKeys f F (Some keyed) n
   listed_good framed heights seen keyed n within vouched listed head has dict =
       let keys = listed head has dict in
-      (shapes_texts framed head (keys_inside f F n (seen n within vouched).own head has dict) (sound_keys f F heights seen n within vouched head has dict) keys.0, keys.1)
+      (shapes_texts framed head (keys_inside f F n (seen_own f F heights n (seen n within vouched)) head has dict) (sound_keys f F heights seen n within vouched head has dict) keys.0, keys.1)
 
   -- a list of an object without references that starts among the positions is good
   pub low_listed : (heights : List ℕ) (n : ℕ) → KeepsBeforeKeys f F heights n → (keyed : Keyed) → slice_index heights n ≤ 1 → IsWhole keyed n 0 → IsListed f F keyed n

@@ -1,6 +1,8 @@
 -- What the classes of the keys of a vouched dictionary say of them.
-use Rattle.std.proofs.Common.{Bool, not, IsTrue, Option, Some, None, MatchOption, is_some, Result, Ok, Err, OnOk, ◌≡◌, ℕ, ◌*◌, ◌<◌, ◌≤◌, List, slice_index, count_by, sym, ap, ◌∙◌, subst, inr, arith}
+use Rattle.std.proofs.Common.{Bool, not, IsTrue, Option, Some, None, MatchOption, is_some, Result, Ok, Err, OnOk, ◌≡◌, ℕ, ◌*◌, ◌<◌, ◌≤◌, List, [], ◌∷◌, slice_index, count_by, sym, ap, ◌∙◌, subst, inr, arith}
 use Rattle.std.proofs.lemmas.Bool.{false≢true}
+use Rattle.bplist_objects.specs.declared.rule.Rule.{Rule}
+use Rattle.bplist_objects.specs.declared.rule.Rule.TheVariants as rules
 use Rattle.bplist_objects.specs.declared.frame.Frame.{Frame}
 use Rattle.bplist_objects.specs.declared.head.Head.{Head}
 use Rattle.bplist_objects.specs.declared.kind.Kind.TheVariants.{Dict}
@@ -10,6 +12,7 @@ use Rattle.bplist_objects.specs.Rules.{KeepsAll}
 use Rattle.bplist_objects.specs.ObjectRules.{KeepsByObject, object_rules}
 use Rattle.bplist_objects.specs.Safe.{ref_count}
 use Rattle.bplist_objects.specs.Units.{units_of}
+use Rattle.bplist_objects.proofs.RuleLaws.{kept_all_parts}
 use Rattle.bplist_objects.proofs.BodyLaws.{HasHead-unique}
 use Rattle.bplist_objects.proofs.HeadTies.{shape_announced}
 use Rattle.bplist_keys.specs.Texts.{text_units}
@@ -20,8 +23,8 @@ use Rattle.bplist_objects.proofs.ClaimLaws.{fails_too}
 use Rattle.bplist_keys.proofs.RankLaws.{none_marked}
 use Rattle.bplist_keys.proofs.WeightSteps.{text_units-head}
 use Rattle.bplist_cert.specs.DictKeys.{IsKey, KeysAreTexts, KeysDiffer, IsFirstTwice}
-use Rattle.bplist_cert.specs.Lists.{Keyed}
-use Rattle.bplist_cert.specs.CheckRules.{HasOrder, KeepsLast, IsKeysFault, IsOrderFault}
+use Rattle.bplist_cert.specs.Lists.{Keyed, lists}
+use Rattle.bplist_cert.specs.CheckRules.{KeepsRule, HasOrder, KeepsLast, IsKeysFault, IsOrderFault}
 use Rattle.bplist_objects.specs.declared.fault.ObjectFault.{ObjectFault}
 use Rattle.bplist_objects.specs.declared.fault.ObjectFault.TheVariants as errors
 use Rattle.bplist_objects.specs.Answers.{Gives}
@@ -40,6 +43,10 @@ on_ok_always P (Err e) p = tt
 pub none_there : {X : Type 0} (A : Type 0) (B : X → Type 0) (found : Option X) (none : Bool) → is_some found ≡ not none → IsTrue none → MatchOption found A B → A
 none_there A B None none e t h = h
 none_there A B (Some x) none e t h = absurd (false≢true (sym (e ∙ ap not t)))
+
+-- the rules of a vouched object after 14 to 20, with these at the end
+abbrev pub rules_after : List Rule → List Rule
+rules_after last = rules.Overfull ∷ rules.ChildNotVouched ∷ rules.HeightNotLess ∷ last
 
 module _ (f : List ℕ) (F : Frame) where
   -- the key references of a dictionary that keeps rule 20 are objects
@@ -74,18 +81,29 @@ module _ (f : List ℕ) (F : Frame) where
   order_given count keyed n head dict texts (Err (errors.Fault fault)) h = (dict, inr (texts, h))
   order_given count keyed n head dict texts (Err (errors.Read r)) h = tt
 
+  -- what an object keeps that keeps the rules before those of keys
+  module _ (heights : List ℕ) (n : ℕ) (seen : KeepsBeforeKeys f F heights n) where
+    seen_parts : KeepsAll (KeepsByObject f F n) object_rules × KeepsAll (KeepsRule f F (IsVouchedBy heights) (lists heights None) n) (rules_after [])
+    seen_parts = kept_all_parts (KeepsRule f F (IsVouchedBy heights) (lists heights None) n) object_rules (rules_after []) seen
+
+    pub seen_own : KeepsAll (KeepsByObject f F n) object_rules
+    seen_own = seen_parts.0
+
+    seen_lower : (head : Head) → HasHead f F n head → (k : ℕ) → k < ref_count head.kind head.count → IsVouchedBy heights (ref f F head k) × (slice_index heights (ref f F head k) < slice_index heights n)
+    seen_lower head has k low = (seen_parts.1.1.0 head has k low, seen_parts.1.1.1.0 head has k low)
+
   -- the keys of a vouched dictionary are vouched for, and lower
   module _ (heights : List ℕ) (n : ℕ) (seen : KeepsBeforeKeys f F heights n) (head : Head) (has : HasHead f F n head) (dict : head.kind ≡ Dict) where
     key_vouched : (k : ℕ) → k < head.count → IsVouchedBy heights (ref f F head k)
     key_vouched k low =
         let two : ref_count head.kind head.count ≡ 2 * head.count = ap (λ x. ref_count x head.count) dict in
-        (seen.lower head has k (omega (arith, low, two))).0
+        (seen_lower heights n seen head has k (omega (arith, low, two))).0
 
     -- an object of height 1 has no keys
     pub no_keys : slice_index heights n ≤ 1 → (k : ℕ) → k < head.count → ⊥
     no_keys least k low =
         let two : ref_count head.kind head.count ≡ 2 * head.count = ap (λ x. ref_count x head.count) dict in
-        let l = seen.lower head has k (omega (arith, low, two)) in
+        let l = seen_lower heights n seen head has k (omega (arith, low, two)) in
         omega (arith, least, l.0, l.1)
 
   pub named_low : (heights : List ℕ) (named : List Bool) (n : ℕ) → KeepsBeforeKeys f F heights n → slice_index heights n ≤ 1 → HasNamedKeys f F named n
@@ -104,7 +122,7 @@ module _ (f : List ℕ) (F : Frame) where
   -- they keep rules 14 to 20
   pub sound_keys : (heights : List ℕ) → KeepBeforeKeysBelow f F heights F.objects → (n : ℕ) → n < F.objects → IsVouchedBy heights n → (head : Head) → HasHead f F n head → head.kind ≡ Dict → KeysAreSound f F head
   sound_keys heights seen n within vouched head has dict k low inside =
-      (seen (ref f F head k) inside (key_vouched heights n (seen n within vouched) head has dict k low)).own
+      seen_own heights (ref f F head k) (seen (ref f F head k) inside (key_vouched heights n (seen n within vouched) head has dict k low))
 
   module _ (head : Head) (classes : List ℕ) (classed : AreClassed f F classes head) where
     pub class_at : (k : ℕ) → k < head.count → (key : Head) → IsKey f F head k key → 0 < slice_index classes (ref f F head k)

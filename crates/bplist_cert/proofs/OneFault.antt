@@ -1,5 +1,5 @@
 -- The first fault of a file and a certificate is one.
-use Rattle.std.proofs.Common.{◌≡◌, ℕ, ◌+◌, ◌*◌, ◌<◌, ◌⊎◌, inl, inr, List, length, Option, Some, None, MatchOption, sym, ap, ◌∙◌, subst, arith}
+use Rattle.std.proofs.Common.{◌≡◌, ℕ, ◌+◌, ◌*◌, ◌⊎◌, inl, inr, List, length, Option, Some, None, MatchOption, sym, ap, ◌∙◌, subst, arith}
 use Rattle.bplist_objects.specs.declared.rule.Rule.{Rule}
 use Rattle.bplist_objects.specs.declared.rule.Rule.TheVariants as rules
 use Rattle.bplist_objects.specs.declared.fault.Fault.{Fault}
@@ -7,19 +7,18 @@ use Rattle.bplist_objects.specs.declared.frame.Frame.{Frame}
 use Rattle.bplist_objects.specs.declared.frame.ObjectNo.{ObjectNo}
 use Rattle.bplist_objects.specs.declared.head.Head.{Head}
 use Rattle.bplist_objects.specs.Safe.{ref_count}
-use Rattle.bplist_objects.specs.ObjectRules.{object_rules}
+use Rattle.bplist_objects.specs.Rules.{IsFirstFault}
 use Rattle.bplist_objects.proofs.BodyLaws.{HasHead-unique}
-use Rattle.bplist_objects.proofs.Broken.{no_object_fault}
 use Rattle.bplist_objects.proofs.Lists.{one_number}
-use Rattle.bplist_objects.proofs.FirstFaults.{no_frame, one_frame_fault, one_object_fault, one_first_fault}
+use Rattle.bplist_objects.proofs.FirstFaults.{no_frame, one_frame_fault, one_object_place, one_first_fault}
 use Rattle.bplist_objects.specs.Claims.{FailsAt}
 use Rattle.bplist_objects.proofs.ClaimLaws.{one_failure}
 use Rattle.bplist_cert.specs.Lists.{Keyed, Lists, list_of}
 use Rattle.bplist_cert.specs.Valid.{IsVouchedBy}
 use Rattle.bplist_cert.specs.DictKeys.{AreInOrder}
-use Rattle.bplist_cert.specs.CheckRules.{Asks, KeepsByCheck, BreaksAtCheck, BreaksOrder, IsCheckFault, vouched_rules}
+use Rattle.bplist_cert.specs.CheckRules.{is_of_refs, Asks, BreaksByRefs, KeepsRule, BreaksRuleAt, IsLeastFault, BreaksOrder, check_rules}
 use Rattle.bplist_cert.specs.PairFault.{IsVouchedFault, IsCountFault, IsPairFault}
-use Rattle.bplist_cert.proofs.AcceptedCertificates.{broken, fewer, no_check_fault}
+use Rattle.bplist_cert.proofs.AcceptedCertificates.{by_class, fewer, rule_or_broken, no_rule_fault}
 
 module _ (f : List ℕ) (F : Frame) (head : Head) where
   one_order : (count : ℕ) (keys : Option Keyed) (n p q : ℕ) → MatchOption keys ⊥ (λ keyed. BreaksOrder f F count keyed n head p) → MatchOption keys ⊥ (λ keyed. BreaksOrder f F count keyed n head q) → p ≡ q
@@ -31,40 +30,36 @@ module _ (f : List ℕ) (F : Frame) (head : Head) where
       let e = one_failure (AreInOrder f F head (list_of keyed n head.count)) (λ m k few o i l. o i (omega (arith, few, l))) head.count i j a b in
       omega (arith, is, js, e)
 
-module _ (f : List ℕ) (F : Frame) (certificate : Lists) (n : ℕ) where
-  -- a rule is broken at one place
-  pub one_place : (rule : Rule) (o o' : Option ObjectNo) (p p' : ℕ) → BreaksAtCheck f F certificate n rule o p → BreaksAtCheck f F certificate n rule o' p' → (o ≡ o') × (p ≡ p')
-  one_place rules.Overfull o o' p p' b c = (b.0 ∙ sym c.0, b.1.1 ∙ sym c.1.1)
-  one_place rules.KeyOrder o o' p p' (e, (head, has, kind, b)) (e', (other, has', kind', c)) =
-      let same = HasHead-unique f F n head other has has' in
-      (e ∙ sym e', one_order f F other (length certificate.heights) certificate.keys n p p' (subst (λ (x : Head). MatchOption certificate.keys ⊥ (λ keyed. BreaksOrder f F (length certificate.heights) keyed n x p)) same b) c)
-  one_place rule o o' p p' (e, b) (e', c) =
+module _ (f : List ℕ) (F : Frame) (S : ℕ → Type 0) (certificate : Lists) where
+  -- a rule of references fails at one of them
+  one_ref : (n : ℕ) (rule : Rule) (p p' : ℕ) → BreaksByRefs f F certificate.heights n rule p → BreaksByRefs f F certificate.heights n rule p' → p ≡ p'
+  one_ref n rule p p' b c =
       let other = c.0 in
       let same = HasHead-unique f F n b.0 other b.2 c.2 in
-      let here : FailsAt (Asks f F certificate n rule other) (ref_count other.kind other.count) b.1 =
-      subst (λ (x : Head). FailsAt (Asks f F certificate n rule x) (ref_count x.kind x.count) b.1) same b.3 in
-      let number = one_failure (Asks f F certificate n rule other) (fewer f F certificate n rule other) (ref_count other.kind other.count) b.1 c.1 here c.3 in
-      (e ∙ sym e', b.4 ∙ ap (λ (x : Head). x.body + b.1 * F.ref_size) same ∙ ap (λ k. other.body + k * F.ref_size) number ∙ sym c.4)
+      let here : FailsAt (Asks f F certificate.heights n rule other) (ref_count other.kind other.count) b.1 =
+      subst (λ (x : Head). FailsAt (Asks f F certificate.heights n rule x) (ref_count x.kind x.count) b.1) same b.3 in
+      let number = one_failure (Asks f F certificate.heights n rule other) (fewer f F certificate.heights n rule other) (ref_count other.kind other.count) b.1 c.1 here c.3 in
+      b.4 ∙ ap (λ (x : Head). x.body + b.1 * F.ref_size) same ∙ ap (λ k. other.body + k * F.ref_size) number ∙ sym c.4
 
-  -- a vouched object has one first fault
-  pub one_check_fault : (a b : Fault) → IsCheckFault f F certificate n a → IsCheckFault f F certificate n b → a ≡ b
-  one_check_fault a b (inl x) (inl y) = one_object_fault f F n object_rules a b x y
-  one_check_fault a b (inl x) (inr y) = absurd (no_object_fault f F n object_rules a y.0 x)
-  one_check_fault a b (inr x) (inl y) = absurd (no_object_fault f F n object_rules b x.0 y)
-  one_check_fault a b (inr x) (inr y) =
-      one_first_fault (KeepsByCheck f F certificate n) (BreaksAtCheck f F certificate n) (λ rule object place k c. broken f F certificate n rule place k c.1)
-      one_place (vouched_rules certificate.keys) a b x.1 y.1
+  -- a rule is broken at one place
+  one_place : (n : ℕ) (rule : Rule) (o o' : Option ObjectNo) (p p' : ℕ) → BreaksRuleAt f F S certificate n rule o p → BreaksRuleAt f F S certificate n rule o' p' → (o ≡ o') × (p ≡ p')
+  one_place n rules.Overfull o o' p p' b c = (b.0 ∙ sym c.0, b.1.1 ∙ sym c.1.1)
+  one_place n rules.KeyOrder o o' p p' (e, (head, has, kind, b)) (e', (other, has', kind', c)) =
+      let same = HasHead-unique f F n head other has has' in
+      (e ∙ sym e', one_order f F other (length certificate.heights) certificate.keys n p p' (subst (λ (x : Head). MatchOption certificate.keys ⊥ (λ keyed. BreaksOrder f F (length certificate.heights) keyed n x p)) same b) c)
+  one_place n rule o o' p p' b c =
+      (b.0 ∙ sym c.0, by_class (is_of_refs rule) (p ≡ p') (one_ref n rule p p') (λ x y. (one_object_place f F n rule o o' p p' (b.0, x) (c.0, y)).1) b.1 c.1)
+
+  -- the first fault of the objects of S is one
+  pub one_least_fault : (listed : List Rule) (a b : Fault) → IsLeastFault f F S certificate listed a → IsLeastFault f F S certificate listed b → a ≡ b
+  one_least_fault listed a b h k =
+      let same = one_number h.object k.object
+      (λ l. no_rule_fault f F S certificate h.object listed a (k.least h.object l h.member) h.first)
+      (λ l. no_rule_fault f F S certificate k.object listed b (h.least k.object l k.member) k.first) in
+      one_first_fault (KeepsRule f F S certificate k.object) (BreaksRuleAt f F S certificate k.object) (rule_or_broken f F S certificate k.object) (one_place k.object) listed a b
+      (subst (λ n. IsFirstFault (KeepsRule f F S certificate n) (BreaksRuleAt f F S certificate n) listed a) same h.first) k.first
 
 module _ (f : List ℕ) (F : Frame) (certificate : Lists) where
-  -- no vouched object before the one of a first fault breaks a rule
-  not_before : (a b : Fault) (x : IsVouchedFault f F certificate a) (y : IsVouchedFault f F certificate b) → x.object < y.object → ⊥
-  not_before a b x y l = no_check_fault f F certificate x.object a (y.least x.object l x.vouched) x.first
-
-  one_vouched : (a b : Fault) → IsVouchedFault f F certificate a → IsVouchedFault f F certificate b → a ≡ b
-  one_vouched a b x y =
-      let same = one_number x.object y.object (not_before a b x y) (not_before b a y x) in
-      one_check_fault f F certificate y.object a b (subst (λ n. IsCheckFault f F certificate n a) same x.first) y.first
-
   abbrev FaultIn : Fault → Type 0
   FaultIn a = IsCountFault F certificate.heights a ⊎ ((length certificate.heights ≡ F.objects) × IsVouchedBy certificate.heights F.top.0 × IsVouchedFault f F certificate a)
 
@@ -77,7 +72,7 @@ module _ (f : List ℕ) (F : Frame) (certificate : Lists) where
   one_fault_in a b (inl (inr x)) (inr y) = absurd (omega (arith, x.1, y.1))
   one_fault_in a b (inr x) (inl (inl y)) = absurd (y.0 x.0)
   one_fault_in a b (inr x) (inl (inr y)) = absurd (omega (arith, x.1, y.1))
-  one_fault_in a b (inr x) (inr y) = one_vouched a b x.2 y.2
+  one_fault_in a b (inr x) (inr y) = one_least_fault f F (IsVouchedBy certificate.heights) certificate (check_rules certificate.keys) a b x.2 y.2
 
 pub one_pair_fault : (f : List ℕ) (certificate : Lists) (a b : Fault) → IsPairFault f certificate a → IsPairFault f certificate b → a ≡ b
 one_pair_fault f certificate a b (inl x) (inl y) = one_frame_fault f a b x y

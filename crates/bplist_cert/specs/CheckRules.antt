@@ -1,7 +1,8 @@
--- The rules of a vouched object, in the order of the check: how each is kept, and how it is broken and where. Source: profile.
-use Rattle.std.specs.Prelude.{◌≡◌, ◌⊎◌, ℕ, ◌+◌, ◌*◌, ◌<◌, min, List, [], ◌∷◌, length, slice_index, Option, Some, None, IfSome, MatchOption}
+-- The rules of objects, whichever objects count and whatever the certificate says: how each is kept, and how it is broken and where;
+-- and those of the check in order. Source: profile.
+use Rattle.std.specs.Prelude.{◌≡◌, ◌⊎◌, ℕ, ◌+◌, ◌*◌, ◌<◌, min, Bool, true, false, cond, List, [], ◌∷◌, ◌++◌, length, slice_index, Option, Some, None, IfSome, MatchOption}
 use Rattle.bplist_objects.specs.declared.rule.Rule.{Rule}
-use Rattle.bplist_objects.specs.declared.rule.Rule.TheVariants as rules
+use Rattle.bplist_objects.specs.declared.rule.Rule.TheVariants.{KeyKind, KeyTwice, ChildNotVouched, HeightNotLess, Overfull, KeyOrder}
 use Rattle.bplist_objects.specs.declared.fault.Fault.{Fault}
 use Rattle.bplist_objects.specs.declared.frame.Frame.{Frame}
 use Rattle.bplist_objects.specs.declared.frame.ObjectNo.{ObjectNo}
@@ -11,7 +12,7 @@ use Rattle.bplist_objects.specs.Frame.{off}
 use Rattle.bplist_objects.specs.Safe.{ref_count}
 use Rattle.bplist_objects.specs.Announced.{HasHead}
 use Rattle.bplist_objects.specs.Rules.{KeepsAll, IsFirstFault}
-use Rattle.bplist_objects.specs.ObjectRules.{KeepsByObject, IsObjectFault, object_rules}
+use Rattle.bplist_objects.specs.ObjectRules.{KeepsByObject, BreaksByObject, object_rules}
 use Rattle.bplist_objects.specs.Extents.{IsOverfull}
 use Rattle.bplist_objects.specs.Claims.{FailsAt}
 use Rattle.bplist_objects.specs.Scan.{ref}
@@ -19,13 +20,18 @@ use Rattle.bplist_cert.specs.Lists.{Keyed, Lists, IsWhole, list_of}
 use Rattle.bplist_cert.specs.Valid.{IsVouchedBy}
 use Rattle.bplist_cert.specs.DictKeys.{KeysAreTexts, KeysDiffer, AreInOrder, IsKeylessFault, IsTwiceFault}
 
--- rule 22, or in version 2 rule 32
-abbrev pub last_rule : Option Keyed → Rule
-last_rule keys = elim keys [ None ↦ rules.KeyTwice | Some keyed ↦ rules.KeyOrder ]
+-- the rules of keys: 21, and 22 or in version 2 32
+abbrev pub key_rules : Option Keyed → List Rule
+key_rules None = KeyKind ∷ KeyTwice ∷ []
+key_rules (Some keyed) = KeyKind ∷ KeyOrder ∷ []
 
--- the rules of a vouched object after 14 to 20, in order
-abbrev pub vouched_rules : Option Keyed → List Rule
-vouched_rules keys = rules.Overfull ∷ rules.ChildNotVouched ∷ rules.HeightNotLess ∷ rules.KeyKind ∷ last_rule keys ∷ []
+-- the rules of a vouched object before those of keys, in order
+abbrev pub rules_before_keys : List Rule
+rules_before_keys = object_rules ++ Overfull ∷ ChildNotVouched ∷ HeightNotLess ∷ []
+
+-- the rules of a vouched object, in order
+abbrev pub check_rules : Option Keyed → List Rule
+check_rules keys = rules_before_keys ++ key_rules keys
 
 -- the key list of dictionary n is complete and in order
 abbrev pub HasOrder : List ℕ → Frame → Keyed → ℕ → Head → Type 0
@@ -39,52 +45,76 @@ BreaksOrder f F count keyed n head place =
     × ((j : ℕ) × FailsAt (AreInOrder f F head (list_of keyed n head.count)) head.count j
     × (place ≡ 16 + 8 * count + 4 * (slice_index keyed.starts n + j))))
 
-module _ (f : List ℕ) (F : Frame) (certificate : Lists) (n : ℕ) where
-  -- what this rule asks of the first so many references of vouched object n, of which those to keys come first
+-- rules 21, 22, 28 and 29, which ask something of an object's references
+abbrev pub is_of_refs : Rule → Bool
+is_of_refs rule = elim rule [ ChildNotVouched ↦ true | HeightNotLess ↦ true | KeyKind ↦ true | KeyTwice ↦ true | _ ↦ false ]
+
+module _ (f : List ℕ) (F : Frame) (heights : List ℕ) (n : ℕ) where
+  -- what this rule asks of the first so many references of object n, of which those to keys come first
   abbrev pub Asks : Rule → Head → ℕ → Type 0
-  Asks rules.ChildNotVouched head many = (k : ℕ) → k < many → IsVouchedBy certificate.heights (ref f F head k)
-  Asks rules.HeightNotLess head many =
-      (k : ℕ) → k < many → slice_index certificate.heights (ref f F head k) < slice_index certificate.heights n
-  Asks rules.KeyKind head many = head.kind ≡ kinds.Dict → KeysAreTexts f F head (min many head.count)
-  Asks rules.KeyTwice head many = head.kind ≡ kinds.Dict → KeysDiffer f F head (min many head.count)
+  Asks ChildNotVouched head many = (k : ℕ) → k < many → IsVouchedBy heights (ref f F head k)
+  Asks HeightNotLess head many = (k : ℕ) → k < many → slice_index heights (ref f F head k) < slice_index heights n
+  Asks KeyKind head many = head.kind ≡ kinds.Dict → KeysAreTexts f F head (min many head.count)
+  Asks KeyTwice head many = head.kind ≡ kinds.Dict → KeysDiffer f F head (min many head.count)
   Asks rule head many = Unit {0}
 
-  -- vouched object n keeps this rule
-  abbrev pub KeepsByCheck : Rule → Type 0
-  KeepsByCheck rules.Overfull = IsOverfull f F (IsVouchedBy certificate.heights) n → ⊥
-  KeepsByCheck rules.KeyOrder =
-      (head : Head) → HasHead f F n head → head.kind ≡ kinds.Dict → IfSome certificate.keys (λ keyed. HasOrder f F keyed n head)
-  KeepsByCheck rule = (head : Head) → HasHead f F n head → Asks rule head (ref_count head.kind head.count)
+  -- all references of object n are as this rule asks
+  abbrev pub KeepsByRefs : Rule → Type 0
+  KeepsByRefs rule = (head : Head) → HasHead f F n head → Asks rule head (ref_count head.kind head.count)
 
-  -- vouched object n breaks this rule at this place
-  abbrev pub BreaksByCheck : Rule → ℕ → Type 0
-  BreaksByCheck rules.Overfull place = IsOverfull f F (IsVouchedBy certificate.heights) n × (place ≡ off f F n)
-  BreaksByCheck rules.KeyOrder place =
-      (head : Head) × HasHead f F n head × (head.kind ≡ kinds.Dict)
-      × MatchOption certificate.keys ⊥ (λ keyed. BreaksOrder f F (length certificate.heights) keyed n head place)
-  BreaksByCheck rule place =
+  -- the first reference of object n that is not as it asks stands at this place
+  abbrev pub BreaksByRefs : Rule → ℕ → Type 0
+  BreaksByRefs rule place =
       (head : Head) × (i : ℕ) × HasHead f F n head × FailsAt (Asks rule head) (ref_count head.kind head.count) i
       × (place ≡ head.body + i * F.ref_size)
 
-  -- the same, if this is the object named
-  abbrev pub BreaksAtCheck : Rule → Option ObjectNo → ℕ → Type 0
-  BreaksAtCheck rule object place = (object ≡ Some (record { 0 = n })) × BreaksByCheck rule place
+module _ (f : List ℕ) (F : Frame) (S : ℕ → Type 0) (certificate : Lists) where
+  -- object n of S keeps this rule: 31 among S, 32 by its key list, the others by its references or by itself
+  abbrev pub KeepsRule : ℕ → Rule → Type 0
+  KeepsRule n Overfull = IsOverfull f F S n → ⊥
+  KeepsRule n KeyOrder =
+      (head : Head) → HasHead f F n head → head.kind ≡ kinds.Dict → IfSome certificate.keys (λ keyed. HasOrder f F keyed n head)
+  KeepsRule n rule = cond (is_of_refs rule) (KeepsByRefs f F certificate.heights n rule) (KeepsByObject f F n rule)
 
+  -- object n of S breaks this rule at this place
+  abbrev pub BreaksRule : ℕ → Rule → ℕ → Type 0
+  BreaksRule n Overfull place = IsOverfull f F S n × (place ≡ off f F n)
+  BreaksRule n KeyOrder place =
+      (head : Head) × HasHead f F n head × (head.kind ≡ kinds.Dict)
+      × MatchOption certificate.keys ⊥ (λ keyed. BreaksOrder f F (length certificate.heights) keyed n head place)
+  BreaksRule n rule place =
+      cond (is_of_refs rule) (BreaksByRefs f F certificate.heights n rule place) (BreaksByObject f F n rule place)
+
+  -- the same, if this is the object named
+  abbrev pub BreaksRuleAt : ℕ → Rule → Option ObjectNo → ℕ → Type 0
+  BreaksRuleAt n rule object place = (object ≡ Some (record { 0 = n })) × BreaksRule n rule place
+
+  -- the objects of S below n keep these rules
+  abbrev pub KeepBelow : List Rule → ℕ → Type 0
+  KeepBelow listed n = (m : ℕ) → m < n → S m → KeepsAll (KeepsRule m) listed
+
+  -- the first fault by these rules of the least object of S that has one
+  pub record IsLeastFault (listed : List Rule) (fault : Fault) : Type 0 where
+    pub object : ℕ
+    pub member : S object
+    pub first : IsFirstFault (KeepsRule object) (BreaksRuleAt object) listed fault
+    pub least : KeepBelow listed object
+
+module _ (f : List ℕ) (F : Frame) (certificate : Lists) where
   -- vouched object n keeps all rules
-  abbrev pub KeepsCheck : Type 0
-  KeepsCheck = KeepsAll (KeepsByObject f F n) object_rules × KeepsAll KeepsByCheck (vouched_rules certificate.keys)
+  abbrev pub KeepsCheck : ℕ → Type 0
+  KeepsCheck n = KeepsAll (KeepsRule f F (IsVouchedBy certificate.heights) certificate n) (check_rules certificate.keys)
 
   -- the first rule that vouched object n breaks
-  abbrev pub IsCheckFault : Fault → Type 0
-  IsCheckFault fault =
-      IsObjectFault f F n object_rules fault
-      ⊎ (KeepsAll (KeepsByObject f F n) object_rules
-      × IsFirstFault KeepsByCheck BreaksAtCheck (vouched_rules certificate.keys) fault)
+  abbrev pub IsCheckFault : ℕ → Fault → Type 0
+  IsCheckFault n fault =
+      let S = IsVouchedBy certificate.heights in
+      IsFirstFault (KeepsRule f F S certificate n) (BreaksRuleAt f F S certificate n) (check_rules certificate.keys) fault
 
 -- the fault of the key list of dictionary n
 abbrev pub IsOrderFault : List ℕ → Frame → ℕ → Keyed → ℕ → Head → Fault → Type 0
 IsOrderFault f F count keyed n head fault =
-    (fault.rule ≡ rules.KeyOrder) × (fault.object ≡ Some (record { 0 = n })) × BreaksOrder f F count keyed n head fault.place
+    (fault.rule ≡ KeyOrder) × (fault.object ≡ Some (record { 0 = n })) × BreaksOrder f F count keyed n head fault.place
 
 -- the keys of dictionary n differ, or in version 2 stand in order in its key list
 abbrev pub KeepsLast : List ℕ → Frame → Option Keyed → ℕ → Head → Type 0

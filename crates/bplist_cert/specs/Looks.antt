@@ -1,30 +1,21 @@
 -- What one look at each vouched object shows. Source: profile.
-use Rattle.std.specs.Prelude.{ℕ, ◌<◌, List, slice_index}
+use Rattle.std.specs.Prelude.{ℕ, List, None}
 use Rattle.bplist_objects.specs.declared.fault.Fault.{Fault}
 use Rattle.bplist_objects.specs.declared.frame.Frame.{Frame}
-use Rattle.bplist_objects.specs.declared.head.Head.{Head}
-use Rattle.bplist_objects.specs.Announced.{HasHead}
-use Rattle.bplist_objects.specs.Extents.{IsOverfull}
 use Rattle.bplist_objects.specs.Rules.{KeepsAll}
-use Rattle.bplist_objects.specs.ObjectRules.{KeepsByObject, object_rules}
-use Rattle.bplist_objects.specs.Safe.{ref_count}
-use Rattle.bplist_objects.specs.Scan.{ref}
 use Rattle.bplist_cert.specs.declared.checker.Look.{Look}
 use Rattle.bplist_cert.specs.declared.checker.Look.TheVariants.{Quick, Exact}
-use Rattle.bplist_cert.specs.Lists.{Lists}
+use Rattle.bplist_cert.specs.Lists.{Lists, lists}
 use Rattle.bplist_cert.specs.Valid.{IsVouchedBy}
-use Rattle.bplist_cert.specs.CheckRules.{KeepsCheck, IsCheckFault}
+use Rattle.bplist_cert.specs.CheckRules.{KeepsRule, KeepBelow, KeepsCheck, IsCheckFault, rules_before_keys}
 
 -- vouched object n keeps the rules before those of keys
-pub record KeepsBeforeKeys (f : List ℕ) (F : Frame) (heights : List ℕ) (n : ℕ) : Type 0 where
-  pub own : KeepsAll (KeepsByObject f F n) object_rules
-  pub room : IsOverfull f F (IsVouchedBy heights) n → ⊥
-  pub lower : (head : Head) → HasHead f F n head → (k : ℕ) → k < ref_count head.kind head.count
-      → IsVouchedBy heights (ref f F head k) × (slice_index heights (ref f F head k) < slice_index heights n)
+abbrev pub KeepsBeforeKeys : List ℕ → Frame → List ℕ → ℕ → Type 0
+KeepsBeforeKeys f F heights n = KeepsAll (KeepsRule f F (IsVouchedBy heights) (lists heights None) n) rules_before_keys
 
 -- each vouched object below n does
 abbrev pub KeepBeforeKeysBelow : List ℕ → Frame → List ℕ → ℕ → Type 0
-KeepBeforeKeysBelow f F heights n = (m : ℕ) → m < n → IsVouchedBy heights m → KeepsBeforeKeys f F heights m
+KeepBeforeKeysBelow f F heights n = KeepBelow f F (IsVouchedBy heights) (lists heights None) rules_before_keys n
 
 module _ (f : List ℕ) (F : Frame) (certificate : Lists) where
   -- what a look shows of vouched object n

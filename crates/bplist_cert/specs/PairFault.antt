@@ -8,17 +8,14 @@ use Rattle.bplist_objects.specs.FrameRules.{IsFrameFault}
 use Rattle.bplist_objects.specs.Extents.{Sums}
 use Rattle.bplist_cert.specs.Lists.{Lists}
 use Rattle.bplist_cert.specs.Valid.{IsVouchedBy}
-use Rattle.bplist_cert.specs.CheckRules.{KeepsCheck, IsCheckFault}
+use Rattle.bplist_cert.specs.CheckRules.{IsLeastFault, IsCheckFault, check_rules}
 use Rattle.bplist_cert.specs.declared.checker.Look.{Look}
 use Rattle.bplist_cert.specs.declared.checker.Look.TheVariants.{Quick, Exact}
 use Rattle.bplist_cert.specs.Looks.{IsShown, KeepBeforeKeysBelow}
 
 -- the first fault of the least vouched object that has one
-pub record IsVouchedFault (f : List ℕ) (F : Frame) (certificate : Lists) (fault : Fault) : Type 0 where
-  pub object : ℕ
-  pub vouched : IsVouchedBy certificate.heights object
-  pub first : IsCheckFault f F certificate object fault
-  pub least : (m : ℕ) → m < object → IsVouchedBy certificate.heights m → KeepsCheck f F certificate m
+abbrev pub IsVouchedFault : List ℕ → Frame → Lists → Fault → Type 0
+IsVouchedFault f F certificate fault = IsLeastFault f F (IsVouchedBy certificate.heights) certificate (check_rules certificate.keys) fault
 
 -- a look shows vouched object n as it should be, and with it the vouched objects take t bytes, for which there is room
 pub record IsCheckedObject (f : List ℕ) (F : Frame) (certificate : Lists) (look : Look) (n t : ℕ) : Type 0 where

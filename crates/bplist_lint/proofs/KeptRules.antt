@@ -1,7 +1,8 @@
 -- A file is well formed exactly where its reached objects keep their rules and its top is founded.
-use Rattle.std.proofs.Common.{◌≡◌, ℕ, ◌≤◌, ◌+◌, inl, inr, List, [], ◌∷◌, subst, arith}
+use Rattle.std.proofs.Common.{◌≡◌, ℕ, ◌≤◌, ◌+◌, inl, inr, List, [], ◌∷◌, None, subst, arith}
 use Rattle.std.specs.List.{AllByRecursion}
 use Rattle.std.proofs.lemmas.Bool.{cases_lt}
+use Rattle.bplist_objects.specs.declared.rule.Rule.TheVariants as rules
 use Rattle.bplist_objects.specs.declared.frame.Frame.{Frame}
 use Rattle.bplist_objects.specs.declared.head.Head.{Head}
 use Rattle.bplist_objects.specs.declared.kind.Kind.TheVariants.{Dict}
@@ -12,17 +13,20 @@ use Rattle.bplist_objects.specs.Rules.{KeepsAll}
 use Rattle.bplist_objects.specs.ObjectRules.{KeepsByObject, object_rules}
 use Rattle.bplist_objects.specs.Reach.{Reach, Founded}
 use Rattle.bplist_objects.specs.Extents.{HaveRoom, IsOverfull}
+use Rattle.bplist_objects.proofs.RuleLaws.{kept_all_after, kept_all_parts}
 use Rattle.bplist_objects.proofs.Lists.{all_weaker}
 use Rattle.bplist_objects.proofs.BodyLaws.{HasHead-unique}
 use Rattle.bplist_objects.proofs.ReachedObjects.{reach_within}
 use Rattle.bplist_objects.proofs.HeadTies.{shape_announced, spells_keeps, keeps_iff}
 use Rattle.bplist_objects.proofs.FrameTies.{numbered}
+use Rattle.bplist_cert.specs.Lists.{lists}
 use Rattle.bplist_cert.specs.Valid.{HasKeys}
+use Rattle.bplist_cert.specs.CheckRules.{KeepsRule}
+use Rattle.bplist_cert.proofs.CheckSteps.{kept_by_good, good_by_kept}
 use Rattle.bplist_cert.proofs.KeyTies.{HaveKeys, keys_from_rules, rules_from_keys}
-use Rattle.bplist_lint.specs.ReachRules.{KeepsByReach, KeepReachBelow, reach_rules}
+use Rattle.bplist_lint.specs.ReachRules.{KeepReachBelow, reach_rules}
 use Rattle.bplist_lint.specs.KeyRules.{KeepKeysBelow}
 use Rattle.bplist_lint.specs.WellFormed.{IsWellFormed}
-use Rattle.bplist_lint.proofs.KeySteps.{kept_by_good, good_by_kept}
 
 -- the greatest of some numbers is one of them
 pub record IsGreatest (S : ℕ → Type 0) (ns : List ℕ) (m : ℕ) : Type 0 where
@@ -41,24 +45,21 @@ greatest_member S n (k ∷ ks) a = go (greatest_member S k ks a.1)
 
 module _ (f : List ℕ) (F : Frame) where
   -- of the rules of a reached object, those of an object by itself, and rule 31
-  pub own_rules : (n : ℕ) → KeepsAll (KeepsByReach f F n) reach_rules → KeepsAll (KeepsByObject f F n) object_rules
-  own_rules n k = (k.0, (k.1.0, (k.1.1.0, (k.1.1.1.0, (k.1.1.1.1.0, (k.1.1.1.1.1.0, (k.1.1.1.1.1.1.0, tt)))))))
+  pub parted_rules : (n : ℕ) → KeepsAll (KeepsRule f F (Reach f F) (lists [] None) n) reach_rules → KeepsAll (KeepsByObject f F n) object_rules × ((IsOverfull f F (Reach f F) n → ⊥) × Unit {0})
+  parted_rules n k = kept_all_parts (KeepsRule f F (Reach f F) (lists [] None) n) object_rules (rules.Overfull ∷ []) k
 
-  room_rule : (n : ℕ) → KeepsAll (KeepsByReach f F n) reach_rules → IsOverfull f F (Reach f F) n → ⊥
-  room_rule n k = k.1.1.1.1.1.1.1.0
-
-  both_rules : (n : ℕ) → KeepsAll (KeepsByObject f F n) object_rules → (IsOverfull f F (Reach f F) n → ⊥) → KeepsAll (KeepsByReach f F n) reach_rules
-  both_rules n k room = (k.0, (k.1.0, (k.1.1.0, (k.1.1.1.0, (k.1.1.1.1.0, (k.1.1.1.1.1.0, (k.1.1.1.1.1.1.0, (room, tt))))))))
+  pub both_rules : (n : ℕ) → KeepsAll (KeepsByObject f F n) object_rules → (IsOverfull f F (Reach f F) n → ⊥) → KeepsAll (KeepsRule f F (Reach f F) (lists [] None) n) reach_rules
+  both_rules n k room = kept_all_after (KeepsRule f F (Reach f F) (lists [] None) n) object_rules (rules.Overfull ∷ []) k (room, tt)
 
   module _ (frame : IsFrame f F) where
     -- a reached object that keeps rules 14 to 20 spells a content
     pub kept_spells : KeepReachBelow f F F.objects → (n : ℕ) → Reach f F n → (c : Content) × Spells f F n c
-    kept_spells kept n r = let lt = reach_within f F (numbered frame).top n r in (keeps_iff f F n frame lt).0 (own_rules n (kept n lt r))
+    kept_spells kept n r = let lt = reach_within f F (numbered frame).top n r in (keeps_iff f F n frame lt).0 (parted_rules n (kept n lt r)).0
 
     kept_room : KeepReachBelow f F F.objects → HaveRoom f F (Reach f F)
     kept_room kept [] r d a t = omega (arith, t, (numbered frame).table_early)
     kept_room kept (n ∷ ns) r d a t = elim (cases_lt F.table (r + 8)) [
-      | inl l ↦ let g = greatest_member (Reach f F) n ns a in absurd (room_rule g.0 (kept g.0 (reach_within f F (numbered frame).top g.0 g.1.member) g.1.member) (n ∷ ns, r, d, g.1.high, t, l))
+      | inl l ↦ let g = greatest_member (Reach f F) n ns a in absurd ((parted_rules g.0 (kept g.0 (reach_within f F (numbered frame).top g.0 g.1.member) g.1.member)).1.0 (n ∷ ns, r, d, g.1.high, t, l))
       | inr h ↦ h
     ]
 
@@ -68,7 +69,7 @@ module _ (f : List ℕ) (F : Frame) where
         let head = s.1.shape in
         let there = shape_announced f F n head s.1.has in
         let k = keys n (reach_within f F (numbered frame).top n r) r in
-        (s.0, s.1, keys_from_rules f F n head s.1.has s.0 s.1 (good_by_kept f F n k head there))
+        (s.0, s.1, keys_from_rules f F n head s.1.has s.0 s.1 (good_by_kept f F (Reach f F) [] n None k head there))
 
     -- where all rules are kept and the top is founded, the file is well formed
     pub kept_formed : KeepReachBelow f F F.objects → KeepKeysBelow f F F.objects → Founded f F F.top.0 → IsWellFormed f F
@@ -84,7 +85,7 @@ module _ (f : List ℕ) (F : Frame) where
         omega (arith, room, o.5))
 
     pub formed_keys : KeepKeysBelow f F F.objects
-    formed_keys n lt r = kept_by_good f F n of_head
+    formed_keys n lt r = kept_by_good f F (Reach f F) [] n None of_head
       where
         of_head : (head : Head) → HasHead f F n head → head.kind ≡ Dict → HaveKeys f F head
         of_head head has =

@@ -1,5 +1,5 @@
 -- What the classes of the keys of a dictionary say of them.
-use Rattle.std.proofs.Common.{◌≡◌, ℕ, ◌<◌, ◌↔◌, inl, inr, Bool, List, [], None, length, subst, arith, Contains}
+use Rattle.std.proofs.Common.{◌≡◌, ℕ, ◌<◌, ◌↔◌, inl, inr, Bool, List, None, length, subst, arith, Contains}
 use Rattle.bplist_objects.specs.declared.fault.Fault.{Fault}
 use Rattle.bplist_objects.specs.declared.frame.Frame.{Frame}
 use Rattle.bplist_objects.specs.declared.frame.ObjectNo.{ObjectNo}
@@ -9,7 +9,6 @@ use Rattle.bplist_objects.specs.Announced.{HasHead}
 use Rattle.bplist_objects.specs.Frame.{IsFrame}
 use Rattle.bplist_objects.specs.Heads.{content_at, refs}
 use Rattle.bplist_objects.specs.Reach.{Reach, next}
-use Rattle.bplist_objects.specs.Rules.{IsFirstFault}
 use Rattle.bplist_objects.proofs.Lists.{all_from}
 use Rattle.bplist_objects.proofs.HeadTies.{head_tie}
 use Rattle.bplist_keys.specs.Ranks.{AreClasses}
@@ -17,17 +16,15 @@ use Rattle.bplist_keys.specs.Marks.{IsMarked}
 use Rattle.bplist_objects.proofs.ClaimLaws.{fails_too}
 use Rattle.bplist_objects.specs.Scan.{ref}
 use Rattle.bplist_cert.specs.DictKeys.{KeysAreTexts}
-use Rattle.bplist_cert.specs.KeyRepeats.{KeysAreSound}
+use Rattle.bplist_cert.specs.KeyRepeats.{KeysAreSound, BreaksKeys}
 use Rattle.bplist_cert.proofs.KeyRepeats as keys
 use Rattle.bplist_lint.specs.ReachRules.{KeepReachBelow}
-use Rattle.bplist_lint.specs.KeyRules.{KeepsByKeys, BreaksAtKeys, key_rules}
 use Rattle.bplist_keys.specs.Classes.{HasNamedKeys, AreClassed, HaveClasses, IsKeyDefect}
 use Rattle.bplist_lint.specs.KeyClasses.{AreSound, IsWrongFault}
 use Rattle.bplist_keys.specs.declared.class_table.KeyDefect.{KeyDefect}
 use Rattle.bplist_keys.specs.declared.class_table.KeyDefect.TheVariants as defects
 use Rattle.bplist_lint.proofs.ReachSteps.{marked_within}
-use Rattle.bplist_cert.proofs.CheckSteps.{first_of_keys}
-use Rattle.bplist_lint.proofs.KeptRules.{own_rules}
+use Rattle.bplist_lint.proofs.KeptRules.{parted_rules}
 use Rattle.bplist_cert.proofs.KeyTies.{each_key}
 
 module _ (f : List ℕ) (F : Frame) where
@@ -36,7 +33,7 @@ module _ (f : List ℕ) (F : Frame) where
       → KeepReachBelow f F F.objects → AreSound f F marks
   reached_sound marks many framed reached kept = record {
     framed = framed;
-    kept = λ m marked. own_rules f F m (kept m (subst (λ n. m < n) many (marked_within marks m marked)) ((reached m).0 marked));
+    kept = λ m marked. (parted_rules f F m (kept m (subst (λ n. m < n) many (marked_within marks m marked)) ((reached m).0 marked))).0;
     closed = λ n m marked r. (reached m).1 (next ((reached n).0 marked) r);
   }
 
@@ -59,10 +56,10 @@ module _ (f : List ℕ) (F : Frame) where
       (inside : (k : ℕ) → k < head.count → ref f F head k < F.objects) where
     -- what is wrong with them is the fault
     pub wrong_fault : (n : ObjectNo) → HasHead f F n.0 head → head.kind ≡ Dict → (wrong : KeyDefect) (fault : Fault) → IsKeyDefect (ref f F head) classes head.count wrong → IsWrongFault F n head wrong fault
-        → IsFirstFault (KeepsByKeys f F n.0) (BreaksAtKeys f F n.0) key_rules fault
+        → BreaksKeys f F F.objects None n.0 fault
     wrong_fault n has dict (defects.NotText i) fault is told =
         let texts = fails_too (HaveClasses (ref f F head) classes) (KeysAreTexts f F head) head.count (keys.classed_texts f F head classes classed framed sound inside) (keys.texts_classed f F head classes classed) i is in
-        first_of_keys f F [] None n.0 fault (head, has, (dict, inl (told.0, told.1, (i, texts, told.2))))
+        (head, has, (dict, inl (told.0, told.1, (i, texts, told.2))))
     wrong_fault n has dict (defects.Repeated j) fault is told =
         let texts = keys.classed_texts f F head classes classed framed sound inside head.count (omega arith) is.0 in
-        first_of_keys f F [] None n.0 fault (head, has, (dict, inr (texts, (told.0, told.1, (j, keys.again_twice f F head classes classed texts j is.1, told.2)))))
+        (head, has, (dict, inr (texts, (told.0, told.1, (j, keys.again_twice f F head classes classed texts j is.1, told.2)))))

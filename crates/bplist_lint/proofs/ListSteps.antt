@@ -23,7 +23,8 @@ use Rattle.bplist_cert.specs.Lists.{Keyed}
 use Rattle.bplist_cert.specs.Valid.{IsVouchedBy, IsValid}
 use Rattle.bplist_cert.specs.DictKeys.{AreInOrder}
 use Rattle.bplist_lint.specs.KeyLists.{IsListed}
-use Rattle.bplist_cert.proofs.AcceptedCertificates.{accepted, keeps_all}
+use Rattle.bplist_cert.proofs.CheckSteps.{good_keeps}
+use Rattle.bplist_cert.proofs.AcceptedCertificates.{accepted, valid_seen, vouched_keys}
 use Rattle.bplist_lint.specs.Linted.{is_vouched}
 use Rattle.bplist_lint.specs.Upgraded.{pairs_of, pairs, pairs_below, Listed, IsUpgraded}
 use Rattle.bplist_lint.proofs.RangeSums.{found_next}
@@ -189,8 +190,8 @@ module _ (f : List ℕ) (F : Frame) (heights : List ℕ) where
           sums = record { objects = l.sums.objects; differ = l.sums.differ; inside = l.sums.inside; take_all = l.sums.take_all; most = l.sums.most };
           room = valid.room l.sums.objects l.used l.sums.differ (all_weaker _ _ (λ m k. k.0) l.sums.objects l.sums.inside) l.sums.take_all;
           kept = λ m low v.
-              let k = keeps_all f F (record { heights = heights; keys = None }) (record { valid = valid; listed = tt }) m v in
-              (k.0, (k.1.0, (k.1.1.0, (k.1.1.1.0, (k.1.1.1.1.0, (l.order m low v, tt))))));
+              good_keeps f F heights (Some keyed) m (valid_seen f F heights valid m low v)
+              (λ head has dict. ((vouched_keys f F heights valid m v head has dict).0, l.order m low v head has dict));
         };
       });
     }

@@ -1,5 +1,5 @@
 -- Running tallies of the reached objects.
-use Rattle.std.proofs.Common.{◌≡◌, ℕ, suc, ◌+◌, ◌-◌, ◌<◌, ◌≤◌, inl, inr, Bool, false, cond, List, [], ◌∷◌, get_or, refl, sym, subst, arith, Some}
+use Rattle.std.proofs.Common.{◌≡◌, ℕ, suc, ◌+◌, ◌-◌, ◌<◌, ◌≤◌, inl, inr, Bool, false, cond, List, [], ◌∷◌, length, get_or, refl, sym, ap, subst, arith, Some, None}
 use Rattle.std.proofs.lemmas.Bool.{cases_eq}
 use Rattle.bplist_objects.specs.declared.rule.Rule.TheVariants as rules
 use Rattle.bplist_objects.specs.declared.fault.Fault.{Fault}
@@ -14,11 +14,14 @@ use Rattle.bplist_objects.specs.ObjectRules.{KeepsByObject, object_rules, IsObje
 use Rattle.bplist_objects.specs.Reach.{Reach}
 use Rattle.bplist_objects.specs.Extents.{Sums}
 use Rattle.bplist_objects.proofs.ExtentSums.{shape_extent, sums_none, sums_more, sums_same, not_overfull, overfull}
-use Rattle.bplist_objects.proofs.RuleLaws.{first_fault_after, first_fault_among, kept_all_after}
+use Rattle.bplist_objects.proofs.RuleLaws.{first_fault_after, first_fault_among}
 use Rattle.bplist_objects.proofs.HeadTies.{head_tie}
 use Rattle.bplist_keys.specs.Marks.{IsMarked}
-use Rattle.bplist_lint.specs.ReachRules.{KeepsByReach, BreaksAtReach, IsReachFault, is_marked, Tallied}
+use Rattle.bplist_cert.specs.Lists.{lists}
+use Rattle.bplist_cert.specs.CheckRules.{KeepsRule, BreaksRuleAt}
+use Rattle.bplist_lint.specs.ReachRules.{IsReachFault, is_marked, Tallied}
 use Rattle.bplist_lint.specs.declared.tally.Tally.{Tally}
+use Rattle.bplist_lint.proofs.KeptRules.{both_rules}
 use Rattle.bplist_lint.proofs.RangeSums.{sum_next, references_are, references_next}
 
 pub next_is : (n : ℕ) → suc n ≡ n + 1
@@ -51,7 +54,7 @@ module _ (f : List ℕ) (F : Frame) where
     object_fault fault h = record {
       object = n;
       member = reached;
-      first = first_fault_among (KeepsByReach f F n) (BreaksAtReach f F n) object_rules (rules.Overfull ∷ []) fault h;
+      first = first_fault_among (KeepsRule f F (Reach f F) (lists [] None) n) (BreaksRuleAt f F (Reach f F) (lists [] None) n) object_rules (rules.Overfull ∷ []) fault h;
       least = t.kept;
     }
 
@@ -67,7 +70,7 @@ module _ (f : List ℕ) (F : Frame) where
       room_fault fault rule object place full = record {
         object = n;
         member = reached;
-        first = first_fault_after (KeepsByReach f F n) (BreaksAtReach f F n) object_rules (rules.Overfull ∷ []) fault kept (inl (rule, (object, overfull f F (Reach f F) n _ sums_with full, place)));
+        first = first_fault_after (KeepsRule f F (Reach f F) (lists [] None) n) (BreaksRuleAt f F (Reach f F) (lists [] None) n) object_rules (rules.Overfull ∷ []) fault kept (inl (rule, (object, (overfull f F (Reach f F) n _ sums_with full, place))));
         least = t.kept;
       }
 
@@ -76,7 +79,7 @@ module _ (f : List ℕ) (F : Frame) where
           → Tallied f F marks (n + 1) now
       tallied_more marked room now one bytes more = subst (λ k. Tallied f F marks k now) (next_is n) (record {
         kept = λ m low r. elim (cases_eq m n) [
-          | inl e ↦ rw e (kept_all_after (KeepsByReach f F n) object_rules (rules.Overfull ∷ []) kept (not_overfull f F (Reach f F) n _ sums_with room, tt))
+          | inl e ↦ rw e (both_rules f F n kept (not_overfull f F (Reach f F) n _ sums_with room))
           | inr ne ↦ t.kept m (omega arith) r
         ];
         sums = subst (Sums f F (Reach f F) (suc n)) (sym bytes) sums_with;

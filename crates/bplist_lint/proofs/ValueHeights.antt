@@ -1,5 +1,5 @@
 -- Where keys are texts, the least heights over the values alone are those over all references.
-use Rattle.std.proofs.Common.{◌≡◌, ℕ, zero, suc, ◌+◌, ◌-◌, ◌<◌, ◌≤◌, ◌↔◌, inl, inr, Bool, List, [], ◌∷◌, ◌++◌, drop, length, slice_index, replicate, length-append, Contains, refl, sym, ap, ◌∙◌, arith}
+use Rattle.std.proofs.Common.{◌≡◌, ℕ, zero, suc, ◌+◌, ◌-◌, ◌<◌, ◌≤◌, ◌↔◌, inl, inr, Bool, List, [], ◌∷◌, ◌++◌, drop, length, slice_index, replicate, length-append, Contains, None, refl, sym, ap, ◌∙◌, arith}
 use Rattle.std.proofs.lemmas.Bool.{cases_lt}
 use Rattle.std.proofs.lemmas.List.{length-drop, get_or-drop, length-replicate, get_or-replicate, get_or_append_left, get_or-append_right}
 use Rattle.std.proofs.lemmas.List.Elements.{Contains-get_or}
@@ -16,6 +16,7 @@ use Rattle.bplist_objects.proofs.HeadTies.{shape_announced}
 use Rattle.bplist_objects.proofs.ReachedObjects.{refs_iff, reach_within}
 use Rattle.bplist_objects.proofs.FrameTies.{numbered}
 use Rattle.bplist_keys.specs.Marks.{IsMarked}
+use Rattle.bplist_cert.proofs.CheckSteps.{good_by_kept}
 use Rattle.bplist_lint.specs.declared.object_graph.View.{View}
 use Rattle.bplist_lint.specs.declared.object_graph.View.TheVariants as views
 use Rattle.bplist_lint.specs.Graph.{IsWhole, Reaches, Ends, Least, greatest, AreLeast}
@@ -27,7 +28,6 @@ use Rattle.bplist_lint.specs.ReachRules.{KeepReachBelow}
 use Rattle.bplist_lint.specs.ReferenceGraph.{key_count, hidden, refs_in, graph_of}
 use Rattle.bplist_lint.specs.HeightWalks.{AreClosed, AreLeastOf}
 use Rattle.bplist_lint.proofs.KeptRules.{kept_spells}
-use Rattle.bplist_lint.proofs.KeySteps.{good_by_kept}
 use Rattle.bplist_lint.proofs.ObjectReferences.{found_as, as_spelled, all_announced, no_refs_leaf}
 use Rattle.bplist_lint.proofs.ReferenceGraph.{reach_iff}
 
@@ -118,7 +118,7 @@ module _ (f : List ℕ) (F : Frame) (frame : IsFrame f F) (kept : KeepReachBelow
           let low1 = rw found at low in
           let all = as_spelled f F n head s.1.has s.0 s.1 in
           let k = of_key head.kind head.count i low1 in
-          let key = (good_by_kept f F n (keys n within reach) head (shape_announced f F n head s.1.has) k.0).0 i k.1 in (
+          let key = (good_by_kept f F (Reach f F) [] n None (keys n within reach) head (shape_announced f F n head s.1.has) k.0).0 i k.1 in (
             ap (refs_at f F) (all.each i (omega (arith, low1, k.2))) ∙ no_refs_leaf f F _ key.0 key.1.is.0 (of_text key.0.kind key.0.count key.1.kind),
             rw found (omega (arith, k.2, all.count)),
           )

@@ -20,21 +20,24 @@ use Rattle.bplist_objects.proofs.ExtentSums.{shape_extent, sums_none, sums_more,
 use Rattle.bplist_objects.proofs.FrameTies.{numbered, trailer_is_frame}
 use Rattle.bplist_objects.proofs.ReachedObjects.{refs_iff, refs_within}
 use Rattle.bplist_objects.proofs.Lists.{Either, all_or_first}
-use Rattle.bplist_objects.proofs.RuleLaws.{first_fault_after, first_fault_among, kept_all_after}
+use Rattle.bplist_objects.proofs.RuleLaws.{first_fault_after, first_fault_among}
 use Rattle.bplist_objects.proofs.HeadTies.{keeps_iff, shape_announced}
 use Rattle.bplist_cert.proofs.DecidedObjects.{fault_at}
 use Rattle.bplist_cert.proofs.DecidedKeys.{dict_decided, texts_or_first, differ_or_first}
-use Rattle.bplist_lint.specs.ReachRules.{KeepsByReach, BreaksAtReach, KeepReachBelow, IsReachFault, reach_rules}
-use Rattle.bplist_lint.specs.KeyRules.{KeepsByKeys, BreaksAtKeys, KeepKeysBelow, IsKeysFault, key_rules}
+use Rattle.bplist_cert.specs.Lists.{lists}
+use Rattle.bplist_cert.specs.CheckRules.{KeepsRule, BreaksRuleAt}
+use Rattle.bplist_cert.specs.KeyRepeats.{HasGoodKeys, BreaksKeys}
+use Rattle.bplist_lint.specs.ReachRules.{KeepReachBelow, IsReachFault, reach_rules}
+use Rattle.bplist_lint.specs.KeyRules.{KeepKeysBelow, IsKeysFault}
 use Rattle.bplist_lint.specs.FileFault.{IsCircle, IsObjectsFault, IsFileFault, IsFramedCircle, IsFileCircle}
 use Rattle.bplist_lint.specs.WellFormed.{IsWellFormed}
 use Rattle.bplist_lint.proofs.FiniteGraphs.{reach_decided, founded_or_circle}
 use Rattle.bplist_lint.proofs.HeldValues.{formed_holds}
 use Rattle.bplist_lint.proofs.ReferenceGraph.{reach_iff, founded_iff, circle_iff}
-use Rattle.bplist_cert.proofs.CheckSteps.{first_of_keys}
+use Rattle.bplist_cert.proofs.CheckSteps.{kept_by_good}
 use Rattle.bplist_cert.proofs.KeyRepeats.{good_at}
-use Rattle.bplist_lint.proofs.KeySteps.{kept_by_good}
-use Rattle.bplist_lint.proofs.KeptRules.{kept_spells, kept_formed}
+use Rattle.bplist_lint.proofs.KeySteps.{keys_fault}
+use Rattle.bplist_lint.proofs.KeptRules.{both_rules, kept_spells, kept_formed}
 
 module _ (f : List ℕ) (F : Frame) (frame : IsFrame f F) where
   -- ---- the graph of the references is finite
@@ -54,16 +57,16 @@ module _ (f : List ℕ) (F : Frame) (frame : IsFrame f F) where
     sums : Sums f F (Reach f F) n t
     room : t + 8 ≤ F.table
 
-  keep_more : (n : ℕ) → KeepReachBelow f F n → (Reach f F n → KeepsAll (KeepsByReach f F n) reach_rules) → KeepReachBelow f F (suc n)
+  keep_more : (n : ℕ) → KeepReachBelow f F n → (Reach f F n → KeepsAll (KeepsRule f F (Reach f F) (lists [] None) n) reach_rules) → KeepReachBelow f F (suc n)
   keep_more n below own m lt r = elim (cases_lt m n) [
     | inl l ↦ below m l r
     | inr h ↦
         let e : n ≡ m = omega (arith, lt, h) in
-        subst (λ k. KeepsAll (KeepsByReach f F k) reach_rules) e (own (subst (Reach f F) (sym e) r))
+        subst (λ k. KeepsAll (KeepsRule f F (Reach f F) (lists [] None) k) reach_rules) e (own (subst (Reach f F) (sym e) r))
   ]
 
   module _ (n t : ℕ) (lt : n < F.objects) (p : IsPassed n t) (r : Reach f F n) where
-    own_fault : (fault : Fault) → IsFirstFault (KeepsByReach f F n) (BreaksAtReach f F n) reach_rules fault → IsReachFault f F fault
+    own_fault : (fault : Fault) → IsFirstFault (KeepsRule f F (Reach f F) (lists [] None) n) (BreaksRuleAt f F (Reach f F) (lists [] None) n) reach_rules fault → IsReachFault f F fault
     own_fault fault first = record { object = n; member = r; first = first; least = p.kept }
 
     pass_kept : KeepsAll (KeepsByObject f F n) object_rules → ((u : ℕ) × IsPassed (suc n) u) ⊎ ((fault : Fault) × IsReachFault f F fault)
@@ -77,13 +80,13 @@ module _ (f : List ℕ) (F : Frame) (frame : IsFrame f F) where
               let fault = fault_at rules.Overfull n (off f F n) in
               inr (
                 fault,
-                own_fault fault (first_fault_after (KeepsByReach f F n) (BreaksAtReach f F n) object_rules (rules.Overfull ∷ []) fault kept
-                    (inl (refl, (refl, overfull f F (Reach f F) n u sums full, refl)))),
+                own_fault fault (first_fault_after (KeepsRule f F (Reach f F) (lists [] None) n) (BreaksRuleAt f F (Reach f F) (lists [] None) n) object_rules (rules.Overfull ∷ []) fault kept
+                    (inl (refl, (refl, (overfull f F (Reach f F) n u sums full, refl))))),
               )
           | inr room ↦ inl (
             u,
             record {
-              kept = keep_more n p.kept (λ on. kept_all_after (KeepsByReach f F n) object_rules (rules.Overfull ∷ []) kept (not_overfull f F (Reach f F) n u sums room, tt));
+              kept = keep_more n p.kept (λ on. both_rules f F n kept (not_overfull f F (Reach f F) n u sums room));
               sums = sums;
               room = room;
             },
@@ -93,7 +96,7 @@ module _ (f : List ℕ) (F : Frame) (frame : IsFrame f F) where
     pass_reached : ((u : ℕ) × IsPassed (suc n) u) ⊎ ((fault : Fault) × IsReachFault f F fault)
     pass_reached = elim (object_kept_or_fault f F n object_rules) [
       | inl kept ↦ pass_kept kept
-      | inr broken ↦ inr (broken.0, own_fault broken.0 (first_fault_among (KeepsByReach f F n) (BreaksAtReach f F n) object_rules (rules.Overfull ∷ []) broken.0 broken.1))
+      | inr broken ↦ inr (broken.0, own_fault broken.0 (first_fault_among (KeepsRule f F (Reach f F) (lists [] None) n) (BreaksRuleAt f F (Reach f F) (lists [] None) n) object_rules (rules.Overfull ∷ []) broken.0 broken.1))
     ]
 
   pass : (n : ℕ) → n ≤ F.objects → ((t : ℕ) × IsPassed n t) ⊎ ((fault : Fault) × IsReachFault f F fault)
@@ -114,18 +117,18 @@ module _ (f : List ℕ) (F : Frame) (frame : IsFrame f F) where
   ]
 
   -- ---- rules 21 and 22
-  keys_or_fault : (n : ℕ) (c : Content) → Spells f F n c → KeepsAll (KeepsByKeys f F n) key_rules ⊎ ((fault : Fault) × IsFirstFault (KeepsByKeys f F n) (BreaksAtKeys f F n) key_rules fault)
+  keys_or_fault : (n : ℕ) (c : Content) → Spells f F n c → HasGoodKeys f F None n ⊎ ((fault : Fault) × BreaksKeys f F F.objects None n fault)
   keys_or_fault n c s = elim (dict_decided head.kind) [
-    | inr other ↦ inl (kept_by_good f F n (good_at f F None n head there (λ dict. absurd (other dict))))
+    | inr other ↦ inl (good_at f F None n head there (λ dict. absurd (other dict)))
     | inl dict ↦ elim (texts_or_first f F frame head) [
       | inr (i, first) ↦
           let fault = fault_at rules.KeyKind n (head.body + i * F.ref_size) in
-          inr (fault, first_of_keys f F [] None n fault (head, there, (dict, inl (refl, refl, (i, first, refl)))))
+          inr (fault, (head, there, (dict, inl (refl, refl, (i, first, refl)))))
       | inl texts ↦ elim (differ_or_first f F frame head) [
         | inr (j, first) ↦
             let fault = fault_at rules.KeyTwice n (head.body + j * F.ref_size) in
-            inr (fault, first_of_keys f F [] None n fault (head, there, (dict, inr (texts, (refl, refl, (j, first, refl))))))
-        | inl differ ↦ inl (kept_by_good f F n (good_at f F None n head there (λ _. (texts, differ))))
+            inr (fault, (head, there, (dict, inr (texts, (refl, refl, (j, first, refl))))))
+        | inl differ ↦ inl (good_at f F None n head there (λ _. (texts, differ)))
       ]
     ]
   ]
@@ -138,15 +141,17 @@ module _ (f : List ℕ) (F : Frame) (frame : IsFrame f F) where
 
   module _ (reach : KeepReachBelow f F F.objects) where
     pass_keys : KeepKeysBelow f F F.objects ⊎ ((fault : Fault) × IsKeysFault f F fault)
-    pass_keys = elim (all_or_first (λ n. Reach f F n → KeepsAll (KeepsByKeys f F n) key_rules) Broken each F.objects) [
-      | inl all ↦ inl (λ n lt r. all n lt r)
-      | inr first ↦ inr (first.2.1.0, record { object = first.0; member = first.2.0; first = first.2.1.1; least = λ m lt r. first.3 m lt r })
+    pass_keys = elim (all_or_first (λ n. Reach f F n → HasGoodKeys f F None n) Broken each F.objects) [
+      | inl all ↦ inl (λ n lt r. kept_by_good f F (Reach f F) [] n None (all n lt r))
+      | inr first ↦
+          let before : KeepKeysBelow f F first.0 = λ m lt r. kept_by_good f F (Reach f F) [] m None (first.3 m lt r) in
+          inr (first.2.1.0, keys_fault f F first.0 first.2.1.0 first.2.0 before first.2.1.1)
     ]
       where
         Broken : ℕ → Type 0
-        Broken n = Reach f F n × ((fault : Fault) × IsFirstFault (KeepsByKeys f F n) (BreaksAtKeys f F n) key_rules fault)
+        Broken n = Reach f F n × ((fault : Fault) × BreaksKeys f F F.objects None n fault)
 
-        each : (n : ℕ) → (Reach f F n → KeepsAll (KeepsByKeys f F n) key_rules) ⊎ Broken n
+        each : (n : ℕ) → (Reach f F n → HasGoodKeys f F None n) ⊎ Broken n
         each n = elim (reached_or_not n) [
           | inr never ↦ inl (λ r. absurd (never r))
           | inl r ↦ let s = kept_spells f F frame reach n r in elim (keys_or_fault n s.0 s.1) [

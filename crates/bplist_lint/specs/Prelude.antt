@@ -22,7 +22,7 @@ pub use Rattle.bplist_keys.specs.Failures.{failed_to_read}
 pub use Rattle.bplist_keys.specs.Marks.{IsMarked}
 pub use Rattle.bplist_keys.specs.Ranks.{AreRanks}
 pub use Rattle.bplist_keys.specs.Texts.{AreOffsets}
-pub use Rattle.bplist_cert.specs.KeyRepeats.{KeysAreSound}
+pub use Rattle.bplist_cert.specs.KeyRepeats.{BreaksKeys, HasGoodKeys, KeysAreSound}
 pub use Rattle.bplist_cert.specs.Refusals.{Judges, refusal_of, refusal_of_keys, refused_read}
 pub use Rattle.bplist_cert.specs.Valid.{IsValid, IsVouchedBy}
 pub use Rattle.bplist_cert.specs.declared.refusal.Refusal.{Refusal}
@@ -31,7 +31,7 @@ pub use Rattle.bplist_lint.specs.Graph.{AreLeast, AreObjects, AreWhole, Ends, Is
 pub use Rattle.bplist_lint.specs.HeightWalks.{AreClosed, AreLeastOf, Finds, IsHeightWalk, Shows, Standing, first_state, state_at}
 pub use Rattle.bplist_lint.specs.KeyClasses.{IsWrongFault}
 pub use Rattle.bplist_lint.specs.KeyLists.{AreAbove, AreRanked, HaveRanks, IsListed, positions_in, ranks_in}
-pub use Rattle.bplist_lint.specs.KeyRules.{BreaksAtKeys, IsKeysFault, KeepKeysBelow, KeepsByKeys, key_rules}
+pub use Rattle.bplist_lint.specs.KeyRules.{IsKeysFault, KeepKeysBelow}
 pub use Rattle.bplist_lint.specs.LeastHeights.{AreLeastHeights, StandLeast}
 pub use Rattle.bplist_lint.specs.Linted.{HasNoHeights, IsLinted, IsLintedBy, IsLintedWithKind, KeepsRules}
 pub use Rattle.bplist_lint.specs.OffsetRule.{AreBelowTable, IsOffsetFault}

@@ -1,19 +1,18 @@
--- The rules of the objects that the top reaches, 14 to 20 and 31: how each is kept, and how it is broken and where, and the first fault of them.
+-- The rules 14 to 20 and 31 of the objects that the top reaches, which are kept and broken as in the check, and the first fault of them.
 -- Source: profile.
-use Rattle.std.specs.Prelude.{◌≡◌, ℕ, Bool, false, List, [], ◌∷◌, ◌++◌, slice_index_or, Option, Some, sum_by, count_by, filter, filter_map}
+use Rattle.std.specs.Prelude.{◌≡◌, ℕ, Bool, false, List, [], ◌∷◌, ◌++◌, slice_index_or, None, sum_by, count_by, filter, filter_map}
 use Rattle.std.specs.List.{range_with_len}
 use Rattle.bplist_objects.specs.declared.rule.Rule.{Rule}
 use Rattle.bplist_objects.specs.declared.rule.Rule.TheVariants as rules
 use Rattle.bplist_objects.specs.declared.fault.Fault.{Fault}
 use Rattle.bplist_objects.specs.declared.frame.Frame.{Frame}
-use Rattle.bplist_objects.specs.declared.frame.ObjectNo.{ObjectNo}
-use Rattle.bplist_objects.specs.Frame.{off}
 use Rattle.bplist_objects.specs.Safe.{ref_count}
 use Rattle.bplist_objects.specs.Announced.{head_found}
-use Rattle.bplist_objects.specs.Rules.{KeepBelow, IsLeastFault}
-use Rattle.bplist_objects.specs.ObjectRules.{KeepsByObject, BreaksAt, object_rules}
+use Rattle.bplist_objects.specs.ObjectRules.{object_rules}
 use Rattle.bplist_objects.specs.Reach.{Reach}
-use Rattle.bplist_objects.specs.Extents.{Sums, IsOverfull}
+use Rattle.bplist_objects.specs.Extents.{Sums}
+use Rattle.bplist_cert.specs.Lists.{lists}
+use Rattle.bplist_cert.specs.CheckRules.{KeepBelow, IsLeastFault}
 use Rattle.bplist_lint.specs.declared.tally.Tally.{Tally}
 
 -- the rules of a reached object, in order
@@ -29,24 +28,13 @@ abbrev pub is_marked : List Bool → ℕ → Bool
 is_marked marks n = slice_index_or marks n false
 
 module _ (f : List ℕ) (F : Frame) where
-  -- reached object n keeps this rule
-  abbrev pub KeepsByReach : ℕ → Rule → Type 0
-  KeepsByReach n rules.Overfull = IsOverfull f F (Reach f F) n → ⊥
-  KeepsByReach n rule = KeepsByObject f F n rule
-
-  -- reached object n, which is the one named, breaks this rule at this place
-  abbrev pub BreaksAtReach : ℕ → Rule → Option ObjectNo → ℕ → Type 0
-  BreaksAtReach n rules.Overfull object place =
-      (object ≡ Some (record { 0 = n })) × IsOverfull f F (Reach f F) n × (place ≡ off f F n)
-  BreaksAtReach n rule object place = BreaksAt f F n rule object place
-
   -- the reached objects below n keep rules 14 to 20 and 31
   abbrev pub KeepReachBelow : ℕ → Type 0
-  KeepReachBelow n = KeepBelow KeepsByReach reach_rules (Reach f F) n
+  KeepReachBelow n = KeepBelow f F (Reach f F) (lists [] None) reach_rules n
 
-  -- the first fault of the least reached object that has one
+  -- the first fault by these rules of the least reached object that has one
   abbrev pub IsReachFault : Fault → Type 0
-  IsReachFault fault = IsLeastFault KeepsByReach reach_rules (Reach f F) BreaksAtReach fault
+  IsReachFault fault = IsLeastFault f F (Reach f F) (lists [] None) reach_rules fault
 
   -- how many references the heads of the objects below n that satisfy p announce
   abbrev pub references_below : (ℕ → Bool) → ℕ → ℕ

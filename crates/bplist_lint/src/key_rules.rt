@@ -4,7 +4,7 @@
 //! class, and a key without one is no text.
 
 ghost use Rattle.std.specs.Prelude.{◌≡◌, ◌↔◌, ℕ, ◌<◌, length};
-ghost use Rattle.bplist_lint.specs.Prelude.{OnlyReads, frame_in, HonestlyIn, IsSafeHead, Reach, KeepsAll, IsFirstFault, KeepsByObject, object_rules, HasHead, Dict, KeysAreSound, Judges, refused_read, IsMarked, AreChildless, KeepReachBelow, AreNamed, KeepsByKeys, BreaksAtKeys, key_rules, KeepKeysBelow, IsKeysFault, AreClassed, IsStamped, IsNew, defect_key, IsWrongFault, Head as head_record};
+ghost use Rattle.bplist_lint.specs.Prelude.{OnlyReads, frame_in, HonestlyIn, IsSafeHead, Reach, KeepsAll, KeepsByObject, object_rules, HasHead, Dict, KeysAreSound, HasGoodKeys, BreaksKeys, Judges, refused_read, IsMarked, AreChildless, KeepReachBelow, AreNamed, KeepKeysBelow, IsKeysFault, AreClassed, IsStamped, IsNew, defect_key, IsWrongFault, Head as head_record};
 
 use bplist_cert::Refusal;
 use bplist_keys::{ClassTable, KeyDefect, NamedKeys, Offsets, classes_of, object_shape};
@@ -42,8 +42,7 @@ fn check_dict_keys<P: Offsets>(src: &mut P, n: u32, table: &mut ClassTable) -> R
         → ((head : head_record) → HasHead f F n head → head.kind ≡ Dict
         → AreClassed f F table.old.classes.table.items head × KeysAreSound f F head)
         → IsNew table.old.seen.items n
-        → Judges (λ _. KeepsAll (KeepsByKeys f F n) key_rules)
-        (IsFirstFault (KeepsByKeys f F n) (BreaksAtKeys f F n) key_rules) result) }
+        → Judges (λ _. HasGoodKeys f F None n) (BreaksKeys f F F.objects None n) result) }
 {
     let _frame = src.frame();
     let head = object_shape(src, n)?;

@@ -79,7 +79,7 @@ module _ (f : List ℕ) (F : Frame) (n : ℕ) where
       let same : i ≡ j = one_first (λ k. nth_number f head.body width k < bound) (count head) i j a c in
       ap (λ (x : Head). x.body + i * width) e ∙ ap (λ k. other.body + k * width) same
 
-  one_object_place : OnePlace (BreaksAt f F n)
+  pub one_object_place : OnePlace (BreaksAt f F n)
   one_object_place rules.NotAscii o o' p p' (e, (head, i, has, kind, first, place)) (e', (other, j, has', kind', first', place')) =
       let same = one_not_below head other 1 (λ x. x.count) 128 i j (HasHead-unique f F n head other has has') first first' in
       (e ∙ sym e', omega (arith, same, place, place'))

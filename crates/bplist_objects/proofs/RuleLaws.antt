@@ -21,3 +21,7 @@ first_fault_among keeps breaks (x ∷ xs) ys fault (inr (kept, h)) = inr (kept, 
 pub kept_all_after : (keeps : Rule → Type 0) (xs ys : List Rule) → KeepsAll keeps xs → KeepsAll keeps ys → KeepsAll keeps (xs ++ ys)
 kept_all_after keeps [] ys kept more = more
 kept_all_after keeps (x ∷ xs) ys (kept, rest) more = (kept, kept_all_after keeps xs ys rest more)
+
+pub kept_all_parts : (keeps : Rule → Type 0) (xs ys : List Rule) → KeepsAll keeps (xs ++ ys) → KeepsAll keeps xs × KeepsAll keeps ys
+kept_all_parts keeps [] ys kept = (tt, kept)
+kept_all_parts keeps (x ∷ xs) ys kept = let parts = kept_all_parts keeps xs ys kept.1 in ((kept.0, parts.0), parts.1)

@@ -1,5 +1,5 @@
 -- The first broken rule of a list of rules. Source: profile.
-use Rattle.std.specs.Prelude.{◌≡◌, ◌⊎◌, ℕ, ◌<◌, List, [], ◌∷◌, Option}
+use Rattle.std.specs.Prelude.{◌≡◌, ◌⊎◌, ℕ, List, [], ◌∷◌, Option}
 use Rattle.std.specs.List.{AllByRecursion}
 use Rattle.bplist_objects.specs.declared.rule.Rule.{Rule}
 use Rattle.bplist_objects.specs.declared.fault.Fault.{Fault}
@@ -15,15 +15,3 @@ IsFirstFault keeps breaks [] fault = ⊥
 IsFirstFault keeps breaks (rule ∷ rules) fault =
     ((fault.rule ≡ rule) × breaks rule fault.object fault.place)
     ⊎ (keeps rule × IsFirstFault keeps breaks rules fault)
-
-module _ (keeps : ℕ → Rule → Type 0) (rules : List Rule) (S : ℕ → Type 0) where
-  -- the objects of S below n keep these rules
-  abbrev pub KeepBelow : ℕ → Type 0
-  KeepBelow n = (m : ℕ) → m < n → S m → KeepsAll (keeps m) rules
-
-  -- the first fault of the least object of S that has one
-  pub record IsLeastFault (breaks : ℕ → Rule → Option ObjectNo → ℕ → Type 0) (fault : Fault) : Type 0 where
-    pub object : ℕ
-    pub member : S object
-    pub first : IsFirstFault (keeps object) (breaks object) rules fault
-    pub least : KeepBelow object

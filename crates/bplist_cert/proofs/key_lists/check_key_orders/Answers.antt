@@ -8,7 +8,7 @@ use Rattle.bplist_cert.specs.Lists.{Keyed, IsWhole}
 use Rattle.bplist_cert.specs.Valid.{IsVouchedBy}
 use Rattle.bplist_cert.specs.Looks.{KeepBeforeKeysBelow}
 use Rattle.bplist_cert.specs.KeyRepeats.{HasGoodKeys, BreaksKeys}
-use Rattle.bplist_cert.proofs.KeyRepeats.{sound_keys}
+use Rattle.bplist_cert.proofs.KeyRepeats.{seen_own, sound_keys}
 use Rattle.bplist_cert.proofs.KeyPairs.{low_list, listed_good}
 use Rattle.bplist_cert.proofs.CheckSteps.{given_weaker}
 use Rattle.bplist_cert.proofs.key_lists.check_key_orders.Goals as goal
@@ -40,7 +40,7 @@ returns-in_err-check_dict_order-clause-exact g c = λ honest seen lists.
     let within : n < F.objects = omega (arith, c.loop-n-test.true, c.args.seen.now.within, c.requires.all) in
     let here : IsVouchedBy heights n = c.may_be_wrong.ensures.vouched c.if-may_be_wrong.true in
     let known = v.known honest lists in
-    let given = (rw v.reads at c.in_err-check_dict_order.ensures.exact) honest known.0 known.1 (seen n c.loop-n-test.true here).own
+    let given = (rw v.reads at c.in_err-check_dict_order.ensures.exact) honest known.0 known.1 (seen_own f F heights n (seen n c.loop-n-test.true here))
     (λ head has dict whole. sound_keys f F heights (subst (KeepBeforeKeysBelow f F heights) whole seen) n within here head has dict) in
     let p = err_from_is_err_and c.from_residual.result c.from_residual.ensures.1 in
     rw (p.1, p.2) (given_weaker _ _ c.in_err-check_dict_order.field-0.0 (λ fault h. record {
@@ -67,7 +67,7 @@ loop-n-preserved g c =
           | inl e ↦
               let here = subst (IsVouchedBy heights) e vouched in
               let known = v.known honest lists in
-              let good = (rw v.reads at w.in_ok-check_dict_order.ensures.exact) honest known.0 known.1 (seen n c.loop-n-test.true here).own
+              let good = (rw v.reads at w.in_ok-check_dict_order.ensures.exact) honest known.0 known.1 (seen_own f F heights n (seen n c.loop-n-test.true here))
               (λ head has dict whole. sound_keys f F heights (subst (KeepBeforeKeysBelow f F heights) whole seen) n within here head has dict) in
               subst (HasGoodKeys f F (Some c.args.look.now.keys.now)) (sym e) good
           | inr d ↦ v.exact honest seen lists m (omega (arith, low, d)) vouched

@@ -7,6 +7,7 @@ use Rattle.bplist_objects.specs.Framed.{frame_in}
 use Rattle.bplist_cert.specs.Lists.{Keyed, IsWhole}
 use Rattle.bplist_cert.specs.Valid.{IsVouchedBy}
 use Rattle.bplist_cert.specs.KeysLooks.{IsListed, HaveGoodLists}
+use Rattle.bplist_cert.proofs.KeyRepeats.{seen_own}
 use Rattle.bplist_cert.proofs.KeyPairs.{low_listed}
 use Rattle.bplist_cert.proofs.KeysLooks.{part_at}
 use Rattle.bplist_cert.proofs.key_lists.look_at_lists.Goals as goal
@@ -53,7 +54,7 @@ returns-in_err-is_listed-clause-exact g c = λ honest places seen lists.
     let vouched = c.may_be_wrong.ensures.vouched c.if-not-may_be_wrong.false in
     let here : IsVouchedBy c.args.heights.now n = omega (arith, height, vouched) in
     let p = err_from_is_err_and c.from_residual.result c.from_residual.ensures.1 in
-    rw (p.1, p.2) ((rw v.same at c.in_err-is_listed.ensures.exact) honest (v.lists honest places seen lists).pairs (places c.loop-i.i under) (seen n (omega (arith, under)) here).own)
+    rw (p.1, p.2) ((rw v.same at c.in_err-is_listed.ensures.exact) honest (v.lists honest places seen lists).pairs (places c.loop-i.i under) (seen_own _ _ c.args.heights.now n (seen n (omega (arith, under)) here)))
 
 pub returns-then-not-branch-clause-exact : goal.returns-then-not-branch-clause-exact
 returns-then-not-branch-clause-exact g c = λ honest places seen lists.
@@ -65,7 +66,7 @@ returns-then-not-branch-clause-exact g c = λ honest places seen lists.
     let vouched = c.may_be_wrong.ensures.vouched c.if-not-may_be_wrong.false in
     let here : IsVouchedBy c.args.heights.now n = omega (arith, height, vouched) in
     let before = v.lists honest places seen lists in
-    let found = (rw v.same at c.in_ok-is_listed.ensures.exact) honest before.pairs (places c.loop-i.i under) (seen n (omega (arith, under)) here).own in
+    let found = (rw v.same at c.in_ok-is_listed.ensures.exact) honest before.pairs (places c.loop-i.i under) (seen_own _ _ c.args.heights.now n (seen n (omega (arith, under)) here)) in
     record { pairs = found.0; low = before.low; good = λ never. absurd (false≢true never) }
 
 pub loop-i-preserved : goal.loop-i-preserved
@@ -84,7 +85,7 @@ loop-i-preserved g c =
       keys = v.keys;
       lists = λ honest places seen lists.
           let before = v.lists honest places seen lists in
-          let found = (rw v.same at c.in_ok-is_listed.ensures.exact) honest before.pairs (places c.loop-i.i under) (seen n (omega (arith, under)) here).own in
+          let found = (rw v.same at c.in_ok-is_listed.ensures.exact) honest before.pairs (places c.loop-i.i under) (seen_own _ _ c.args.heights.now n (seen n (omega (arith, under)) here)) in
           record {
             pairs = found.0;
             low = before.low;

@@ -5,7 +5,7 @@ use Rattle.bplist_objects.specs.declared.frame.Frame.{Frame}
 use Rattle.bplist_objects.specs.Framed.{frame_in}
 use Rattle.bplist_keys.specs.Classes.{HasNamedKeys}
 use Rattle.bplist_cert.specs.Valid.{IsVouchedBy}
-use Rattle.bplist_cert.proofs.KeyRepeats.{named_low}
+use Rattle.bplist_cert.proofs.KeyRepeats.{seen_own, named_low}
 use Rattle.bplist_cert.proofs.key_names.name_block.Goals as goal
 use Rattle.bplist_cert.proofs.key_names.name_block.Goals.{then-heights-n-gt1+in_ok-name_object, else-heights-n-gt1}
 
@@ -14,7 +14,7 @@ returns-in_err-name_object-clause-exact g c = λ honest places seen before.
     let i = c.loop-i.i in
     let v : IsVouchedBy c.args.heights.now (c.args.from + i) = omega (arith, c.if-heights-n-gt1.true) in
     let p = err_from_is_err_and c.from_residual.result c.from_residual.ensures.1 in
-    rw (p.1, p.2) ((rw c.loop-i.invariant.same at c.in_err-name_object.ensures.exact) honest (places i c.loop-i-test.true) (seen (c.args.from + i) (omega (arith, c.loop-i-test.true)) v).own)
+    rw (p.1, p.2) ((rw c.loop-i.invariant.same at c.in_err-name_object.ensures.exact) honest (places i c.loop-i-test.true) (seen_own _ _ c.args.heights.now (c.args.from + i) (seen (c.args.from + i) (omega (arith, c.loop-i-test.true)) v)))
 
 pub loop-i-preserved : goal.loop-i-preserved
 loop-i-preserved g c =
@@ -28,7 +28,7 @@ loop-i-preserved g c =
         same = rw w.src-is (w.in_ok-name_object.ensures.reads ∙ v.same);
         all = rw w.named-is (rw v.same at w.in_ok-name_object.ensures.all);
         named = λ honest places seen before m low vouched. rw w.named-is (elim (cases_eq m n) [
-          | inl e ↦ subst (HasNamedKeys f F w.name_object.new.named.marks.items) (sym e) ((rw v.same at w.in_ok-name_object.ensures.exact) honest (places c.loop-i.i c.loop-i-test.true) (seen n (omega (arith, c.loop-i-test.true)) (subst (IsVouchedBy heights) e vouched)).own)
+          | inl e ↦ subst (HasNamedKeys f F w.name_object.new.named.marks.items) (sym e) ((rw v.same at w.in_ok-name_object.ensures.exact) honest (places c.loop-i.i c.loop-i-test.true) (seen_own f F heights n (seen n (omega (arith, c.loop-i-test.true)) (subst (IsVouchedBy heights) e vouched))))
           | inr d ↦ λ head has dict k l. w.in_ok-name_object.ensures.keeps _ (v.named honest places seen before m (omega (arith, low, d)) vouched head has dict k l)
         ]);
       }

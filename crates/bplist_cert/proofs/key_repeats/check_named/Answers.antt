@@ -7,7 +7,7 @@ use Rattle.bplist_keys.proofs.LookUps.{new_low, stamped_low}
 use Rattle.bplist_cert.specs.Valid.{IsVouchedBy}
 use Rattle.bplist_cert.specs.Looks.{KeepBeforeKeysBelow}
 use Rattle.bplist_cert.specs.KeyRepeats.{HasGoodKeys, BreaksKeys}
-use Rattle.bplist_cert.proofs.KeyRepeats.{keys_classed, sound_keys, good_low}
+use Rattle.bplist_cert.proofs.KeyRepeats.{seen_own, keys_classed, sound_keys, good_low}
 use Rattle.bplist_cert.proofs.CheckSteps.{refused_weaker}
 use Rattle.bplist_cert.proofs.key_repeats.check_named.Goals as goal
 use Rattle.bplist_cert.proofs.key_repeats.check_named.Goals.{then-seen-n-gt1+in_ok-check_dict_repeats, else-seen-n-gt1}
@@ -24,7 +24,7 @@ returns-in_err-check_dict_repeats-clause-exact g c = λ honest seen all_named.
     let here : IsVouchedBy heights n = omega (arith, c.if-seen-n-gt1.true) in
     let named = all_named n c.loop-n-test.true here in
     let classes = c.in_ok-classes.ensures.exact honest in
-    let judged = (rw (v.reads, table_is) at c.in_err-check_dict_repeats.ensures.exact) honest (seen n c.loop-n-test.true here).own (new_low n _ (v.stamps honest)) (v.low honest)
+    let judged = (rw (v.reads, table_is) at c.in_err-check_dict_repeats.ensures.exact) honest (seen_own f F heights n (seen n c.loop-n-test.true here)) (new_low n _ (v.stamps honest)) (v.low honest)
     (λ head has dict. (keys_classed f F _ c.in_ok-classes.classes.table.items n classes named head has dict, λ whole. sound_keys f F heights (subst (KeepBeforeKeysBelow f F heights) whole seen) n within here head has dict)) in
     let p = err_from_is_err_and c.from_residual-in_err-check_dict_repeats.result c.from_residual-in_err-check_dict_repeats.ensures.1 in
     rw (p.1, p.2) (refused_weaker _ _ c.in_err-check_dict_repeats.field-0.0 (λ fault h. record {
@@ -56,7 +56,7 @@ loop-n-preserved g c =
                   let here = subst (IsVouchedBy heights) e vouched in
                   let named = all_named n c.loop-n-test.true here in
                   let classes = c.in_ok-classes.ensures.exact honest in
-                  let good = (rw (v.reads, table_is) at w.in_ok-check_dict_repeats.ensures.exact) honest (seen n c.loop-n-test.true here).own (new_low n _ (v.stamps honest)) (v.low honest)
+                  let good = (rw (v.reads, table_is) at w.in_ok-check_dict_repeats.ensures.exact) honest (seen_own f F heights n (seen n c.loop-n-test.true here)) (new_low n _ (v.stamps honest)) (v.low honest)
                   (λ head has dict. (keys_classed f F _ c.in_ok-classes.classes.table.items n classes named head has dict, λ whole. sound_keys f F heights (subst (KeepBeforeKeysBelow f F heights) whole seen) n within here head has dict)) in
                   subst (HasGoodKeys f F None) (sym e) good
               | inr d ↦ v.exact honest seen all_named m (omega (arith, low, d)) vouched

@@ -4,7 +4,6 @@ use Rattle.bplist_objects.specs.declared.frame.Frame.{Frame}
 use Rattle.bplist_objects.specs.Framed.{frame_in}
 use Rattle.bplist_cert.proofs.TextObjects.{shape_kept}
 use Rattle.bplist_cert.proofs.CheckSteps.{object_refused}
-use Rattle.bplist_lint.proofs.KeySteps.{kept_by_good}
 use Rattle.bplist_cert.proofs.KeyRepeats.{keys_inside, good_at, classed_texts, apart_differ}
 use Rattle.bplist_lint.proofs.KeyClasses.{wrong_fault}
 use Rattle.bplist_lint.proofs.key_rules.check_dict_keys.Goals as goal
@@ -27,7 +26,7 @@ returns-in-None-clause-exact g c = λ honest kept keys low.
     let known = keys head has c.in-Dict.is in
     let inside = keys_inside f F n kept head has c.in-Dict.is in
     let good = (rw (c.in_ok-head.ensures.reads, c.in-None.is) at c.in_ok-first_wrong-in-Dict.ensures.exact) honest low in
-    kept_by_good f F n (good_at f F None n head has (λ _. (classed_texts f F head classes known.0 framed known.1 inside head.count (omega arith) good.0, apart_differ f F head classes known.0 head.count (omega arith) good.1)))
+    good_at f F None n head has (λ _. (classed_texts f F head classes known.0 framed known.1 inside head.count (omega arith) good.0, apart_differ f F head classes known.0 head.count (omega arith) good.1))
 
 pub returns-in-Some-clause-exact : goal.returns-in-Some-clause-exact
 returns-in-Some-clause-exact g c = λ honest kept keys low.

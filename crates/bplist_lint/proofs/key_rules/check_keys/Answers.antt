@@ -1,11 +1,13 @@
-use Rattle.std.proofs.Common.{◌≡◌, count_by, sym, ◌∙◌, arith}
+use Rattle.std.proofs.Common.{◌≡◌, [], None, count_by, sym, ◌∙◌, arith}
 use Rattle.std.proofs.lemmas.Bool.{false≢true}
 use Rattle.std.proofs.lemmas.Result.{err_from_is_err_and}
 use Rattle.bplist_objects.specs.declared.frame.Frame.{Frame}
 use Rattle.bplist_objects.specs.Framed.{frame_in}
+use Rattle.bplist_objects.specs.Reach.{Reach}
 use Rattle.bplist_keys.proofs.LookUps.{new_low, stamped_low}
-use Rattle.bplist_cert.proofs.CheckSteps.{refused_weaker}
-use Rattle.bplist_lint.proofs.KeySteps.{keys_fault, keys_more, keys_over, childless_keys, unnamed_keys}
+use Rattle.bplist_cert.proofs.CheckSteps.{refused_weaker, kept_by_good}
+use Rattle.bplist_cert.proofs.KeyRepeats.{good_unnamed}
+use Rattle.bplist_lint.proofs.KeySteps.{keys_fault, keys_more, keys_over, childless_keys}
 use Rattle.bplist_lint.proofs.KeyClasses.{reached_sound, keys_known}
 use Rattle.bplist_lint.proofs.key_rules.check_keys.Goals as goal
 use Rattle.bplist_lint.proofs.key_rules.check_keys.Goals.{then-marks-n+then-not-childless-n+in_ok-check_dict_keys, else-marks-n, else-marks-n-via-then-marks-n+else-not-childless-n, else-marks-n-via-else-marks-n}
@@ -16,7 +18,7 @@ returns-then-count-eq0-clause-exact g c = λ honest marks kept childless all_nam
     let F : Frame = frame_in (g.P.Source.means c.args.src.now) in
     let named = c.args.named.marks.items in
     let none : count_by (λ marked. marked) named ≡ 0 = omega (arith, c.count.ensures, c.if-count-eq0.true) in
-    unnamed_keys f F named m none (all_named m reached)
+    kept_by_good f F (Reach f F) [] m None (good_unnamed f F named m none (all_named m reached))
 
 pub returns-in_err-check_dict_keys-clause-exact : goal.returns-in_err-check_dict_keys-clause-exact
 returns-in_err-check_dict_keys-clause-exact g c = λ honest marks kept childless named.
