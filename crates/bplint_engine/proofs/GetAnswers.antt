@@ -11,7 +11,7 @@ use Rattle.bplist_cursor.specs.declared.found.Why.{Why}
 use Rattle.bplist_cursor.specs.declared.reply.Query.{Query}
 use Rattle.bplist_cursor.specs.declared.reply.Query.TheVariants.{Get}
 use Rattle.bplist_cursor.specs.declared.reply.Reply.TheVariants.{Face, Missing}
-use Rattle.bplist_cursor.specs.Look.{look, on_either}
+use Rattle.bplist_cursor.specs.Look.{look}
 use Rattle.bplist_cursor.specs.Path.{IsPathOf}
 use Rattle.bplist_cursor.specs.Replies.{face, reply}
 use Rattle.bplint_lines.specs.declared.fault.RunFault.{RunFault}
@@ -45,17 +45,17 @@ file_fault Says texts paths (faults.Path place) other are h = absurd (other plac
 file_fault Says texts paths _ other are h = (paths, are, h)
 
 -- ---- replies to paths
-line_of_found : (found : Result Value (ℕ × Why)) → reply_line (on_either found (λ w. Face (face w)) (λ m. Missing m.0 m.1)) ≡ found_line found
+line_of_found : (found : Result Value (ℕ × Why)) → reply_line (elim found [ Ok w ↦ Face (face w) | Err (k, why) ↦ Missing k why ]) ≡ found_line found
 line_of_found (Ok w) = refl
-line_of_found (Err m) = refl
+line_of_found (Err (k, why)) = refl
 
 lines_told : (v : Value) (paths : List (List (List ℕ))) → flat_map reply_line (map (reply v) (map Get paths)) ≡ flat_map found_line (map (look v) paths)
 lines_told v [] = refl
 lines_told v (path ∷ paths) = λ i. line_of_found (look v path) i ++ lines_told v paths i
 
-missing_of_found : (found : Result Value (ℕ × Why)) → is_missing (on_either found (λ w. Face (face w)) (λ m. Missing m.0 m.1)) ≡ is_err found
+missing_of_found : (found : Result Value (ℕ × Why)) → is_missing (elim found [ Ok w ↦ Face (face w) | Err (k, why) ↦ Missing k why ]) ≡ is_err found
 missing_of_found (Ok w) = refl
-missing_of_found (Err m) = refl
+missing_of_found (Err (k, why)) = refl
 
 missing_told : (v : Value) (paths : List (List (List ℕ))) → list_any is_missing (map (reply v) (map Get paths)) ≡ list_any is_err (map (look v) paths)
 missing_told v [] = refl

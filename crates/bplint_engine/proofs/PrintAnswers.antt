@@ -23,7 +23,7 @@ use Rattle.bplist_ascii.specs.Printed.{IsPut, HasText}
 use Rattle.bplist_ascii.specs.declared.sink.WriteFault.{WriteFault}
 use Rattle.bplist_ascii.specs.declared.print_fault.PrintFault.{PrintFault}
 use Rattle.bplist_ascii.specs.declared.print_fault.PrintFault.TheVariants as print_faults
-use Rattle.bplist_ascii.proofs.SinkSteps.{out_start, out_takes, out_end, out_part, cut_more, takes_then_part}
+use Rattle.bplist_ascii.proofs.SinkSteps.{out_start, out_takes, out_end, out_part, part_of_more, takes_then_part}
 use Rattle.bplint_lines.specs.declared.fault.RunFault.{RunFault}
 use Rattle.bplint_lines.specs.declared.fault.RunFault.TheVariants as faults
 use Rattle.bplint_engine.specs.declared.output.Output.{Output}
@@ -70,7 +70,7 @@ print_failed old new s u f F n w limit (print_faults.Write sent) start (t, is, f
   All,
   t ++ 10 ∷ [],
   (t, is, fits, (refl, refl)),
-  cut_more old new t (10 ∷ []) sent (out_part old old new s [] t sent (out_start old s (ap (λ x. x.sent) start) (ap (λ x. x.held) start)) part),
+  part_of_more old new (record { sent = 0; held = [] }) t (10 ∷ []) sent (out_part old old new s [] t sent (out_start old s (ap (λ x. x.sent) start) (ap (λ x. x.held) start)) part),
 )
 print_failed old new s u f F n w limit (print_faults.Read _) start (inl (none, (kept, _))) bound = (within old new s limit start bound, inl kept)
 print_failed old new s u f F n w limit (print_faults.Read _) start (inr begun) bound = begun_answer old new s f F n w limit start begun bound

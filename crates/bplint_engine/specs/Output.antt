@@ -1,7 +1,7 @@
 -- What a command has to write, or why not, and sending it.
 use Rattle.std.specs.Prelude.{◌≡◌, ℕ, List, Bool, Option, Result, Ok, Err}
 use Rattle.std.specs.Io.KnownBytes.{Appends, Keeps}
-use Rattle.bplist_ascii.specs.Sending.{IsCut}
+use Rattle.bplist_ascii.specs.Sending.{SendsPart}
 use Rattle.bplint_lines.specs.declared.fault.RunFault.{RunFault}
 use Rattle.bplint_lines.specs.declared.fault.RunFault.TheVariants as faults
 use Rattle.bplint_lines.specs.declared.said.Said.{Said}
@@ -27,5 +27,5 @@ Answers Says (Err fault) = IsRefusal Says fault
 -- what was made is sent: all its bytes went out, or where a write failed a first part of them; of a fault nothing does
 abbrev pub Sends : Option (List ℕ) → Option (List ℕ) → Result Output RunFault → Result Said RunFault → Type 0
 Sends old new (Ok output) (Ok said) = (said ≡ output.said) × Appends old new output.bytes.items
-Sends old new (Ok output) (Err fault) = (sent : ℕ) × (fault ≡ faults.Write sent) × IsCut old new output.bytes.items sent
+Sends old new (Ok output) (Err fault) = (sent : ℕ) × (fault ≡ faults.Write sent) × SendsPart old new 0 output.bytes.items sent
 Sends old new (Err fault) result = (result ≡ Err fault) × Keeps old new

@@ -1,7 +1,7 @@
 //! The way of an answer to the writer.
 ghost use Rattle.std.specs.Prelude.{◌≡◌, MatchResult};
 ghost use Rattle.std.specs.Io.KnownBytes.{Appends};
-ghost use Rattle.bplint_engine.specs.Prelude.{IsCut, read_failed, Sends};
+ghost use Rattle.bplint_engine.specs.Prelude.{SendsPart, read_failed, Sends};
 
 use crate::output::Output;
 use bplint_lines::{RunFault, Said};
@@ -39,7 +39,7 @@ pub(crate) fn send_output<W: Write>(
 fn send<W: Write>(out: &mut W, bytes: &[u8]) -> Result<(), WriteFault>
     ensures { MatchResult result
         (λ _. Appends (W.contents out.old) (W.contents out.new) bytes.now)
-        (λ fault. IsCut (W.contents out.old) (W.contents out.new) bytes.now fault.sent) }
+        (λ fault. SendsPart (W.contents out.old) (W.contents out.new) 0 bytes.now fault.sent) }
 {
     let mut sink = Sink::new();
     sink.put(out, bytes)?;

@@ -1,7 +1,7 @@
 -- Answers to a command, and what they leave with the writer. Source: profile.
 use Rattle.std.specs.Prelude.{◌⊎◌, ℕ, List, Bool, true, false, Option, Result, Ok, Err}
 use Rattle.std.specs.Io.KnownBytes.{Appends, Keeps}
-use Rattle.bplist_ascii.specs.Sending.{SendsSome, IsCut, AtMost}
+use Rattle.bplist_ascii.specs.Sending.{SendsPart, SendsSome, AtMost}
 use Rattle.bplint_lines.specs.declared.fault.RunFault.{RunFault}
 use Rattle.bplint_lines.specs.declared.fault.RunFault.TheVariants as faults
 use Rattle.bplint_lines.specs.declared.said.Said.{Said}
@@ -25,7 +25,7 @@ BeginsAnswer Says most old new =
 abbrev pub LeavesBy : (Answer → Type 0) → ℕ → Option (List ℕ) → Option (List ℕ) → Result Said RunFault → Type 0
 LeavesBy Says most old new (Ok said) = (bytes : List ℕ) × Says (gives said bytes) × Appends old new bytes
 LeavesBy Says most old new (Err (faults.Write sent)) =
-    (said : Said) × (bytes : List ℕ) × Says (gives said bytes) × IsCut old new bytes sent
+    (said : Said) × (bytes : List ℕ) × Says (gives said bytes) × SendsPart old new 0 bytes sent
 LeavesBy Says most old new (Err (faults.Read _)) = BeginsAnswer Says most old new
 LeavesBy Says most old new (Err faults.Memory) = BeginsAnswer Says most old new
 LeavesBy Says most old new (Err fault) = Says (refuses fault) × Keeps old new

@@ -10,7 +10,7 @@ use Rattle.bplist_objects.specs.declared.fault.Fault.{Fault}
 use Rattle.bplist_objects.specs.FrameRules.{IsFrameFault}
 use Rattle.bplint_lines.specs.Faults.{IsExcused}
 use Rattle.bplist_objects.specs.Frame.{IsFrame}
-use Rattle.bplist_ascii.specs.Sending.{Sending, SendsSome, Takes, TakesPart, IsCut, IsOut}
+use Rattle.bplist_ascii.specs.Sending.{Sending, SendsPart, SendsSome, Takes, TakesPart, IsOut}
 use Rattle.bplist_ascii.proofs.SinkSteps.{out_end, out_part, out_start, out_takes, part_of_more, takes_then_part, takes_then_some}
 use Rattle.bplint_lines.specs.declared.fault.RunFault.{RunFault}
 use Rattle.bplint_lines.specs.declared.fault.RunFault.TheVariants as faults
@@ -177,7 +177,7 @@ module _ (f : List ℕ) (F : Frame) (frame : IsFrame f F) (verdict : Verdict) (l
 
     -- its end was not sent
     pub end_cut : (k : ℕ) → TakesPart mid new t [] k → LeavesMap f old new (Err (faults.Write k))
-    end_cut k part = (0, (All, the_map, says, subst (λ l. IsCut old new l k) (append-nil the_map) (out_part old mid new t ([] ++ the_map) [] k held part)))
+    end_cut k part = (0, (All, the_map, says, subst (λ l. SendsPart old new 0 l k) (append-nil the_map) (out_part old mid new t ([] ++ the_map) [] k held part)))
 
     -- all of it was sent
     pub all_out : Takes mid new t u [] → u.held ≡ [] → LeavesMap f old new (Ok All)

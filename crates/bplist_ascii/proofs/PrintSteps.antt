@@ -1,6 +1,5 @@
 -- What printing answers, by what the walk and the sink answer.
-use Rattle.std.proofs.Common.{◌≡◌, ◌≢◌, inl, inr, ◌<◌, ◌≤◌, ℕ, List, [], ◌++◌, arith, length, take, refl, ap, subst, Option, Some, None, Err, append-nil}
-use Rattle.std.specs.Io.KnownBytes.{Appends}
+use Rattle.std.proofs.Common.{◌≡◌, ◌≢◌, inl, inr, ◌≤◌, ℕ, List, [], ◌++◌, arith, length, refl, ap, subst, Option, Some, None, Err, append-nil}
 use Rattle.std.proofs.KnownBytes.{Keeps-refl}
 use Rattle.bplist_objects.specs.declared.frame.Frame.{Frame}
 use Rattle.bplist_objects.specs.Value.{Value}
@@ -9,7 +8,7 @@ use Rattle.bplist_cursor.specs.declared.faults.Unread.TheVariants as unread
 use Rattle.bplist_cursor.specs.OldStyle.{value_text, plain}
 use Rattle.bplist_ascii.specs.declared.print_fault.PrintFault.{PrintFault}
 use Rattle.bplist_ascii.specs.declared.print_fault.PrintFault.TheVariants.{NoAsciiForm, TooLong, Write, Read, Changed, Memory}
-use Rattle.bplist_ascii.specs.Sending.{Sending, SendsSome, Takes, TakesPart, IsOut, IsCut, AtMost}
+use Rattle.bplist_ascii.specs.Sending.{Sending, SendsPart, SendsSome, Takes, TakesPart, IsOut, AtMost}
 use Rattle.bplist_ascii.specs.BoundedWrites.{AddFails, TakesWithin}
 use Rattle.bplist_ascii.specs.Printed.{FitsLimit, IsPut, IsPrinted, HasText}
 use Rattle.bplist_ascii.proofs.SinkSteps.{out_start, out_takes, out_part, out_long}
@@ -25,10 +24,8 @@ read_prints now s f F n v limit unread.Changed none h = absurd (h refl)
 pub put_failed : (old new : Option (List ℕ)) (s t : Sending) (f : List ℕ) (F : Frame) (n : ℕ) (v : Value) (limit : ℕ) (e : PrintFault) → s.sent ≡ 0 → s.held ≡ [] → IsPut old new s t f F n v limit (Err e) → IsPrinted old new f F n v limit (Err e)
 put_failed old new s t f F n v limit (NoAsciiForm m) sent held (none, formless, (kept, _)) = (none, formless, kept)
 put_failed old new s t f F n v limit TooLong sent held (text, is, long, (kept, _)) = (text, is, long, kept)
-put_failed old new s t f F n v limit (Write k) sent held (text, is, fits, (gone, fewer, counted, out)) =
-    let all : s.held ++ text ≡ text = ap (λ h. h ++ text) held in
-    let same : gone ≡ k = omega (arith, counted, sent) in
-    (text, is, fits, (subst (λ x. k < length x) all (subst (λ j. j < length (s.held ++ text)) same fewer), subst (λ x. Appends old new (take k x)) all (subst (λ j. Appends old new (take j (s.held ++ text))) same out)))
+put_failed old new s t f F n v limit (Write k) sent held (text, is, fits, part) =
+    (text, is, fits, subst (λ h. SendsPart old new 0 (h ++ text) k) held (subst (λ b. SendsPart old new b (s.held ++ text) k) sent part))
 put_failed old new s t f F n v limit (Read fault) sent held (inl (none, (kept, _))) = inl (none, kept)
 put_failed old new s t f F n v limit (Read fault) sent held (inr (text, is, fits, some)) = inr (text, is, fits, subst (λ h. SendsSome old new (h ++ text)) held some)
 put_failed old new s t f F n v limit Changed sent held h = absurd h
@@ -50,9 +47,9 @@ walk_fails old new before after f F n v limit e t some is fits h = go e (h (let 
     go (NoAsciiForm m) p = absurd p
 
 -- a text that a fresh sink took, and that is cut where the rest is sent
-pub cut_of_flush : (old mid new : Option (List ℕ)) (s t : Sending) (text : List ℕ) (k : ℕ) → s.sent ≡ 0 → s.held ≡ [] → Takes old mid s t text → TakesPart mid new t [] k → IsCut old new text k
+pub cut_of_flush : (old mid new : Option (List ℕ)) (s t : Sending) (text : List ℕ) (k : ℕ) → s.sent ≡ 0 → s.held ≡ [] → Takes old mid s t text → TakesPart mid new t [] k → SendsPart old new 0 text k
 cut_of_flush old mid new s t text k none empty p q =
-    subst (λ l. IsCut old new l k) (append-nil text) (out_part old mid new t ([] ++ text) [] k (out_takes (out_start old s none empty) p) q)
+    subst (λ l. SendsPart old new 0 l k) (append-nil text) (out_part old mid new t ([] ++ text) [] k (out_takes (out_start old s none empty) p) q)
 
 -- what a fresh sink took and sent
 pub sent_of_flush : (old mid new : Option (List ℕ)) (s t u : Sending) (text : List ℕ) → s.sent ≡ 0 → s.held ≡ [] → Takes old mid s t text → Takes mid new t u [] → IsOut old new u text

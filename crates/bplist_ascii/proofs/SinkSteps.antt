@@ -5,7 +5,7 @@ use Rattle.std.specs.Io.KnownBytes.{Appends}
 use Rattle.std.proofs.KnownBytes.{Appends-trans, Appends-nil}
 use Rattle.std.proofs.lemmas.List.{length-append, take-append-le, length-take-le}
 use lib.Seq.{take-append-add}
-use Rattle.bplist_ascii.specs.Sending.{Sending, SendsSome, Takes, TakesPart, IsOut, IsCut, AtMost}
+use Rattle.bplist_ascii.specs.Sending.{Sending, SendsPart, SendsSome, Takes, TakesPart, IsOut, AtMost}
 
 -- nothing was put in
 pub takes_nothing : (now : Option (List ℕ)) (s : Sending) → Takes now now s s []
@@ -80,7 +80,7 @@ out_takes {start} {old} {new} {s} {t} {written} {bytes} o p = record {
 }
 
 -- a text is cut where a write fails
-pub out_part : (start old new : Option (List ℕ)) (s : Sending) (written bytes : List ℕ) (k : ℕ) → IsOut start old s written → TakesPart old new s bytes k → IsCut start new (written ++ bytes) k
+pub out_part : (start old new : Option (List ℕ)) (s : Sending) (written bytes : List ℕ) (k : ℕ) → IsOut start old s written → TakesPart old new s bytes k → SendsPart start new 0 (written ++ bytes) k
 out_part start old new s written bytes k o p =
     let all : written ++ bytes ≡ o.gone ++ (s.held ++ bytes) = ap (λ l. l ++ bytes) (sym o.all) ∙ append_assoc o.gone s.held bytes in
     let a = o.counted in
@@ -88,15 +88,11 @@ out_part start old new s written bytes k o p =
     let fewer = p.1 in
     let long = ap length all in
     let is : k ≡ length o.gone + p.0 = omega (arith, a, b) in (
+      k,
       omega (arith, is, fewer, long, length-append o.gone (s.held ++ bytes)),
+      omega arith,
       subst (Appends start new) (sym (ap (take k) all ∙ ap (λ i. take i (o.gone ++ (s.held ++ bytes))) is ∙ take-append-add o.gone (s.held ++ bytes) p.0)) (Appends-trans start old new o.gone (take p.0 (s.held ++ bytes)) o.appended p.3),
     )
-
--- what is cut in a text is cut in a longer one
-pub cut_more : (start now : Option (List ℕ)) (text more : List ℕ) (k : ℕ) → IsCut start now text k → IsCut start now (text ++ more) k
-cut_more start now text more k p =
-    let less = p.0 in
-    (omega (arith, less, length-append text more), subst (Appends start now) (sym (take-append-le k text more (omega (arith, less)))) p.1)
 
 -- with nothing held back, all of the text went out
 pub out_end : {start now : Option (List ℕ)} {s : Sending} {written : List ℕ} → IsOut start now s written → s.held ≡ [] → Appends start now written
@@ -109,7 +105,7 @@ out_long {start} {now} {s} {written} o =
     let long = ap length o.all in
     omega (arith, a, long, length-append o.gone s.held)
 
-pub cut_bounded : (start now : Option (List ℕ)) (text : List ℕ) (n k : ℕ) → length text ≤ n → IsCut start now text k → AtMost start now n
+pub cut_bounded : (start now : Option (List ℕ)) (text : List ℕ) (n k : ℕ) → length text ≤ n → SendsPart start now 0 text k → AtMost start now n
 cut_bounded start now text n k low p =
-    let less = p.0 in
-    (take k text, omega (arith, length-take-le k text (omega (arith, less)), less, low), p.1)
+    let less = p.1 in
+    (take p.0 text, omega (arith, length-take-le p.0 text (omega (arith, less)), less, low), p.3)

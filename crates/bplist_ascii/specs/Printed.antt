@@ -5,7 +5,7 @@ use Rattle.bplist_objects.specs.declared.frame.Frame.{Frame}
 use Rattle.bplist_objects.specs.Value.{Value}
 use Rattle.bplist_cursor.specs.Formless.{IsFormless}
 use Rattle.bplist_cursor.specs.OldStyle.{value_text}
-use Rattle.bplist_ascii.specs.Sending.{Sending, SendsPart, SendsSome, Takes, IsCut}
+use Rattle.bplist_ascii.specs.Sending.{Sending, SendsPart, SendsSome, Takes}
 use Rattle.bplist_ascii.specs.declared.print_fault.PrintFault.{PrintFault}
 use Rattle.bplist_ascii.specs.declared.print_fault.PrintFault.TheVariants.{NoAsciiForm, TooLong, Write, Read, Changed, Memory}
 
@@ -32,7 +32,7 @@ module _ (nothing : Type 0) (all some : List ℕ → Type 0) (cut : List ℕ →
 
 -- the text of the value that object n holds was written, or why not
 abbrev pub IsPrinted : Option (List ℕ) → Option (List ℕ) → List ℕ → Frame → ℕ → Value → ℕ → Result (Unit {0}) PrintFault → Type 0
-IsPrinted old new = Prints (Keeps old new) (Appends old new) (SendsSome old new) (IsCut old new)
+IsPrinted old new = Prints (Keeps old new) (Appends old new) (SendsSome old new) (SendsPart old new 0)
 
 module _ (old new : Option (List ℕ)) (before after : Sending) where
   -- the text of the value that object n holds was put into a sink, or why not

@@ -7,7 +7,7 @@ pub record Sending : Type 0 where
   pub sent : ℕ
   pub held : List ℕ
 
--- where `before` bytes had gone out, a first part of these went out too, and fewer than all
+-- where `before` bytes had gone out, a first part of these went out too, and fewer than all; `sent` in all
 abbrev pub SendsPart : Option (List ℕ) → Option (List ℕ) → ℕ → List ℕ → ℕ → Type 0
 SendsPart old new before bytes sent = (n : ℕ) × (n < length bytes) × (sent ≡ before + n) × Appends old new (take n bytes)
 
@@ -32,10 +32,6 @@ pub record IsOut (start now : Option (List ℕ)) (sink : Sending) (written : Lis
   pub counted : length gone ≡ sink.sent
   pub appended : Appends start now gone
   pub all : gone ++ sink.held ≡ written
-
--- the first `sent` bytes of the text were added, and these are fewer than all
-abbrev pub IsCut : Option (List ℕ) → Option (List ℕ) → List ℕ → ℕ → Type 0
-IsCut start now text sent = (sent < length text) × Appends start now (take sent text)
 
 -- at most n bytes were added
 abbrev pub AtMost : Option (List ℕ) → Option (List ℕ) → ℕ → Type 0
