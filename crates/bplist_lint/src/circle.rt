@@ -1,6 +1,6 @@
 //! The circle that keeps the top from being founded.
 
-ghost use Rattle.std.specs.Prelude.{◌≡◌, ◌^◌, ◌<◌, ◌≤◌, IsTrue, drop, map, length, slice_index, Contains, IfOk, IfSome, MatchOption, is_err};
+ghost use Rattle.std.specs.Prelude.{◌≡◌, ◌<◌, ◌≤◌, IsTrue, drop, map, length, slice_index, Contains, IfOk, IfSome, MatchOption, is_err};
 ghost use Rattle.bplist_lint.specs.Prelude.{OnlyReads, failed_to_read, IsWhole, AreWhole, AreObjects, AreLeast, IsFirstWithout, IsCircleOf, number, object, AllHave, IsFirstIndex};
 
 use crate::references::{BLOCK, References};
@@ -90,7 +90,6 @@ pub fn circle<R: References>(
     heights: &[u32],
     top: u32,
 ) -> Result<Vec<ObjectNo>, Failure>
-    requires fits { (R.graph graph.old).size < 2 ^ 32 }
     requires top { top < (R.graph graph.old).size }
     requires all_heights { length heights.now ≡ (R.graph graph.old).size }
     requires heights { IsTrue (R.means graph.old).honest → AreLeast (R.graph graph.old).refs top heights.now }

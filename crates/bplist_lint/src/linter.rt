@@ -1,7 +1,7 @@
 //! The linter.
 
-ghost use Rattle.std.specs.Prelude.{◌≡◌, ◌↔◌, ℕ, ◌<◌, IsTrue, IfOk, IfSome, MatchOption, length, map, slice_index, vec_len, ⊤};
-ghost use Rattle.bplist_lint.specs.Prelude.{OnlyReads, frame_in, HonestlyIn, Reach, AreOffsets, refs_at, Value, FileHolds, Never, HasShape, Head as head, failed_to_read, IsMarked, AreLeast, IsCircleOf, AreChildless, number, IsReachFault, KeepReachBelow, KeepKeysBelow, HasRoomFor, IsWalked, AreNamed, IsObjectsFault, IsFileFault, IsFileCircle, IsFramedCircle, Lints, lint_failed, no_circle, KeepsRules, IsLintedBy, IsLinted, IsLintedWithKind, HasNoHeights};
+ghost use Rattle.std.specs.Prelude.{◌≡◌, ◌↔◌, ℕ, ◌<◌, IsTrue, IfOk, IfSome, MatchOption, length, vec_len, ⊤};
+ghost use Rattle.bplist_lint.specs.Prelude.{OnlyReads, frame_in, HonestlyIn, Reach, AreOffsets, refs_at, Value, FileHolds, Never, HasShape, Head as head, failed_to_read, IsMarked, AreLeast, AreChildless, IsReachFault, KeepReachBelow, KeepKeysBelow, HasRoomFor, IsWalked, AreNamed, IsObjectsFault, IsFileFault, IsFileCircle, IsFramedCircle, Lints, lint_failed, no_circle, KeepsRules, IsLintedBy, IsLinted, IsLintedWithKind, HasNoHeights};
 
 use crate::answer::Lint;
 use crate::circle::circle;
@@ -18,7 +18,7 @@ use bplist_cert::Certificate;
 use bplist_keys::{
     Failure, NamedKeys, OffsetReader, OffsetTable, Offsets, object_shape, offsets_of,
 };
-use bplist_objects::{Fault, Framed, Kind, ObjectNo, Rule, trailer_of};
+use bplist_objects::{Fault, Framed, Kind, Rule, trailer_of};
 use bplist_octets::Source;
 use std::alloc::Global;
 
@@ -43,24 +43,6 @@ fn find_heights<P: Offsets>(
     let _frame = src.frame();
     let mut objects = Objects::new(src, View::Values);
     least_heights(alloc, &mut objects, marks, childless)
-}
-
-/// The circle that first references without a height lead to from the top, where the reached objects keep rules 14 to 20.
-fn find_circle<P: Offsets>(
-    alloc: Global,
-    src: &mut P,
-    heights: &[u32],
-) -> Result<Vec<ObjectNo>, Failure>
-    requires all { length heights.now ≡ (frame_in (P.means src.old)).objects }
-    requires heights { HonestlyIn (P.means src.old) (λ f F. AreLeast (refs_at f F) F.top.0 heights.now) }
-    requires circular { slice_index heights.now (frame_in (P.means src.old)).top.0 ≡ 0 }
-    ensures reads { OnlyReads (failed_to_read result) (P.means src.old) (P.means src.new) }
-    ensures circle { HonestlyIn (P.means src.old) (λ f F. KeepReachBelow f F F.objects
-        → IfOk result (λ circle. IsCircleOf (refs_at f F) F.top.0 (map number circle.items))) }
-{
-    let top = src.frame().top.0;
-    let mut objects = Objects::new(src, View::All);
-    circle(alloc, &mut objects, heights, top)
 }
 
 /// What is known of the reached objects, which keep rules 14 to 20 and 31, and what they name as keys; or their first fault.
@@ -151,7 +133,8 @@ fn heights_or_circle<P: Offsets>(
     drop((marks, childless));
     let height = heights[frame.top.0 as usize];
     if height == 0 {
-        let circle = find_circle(alloc, src, &heights)?;
+        let mut objects = Objects::new(src, View::All);
+        let circle = circle(alloc, &mut objects, &heights, frame.top.0)?;
         return Err(LintRefusal::Circle(ObjectNos::new(circle)));
     }
     Ok(Lint {

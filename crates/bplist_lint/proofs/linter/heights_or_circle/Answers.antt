@@ -3,7 +3,10 @@ use Rattle.std.proofs.lemmas.Grind.{common_steps}
 use Rattle.std.proofs.lemmas.List.{get_or_read}
 use Rattle.bplist_objects.specs.declared.frame.Frame.{Frame}
 use Rattle.bplist_objects.specs.Framed.{frame_in}
+use Rattle.bplist_lint.specs.declared.object_graph.View.TheVariants as views
 use Rattle.bplist_lint.proofs.Passes.{linted, circled}
+use Rattle.bplist_lint.proofs.ReferenceGraph.{reach_iff}
+use Rattle.bplist_lint.proofs.ValueHeights.{all_whole}
 use Rattle.bplist_lint.proofs.linter.heights_or_circle.Goals as goal
 
 pub returns-then-height-eq0-clause-exact : goal.returns-then-height-eq0-clause-exact
@@ -12,7 +15,8 @@ returns-then-height-eq0-clause-exact g c = λ honest.
     let F : Frame = frame_in (g.P.Source.means c.args.src.now) in
     let framed = c.frame-frame.ensures.framed.framed honest in
     let s = c.requires.sifted honest in
-    rw c.new.ensures (circled f F framed _ s _ ((rw c.in_ok-heights.ensures.reads at c.in_ok-circle.ensures.circle) honest s.walked.tallied.kept))
+    let circle = (rw (c.new-objects.ensures.means, c.new-objects.ensures.view, c.in_ok-heights.ensures.reads, c.frame-frame.ensures.frame) at c.in_ok-circle.ensures.circle) honest (λ n r. all_whole f F framed s.walked.tallied.kept views.All n ((reach_iff f F n).0 r)) in
+    rw c.new.ensures (circled f F framed _ s _ circle)
 
 pub returns-clause-exact : goal.returns-clause-exact
 returns-clause-exact g c = λ honest.
@@ -26,7 +30,7 @@ returns-clause-exact g c = λ honest.
     let height = get_or_read c.in_ok-heights.heights.items F.top.0 c.index-height.result.now (rw count c.frame-frame.ensures.framed.safe.top) (rw c.frame-frame.ensures.frame at c.index-height.ensures) 0 in
     linted f F framed _ s (let roomy = c.requires.fits.roomy in omega (arith, roomy.room, roomy.references)) _ refl count walked height some refl refl
 
-pub find_circle-requires-clause-heights : goal.find_circle-requires-clause-heights
-find_circle-requires-clause-heights g c = rw (c.in_ok-heights.ensures.reads, c.deref-then-height-eq0.ensures.value) (λ honest.
+pub circle-requires-clause-heights : goal.circle-requires-clause-heights
+circle-requires-clause-heights g c = rw (c.new-objects.ensures.means, c.new-objects.ensures.view, c.in_ok-heights.ensures.reads, c.frame-frame.ensures.frame, c.deref-then-height-eq0.ensures.value) (λ honest.
     let s = c.requires.sifted honest in
     (rw c.deref.ensures.value at c.in_ok-heights.ensures.exact) honest s.walked.tallied.kept s.keys s.walked.marked)
