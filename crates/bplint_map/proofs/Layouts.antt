@@ -1,10 +1,10 @@
 -- Gaps and overlaps of a map.
-use Rattle.std.proofs.Common.{◌≡◌, ◌∙◌, ◌⊎◌, All, ap, codes, length, refl, subst, sym, zero, suc, ℕ, ◌+◌, ◌&&◌, nat_le, ◌<◌, ◌≤◌, List, [], ◌∷◌, ◌++◌, inl, inr, max, min, cond, nat_lt, Bool, true, false, arith}
+use Rattle.std.proofs.Common.{◌≡◌, ◌∙◌, ◌⊎◌, All, ap, codes, length, refl, subst, sym, zero, suc, ℕ, ◌+◌, ◌&&◌, nat_le, ◌<◌, ◌≤◌, List, [], ◌∷◌, inl, inr, max, min, cond, nat_lt, Bool, true, false, arith}
 use Rattle.std.proofs.lemmas.Bool.{cases_lt}
 use Rattle.std.proofs.lemmas.List.Sums.{sum_by-cons}
 use Rattle.std.proofs.lemmas.Bool.Decides.{nat_tests}
 use Rattle.bplint_map.specs.declared.rows.Row.{Row}
-use Rattle.bplint_map.specs.Layout.{Part, region, AreInOrder, IsRegion, objects_at, region_between, before, parts, row_end}
+use Rattle.bplint_map.specs.Layout.{AreInOrder, IsRegion, objects_at, parts, row_end}
 use Rattle.std.specs.List.{Any}
 
 -- ---- one of several
@@ -33,51 +33,9 @@ module _ {X : Type 0} (P : X → Type 0) where
   among_of (y ∷ xs) (zero, x, low, at, h) = inl (subst P (sym at) h)
   among_of (y ∷ xs) (suc k, x, low, at, h) = inr (among_of xs (k, x, omega (arith, low), at, h))
 
-among_left : (P : Part → Type 0) (xs ys : List Part) → IsAmong P xs → IsAmong P (xs ++ ys)
-among_left P [] ys h = absurd h
-among_left P (x ∷ xs) ys (inl h) = inl h
-among_left P (x ∷ xs) ys (inr h) = inr (among_left P xs ys h)
-
-among_right : (P : Part → Type 0) (xs ys : List Part) → IsAmong P ys → IsAmong P (xs ++ ys)
-among_right P [] ys h = h
-among_right P (x ∷ xs) ys h = inr (among_right P xs ys h)
-
-among_split : (P : Part → Type 0) (xs ys : List Part) → IsAmong P (xs ++ ys) → IsAmong P xs ⊎ IsAmong P ys
-among_split P [] ys h = inr h
-among_split P (x ∷ xs) ys (inl h) = inl (inl h)
-among_split P (x ∷ xs) ys (inr h) = elim (among_split P xs ys h) [ inl a ↦ inl (inr a) | inr b ↦ inr b ]
-
--- ---- the parts between two places
-in_region : (word : List ℕ) (x a b : ℕ) → a ≤ x → x < b → IsAmong (IsRegion word x) (region_between word a b)
-in_region word x a b low high =
-    let t : nat_lt a b ≡ true = grind (arith, nat_tests) in
-    rw t (inl (refl, low, high))
-
-of_region : (own word : List ℕ) (x a b : ℕ) → IsAmong (IsRegion word x) (region_between own a b) → (own ≡ word) × (a ≤ x) × (x < b)
-of_region own word x a b h = go (nat_lt a b) h
-  where
-    go : (t : Bool) → IsAmong (IsRegion word x) (cond t (region own a b ∷ []) []) → (own ≡ word) × (a ≤ x) × (x < b)
-    go true (inl h) = h
-    go true (inr h) = absurd h
-    go false h = absurd h
-
-in_gap : (x a b : ℕ) → a ≤ x → x < b → IsAmong (IsRegion (codes "gap") x) (region_between (codes "gap") a b)
-in_gap = in_region (codes "gap")
-
-of_gap : (x a b : ℕ) → IsAmong (IsRegion (codes "gap") x) (region_between (codes "gap") a b) → (a ≤ x) × (x < b)
-of_gap x a b h = let o = of_region (codes "gap") (codes "gap") x a b h in (o.1, o.2)
-
-no_gap : (x a b : ℕ) → IsAmong (IsRegion (codes "gap") x) (region_between (codes "overlap") a b) → ⊥
-no_gap x a b h = let e : 7 ≡ 3 = ap length (of_region (codes "overlap") (codes "gap") x a b h).0 in omega (arith, e)
-
-in_overlap : (x a b : ℕ) → a ≤ x → x < b → IsAmong (IsRegion (codes "overlap") x) (region_between (codes "overlap") a b)
-in_overlap = in_region (codes "overlap")
-
-of_overlap : (x a b : ℕ) → IsAmong (IsRegion (codes "overlap") x) (region_between (codes "overlap") a b) → (a ≤ x) × (x < b)
-of_overlap x a b h = let o = of_region (codes "overlap") (codes "overlap") x a b h in (o.1, o.2)
-
-no_overlap : (x a b : ℕ) → IsAmong (IsRegion (codes "overlap") x) (region_between (codes "gap") a b) → ⊥
-no_overlap x a b h = let e : 3 ≡ 7 = ap length (of_region (codes "gap") (codes "overlap") x a b h).0 in omega (arith, e)
+-- a word is not another
+gap_alone : codes "gap" ≡ codes "overlap" → ⊥
+gap_alone e = let l : 3 ≡ 7 = ap length e in omega (arith, l)
 
 -- ---- rows that stand from a place on
 stand_covered : (p x : ℕ) (rows : List Row) → All (λ (later : Row). p ≤ later.place) rows → IsAmong (Covers x) rows → p ≤ x
@@ -106,28 +64,26 @@ below_max x a b h = elim (cases_lt x a) [
 module _ (table x : ℕ) where
   -- ---- gaps
   pub gaps_all : (reached : ℕ) (rows : List Row) → reached ≤ x → x < table → IsAmong (Covers x) rows ⊎ IsAmong (IsRegion (codes "gap") x) (parts table reached rows)
-  gaps_all reached [] low high = inr (in_gap x reached table low high)
+  gaps_all reached [] low high = inr (inl (refl, low, high))
   gaps_all reached (row ∷ rows) low high = elim (cases_lt x row.place) [
-    | inl l ↦ inr (among_left (IsRegion (codes "gap") x) (before reached row) _ (among_left (IsRegion (codes "gap") x) (region_between (codes "gap") reached row.place) _ (in_gap x reached row.place low l)))
+    | inl l ↦ inr (inl (refl, low, l))
     | inr l ↦ elim (cases_lt x (row_end row)) [
       | inl m ↦ inl (inl (l, m))
       | inr m ↦ elim (gaps_all (max reached (row_end row)) rows (grind (arith, nat_tests)) high) [
         | inl c ↦ inl (inr c)
-        | inr g ↦ inr (among_right (IsRegion (codes "gap") x) (before reached row) _ (inr g))
+        | inr g ↦ inr (inr (inr (inr g)))
       ]
     ]
   ]
 
   -- a gap lies behind all that was reached, and in no object
   pub gaps_alone : (reached : ℕ) (rows : List Row) → AreInOrder rows → IsAmong (IsRegion (codes "gap") x) (parts table reached rows) → (reached ≤ x) × (IsAmong (Covers x) rows → ⊥)
-  gaps_alone reached [] order h = ((of_gap x reached table h).0, λ c. c)
-  gaps_alone reached (row ∷ rows) order h = elim (among_split (IsRegion (codes "gap") x) (before reached row) _ h) [
-    | inl b ↦ elim (among_split (IsRegion (codes "gap") x) (region_between (codes "gap") reached row.place) (region_between (codes "overlap") row.place (min reached (row_end row))) b) [
-      | inl g ↦ first (of_gap x reached row.place g)
-      | inr o ↦ absurd (no_gap x row.place (min reached (row_end row)) o)
-    ]
-    | inr (inl o) ↦ absurd o
-    | inr (inr r) ↦ later (gaps_alone (max reached (row_end row)) rows (rest_in_order row rows order) r)
+  gaps_alone reached [] order h = elim h [ inl g ↦ (g.1, λ c. c) | inr none ↦ absurd none ]
+  gaps_alone reached (row ∷ rows) order h = elim h [
+    | inl g ↦ first (g.1, g.2)
+    | inr (inl o) ↦ absurd (gap_alone (sym o.0))
+    | inr (inr (inl o)) ↦ absurd o
+    | inr (inr (inr r)) ↦ later (gaps_alone (max reached (row_end row)) rows (rest_in_order row rows order) r)
   ]
     where
       first : (reached ≤ x) × (x < row.place) → (reached ≤ x) × (IsAmong (Covers x) (row ∷ rows) → ⊥)
@@ -152,25 +108,22 @@ module _ (table x : ℕ) where
   pub overlaps_all : (reached : ℕ) (rows : List Row) → ((x < reached) × IsAmong (Covers x) rows) ⊎ IsCoveredTwice x rows → IsAmong (IsRegion (codes "overlap") x) (parts table reached rows)
   overlaps_all reached [] (inl h) = absurd h.1
   overlaps_all reached [] (inr h) = absurd h
-  overlaps_all reached (row ∷ rows) (inl (low, inl own)) =
-      among_left (IsRegion (codes "overlap") x) (before reached row) _ (among_right (IsRegion (codes "overlap") x) (region_between (codes "gap") reached row.place) _ (in_overlap x row.place (min reached (row_end row)) own.0 (grind (arith, nat_tests, own.1))))
+  overlaps_all reached (row ∷ rows) (inl (low, inl own)) = inr (inl (refl, own.0, grind (arith, nat_tests, own.1)))
   overlaps_all reached (row ∷ rows) (inl (low, inr other)) =
-      among_right (IsRegion (codes "overlap") x) (before reached row) _ (inr (overlaps_all (max reached (row_end row)) rows (inl (grind (arith, nat_tests), other))))
+      inr (inr (inr (overlaps_all (max reached (row_end row)) rows (inl (grind (arith, nat_tests), other)))))
   overlaps_all reached (row ∷ rows) (inr (inl (own, other))) =
-      among_right (IsRegion (codes "overlap") x) (before reached row) _ (inr (overlaps_all (max reached (row_end row)) rows (inl (grind (arith, nat_tests, own.1), other))))
+      inr (inr (inr (overlaps_all (max reached (row_end row)) rows (inl (grind (arith, nat_tests, own.1), other)))))
   overlaps_all reached (row ∷ rows) (inr (inr twice)) =
-      among_right (IsRegion (codes "overlap") x) (before reached row) _ (inr (overlaps_all (max reached (row_end row)) rows (inr twice)))
+      inr (inr (inr (overlaps_all (max reached (row_end row)) rows (inr twice))))
 
   pub overlaps_alone : (reached : ℕ) (rows : List Row) → AreInOrder rows → IsAmong (IsRegion (codes "overlap") x) (parts table reached rows)
       → ((x < reached) × IsAmong (Covers x) rows) ⊎ IsCoveredTwice x rows
-  overlaps_alone reached [] order h = absurd (no_overlap x reached table h)
-  overlaps_alone reached (row ∷ rows) order h = elim (among_split (IsRegion (codes "overlap") x) (before reached row) _ h) [
-    | inl b ↦ elim (among_split (IsRegion (codes "overlap") x) (region_between (codes "gap") reached row.place) (region_between (codes "overlap") row.place (min reached (row_end row))) b) [
-      | inl g ↦ absurd (no_overlap x reached row.place g)
-      | inr o ↦ own (of_overlap x row.place (min reached (row_end row)) o)
-    ]
-    | inr (inl o) ↦ absurd o
-    | inr (inr r) ↦ later (overlaps_alone (max reached (row_end row)) rows (rest_in_order row rows order) r)
+  overlaps_alone reached [] order h = elim h [ inl g ↦ absurd (gap_alone g.0) | inr none ↦ absurd none ]
+  overlaps_alone reached (row ∷ rows) order h = elim h [
+    | inl g ↦ absurd (gap_alone g.0)
+    | inr (inl o) ↦ own (o.1, o.2)
+    | inr (inr (inl o)) ↦ absurd o
+    | inr (inr (inr r)) ↦ later (overlaps_alone (max reached (row_end row)) rows (rest_in_order row rows order) r)
   ]
     where
       own : (row.place ≤ x) × (x < min reached (row_end row)) → ((x < reached) × IsAmong (Covers x) (row ∷ rows)) ⊎ IsCoveredTwice x (row ∷ rows)

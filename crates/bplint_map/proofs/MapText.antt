@@ -22,31 +22,12 @@ use Rattle.bplint_lines.specs.declared.said.Said.TheVariants.{All}
 use Rattle.bplint_lines.specs.declared.said.Said.{Said}
 use Rattle.bplint_lines.specs.Answers.{BeginsAnswer, LeavesBy, gives}
 use Rattle.bplint_map.proofs.Findings.{findings_of}
-use Rattle.bplint_map.specs.Layout.{object, region, region_between, before, parts, row_end}
-use Rattle.bplint_map.specs.Lines.{region_line, region_lines, part_line, part_lines}
+use Rattle.bplint_map.specs.Layout.{object, region, parts, row_end}
+use Rattle.bplint_map.specs.Lines.{region_line, row_lines, part_line, part_lines}
 use Rattle.bplint_map.specs.Map.{IsVerdict, MapSays, PutsSome, map_text}
 use Rattle.bplint_map.specs.Rows.{AreFindings, IsByPlace, left_behind, placed, row, rows}
 
 -- ---- the text
-module _ (verdict : Verdict) where
-  any_lines : (word : List ℕ) (from to : ℕ) → part_lines verdict (region_between word from to) ≡ region_lines from to word
-  any_lines word from to = go (nat_lt from to)
-    where
-      go : (t : Bool) → part_lines verdict (cond t (region word from to ∷ []) []) ≡ cond t (region_line from to word) []
-      go true = append-nil (region_line from to word)
-      go false = refl
-
-  -- the lines of a row and of what lies before it
-  pub lines_of_row : (reached : ℕ) (row : Row) → part_lines verdict (before reached row ++ object row ∷ [])
-      ≡ (region_lines reached row.place (codes "gap") ++ region_lines row.place (min reached (row_end row)) (codes "overlap")) ++ part_line verdict (object row)
-  lines_of_row reached row =
-      let gap = any_lines (codes "gap") reached row.place in
-      let overlap = any_lines (codes "overlap") row.place (min reached (row_end row)) in
-      let regions = flat_map-append (part_line verdict) (region_between (codes "gap") reached row.place) (region_between (codes "overlap") row.place (min reached (row_end row))) in
-      flat_map-append (part_line verdict) (before reached row) (object row ∷ [])
-      ∙ ap (λ l. l ++ part_lines verdict (object row ∷ [])) (regions ∙ (λ i. gap i ++ overlap i))
-      ∙ ap (λ l. (region_lines reached row.place (codes "gap") ++ region_lines row.place (min reached (row_end row)) (codes "overlap")) ++ l) (append-nil (part_line verdict (object row)))
-
 -- a line behind two texts that were added
 pub behind_two : {E : Type 0} (result : Result (Unit {0}) E) (old one two new a b line text : List ℕ) → one ≡ old ++ a → two ≡ one ++ b
     → OnOk result (new ≡ two ++ line) → text ≡ (a ++ b) ++ line → OnOk result (new ≡ old ++ text)
@@ -55,22 +36,21 @@ behind_two (Ok x) old one two new a b line text first second third is =
     rw (is, third, second, first) (ap (λ l. l ++ line) (append_assoc old a b) ∙ append_assoc old (a ++ b) line)
 
 module _ (verdict : Verdict) (table : ℕ) where
-  row_lines : (reached : ℕ) (first : Row) (others : List Row) → part_lines verdict (parts table reached (first ∷ others))
-      ≡ part_lines verdict (before reached first ++ object first ∷ []) ++ part_lines verdict (parts table (max reached (row_end first)) others)
-  row_lines reached first others =
-      let rest = parts table (max reached (row_end first)) others in
-      ap (part_lines verdict) (sym (append_assoc (before reached first) (object first ∷ []) rest))
-      ∙ flat_map-append (part_line verdict) (before reached first ++ object first ∷ []) rest
-
-  pub last_lines : (reached : ℕ) → part_lines verdict (parts table reached []) ≡ region_lines reached table (codes "gap")
-  last_lines reached = any_lines verdict (codes "gap") reached table
+  lines_of_row : (reached : ℕ) (first : Row) (others : List Row) → part_lines verdict (parts table reached (first ∷ others))
+      ≡ row_lines verdict reached first ++ part_lines verdict (parts table (max reached (row_end first)) others)
+  lines_of_row reached first others =
+      let gap = region_line reached first.place (codes "gap") in
+      let overlap = region_line first.place (min reached (row_end first)) (codes "overlap") in
+      let own = part_line verdict (object first) in
+      let rest = part_lines verdict (parts table (max reached (row_end first)) others) in
+      sym (append_assoc (gap ++ overlap) own rest ∙ append_assoc gap overlap (own ++ rest))
 
   module _ (f : List ℕ) (F : Frame) (findings : ℕ → Finding) where
     -- one more row of a list of objects
     pub more_lines : (reached left left' i : ℕ) (order : List ℕ) (objects : List ObjectOffset) (found : Row) (o d : ObjectOffset) → objects ≡ map (placed f F) order
         → i < length objects → o ≡ get_or objects i d → found ≡ row f F findings left o.number → left' ≡ left_behind left found
         → part_lines verdict (parts table reached (rows f F findings left (drop i order)))
-        ≡ part_lines verdict (before reached found ++ object found ∷ []) ++ part_lines verdict (parts table (max reached (row_end found)) (rows f F findings left' (drop (i + 1) order)))
+        ≡ row_lines verdict reached found ++ part_lines verdict (parts table (max reached (row_end found)) (rows f F findings left' (drop (i + 1) order)))
     more_lines reached left left' i order objects found o d all low at is behind =
         let long : length objects ≡ length order = ap length all ∙ length-map order (placed f F) in
         let n = get_or order i 0 in
@@ -78,13 +58,17 @@ module _ (verdict : Verdict) (table : ℕ) where
         let r : found ≡ row f F findings left n = is ∙ ap (λ (p : ObjectOffset). row f F findings left p.number) here in
         let b : left' ≡ left_behind left (row f F findings left n) = behind ∙ ap (left_behind left) r in
         let e : drop i order ≡ n ∷ drop (i + 1) order = drop-cons order i 0 (omega (arith, low, long)) ∙ ap (λ k. n ∷ drop k order) (sym (add-one i)) in
-        rw (e, r, b) (row_lines reached (row f F findings left n) (rows f F findings (left_behind left (row f F findings left n)) (drop (i + 1) order)))
+        let own = sym r in
+        let rest = sym b in
+        ap (λ k. part_lines verdict (parts table reached (rows f F findings left k))) e
+        ∙ lines_of_row reached (row f F findings left n) (rows f F findings (left_behind left (row f F findings left n)) (drop (i + 1) order))
+        ∙ (λ j. row_lines verdict reached (own j) ++ part_lines verdict (parts table (max reached (row_end (own j))) (rows f F findings (rest j) (drop (i + 1) order))))
 
     pub no_more_lines : (reached left i : ℕ) (order : List ℕ) (objects : List ObjectOffset) → objects ≡ map (placed f F) order → length objects ≤ i
-        → part_lines verdict (parts table reached (rows f F findings left (drop i order))) ≡ region_lines reached table (codes "gap")
+        → part_lines verdict (parts table reached (rows f F findings left (drop i order))) ≡ region_line reached table (codes "gap")
     no_more_lines reached left i order objects all low =
         let long : length objects ≡ length order = ap length all ∙ length-map order (placed f F) in
-        rw (drop_all i order (omega (arith, low, long))) (last_lines reached)
+        rw (drop_all i order (omega (arith, low, long))) (append-nil (region_line reached table (codes "gap")))
 
     -- the text after one more row
     pub stepped : (are : AreFindings f F findings) (text done : List ℕ) (reached left left' i : ℕ) (order : List ℕ) (objects : List ObjectOffset) (found : Row) (d : ObjectOffset)
@@ -92,7 +76,7 @@ module _ (verdict : Verdict) (table : ℕ) where
         → text ≡ done ++ part_lines verdict (parts table reached (rows f F findings left (drop i order)))
         → (get_or objects i d ≡ placed f F (get_or objects i d).number → (findings : ℕ → Finding) → AreFindings f F findings
         → (found ≡ row f F findings left (get_or objects i d).number) × (left' ≡ left_behind left found))
-        → text ≡ done ++ (part_lines verdict (before reached found ++ object found ∷ []) ++ part_lines verdict (parts table (max reached (row_end found)) (rows f F findings left' (drop (i + 1) order))))
+        → text ≡ done ++ (row_lines verdict reached found ++ part_lines verdict (parts table (max reached (row_end found)) (rows f F findings left' (drop (i + 1) order))))
     stepped are text done reached left left' i order objects found d all low so_far reads =
         let long : length objects ≡ length order = ap length all ∙ length-map order (placed f F) in
         let n = get_or order i 0 in

@@ -1,5 +1,5 @@
 -- The lines of `map`, with their line feeds: six columns, tabs between them. Source: profile.
-use Rattle.std.specs.Prelude.{ℕ, ◌==◌, List, [], ◌∷◌, ◌++◌, codes, Some, None, if◌then◌else◌, nat_lt, slice_index}
+use Rattle.std.specs.Prelude.{ℕ, ◌==◌, List, [], ◌∷◌, ◌++◌, codes, min, Some, None, if◌then◌else◌, nat_lt, slice_index}
 use Rattle.std.specs.Fmt.{decimal}
 use Rattle.std.specs.List.{flat_map, join_with_byte}
 use Rattle.bplist_objects.specs.declared.head.Head.{Head}
@@ -8,7 +8,7 @@ use Rattle.bplint_map.specs.declared.verdict.Verdict.{Verdict}
 use Rattle.bplint_map.specs.declared.verdict.Verdict.TheVariants as verdicts
 use Rattle.bplint_map.specs.declared.rows.Finding.TheVariants.{Whole, Wrong, Lost}
 use Rattle.bplint_map.specs.declared.rows.Row.{Row}
-use Rattle.bplint_map.specs.Layout.{Part, object, region}
+use Rattle.bplint_map.specs.Layout.{Part, object, region, row_end}
 use Rattle.bplint_lines.specs.OutputLines.{kind_word}
 
 -- a line with these columns, tabs between them
@@ -26,9 +26,10 @@ abbrev pub head_line : Row → Head → List ℕ → List ℕ
 head_line row head last =
     line_of (decimal row.place ∷ decimal head.end ∷ decimal row.number ∷ kind_word head.kind ∷ decimal head.count ∷ last ∷ [])
 
--- the line of a part: what an object breaks by itself stands in the last column, else its note
+-- the line of a part, of an empty region none: what an object breaks by itself stands in the last column, else its note
 abbrev pub part_line : Verdict → Part → List ℕ
-part_line verdict (region word from to) = line_of (decimal from ∷ decimal to ∷ codes "-" ∷ word ∷ codes "-" ∷ codes "-" ∷ [])
+part_line verdict (region word from to) =
+    if nat_lt from to then line_of (decimal from ∷ decimal to ∷ codes "-" ∷ word ∷ codes "-" ∷ codes "-" ∷ []) else []
 part_line verdict (object row) = elim row.finding [
   | Whole head ↦ head_line row head (note verdict row.number)
   | Wrong head rule ↦ head_line row head (word_of rule)
@@ -36,7 +37,7 @@ part_line verdict (object row) = elim row.finding [
 ]
 
 -- ---- parts of a map
--- the line of bytes that are no object
+-- the line of a region, if it is not empty
 abbrev pub region_line : ℕ → ℕ → List ℕ → List ℕ
 region_line from to word = part_line verdicts.Circle (region word from to)
 
@@ -44,6 +45,8 @@ region_line from to word = part_line verdicts.Circle (region word from to)
 abbrev pub part_lines : Verdict → List Part → List ℕ
 part_lines verdict parts = flat_map (part_line verdict) parts
 
--- the line of bytes that are no object, where there are any
-abbrev pub region_lines : ℕ → ℕ → List ℕ → List ℕ
-region_lines from to word = if nat_lt from to then region_line from to word else []
+-- the lines of the gap and the overlap before an object, and its own
+abbrev pub row_lines : Verdict → ℕ → Row → List ℕ
+row_lines verdict reached row =
+    let overlap = region_line row.place (min reached (row_end row)) (codes "overlap") in
+    (region_line reached row.place (codes "gap") ++ overlap) ++ part_line verdict (object row)

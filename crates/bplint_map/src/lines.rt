@@ -1,10 +1,10 @@
 //! The lines of a map.
 //!
 //! Each call adds its lines to the text. The one refusal is that of a growth.
-ghost use Rattle.std.specs.Prelude.{◌≡◌, ◌++◌, [], ◌∷◌, List, ℕ, OnOk, codes, string_bytes};
+ghost use Rattle.std.specs.Prelude.{◌≡◌, ◌++◌, List, ℕ, OnOk, codes, string_bytes};
 ghost use Rattle.bplist_objects.specs.Words.{word_of as word_of_rule};
-ghost use Rattle.bplint_map.specs.Layout.{before, object, row_end};
-ghost use Rattle.bplint_map.specs.Lines.{head_line, note, part_line, part_lines, region_line, region_lines};
+ghost use Rattle.bplint_map.specs.Layout.{object, row_end};
+ghost use Rattle.bplint_map.specs.Lines.{head_line, note, part_line, region_line, row_lines};
 
 use crate::rows::{Finding, Row};
 use crate::verdict::Verdict;
@@ -12,7 +12,7 @@ use bplint_lines::kind_name;
 use bplist_objects::{Head, rule_name};
 use std::alloc::AllocError;
 
-/// Adds the line of bytes that are no object.
+/// Adds the line of bytes that are no object, where there are any.
 pub(crate) fn add_region(
     line: &mut String,
     from: u64,
@@ -21,15 +21,8 @@ pub(crate) fn add_region(
 ) -> Result<(), AllocError>
     ensures { OnOk result (string_bytes line.new ≡ string_bytes line.old ++ region_line from to word.now) }
 {
-    write!(line, "{from}\t{to}\t-\t{word}\t-\t-\n")
-}
-
-/// Adds the line of bytes that are no object, where there are any.
-pub(crate) fn add_any(line: &mut String, from: u64, to: u64, word: &str) -> Result<(), AllocError>
-    ensures { OnOk result (string_bytes line.new ≡ string_bytes line.old ++ region_lines from to word.now) }
-{
     if from < to {
-        add_region(line, from, to, word)?;
+        write!(line, "{from}\t{to}\t-\t{word}\t-\t-\n")?;
     }
     Ok(())
 }
@@ -41,11 +34,10 @@ pub(crate) fn add_row(
     row: &Row,
     verdict: &Verdict,
 ) -> Result<(), AllocError>
-    ensures { OnOk result (string_bytes line.new ≡ string_bytes line.old
-        ++ part_lines verdict.now (before reached row.now ++ object row.now ∷ [])) }
+    ensures { OnOk result (string_bytes line.new ≡ string_bytes line.old ++ row_lines verdict.now reached row.now) }
 {
-    add_any(line, reached, row.place, "gap")?;
-    add_any(line, row.place, reached.min(end_of(row)), "overlap")?;
+    add_region(line, reached, row.place, "gap")?;
+    add_region(line, row.place, reached.min(end_of(row)), "overlap")?;
     add_object(line, row, verdict)
 }
 

@@ -10,7 +10,7 @@ ghost use Rattle.bplint_map.specs.Map.{MapSays, Puts, map_text};
 ghost use Rattle.bplint_map.specs.Rows.{AreFindings, placed, rows};
 ghost use Rattle.bplint_map.specs.declared.rows.Finding.{Finding};
 
-use crate::lines::{add_any, add_region, add_row, end_of};
+use crate::lines::{add_region, add_row, end_of};
 use crate::object_order::{ObjectOffset, objects_in_order};
 use crate::rows::row_of;
 use crate::verdict::{Verdict, verdict_of};
@@ -139,7 +139,7 @@ fn put_rows<P: Framed, W: Write>(
         reached = reached.max(end_of(&row));
     }
     line.clear();
-    add_any(&mut line, reached, frame.table, "gap")?;
+    add_region(&mut line, reached, frame.table, "gap")?;
     sink.put(out, line.as_bytes())?;
     Ok(())
 }
