@@ -9,17 +9,18 @@ use Rattle.bplint_lines.specs.declared.said.Said.{Said}
 use Rattle.bplint_lines.specs.declared.said.Said.TheVariants.{All, SomeMissing}
 use Rattle.bplint_lines.specs.Answers.{Leaves, LeavesBy}
 use Rattle.bplint_lines.specs.FaultLines.{report_of}
-use Rattle.bplint_engine.specs.Get.{GetSays}
-use Rattle.bplint_engine.specs.Ls.{ListSays}
+use Rattle.bplint_engine.specs.Get.{LinesSay, found_line}
+use Rattle.bplint_engine.specs.Lint.{LintSays}
+use Rattle.bplint_engine.specs.Ls.{listed}
 use Rattle.bplint_engine.specs.Print.{PrintSays}
-use Rattle.bplint_engine.specs.Show.{LeastLeads}
 use Rattle.bplint_map.specs.Map.{MapSays}
 
 -- what is left with the writer is what `show`, `show --text`, `ls` or `map` says of the file
 abbrev pub LeavesShown : List ℕ → Shown → Option (List ℕ) → Option (List ℕ) → Result Said RunFault → Type 0
-LeavesShown f (Values paths) old new result = Leaves (LeastLeads GetSays f (map (λ path. string_bytes path) paths.items)) 0 old new result
-LeavesShown f (Text path limit) old new result = Leaves (LeastLeads (PrintSays limit) f (path.now ∷ [])) limit old new result
-LeavesShown f (Members path) old new result = Leaves (ListSays f path.now) 0 old new result
+LeavesShown f (Values paths) old new result =
+    Leaves (LinesSay found_line (LintSays f) f (map (λ path. string_bytes path) paths.items)) 0 old new result
+LeavesShown f (Text path limit) old new result = Leaves (PrintSays limit (LintSays f) f (path.now ∷ [])) limit old new result
+LeavesShown f (Members path) old new result = Leaves (LinesSay (listed path.now) (LintSays f) f (path.now ∷ [])) 0 old new result
 LeavesShown f Map old new result = (most : ℕ) × LeavesBy (MapSays f) most old new result
 
 -- the exit status of an answer; that of refused memory may stand for another fault's, since its line takes memory

@@ -8,7 +8,6 @@ use Rattle.bplist_objects.specs.declared.frame.ObjectNo.{ObjectNo}
 use Rattle.bplist_cursor.proofs.Escapes.{not_empty}
 use Rattle.bplist_lint.specs.Trail.{number}
 use Rattle.bplint_lines.specs.declared.said.Said.{Said}
-use Rattle.bplint_lines.specs.declared.said.Said.TheVariants.{All, SomeMissing}
 use Rattle.bplint_lines.specs.Answers.{gives}
 
 pub same_gives : (s t : Said) (xs ys : List ℕ) → s ≡ t → xs ≡ ys → gives s xs ≡ gives t ys
@@ -34,9 +33,3 @@ module _ {P : Type 0} (t : ∥ P ∥₁) where
 
   pub open_bytes : (xs ys : List ℕ) → (P → xs ≡ ys) → xs ≡ ys
   open_bytes xs ys from = bytes_by (bytes_eq xs ys) xs ys refl from
-
-  pub open_said : (s r : Said) → (P → s ≡ r) → s ≡ r
-  open_said All All from = refl
-  open_said SomeMissing SomeMissing from = refl
-  open_said All SomeMissing from = absurd (not_there t (λ p. cc (from p)))
-  open_said SomeMissing All from = absurd (not_there t (λ p. cc (from p)))

@@ -1,12 +1,12 @@
--- What `get` says, from the answers of the cursor.
-use Rattle.std.proofs.Common.{◌≡◌, ◌∙◌, ◌++◌, ◌||◌, ℕ, List, [], ◌∷◌, map, Bool, Result, Ok, Err, ap, refl}
+-- What `get` and `ls` say, from the answers of the cursor.
+use Rattle.std.proofs.Common.{◌≡◌, ◌∙◌, ◌++◌, ◌||◌, inr, ℕ, List, [], ◌∷◌, map, Bool, Result, Ok, Err, ap, append-nil, refl, sym}
+use Rattle.std.proofs.Math.Logic.{∥∥₁_map}
+use Rattle.std.proofs.lemmas.Grind.{merely}
 use Rattle.std.specs.Prelude.{if◌then◌else◌, is_err}
 use Rattle.std.specs.List.{AllZip, flat_map, list_any}
 use Rattle.bplist_objects.specs.declared.frame.Frame.{Frame}
 use Rattle.bplist_objects.specs.Value.{Value}
 use Rattle.bplist_objects.specs.Holds.{Holds}
-use Rattle.bplist_cert.specs.Lists.{Lists}
-use Rattle.bplist_cert.specs.CertifiedFile.{IsVouchedFor}
 use Rattle.bplist_cursor.specs.declared.found.Why.{Why}
 use Rattle.bplist_cursor.specs.declared.reply.Query.{Query}
 use Rattle.bplist_cursor.specs.declared.reply.Query.TheVariants.{Get}
@@ -17,32 +17,21 @@ use Rattle.bplist_cursor.specs.Replies.{face, reply}
 use Rattle.bplint_lines.specs.declared.fault.RunFault.{RunFault}
 use Rattle.bplint_lines.specs.declared.fault.RunFault.TheVariants as faults
 use Rattle.bplint_engine.specs.declared.output.Output.{Output}
-use Rattle.bplint_lines.specs.Answers.{Answer, refuses}
+use Rattle.bplint_lines.specs.Answers.{Answer}
 use Rattle.bplint_engine.specs.Output.{Answers, IsRefusal}
-use Rattle.bplint_engine.specs.PathTexts.{IsAskingFault}
 use Rattle.bplint_lines.specs.Faults.{Gives, IsExcused}
 use Rattle.bplint_lines.specs.declared.said.Said.{Said}
 use Rattle.bplint_lines.specs.declared.said.Said.TheVariants.{All, SomeMissing}
-use Rattle.bplint_engine.specs.Get.{GetSays, found_line, is_missing, replies_said, reply_line, said_of}
+use Rattle.bplint_engine.specs.Get.{LinesSay, found_line, is_missing, replies_said, reply_line, said_of}
+use Rattle.bplint_engine.specs.Ls.{listed}
+use Rattle.bplint_engine.proofs.EqualAnswers.{same_gives}
+use Rattle.bplint_engine.proofs.PathAnswers.{IsThere, IsYes}
 
 -- a read failed or memory was refused
 pub excused_refused : (Says : Answer → Type 0) (fault : RunFault) → IsExcused fault → IsRefusal Says fault
 excused_refused Says (faults.Read _) h = tt
 excused_refused Says faults.Memory h = tt
 excused_refused Says _ h = absurd h
-
--- a refusal of one answer is one of another that has the same faults
-pub refused_as : (P Q : Answer → Type 0) (fault : RunFault) → ((x : RunFault) → P (refuses x) → Q (refuses x)) → IsRefusal P fault → IsRefusal Q fault
-refused_as P Q (faults.Write _) to h = h
-refused_as P Q (faults.Read _) to h = tt
-refused_as P Q faults.Memory to h = tt
-refused_as P Q fault to h = to fault h
-
--- where the texts are path texts the file's fault is that of what is asked
-pub file_fault : (Says : Answer → Type 0) (texts : List (List ℕ)) (paths : List (List (List ℕ))) (fault : RunFault)
-    → ((place : ℕ) → Says (refuses (faults.Path place)) → ⊥) → AllZip IsPathOf texts paths → Says (refuses fault) → IsAskingFault Says texts fault
-file_fault Says texts paths (faults.Path place) other are h = absurd (other place h)
-file_fault Says texts paths _ other are h = (paths, are, h)
 
 -- ---- replies to paths
 line_of_found : (found : Result Value (ℕ × Why)) → reply_line (elim found [ Ok w ↦ Face (face w) | Err (k, why) ↦ Missing k why ]) ≡ found_line found
@@ -70,12 +59,32 @@ told_of v paths queries said bytes asked (is, lines) = (
   lines ∙ ap (λ (qs : List Query). flat_map reply_line (map (reply v) qs)) asked ∙ lines_told v paths,
 )
 
--- the file is vouched for, and the queries were answered
-pub get_says : (f cert : List ℕ) (texts : List (List ℕ)) (paths : List (List (List ℕ))) (queries : List Query) (F : Frame) (lists : Lists) (made : Result Output RunFault)
-    → AllZip IsPathOf texts paths → queries ≡ map Get paths → IsVouchedFor f cert F lists
+-- Says says yes of the file, and the queries were answered
+pub queries_say : (Says : Answer → Type 0) (f : List ℕ) (texts : List (List ℕ)) (paths : List (List (List ℕ))) (queries : List Query) (F : Frame) (made : Result Output RunFault)
+    → AllZip IsPathOf texts paths → queries ≡ map Get paths → IsYes Says → ∥ IsThere f F ∥₁
     → Gives (λ output. (v : Value) → Holds f F F.top.0 v
     → (output.said ≡ replies_said (map (reply v) queries)) × (output.bytes.items ≡ flat_map reply_line (map (reply v) queries))) made
-    → Answers (GetSays f cert texts) made
-get_says f cert texts paths queries F lists (Ok output) are asked vouched told =
-    (paths, F, lists, are, vouched, λ v holds. told_of v paths queries output.said output.bytes.items asked (told v holds))
-get_says f cert texts paths queries F lists (Err fault) are asked vouched told = excused_refused (GetSays f cert texts) fault told
+    → ∥ Answers (LinesSay found_line Says f texts) made ∥₁
+queries_say Says f texts paths queries F (Ok output) are asked (said, bytes, says) there told = ∥∥₁_map there (λ (v, _, holds, held).
+    let t = told_of v paths queries output.said output.bytes.items asked (told v held) in
+    inr (inr (paths, said, bytes, v, are, says, holds, same_gives output.said (said_of (map (look v) paths)) output.bytes.items (flat_map found_line (map (look v) paths)) t.0 t.1)))
+queries_say Says f texts paths queries F (Err fault) are asked sure there told = merely (excused_refused (LinesSay found_line Says f texts) fault told)
+
+-- the same of the lines of `ls`
+pub list_says : (Says : Answer → Type 0) (f text : List ℕ) (steps : List (List ℕ)) (F : Frame) (made : Result Output RunFault)
+    → AllZip IsPathOf (text ∷ []) (steps ∷ []) → IsYes Says → IsThere f F
+    → ((v : Value) → Holds f F F.top.0 v → Gives (λ output. (output.said ≡ said_of (look v steps ∷ [])) × (output.bytes.items ≡ listed text (look v steps))) made)
+    → Answers (LinesSay (listed text) Says f (text ∷ [])) made
+list_says Says f text steps F (Ok output) are (said, bytes, says) (v, _, holds, held) told =
+    let t = told v held in
+    inr (inr (
+      steps ∷ [],
+      said,
+      bytes,
+      v,
+      are,
+      says,
+      holds,
+      same_gives output.said (said_of (look v steps ∷ [])) output.bytes.items (listed text (look v steps) ++ []) t.0 (t.1 ∙ sym (append-nil (listed text (look v steps)))),
+    ))
+list_says Says f text steps F (Err fault) are sure (v, _, _, held) told = excused_refused (LinesSay (listed text) Says f (text ∷ [])) fault (told v held)

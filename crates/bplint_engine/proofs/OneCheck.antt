@@ -27,10 +27,10 @@ module _ (f cert : List ℕ) where
   vouched_frame : (F : Frame) (lists : Lists) → IsVouchedFor f cert F lists → F ≡ trailer f
   vouched_frame F lists v = ∥∥₁_elim v.2 (hlevel props) (λ a. a.valid.frame.spelled)
 
-  pub same_frame : (F G : Frame) (l m : Lists) → IsVouchedFor f cert F l → IsVouchedFor f cert G m → F ≡ G
+  same_frame : (F G : Frame) (l m : Lists) → IsVouchedFor f cert F l → IsVouchedFor f cert G m → F ≡ G
   same_frame F G l m v w = vouched_frame F l v ∙ sym (vouched_frame G m w)
 
-  pub not_vouched : (F : Frame) (lists : Lists) (a : RunFault) → IsVouchedFor f cert F lists → CheckSays f cert (refuses a) → ⊥
+  not_vouched : (F : Frame) (lists : Lists) (a : RunFault) → IsVouchedFor f cert F lists → CheckSays f cert (refuses a) → ⊥
   not_vouched F lists (faults.Fault a) v (inl h) = octets_kept cert lists a v.0 v.1 h
   not_vouched F lists (faults.Fault a) v (inr (other, is, spelled, h)) =
       let same = same_lists other lists is v.0 spelled v.1 in
@@ -44,7 +44,7 @@ module _ (f cert : List ℕ) where
   one_fault a b (inr (l, is, spelled, h)) (inr (m, is', spelled', k)) =
       one_pair_fault f m a b (subst (λ x. IsPairFault f x a) (same_lists l m is is' spelled spelled') h) k
 
-  pub one_vouching : (a b : RunFault) → CheckSays f cert (refuses a) → CheckSays f cert (refuses b) → a ≡ b
+  one_vouching : (a b : RunFault) → CheckSays f cert (refuses a) → CheckSays f cert (refuses b) → a ≡ b
   one_vouching (faults.Fault a) (faults.Fault b) h k = ap faults.Fault (one_fault a b h k)
   one_vouching (faults.Fault a) _ h k = absurd k
   one_vouching _ b h k = absurd h

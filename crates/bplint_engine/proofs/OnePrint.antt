@@ -1,13 +1,8 @@
 -- What `print` says is one.
-use Rattle.std.proofs.Common.{◌≡◌, ℕ, ◌++◌, List, [], ◌∷◌, inl, inr, Option, Some, None, Result, Ok, Err, refl, sym, ap, ◌∙◌, subst}
-use Rattle.std.specs.List.{AllZip}
-use Rattle.std.proofs.Props.{props}
-use Rattle.std.proofs.Math.Logic.{∥∥₁_elim}
+use Rattle.std.proofs.Common.{◌≡◌, ℕ, ◌++◌, List, [], ◌∷◌, Option, Some, None, Result, Ok, Err, refl, sym, ap, ◌∙◌, subst}
 use Rattle.bplist_objects.specs.declared.frame.Frame.{Frame}
 use Rattle.bplist_objects.specs.Holds.{Holds}
 use Rattle.bplist_objects.specs.Value.{Value}
-use Rattle.bplist_objects.proofs.Fronts.{one_head}
-use Rattle.bplist_objects.proofs.ObjectValues.{holds_one}
 use Rattle.bplist_cursor.specs.Found.{LeadTo}
 use Rattle.bplist_cursor.specs.declared.found.Why.{Why}
 use Rattle.bplist_cursor.specs.Look.{look}
@@ -18,17 +13,15 @@ use Rattle.bplint_lines.specs.declared.fault.RunFault.{RunFault}
 use Rattle.bplint_lines.specs.declared.fault.RunFault.TheVariants as faults
 use Rattle.bplint_lines.specs.declared.said.Said.{Said}
 use Rattle.bplint_lines.specs.Answers.{Answer, gives, refuses}
-use Rattle.bplist_cert.specs.CertifiedFile.{IsVouchedFor}
-use Rattle.bplist_cert.specs.Lists.{Lists}
-use Rattle.bplist_cursor.specs.Path.{IsPathOf}
+use Rattle.bplist_lint.proofs.FirstFaults.{one_frame}
 use Rattle.bplint_engine.specs.Check.{CheckSays}
-use Rattle.bplint_engine.specs.PathTexts.{IsAskingFault}
 use Rattle.bplint_engine.specs.Print.{NodeSays, PathSays, PrintSays}
 use Rattle.bplint_engine.proofs.OneLocation.{one_end}
 use Rattle.bplint_engine.proofs.EqualAnswers.{same_gives}
 use Rattle.bplint_engine.proofs.PrintAnswers.{FoundSays}
-use Rattle.bplint_engine.proofs.OneCheck.{not_vouched, one_vouching, same_frame}
-use Rattle.bplint_engine.proofs.OneGet.{one_paths, one_asking, not_asking}
+use Rattle.bplint_engine.proofs.OneCheck.{one_check}
+use Rattle.bplint_engine.proofs.OnePaths.{one_for_paths}
+use Rattle.bplint_engine.proofs.PathAnswers.{IsText}
 
 same_text : (o : Option (List ℕ)) (t u : List ℕ) → o ≡ Some t → o ≡ Some u → t ≡ u
 same_text o t u a b = cc
@@ -72,30 +65,9 @@ module _ (f : List ℕ) (F : Frame) (limit : ℕ) where
 same_steps : (a b : List (List ℕ)) → a ∷ [] ≡ b ∷ [] → a ≡ b
 same_steps a b e = cc
 
-module _ (f cert : List ℕ) (texts : List (List ℕ)) (limit : ℕ) where
-  -- the answer for the file's value
-  abbrev ValueSays : Answer → Type 0
-  ValueSays answer =
-      (steps : List (List ℕ)) × (F : Frame) × (lists : Lists) × (v : Value) × AllZip IsPathOf texts (steps ∷ [])
-      × IsVouchedFor f cert F lists × Holds f F F.top.0 v × PathSays f F limit steps v answer
-
-  one_value_answer : (a b : Answer) → ValueSays a → ValueSays b → a ≡ b
-  one_value_answer a b (steps, F, l, v, are, vouched, holds, h) (steps', G, m, w, are', vouched', holds', k) =
-      let frame = same_frame f cert G F m l vouched' vouched in
-      let path : steps' ≡ steps = same_steps steps' steps (one_paths texts _ _ are' are) in
-      let value : w ≡ v = holds_one f F (one_head f F) w v F.top.0 (subst (λ X. Holds f X X.top.0 w) frame holds') holds in
-      let other = subst (λ y. PathSays f F limit steps y b) value (subst (λ p. PathSays f F limit p w b) path (subst (λ X. PathSays f X limit steps' w b) frame k)) in
-      one_path_answer f F limit steps
-      (λ i j x y. ∥∥₁_elim vouched.2 (hlevel props) (λ accepted. one_end f F accepted.valid.frame steps v F.top.0 i j holds x y))
-      v a b h other
-
-  not_asked : (a : RunFault) (b : Answer) → IsAskingFault (CheckSays f cert) texts a → ValueSays b → ⊥
-  not_asked a b h (steps, F, l, v, are, vouched, holds, k) =
-      not_asking (CheckSays f cert) texts (steps ∷ []) a are (not_vouched f cert F l a vouched) h
-
-  pub one_print : (a b : Answer) → PrintSays limit f cert texts a → PrintSays limit f cert texts b → a ≡ b
-  one_print a b (inl (x, is, h)) (inl (y, is', k)) =
-      is ∙ ap refuses (one_asking (CheckSays f cert) texts x y (one_vouching f cert x y) h k) ∙ sym is'
-  one_print a b (inl (x, is, h)) (inr k) = absurd (not_asked x b h k)
-  one_print a b (inr h) (inl (y, is', k)) = absurd (not_asked y a k h)
-  one_print a b (inr h) (inr k) = one_value_answer a b h k
+pub one_print : (f cert : List ℕ) (texts : List (List ℕ)) (limit : ℕ) (a b : Answer) → PrintSays limit (CheckSays f cert) f texts a → PrintSays limit (CheckSays f cert) f texts b → a ≡ b
+one_print f cert texts limit =
+    one_for_paths (CheckSays f cert) f texts (IsText limit f) (one_check f cert) (λ paths v holds a b (steps, F, is, frame, h) (steps', G, is', frame', k).
+    let other = subst (λ p. PathSays f F limit p v b) (same_steps steps' steps (sym is' ∙ is)) (subst (λ X. PathSays f X limit steps' v b) (one_frame f G F frame' frame) k) in
+    let held = subst (λ X. Holds f X X.top.0 v) (one_frame f holds.frame F holds.is frame) holds.holds in
+    one_path_answer f F limit steps (λ i j. one_end f F frame steps v F.top.0 i j held) v a b h other)

@@ -6,9 +6,7 @@ use Rattle.std.proofs.Math.Logic.{∥∥₁_map}
 use Rattle.bplist_objects.specs.declared.frame.Frame.{Frame}
 use Rattle.bplist_objects.specs.Value.{Value}
 use Rattle.bplist_objects.specs.Holds.{Holds}
-use Rattle.bplist_cert.specs.CertifiedFile.{IsVouchedFor}
 use Rattle.bplist_cert.specs.CheckedFile.{CheckedFile}
-use Rattle.bplist_cert.specs.Lists.{Lists}
 use Rattle.bplist_cursor.specs.declared.faults.CursorFault.{CursorFault}
 use Rattle.bplist_cursor.specs.declared.faults.CursorFault.TheVariants as cursor_faults
 use Rattle.bplist_cursor.specs.declared.found.Node.{Node}
@@ -31,13 +29,12 @@ use Rattle.bplint_lines.specs.declared.said.Said.{Said}
 use Rattle.bplint_lines.specs.declared.said.Said.TheVariants.{All, SomeMissing}
 use Rattle.bplint_lines.specs.Answers.{Answer, gives, BeginsAnswer, Leaves, LeavesBy}
 use Rattle.bplint_engine.specs.Output.{Answers, IsRefusal}
-use Rattle.bplint_engine.specs.PathTexts.{IsWrongAmong}
 use Rattle.bplint_engine.proofs.LowerFaults.{cursor_fault, print_fault}
-use Rattle.bplint_engine.specs.PathTexts.{OnPath}
 use Rattle.bplint_lines.specs.OutputLines.{missing_line}
 use Rattle.bplint_engine.specs.Print.{NodeSays, PathSays, PrintSays}
 use Rattle.bplint_engine.proofs.EqualAnswers.{same_gives}
 use Rattle.bplint_engine.proofs.LeftBytes.{begins_nothing, kept_self, said_as}
+use Rattle.bplint_engine.proofs.PathAnswers.{IsThere, IsYes}
 
 -- the cursor met a failed read or a refused growth
 pub cursor_stopped : (Says : Answer → Type 0) (most : ℕ) (old : Option (List ℕ)) (fault : CursorFault) → IsExcused fault
@@ -128,26 +125,14 @@ missing_says f F limit steps v step why (Ok output) is told _ =
     subst (FoundSays f F limit steps (gives output.said output.bytes.items)) (sym is) (same_gives output.said SomeMissing output.bytes.items _ told.0 told.1)
 missing_says f F limit steps v step why (Err fault) is _ memory = subst (IsRefusal (PathSays f F limit steps v)) (sym memory) tt
 
--- the answer for the value that the file holds is that of the command
-pub path_to_print : (f cert : List ℕ) (texts : List (List ℕ)) (limit : ℕ) (steps : List (List ℕ)) (F : Frame) (lists : Lists) (v : Value)
-    → AllZip IsPathOf texts (steps ∷ []) → IsVouchedFor f cert F lists → Holds f F F.top.0 v
-    → (a : Answer) → PathSays f F limit steps v a → PrintSays limit f cert texts a
-path_to_print f cert texts limit steps F lists v are vouched holds a h = inr (steps, F, lists, v, are, vouched, holds, h)
-
--- a path text is wrong
-pub print_path_refused : (f cert : List ℕ) (texts : List (List ℕ)) (limit : ℕ) (fault : RunFault) → OnPath (IsWrongAmong texts) fault
-    → IsRefusal (PrintSays limit f cert texts) fault
-print_path_refused f cert texts limit (faults.Path place) h = inl (faults.Path place, refl, h)
-print_path_refused f cert texts limit faults.Memory h = tt
-print_path_refused f cert texts limit _ h = absurd h
-
-pub print_leaves : (f cert : List ℕ) (texts : List (List ℕ)) (limit : ℕ) (steps : List (List ℕ)) (F : Frame) (lists : Lists) (old new : Option (List ℕ))
-    (result : Result Said RunFault) → AllZip IsPathOf texts (steps ∷ []) → IsVouchedFor f cert F lists → ∥ ((v : Value) × Holds f F F.top.0 v) ∥₁
+-- Says says yes of the file, and the value under the path was printed
+pub print_leaves : (Says : Answer → Type 0) (f : List ℕ) (texts : List (List ℕ)) (limit : ℕ) (steps : List (List ℕ)) (F : Frame) (old new : Option (List ℕ))
+    (result : Result Said RunFault) → AllZip IsPathOf texts (steps ∷ []) → IsYes Says → ∥ IsThere f F ∥₁
     → ((v : Value) → Holds f F F.top.0 v → LeavesBy (PathSays f F limit steps v) limit old new result)
-    → Leaves (PrintSays limit f cert texts) limit old new result
-print_leaves f cert texts limit steps F lists old new result are vouched value left =
-    ∥∥₁_map value (λ h. said_as (PathSays f F limit steps h.0) (PrintSays limit f cert texts) limit old new result
-    (path_to_print f cert texts limit steps F lists h.0 are vouched h.1) (left h.0 h.1))
+    → Leaves (PrintSays limit Says f texts) limit old new result
+print_leaves Says f texts limit steps F old new result are (said, bytes, says) there left = ∥∥₁_map there (λ (v, frame, holds, held).
+    said_as (PathSays f F limit steps v) (PrintSays limit Says f texts) limit old new result
+    (λ a h. inr (inr (steps ∷ [], said, bytes, v, are, says, holds, (steps, F, refl, frame, h)))) (left v held))
 
 -- a line feed was put in, and a flush cut it
 pub line_cut : (old mid new : Option (List ℕ)) (s t : Sending) (r : Result (Unit {0}) WriteFault) → Takes old mid s t (10 ∷ [])

@@ -1,23 +1,17 @@
 -- What `get` says. Source: profile.
 use Rattle.std.specs.Prelude.{◌≡◌, ◌++◌, ℕ, List, [], codes, map, Bool, true, false, if◌then◌else◌, Result, Ok, Err, is_err}
-use Rattle.std.specs.List.{AllZip, flat_map, list_any}
-use Rattle.bplist_objects.specs.declared.frame.Frame.{Frame}
+use Rattle.std.specs.List.{flat_map, list_any}
 use Rattle.bplist_objects.specs.Value.{Value}
-use Rattle.bplist_objects.specs.Holds.{Holds}
-use Rattle.bplist_cert.specs.CertifiedFile.{IsVouchedFor}
-use Rattle.bplist_cert.specs.Lists.{Lists}
 use Rattle.bplist_cursor.specs.declared.found.Why.{Why}
 use Rattle.bplist_cursor.specs.declared.reply.Reply.{Reply}
 use Rattle.bplist_cursor.specs.declared.reply.Reply.TheVariants.{Face, Missing}
 use Rattle.bplist_cursor.specs.Look.{look}
-use Rattle.bplist_cursor.specs.Path.{IsPathOf}
 use Rattle.bplist_cursor.specs.Replies.{face}
 use Rattle.bplint_lines.specs.declared.said.Said.{Said}
 use Rattle.bplint_lines.specs.declared.said.Said.TheVariants.{All, SomeMissing}
-use Rattle.bplint_lines.specs.Answers.{Answer, gives, refuses}
+use Rattle.bplint_lines.specs.Answers.{Answer, gives}
 use Rattle.bplint_lines.specs.OutputLines.{face_line, missing_line}
-use Rattle.bplint_engine.specs.Check.{CheckSays}
-use Rattle.bplint_engine.specs.PathTexts.{IsAskingFault}
+use Rattle.bplint_engine.specs.PathTexts.{ForPaths}
 
 -- the line of the value that a path leads to, or of a path that leads nowhere
 abbrev pub found_line : Result Value (ℕ × Why) → List ℕ
@@ -28,13 +22,10 @@ found_line (Err (step, why)) = missing_line step why ++ codes "\n"
 abbrev pub said_of : List (Result Value (ℕ × Why)) → Said
 said_of found = if list_any is_err found then SomeMissing else All
 
--- `get` answers a line for each path, from the file's value
-abbrev pub GetSays : List ℕ → List ℕ → List (List ℕ) → Answer → Type 0
-GetSays f cert texts (gives said bytes) =
-    (paths : List (List (List ℕ))) × (F : Frame) × (lists : Lists) × AllZip IsPathOf texts paths × IsVouchedFor f cert F lists
-    × ((v : Value) → Holds f F F.top.0 v
-    → (said ≡ said_of (map (look v) paths)) × (bytes ≡ flat_map found_line (map (look v) paths)))
-GetSays f cert texts (refuses fault) = IsAskingFault (CheckSays f cert) texts fault
+-- lines for what the paths lead to, one after the other, in a file of which Says says yes
+abbrev pub LinesSay : (Result Value (ℕ × Why) → List ℕ) → (Answer → Type 0) → List ℕ → List (List ℕ) → Answer → Type 0
+LinesSay lines Says f texts = ForPaths Says f texts (λ paths v answer.
+    answer ≡ gives (said_of (map (look v) paths)) (flat_map lines (map (look v) paths)))
 
 -- ---- replies
 -- the line of a reply to a path

@@ -3,11 +3,11 @@ pub mod Check
 pub mod Commands
 pub mod Get
 pub mod Hexadecimal
+pub mod Least
 pub mod Lint
 pub mod Ls
 pub mod Output
 pub mod PathTexts
 pub mod Print
 pub mod Said
-pub mod Show
 pub mod Prelude

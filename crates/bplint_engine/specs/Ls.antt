@@ -1,27 +1,18 @@
 -- What `ls` says: the members of a value, one line each. Source: the path texts RFC 6901; the lines profile.
-use Rattle.std.specs.Prelude.{◌≡◌, ◌∷◌, ◌++◌, ℕ, zero, suc, ◌+◌, ◌*◌, length, List, [], codes, Option, None, Some, Result, Ok, Err, ⊤}
+use Rattle.std.specs.Prelude.{◌≡◌, ◌++◌, ℕ, zero, suc, ◌+◌, ◌*◌, length, List, [], codes, Option, None, Some, Result, Ok, Err, ⊤}
 use Rattle.std.specs.List.{enumerate_from, flat_map}
-use Rattle.bplist_objects.specs.declared.frame.Frame.{Frame}
 use Rattle.bplist_objects.specs.declared.head.Head.{Head}
-use Rattle.bplist_objects.specs.Frame.{IsFrame}
 use Rattle.bplist_objects.specs.Heads.{Content, Spells, content_at}
 use Rattle.bplist_objects.specs.Holds.{Holds}
 use Rattle.bplist_objects.specs.Value.{Value, leaf, array, set, dict, text, keys}
 use Rattle.bplist_cert.specs.CheckedFile.{CheckedFile}
 use Rattle.bplist_cert.specs.Valid.{IsVouchedBy}
 use Rattle.bplist_cursor.specs.declared.found.Why.{Why}
-use Rattle.bplist_cursor.specs.Look.{look}
 use Rattle.bplist_cursor.specs.Members.{entries, members, member_of}
-use Rattle.bplist_cursor.specs.Path.{IsPathOf}
-use Rattle.bplist_lint.specs.declared.answer.Lint.{Lint}
-use Rattle.bplist_lint.specs.Linted.{IsLintedBy}
 use Rattle.bplint_engine.specs.declared.member_lines.Members.{Members}
 use Rattle.bplint_engine.specs.declared.member_lines.Members.TheVariants.{Array, Set, Dict}
-use Rattle.bplint_lines.specs.Answers.{Answer, gives, refuses}
 use Rattle.bplint_lines.specs.MemberNames.{bracketed, index_name, key_name}
-use Rattle.bplint_engine.specs.Get.{found_line, said_of}
-use Rattle.bplint_engine.specs.Lint.{LintSays}
-use Rattle.bplint_engine.specs.PathTexts.{IsAskingFault}
+use Rattle.bplint_engine.specs.Get.{found_line}
 
 -- the value is a leaf
 abbrev pub IsLeaf : Value → Type 0
@@ -74,10 +65,3 @@ listed path (Ok (array vs)) = flat_map (λ e. named_line (index_name path e.0) e
 listed path (Ok (set vs)) = flat_map (λ e. named_line (bracketed e.0) e.1) (enumerate_from 0 (members vs))
 listed path (Ok (dict ps)) = flat_map (λ e. named_line (key_name path e.0 e.1.0) e.1.1) (enumerate_from 0 (entries ps))
 listed path (Err missing) = found_line (Err missing)
-
--- `ls` answers the members under a path of the file's value
-abbrev pub ListSays : List ℕ → List ℕ → Answer → Type 0
-ListSays f path (gives said bytes) =
-    (steps : List (List ℕ)) × (F : Frame) × (lint : Lint) × IsPathOf path steps × IsFrame f F × IsLintedBy f F lint
-    × ((v : Value) → Holds f F F.top.0 v → (said ≡ said_of (look v steps ∷ [])) × (bytes ≡ listed path (look v steps)))
-ListSays f path (refuses fault) = IsAskingFault (LintSays f) (path ∷ []) fault

@@ -5,7 +5,7 @@ pub use Rattle.bplist_objects.specs.Safe.{IsSafeFrame, IsSafeHead}
 pub use Rattle.bplist_objects.specs.Value.{Value}
 pub use Rattle.bplist_cert.specs.CertifiedFile.{IsVouchedFor}
 pub use Rattle.bplist_cert.specs.Encoding.{octets_of}
-pub use Rattle.bplist_cert.specs.Lists.{AreWords, IsCertificate, Lists}
+pub use Rattle.bplist_cert.specs.Lists.{IsCertificate, Lists}
 pub use Rattle.bplist_cert.specs.Valid.{IsVouchedBy}
 pub use Rattle.bplist_lint.specs.Upgraded.{IsUpgraded}
 pub use Rattle.bplist_cursor.specs.Kept.{OnlyReadsFile}
@@ -21,12 +21,12 @@ pub use Rattle.bplint_lines.specs.OutputLines.{check_line, face_line, lint_line,
 pub use Rattle.bplint_engine.specs.Certify.{CertifySays, written}
 pub use Rattle.bplint_engine.specs.Check.{CheckSays, IsDecoded}
 pub use Rattle.bplint_engine.specs.Commands.{Asked, PrintsOnePath}
-pub use Rattle.bplint_engine.specs.Get.{GetSays, reply_line, said_of}
+pub use Rattle.bplint_engine.specs.Get.{LinesSay, found_line, reply_line, said_of}
 pub use Rattle.bplint_engine.specs.Hexadecimal.{spelled}
+pub use Rattle.bplint_engine.specs.Least.{IsLeastFor}
 pub use Rattle.bplint_engine.specs.Lint.{LintSays}
-pub use Rattle.bplint_engine.specs.Ls.{IsContainer, IsHeadFor, IsLeaf, ListSays, first_lines, listed, member_line}
+pub use Rattle.bplint_engine.specs.Ls.{IsContainer, IsHeadFor, IsLeaf, first_lines, listed, member_line}
 pub use Rattle.bplint_engine.specs.Output.{Answers, IsRefusal, Sends, is_read}
 pub use Rattle.bplint_engine.specs.PathTexts.{IsWrongAmong, OnPath}
 pub use Rattle.bplint_engine.specs.Print.{NodeSays, PathSays, PrintSays}
 pub use Rattle.bplint_engine.specs.Said.{Says, SaysOver, most, takes_cert}
-pub use Rattle.bplint_engine.specs.Show.{IsLeastFor, LeastLeads}

@@ -7,7 +7,7 @@ use Rattle.bplint_lines.specs.Answers.{Answer, refuses}
 use Rattle.bplint_engine.specs.Certify.{CertifySays}
 use Rattle.bplint_engine.specs.Check.{CheckSays}
 use Rattle.bplint_engine.specs.Commands.{Asked}
-use Rattle.bplint_engine.specs.Get.{GetSays}
+use Rattle.bplint_engine.specs.Get.{LinesSay, found_line}
 use Rattle.bplint_engine.specs.Hexadecimal.{spelled}
 use Rattle.bplint_engine.specs.Lint.{LintSays}
 use Rattle.bplint_engine.specs.Print.{PrintSays}
@@ -18,8 +18,8 @@ Says command f cert answer = elim command.verb [
   | Lint ↦ LintSays f answer
   | Check ↦ CheckSays f cert answer
   | Certify ↦ CertifySays command.sorted command.hex f answer
-  | Get ↦ GetSays f cert command.paths answer
-  | Print ↦ PrintSays command.limit f cert command.paths answer
+  | Get ↦ LinesSay found_line (CheckSays f cert) f command.paths answer
+  | Print ↦ PrintSays command.limit (CheckSays f cert) f command.paths answer
 ]
 
 -- how many bytes may go out before a failed read or refused memory: the limit of Print, else none

@@ -1,6 +1,6 @@
 //! A file with a certificate.
-ghost use Rattle.std.specs.Prelude.{◌≡◌, ℕ, List, length, IfOk, IsTrue, MatchResult, None};
-ghost use Rattle.bplint_engine.specs.Prelude.{OnlyReads, Holds, IsSafeFrame, Value, AreWords, IsCertificate, read_failed, IsRefusal, is_read, CheckSays, IsDecoded, LintSays, IsVouchedFor, IsLeastFor};
+ghost use Rattle.std.specs.Prelude.{◌≡◌, ℕ, List, length, IfOk, IsTrue, MatchResult};
+ghost use Rattle.bplint_engine.specs.Prelude.{OnlyReads, IsSafeFrame, read_failed, IsRefusal, is_read, CheckSays, IsDecoded, LintSays, IsVouchedFor, IsLeastFor};
 
 use bplint_lines::RunFault;
 use bplist_cert::{CertRefusal, Certificate, Checked, check};
@@ -21,8 +21,6 @@ pub(crate) fn check_decoded<S: Source>(
     ensures exact { IsTrue (S.means src).honest → (cert : List ℕ) → IsDecoded cert decoded → MatchResult result
         (λ checked. IsVouchedFor (S.means src).octets cert checked.frame checked.certificate)
         (λ refused. IsRefusal (CheckSays (S.means src).octets cert) refused.0) }
-    ensures value { IsTrue (S.means src).honest → IfOk result (λ checked.
-        ∥ ((v : Value) × Holds (S.means src).octets checked.frame checked.frame.top.0 v) ∥₁) }
 {
     let certificate = match decoded {
         Ok(certificate) => certificate,
@@ -43,8 +41,6 @@ pub(crate) fn checked_by_lint<S: Source>(alloc: Global, src: S) -> Result<Checke
     ensures exact { IsTrue (S.means src).honest → MatchResult result
         (λ checked. IsLeastFor (S.means src).octets checked.frame checked.certificate)
         (λ refused. IsRefusal (LintSays (S.means src).octets) refused.0) }
-    ensures value { IsTrue (S.means src).honest → IfOk result (λ checked.
-        ∥ ((v : Value) × Holds (S.means src).octets checked.frame checked.frame.top.0 v) ∥₁) }
 {
     let mut src = src;
     match lint_with_frame(alloc, &mut src) {
@@ -64,7 +60,6 @@ fn lint_with_frame<S: Source>(alloc: Global, src: &mut S) -> Result<(Frame, Cert
     ensures count { IfOk result (λ found. length found.1.heights ≡ found.0.objects) }
 {
     let found = lint(alloc, src)?;
-    fits_octets(&found.certificate);
     // The linter has read this trailer, so a broken rule or another number of objects means that the file has changed.
     let frame = match trailer_of(src) {
         Ok(frame) => frame,
@@ -75,19 +70,4 @@ fn lint_with_frame<S: Source>(alloc: Global, src: &mut S) -> Result<(Frame, Cert
         return Err(RunFault::Changed);
     }
     Ok((frame, found.certificate))
-}
-
-/// A certificate without key lists can be spelled as bytes.
-fn fits_octets(certificate: &Certificate)
-    ensures { certificate.now.keys ≡ None → IsCertificate certificate.now }
-{
-    let _count = certificate.heights.len();
-    are_words(&certificate.heights);
-}
-
-/// Numbers of 32 bits.
-fn are_words(numbers: &[u32])
-    ensures { AreWords numbers.now }
-{
-    let _count = numbers.len();
 }

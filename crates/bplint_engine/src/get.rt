@@ -2,7 +2,7 @@
 ghost use Rattle.std.specs.Prelude.{◌≡◌, ◌++◌, ℕ, List, IfOk, IsTrue, OnOk, map, string_bytes};
 ghost use Rattle.std.specs.List.{flat_map};
 ghost use Rattle.std.specs.List.{list_any};
-ghost use Rattle.bplint_engine.specs.Prelude.{OnlyReads, Holds, Value, OnlyReadsFile, reply, read_failed, Answers, Gives, IsDecoded, GetSays, reply_line};
+ghost use Rattle.bplint_engine.specs.Prelude.{OnlyReads, Holds, Value, OnlyReadsFile, reply, read_failed, Answers, Gives, CheckSays, IsDecoded, LinesSay, found_line, reply_line};
 ghost use Rattle.bplint_engine.specs.Get as spec;
 
 use crate::certified_file::check_decoded;
@@ -23,7 +23,8 @@ pub(crate) fn get_output<S: Source>(
 ) -> (Result<Output, RunFault>, S)
     ensures source { OnlyReads (read_failed result.0) (S.means src) (S.means result.1) }
     ensures exact { IsTrue (S.means src).honest → (cert : List ℕ) → IsDecoded cert decoded
-        → Answers (GetSays (S.means src).octets cert (map (λ text. string_bytes text) texts.now)) result.0 }
+        → ∥ Answers (LinesSay found_line (CheckSays (S.means src).octets cert) (S.means src).octets
+        (map (λ text. string_bytes text) texts.now)) result.0 ∥₁ }
 {
     let queries = match queries_of(alloc, texts) {
         Ok(queries) => queries,

@@ -1,6 +1,6 @@
 //! The members of a value in a file, with no certificate at hand.
 ghost use Rattle.std.specs.Prelude.{◌≡◌, ◌∷◌, [], ◌*◌, ◌^◌, ◌<◌, Ok, IfSome, IsTrue, MatchOption};
-ghost use Rattle.bplint_engine.specs.Prelude.{OnlyReads, Holds, Value, IsVouchedBy, OnlyReadsFile, look, face as face_of, HasRoom, Leaves, read_failed, Answers, Gives, said_of, IsContainer, IsLeaf, ListSays, listed};
+ghost use Rattle.bplint_engine.specs.Prelude.{OnlyReads, Holds, Value, IsVouchedBy, OnlyReadsFile, look, face as face_of, HasRoom, Leaves, read_failed, Answers, Gives, said_of, IsContainer, IsLeaf, LinesSay, LintSays, listed};
 
 use crate::certified_file::checked_by_lint;
 use crate::delivery::send_made;
@@ -32,7 +32,8 @@ pub fn list_on<S: Source, W: Write>(
     out: &mut W,
 ) -> (Result<Said, RunFault>, S)
     ensures source { OnlyReads (read_failed result.0) (S.means src) (S.means result.1) }
-    ensures exact { IsTrue (S.means src).honest → Leaves (ListSays (S.means src).octets path.now) 0
+    ensures exact { IsTrue (S.means src).honest
+        → Leaves (LinesSay (listed path.now) (LintSays (S.means src).octets) (S.means src).octets (path.now ∷ [])) 0
         (W.contents out.old) (W.contents out.new) result.0 }
 {
     send_made(list_output(alloc, src, path), out)
@@ -41,7 +42,8 @@ pub fn list_on<S: Source, W: Write>(
 /// The lines of `ls`, and the source again.
 fn list_output<S: Source>(alloc: Global, src: S, text: &str) -> (Result<Output, RunFault>, S)
     ensures source { OnlyReads (read_failed result.0) (S.means src) (S.means result.1) }
-    ensures exact { IsTrue (S.means src).honest → Answers (ListSays (S.means src).octets text.now) result.0 }
+    ensures exact { IsTrue (S.means src).honest
+        → Answers (LinesSay (listed text.now) (LintSays (S.means src).octets) (S.means src).octets (text.now ∷ [])) result.0 }
 {
     let path = match path_in(alloc, text) {
         Ok(path) => path,

@@ -1,6 +1,6 @@
 //! The answer of `print`.
 ghost use Rattle.std.specs.Prelude.{◌≡◌, ◌∷◌, ◌++◌, ℕ, List, [], IfErr, IfOk, IsTrue, OnOk, codes, length, map, string_bytes};
-ghost use Rattle.bplint_engine.specs.Prelude.{OnlyReads, Holds, Value, IsVouchedBy, OnlyReadsFile, Takes, TakesPart, Leaves, LeavesBy, read_failed, missing_line, IsDecoded, NodeSays, PathSays, PrintSays};
+ghost use Rattle.bplint_engine.specs.Prelude.{OnlyReads, Holds, Value, IsVouchedBy, OnlyReadsFile, Takes, TakesPart, Leaves, LeavesBy, read_failed, missing_line, CheckSays, IsDecoded, NodeSays, PathSays, PrintSays};
 
 use crate::certified_file::check_decoded;
 use crate::delivery::send_output;
@@ -27,8 +27,8 @@ pub(crate) fn print_answer<S: Source, W: Write>(
     requires { length texts.now ≡ 1 }
     ensures source { OnlyReads (read_failed result.0) (S.means src) (S.means result.1) }
     ensures exact { IsTrue (S.means src).honest → (cert : List ℕ) → IsDecoded cert decoded
-        → Leaves (PrintSays limit (S.means src).octets cert (map (λ text. string_bytes text) texts.now)) limit
-        (W.contents out.old) (W.contents out.new) result.0 }
+        → Leaves (PrintSays limit (CheckSays (S.means src).octets cert) (S.means src).octets
+        (map (λ text. string_bytes text) texts.now)) limit (W.contents out.old) (W.contents out.new) result.0 }
 {
     let path = match path_of(alloc, texts) {
         Ok(path) => path,

@@ -1,6 +1,6 @@
 //! Values under paths of a file, with no certificate at hand.
 ghost use Rattle.std.specs.Prelude.{◌∷◌, [], IsTrue, map, string_bytes};
-ghost use Rattle.bplint_engine.specs.Prelude.{OnlyReads, Leaves, read_failed, Answers, GetSays, PrintSays, LeastLeads};
+ghost use Rattle.bplint_engine.specs.Prelude.{OnlyReads, Leaves, read_failed, Answers, LinesSay, LintSays, PrintSays, found_line};
 
 use crate::certified_file::checked_by_lint;
 use crate::delivery::send_made;
@@ -25,8 +25,8 @@ pub fn show_on<S: Source, W: Write>(
 ) -> (Result<Said, RunFault>, S)
     ensures source { OnlyReads (read_failed result.0) (S.means src) (S.means result.1) }
     ensures exact { IsTrue (S.means src).honest
-        → Leaves (LeastLeads GetSays (S.means src).octets (map (λ text. string_bytes text) paths.now)) 0
-        (W.contents out.old) (W.contents out.new) result.0 }
+        → Leaves (LinesSay found_line (LintSays (S.means src).octets) (S.means src).octets
+        (map (λ text. string_bytes text) paths.now)) 0 (W.contents out.old) (W.contents out.new) result.0 }
 {
     send_made(show_output(alloc, src, paths), out)
 }
@@ -35,7 +35,8 @@ pub fn show_on<S: Source, W: Write>(
 fn show_output<S: Source>(alloc: Global, src: S, texts: &[String]) -> (Result<Output, RunFault>, S)
     ensures source { OnlyReads (read_failed result.0) (S.means src) (S.means result.1) }
     ensures exact { IsTrue (S.means src).honest
-        → Answers (LeastLeads GetSays (S.means src).octets (map (λ text. string_bytes text) texts.now)) result.0 }
+        → ∥ Answers (LinesSay found_line (LintSays (S.means src).octets) (S.means src).octets
+        (map (λ text. string_bytes text) texts.now)) result.0 ∥₁ }
 {
     let queries = match queries_of(alloc, texts) {
         Ok(queries) => queries,
@@ -62,7 +63,7 @@ pub fn show_text_on<S: Source, W: Write>(
 ) -> (Result<Said, RunFault>, S)
     ensures source { OnlyReads (read_failed result.0) (S.means src) (S.means result.1) }
     ensures exact { IsTrue (S.means src).honest
-        → Leaves (LeastLeads (PrintSays limit) (S.means src).octets (path.now ∷ [])) limit
+        → Leaves (PrintSays limit (LintSays (S.means src).octets) (S.means src).octets (path.now ∷ [])) limit
         (W.contents out.old) (W.contents out.new) result.0 }
 {
     let path = match path_in(alloc, path) {

@@ -1,5 +1,3 @@
-use Rattle.std.proofs.Math.Logic.{∥∥₁_map}
-use Rattle.bplist_cert.proofs.VouchedObjects.{object_holds}
 use Rattle.bplint_engine.proofs.RefusedCertificates.{octets_refused, check_refused}
 use Rattle.bplint_engine.proofs.certified_file.check_decoded.Goals as goal
 
@@ -12,7 +10,3 @@ returns-clause-exact g c =
     λ honest cert made. let r = c.from-in-Err-check.ensures in
     let certificate = rw c.in-Ok.is at made in
     rw r (check_refused _ _ _ _ certificate.0 certificate.1 (c.in-Err-check.ensures.fault honest))
-
-pub returns-in-Ok-check-clause-value : goal.returns-in-Ok-check-clause-value
-returns-in-Ok-check-clause-value g c =
-    λ honest. ∥∥₁_map (c.in-Ok-check.ensures.yes honest) (λ a. let h = object_holds _ _ _ a.valid _ a.valid.top in (h.0, h.1))

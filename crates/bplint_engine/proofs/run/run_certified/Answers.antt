@@ -1,9 +1,11 @@
 use Rattle.std.proofs.Common.{subst}
+use Rattle.std.proofs.Math.Logic.{∥∥₁_map}
 use Rattle.std.proofs.lemmas.Grind.{merely}
 use Rattle.bplint_lines.specs.Answers.{Leaves}
 use Rattle.bplint_engine.specs.Certify.{CertifySays}
 use Rattle.bplint_engine.specs.Commands.{Asked}
-use Rattle.bplint_engine.specs.Get.{GetSays}
+use Rattle.bplint_engine.specs.Check.{CheckSays}
+use Rattle.bplint_engine.specs.Get.{LinesSay, found_line}
 use Rattle.bplint_engine.specs.Said.{Says, most}
 use Rattle.bplint_engine.proofs.LeftBytes.{sent}
 use Rattle.bplint_engine.proofs.run.run_certified.Goals as goal
@@ -14,7 +16,8 @@ returns-in-Get-clause-exact g c =
     let view = c.command.view_is in
     let lent = c.deref.ensures.value in
     let made = rw lent at (c.get_output.ensures.exact honest cert decoded) in
-    rw (← view) (rw is (merely (sent (GetSays (g.S.Source.means c.args.src).octets cert _) 0 _ _ _ _ made c.send_made-in-Get.ensures.sent)))
+    let f = (g.S.Source.means c.args.src).octets in
+    rw (← view) (rw is (∥∥₁_map made (λ m. sent (LinesSay found_line (CheckSays f cert) f _) 0 _ _ _ _ m c.send_made-in-Get.ensures.sent)))
 
 pub returns-in-Print-clause-exact : goal.returns-in-Print-clause-exact
 returns-in-Print-clause-exact g c =
