@@ -1,7 +1,6 @@
 //! The kinds of objects and their markers.
 
-ghost use Rattle.std.specs.Prelude.{◌≡◌, ◌≤◌, MatchOption, IsSome};
-ghost use Rattle.bplist_objects.specs.Prelude.{Marks, kind_at, item_size};
+ghost use Rattle.bplist_objects.specs.Prelude.{◌≡◌, ◌≤◌, MatchOption, IsSome, Marks, kind_at, item_size};
 
 /// The kind of an object.
 #[derive(Clone, Copy, Debug, PartialEq, Eq, Drop)]
