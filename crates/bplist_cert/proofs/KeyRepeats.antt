@@ -26,9 +26,6 @@ use Rattle.bplist_objects.specs.declared.fault.ObjectFault.{ObjectFault}
 use Rattle.bplist_objects.specs.declared.fault.ObjectFault.TheVariants as errors
 use Rattle.bplist_objects.specs.Answers.{Gives}
 use Rattle.bplist_objects.specs.Scan.{ref}
-use Rattle.bplist_cert.specs.declared.refusal.Refusal.{Refusal}
-use Rattle.bplist_cert.specs.declared.refusal.Refusal.TheVariants as refusals
-use Rattle.bplist_cert.specs.Refusals.{Judges}
 use Rattle.bplist_cert.specs.Valid.{IsVouchedBy}
 use Rattle.bplist_cert.specs.Looks.{KeepsBeforeKeys, KeepBeforeKeysBelow}
 use Rattle.bplist_cert.specs.KeyRepeats.{KeysAreSound, HasGoodKeys, BreaksKeys}
@@ -64,13 +61,6 @@ module _ (f : List ℕ) (F : Frame) where
   good_at keys n head has good other h = subst (λ (x : Head). x.kind ≡ Dict → KeysAreTexts f F x x.count × KeepsLast f F keys n x) (HasHead-unique f F n head other has h) good
 
   -- what is said of the keys by one head is said of the object
-  pub keys_judged : (count : ℕ) (keys : Option Keyed) (n : ℕ) (head : Head) → HasHead f F n head → (r : Result (Unit {0}) Refusal)
-      → Judges (λ _. KeysAreTexts f F head head.count × KeepsLast f F keys n head) (IsKeysFault f F count keys n head) r → Judges (λ _. HasGoodKeys f F keys n) (BreaksKeys f F count keys n) r
-  keys_judged count keys n head has (Ok x) h = good_at keys n head has (λ _. h)
-  keys_judged count keys n head has (Err (refusals.Fault fault)) h = (head, has, h)
-  keys_judged count keys n head has (Err (refusals.Read r)) h = tt
-  keys_judged count keys n head has (Err refusals.Memory) h = tt
-
   pub keys_given : (count : ℕ) (keys : Option Keyed) (n : ℕ) (head : Head) → HasHead f F n head → (r : Result (Unit {0}) ObjectFault)
       → Gives (λ _. KeysAreTexts f F head head.count × KeepsLast f F keys n head) (IsKeysFault f F count keys n head) r → Gives (λ _. HasGoodKeys f F keys n) (BreaksKeys f F count keys n) r
   keys_given count keys n head has (Ok x) h = good_at keys n head has (λ _. h)

@@ -14,6 +14,10 @@ AreRefs f F head from refs = (k : ℕ) → k < length refs → slice_index refs 
 abbrev pub IsOffsetOf : List ℕ → Frame → ℕ → ℕ → Type 0
 IsOffsetOf f F m place = m < F.objects → place ≡ off f F m
 
+-- these are the places of the objects from a number on
+abbrev pub ArePlaces : List ℕ → Frame → ℕ → List ℕ → Type 0
+ArePlaces f F from places = (k : ℕ) → k < length places → slice_index places k ≡ off f F (from + k)
+
 -- these are the places of the first so many of the objects
 abbrev pub AreOffsetsOf : List ℕ → Frame → List ℕ → List ℕ → ℕ → Type 0
 AreOffsetsOf f F refs places count = (k : ℕ) → k < count → IsOffsetOf f F (slice_index refs k) (slice_index places k)

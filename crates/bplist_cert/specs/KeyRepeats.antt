@@ -1,5 +1,5 @@
 -- The keys of vouched dictionaries, of which the rules before those of keys are known. Source: profile.
-use Rattle.std.specs.Prelude.{◌≡◌, ℕ, ◌<◌, List, length, Option}
+use Rattle.std.specs.Prelude.{◌≡◌, ℕ, ◌<◌, Bool, List, length, Option}
 use Rattle.bplist_objects.specs.declared.fault.Fault.{Fault}
 use Rattle.bplist_objects.specs.declared.frame.Frame.{Frame}
 use Rattle.bplist_objects.specs.declared.head.Head.{Head}
@@ -8,6 +8,7 @@ use Rattle.bplist_objects.specs.Announced.{HasHead}
 use Rattle.bplist_objects.specs.Rules.{KeepsAll}
 use Rattle.bplist_objects.specs.ObjectRules.{KeepsByObject, object_rules}
 use Rattle.bplist_objects.specs.Scan.{ref}
+use Rattle.bplist_keys.specs.Classes.{HasNamedKeys}
 use Rattle.bplist_cert.specs.Lists.{Keyed, Lists}
 use Rattle.bplist_cert.specs.Valid.{IsVouchedBy}
 use Rattle.bplist_cert.specs.DictKeys.{KeysAreTexts}
@@ -21,6 +22,14 @@ KeysAreSound f F head = (k : ℕ) → k < head.count → ref f F head k < F.obje
 abbrev pub HasGoodKeys : List ℕ → Frame → Option Keyed → ℕ → Type 0
 HasGoodKeys f F keys n =
     (head : Head) → HasHead f F n head → head.kind ≡ Dict → KeysAreTexts f F head head.count × KeepsLast f F keys n head
+
+-- the keys of the vouched dictionaries below a bound keep them
+abbrev pub HaveGoodKeys : List ℕ → Frame → List ℕ → Option Keyed → ℕ → Type 0
+HaveGoodKeys f F heights keys bound = (n : ℕ) → n < bound → IsVouchedBy heights n → HasGoodKeys f F keys n
+
+-- the keys of the vouched dictionaries below a bound are marked as named
+abbrev pub HaveNamedKeys : List ℕ → Frame → List ℕ → ℕ → List Bool → Type 0
+HaveNamedKeys f F heights bound marks = (n : ℕ) → n < bound → IsVouchedBy heights n → HasNamedKeys f F marks n
 
 -- object n is a dictionary whose keys break them, first with this fault
 abbrev pub BreaksKeys : List ℕ → Frame → ℕ → Option Keyed → ℕ → Fault → Type 0

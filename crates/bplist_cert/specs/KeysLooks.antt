@@ -4,7 +4,6 @@ use Rattle.bplist_objects.specs.declared.frame.Frame.{Frame}
 use Rattle.bplist_objects.specs.declared.head.Head.{Head}
 use Rattle.bplist_objects.specs.declared.kind.Kind.TheVariants.{Dict}
 use Rattle.bplist_objects.specs.Announced.{HasHead}
-use Rattle.bplist_keys.specs.Classes.{HasNamedKeys}
 use Rattle.bplist_cert.specs.declared.key_lists.ListLook.{ListLook}
 use Rattle.bplist_cert.specs.declared.keys_look.KeysLook.{KeysLook}
 use Rattle.bplist_cert.specs.declared.keys_look.KeysLook.TheVariants.{Named, Listed}
@@ -12,6 +11,7 @@ use Rattle.bplist_cert.specs.Lists.{Keyed}
 use Rattle.bplist_cert.specs.Valid.{IsVouchedBy}
 use Rattle.bplist_cert.specs.CheckRules.{HasOrder}
 use Rattle.bplist_cert.specs.KeyPairs.{AreKnown, HaveTextShapes}
+use Rattle.bplist_cert.specs.KeyRepeats.{HaveNamedKeys}
 use Rattle.bplist_cert.specs.LowBytes.{AreLow}
 
 -- object n, if it is a dictionary, has keys that are texts by marker and count, and a key list with them in order
@@ -37,5 +37,5 @@ IsLookOf objects (Listed look) = length look.keys.now.starts ≡ objects
 -- the keys of the vouched dictionaries below a bound are named, where they are to be, or have good key lists, where the look says so
 abbrev pub AreSeen : List ℕ → Frame → List ℕ → ℕ → KeysLook → Type 0
 AreSeen f F heights bound (Named named) =
-    IfSome named (λ keys. (n : ℕ) → n < bound → IsVouchedBy heights n → HasNamedKeys f F keys.marks.items n)
+    IfSome named (λ keys. HaveNamedKeys f F heights bound keys.marks.items)
 AreSeen f F heights bound (Listed look) = HaveGoodLists f F heights bound look

@@ -10,7 +10,7 @@ pub use Rattle.bplist_objects.specs.Frame.{off}
 pub use Rattle.bplist_objects.specs.Framed.{HonestlyIn, frame_in}
 pub use Rattle.bplist_objects.specs.Heads.{Content, Spells, refs}
 pub use Rattle.bplist_objects.specs.Holds.{Holds}
-pub use Rattle.bplist_objects.specs.ObjectRules.{IsObjectFault, KeepsByObject, body_rules, object_rules}
+pub use Rattle.bplist_objects.specs.ObjectRules.{KeepsByObject, body_rules, object_rules}
 pub use Rattle.bplist_objects.specs.Reach.{Chain, Reach, Refs}
 pub use Rattle.bplist_objects.specs.Rules.{KeepsAll}
 pub use Rattle.bplist_objects.specs.Safe.{IsSafeBody, IsSafeFrame, IsSafeHead, ref_count}
@@ -28,14 +28,14 @@ pub use Rattle.bplist_keys.specs.Marks.{IsMarked}
 pub use Rattle.bplist_keys.specs.Ranks.{AreClasses}
 pub use Rattle.bplist_keys.specs.Runs.{AreRuns}
 pub use Rattle.bplist_keys.specs.Texts.{HasTextShape, IsTextHead}
-pub use Rattle.bplist_cert.specs.CheckRules.{HasOrder, IsKeysFault, IsOrderFault}
+pub use Rattle.bplist_cert.specs.CheckRules.{HasOrder, IsOrderFault}
 pub use Rattle.bplist_cert.specs.CheckedFile.{CheckedFile, IsChecked, meaning_of}
-pub use Rattle.bplist_cert.specs.DictKeys.{AreInOrder, ComesAfter, IsFirstKeyless, IsKey, IsKeylessFault, IsText, IsTwiceFault, KeysAreTexts, KeysDiffer}
+pub use Rattle.bplist_cert.specs.DictKeys.{AreInOrder, ComesAfter, IsKey, IsKeylessFault, IsText, KeysAreTexts, KeysDiffer}
 pub use Rattle.bplist_cert.specs.Encoding.{Fits, IsCertRefusal, IsOctetsFault, key_words, magic, octets_of, words}
 pub use Rattle.bplist_cert.specs.Heights.{AreLower, AreMet, AreMetBy, IsFirstUnmet, IsFirstUnmetBy, IsHeightFault, IsUnmetFault, Meets, rule_of}
-pub use Rattle.bplist_cert.specs.KeyOffsets.{AreOffsetsOf, AreRefs, IsFirstOther, IsOffsetOf, ReferToTexts}
+pub use Rattle.bplist_cert.specs.KeyOffsets.{AreOffsetsOf, ArePlaces, AreRefs, IsFirstOther, IsOffsetOf, ReferToTexts}
 pub use Rattle.bplist_cert.specs.KeyPairs.{AreFewKeys, AreKnown, Ascends, Follows, HaveTextShapes, IsReadKey, IsSafeKey}
-pub use Rattle.bplist_cert.specs.KeyRepeats.{BreaksKeys, HasGoodKeys, IsFirstKeysFault, KeysAreSound}
+pub use Rattle.bplist_cert.specs.KeyRepeats.{BreaksKeys, HasGoodKeys, HaveGoodKeys, HaveNamedKeys, IsFirstKeysFault, KeysAreSound}
 pub use Rattle.bplist_cert.specs.KeysLooks.{AreSeen, HaveGoodLists, IsListed, IsLookOf, keys_of}
 pub use Rattle.bplist_cert.specs.Lists.{AreKeyed, AreWords, HasCount, HasStarts, IsCertificate, IsWhole, Keyed, Lists, list_of, lists}
 pub use Rattle.bplist_cert.specs.Looks.{IsShownFault, KeepBeforeKeysBelow}

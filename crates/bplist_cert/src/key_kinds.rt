@@ -1,7 +1,7 @@
 //! The keys of dictionaries: rule 21.
 
-ghost use Rattle.std.specs.Prelude.{◌≡◌, ◌↔◌, IsTrue, ◌+◌, ◌*◌, ◌≤◌, ◌<◌, length, IfOk, IfSome, MatchOption, Some, is_err};
-ghost use Rattle.bplist_cert.specs.Prelude.{OnlyReads, frame_in, HonestlyIn, off, IsSafeHead, IsSafeBody, IsTextKind, HasHead, KeepsAll, KeepsByObject, IsObjectFault, object_rules, Gives, Never, read_failed, Dict, KeyKind, Head as head_record, IsText, IsKey, KeysAreTexts, IsFirstKeyless, IsKeylessFault, AreLow, IsOffsetOf, AreOffsetsOf, ReferToTexts, IsFirstOther};
+ghost use Rattle.std.specs.Prelude.{◌≡◌, ◌↔◌, IsTrue, ◌+◌, ◌*◌, ◌<◌, length, IfOk, IfSome, MatchOption, Some, is_err};
+ghost use Rattle.bplist_cert.specs.Prelude.{OnlyReads, Honestly, frame_in, HonestlyIn, IsSafeHead, Gives, read_failed, Dict, KeyKind, Head as head_record, IsText, KeysAreTexts, IsKeylessFault, AreLow, IsOffsetOf, AreOffsetsOf, ReferToTexts, IsFirstOther};
 
 use crate::key_offsets::{BLOCK, read_ahead};
 use crate::low_bytes::LowBytes;
@@ -18,8 +18,7 @@ fn is_text<P: Framed>(
     place: u64,
 ) -> Result<bool, ReadFault>
     ensures reads { OnlyReads (is_err result) (P.means src.old) (P.means src.new) }
-    ensures low { IsTrue (P.means src.old).honest → AreLow (P.means src.old).octets low.old.slots
-        → AreLow (P.means src.old).octets low.new.slots }
+    ensures low { Honestly (P.means src.old) (λ f. AreLow f low.old.slots → AreLow f low.new.slots) }
     ensures exact { IfOk result (λ text. HonestlyIn (P.means src.old) (λ f F. AreLow f low.old.slots → IsOffsetOf f F m place
         → IsTrue text ↔ ((key : head_record) × IsText f F m key))) }
 {
@@ -48,8 +47,7 @@ fn first_other<P: Framed>(
 ) -> Result<Option<usize>, ReadFault>
     requires { length offsets.now ≡ length refs.now }
     ensures reads { OnlyReads (is_err result) (P.means src.old) (P.means src.new) }
-    ensures low { IsTrue (P.means src.old).honest → AreLow (P.means src.old).octets low.old.slots
-        → AreLow (P.means src.old).octets low.new.slots }
+    ensures low { Honestly (P.means src.old) (λ f. AreLow f low.old.slots → AreLow f low.new.slots) }
     ensures found { IfOk result (λ found. HonestlyIn (P.means src.old)
         (λ f F. AreLow f low.old.slots → AreOffsetsOf f F refs.now offsets.now (length refs.now)
         → MatchOption found (ReferToTexts f F refs.now (length refs.now)) (IsFirstOther f F refs.now))) }
@@ -59,39 +57,6 @@ fn first_other<P: Framed>(
         if !is_text(src, low, refs[i], offsets[i])? {
             return Ok(Some(i));
         }
-    }
-    Ok(None)
-}
-
-/// The first key of a dictionary that is no text.
-fn first_keyless<P: Offsets>(
-    src: &mut P,
-    low: &mut LowBytes,
-    head: &Head,
-) -> Result<Option<u64>, ReadFault>
-    requires head { IsSafeHead (frame_in (P.means src.old)) head.now }
-    requires dict { head.now.kind ≡ Dict }
-    ensures reads { OnlyReads (is_err result) (P.means src.old) (P.means src.new) }
-    ensures low { IsTrue (P.means src.old).honest → AreLow (P.means src.old).octets low.old.slots
-        → AreLow (P.means src.old).octets low.new.slots }
-    ensures found { IfOk result (λ found. HonestlyIn (P.means src.old)
-        (λ f F. AreLow f low.old.slots
-        → MatchOption found (KeysAreTexts f F head.now head.now.count) (IsFirstKeyless f F head.now))) }
-    ensures inside { IfOk result (λ found. IfSome found (λ i. i < head.now.count)) }
-{
-    let count = head.count;
-    let mut refs = [0u64; BLOCK];
-    let mut found = [0u64; BLOCK];
-    let mut done = 0u64;
-    while done < count {
-        let now = (count - done).min(BLOCK as u64);
-        let block = &mut refs[..now as usize];
-        let places = &mut found[..now as usize];
-        read_ahead(src, head, done, block, places)?;
-        if let Some(i) = first_other(src, low, block, places)? {
-            return Ok(Some(done + i as u64));
-        }
-        done += now;
     }
     Ok(None)
 }
@@ -107,15 +72,25 @@ pub(crate) fn check_texts<P: Offsets>(
     requires head { IsSafeHead (frame_in (P.means src.old)) head.now }
     requires dict { head.now.kind ≡ Dict }
     ensures reads { OnlyReads (read_failed result) (P.means src.old) (P.means src.new) }
-    ensures low { IsTrue (P.means src.old).honest → AreLow (P.means src.old).octets low.old.slots
-        → AreLow (P.means src.old).octets low.new.slots }
+    ensures low { Honestly (P.means src.old) (λ f. AreLow f low.old.slots → AreLow f low.new.slots) }
     ensures exact { HonestlyIn (P.means src.old) (λ f F. AreLow f low.old.slots
         → Gives (λ _. KeysAreTexts f F head.now head.now.count) (IsKeylessFault f F n.0 head.now) result) }
 {
-    match first_keyless(src, low, head)? {
-        None => Ok(()),
-        Some(i) => Err(ObjectFault::Fault(keyless(src, n, head, i))),
+    let count = head.count;
+    let mut refs = [0u64; BLOCK];
+    let mut found = [0u64; BLOCK];
+    let mut done = 0u64;
+    while done < count {
+        let now = (count - done).min(BLOCK as u64);
+        let block = &mut refs[..now as usize];
+        let places = &mut found[..now as usize];
+        read_ahead(src, head, done, block, places)?;
+        if let Some(i) = first_other(src, low, block, places)? {
+            return Err(ObjectFault::Fault(keyless(src, n, head, done + i as u64)));
+        }
+        done += now;
     }
+    Ok(())
 }
 
 /// The fault of key `i` of dictionary `n`.

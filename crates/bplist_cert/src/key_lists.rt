@@ -1,7 +1,7 @@
 //! Whether the key lists of vouched dictionaries have the keys in order, which are texts: rules 21 and 32.
 
-ghost use Rattle.std.specs.Prelude.{◌≡◌, ◌+◌, ◌≤◌, ◌<◌, ℕ, List, Some, IsTrue, false, IfOk, IfSome, OnOk, MatchOption, ⊤, is_err, length, slice_index};
-ghost use Rattle.bplist_cert.specs.Prelude.{OnlyReads, Gives, Never, read_failed, off, Frame as frame, HasHead, frame_in, HonestlyIn, KeepsAll, KeepsByObject, object_rules, IsSafeBody, IsSafeHead, IsTextKind, Head as head, Dict, ref, HasTextShape, IsTextHead, lists, IsWhole, list_of, HasOrder, IsKeysFault, KeysAreTexts, AreInOrder, KeysAreSound, HasGoodKeys, BreaksKeys, IsFirstKeysFault, AreFewKeys, Ascends, AreKnown, HaveTextShapes, Follows, IsReadKey, IsSafeKey, AreLow, IsVouchedBy, KeepBeforeKeysBelow, IsListed, HaveGoodLists};
+ghost use Rattle.std.specs.Prelude.{◌≡◌, ◌+◌, ◌≤◌, ◌<◌, ℕ, List, Some, IsTrue, false, IfOk, IfSome, OnOk, MatchOption, ⊤, is_err, length};
+ghost use Rattle.bplist_cert.specs.Prelude.{OnlyReads, Gives, Never, read_failed, off, ArePlaces, Frame as frame, HasHead, frame_in, HonestlyIn, KeepsAll, KeepsByObject, object_rules, IsSafeBody, IsSafeHead, IsTextKind, Head as head, Dict, ref, HasTextShape, IsTextHead, lists, IsWhole, list_of, HasOrder, AreInOrder, KeysAreSound, HasGoodKeys, HaveGoodKeys, BreaksKeys, IsFirstKeysFault, AreFewKeys, AreKnown, HaveTextShapes, Follows, IsReadKey, IsSafeKey, AreLow, KeepBeforeKeysBelow, IsListed, HaveGoodLists};
 
 use crate::certificate::KeyLists;
 use crate::key_kinds::check_texts;
@@ -38,22 +38,30 @@ fn head_of<P: Offsets>(src: &mut P, key: &ReadKey) -> Result<Option<Head>, ReadF
     }
 }
 
-/// Object `m` as a key, where it and the key before are texts by marker and count, of which that one comes before it.
-fn ascend<P: Offsets>(
+/// Object `m` as a key, where it is a text by marker and count, and comes after the key before it, if there is one.
+fn follows<P: Offsets>(
     src: &mut P,
-    last: &ReadKey,
+    before: &Option<ReadKey>,
     m: u32,
     pairs: &mut OrderedPairs,
 ) -> Result<Option<ReadKey>, ReadFault>
-    requires last { last.now.object < (frame_in (P.means src.old)).objects }
-    requires head { IsSafeKey (length (P.means src.old).octets) last.now }
+    requires before { IfSome before.now (λ last. (last.object < (frame_in (P.means src.old)).objects) × IsSafeKey (length (P.means src.old).octets) last) }
     requires within { m < (frame_in (P.means src.old)).objects }
     ensures reads { OnlyReads (is_err result) (P.means src.old) (P.means src.new) }
     ensures key { IfOk result (λ found. IfSome found (λ key. (key.object ≡ m) × IsSafeKey (length (P.means src.old).octets) key)) }
-    ensures exact { HonestlyIn (P.means src.old) (λ f F. AreKnown f F pairs.old → IsReadKey f F last.now
+    ensures exact { HonestlyIn (P.means src.old) (λ f F. AreKnown f F pairs.old → IfSome before.now (IsReadKey f F)
         → IfOk result (λ found. AreKnown f F pairs.new
-        × IfSome found (λ key. IsReadKey f F key × Ascends f F last.now.object m))) }
+        × IfSome found (λ key. IsReadKey f F key × Follows f F before.now m))) }
 {
+    let Some(last) = before else {
+        let Some(head) = object_text(src, m)? else {
+            return Ok(None);
+        };
+        return Ok(Some(ReadKey {
+            object: m,
+            head: Some(head),
+        }));
+    };
     if pairs.has(last.object, m) {
         return Ok(Some(ReadKey {
             object: m,
@@ -76,35 +84,6 @@ fn ascend<P: Offsets>(
     }))
 }
 
-/// Object `m` as a key, where it is a text by marker and count, and comes after the key before it, if there is one.
-fn follows<P: Offsets>(
-    src: &mut P,
-    before: &Option<ReadKey>,
-    m: u32,
-    pairs: &mut OrderedPairs,
-) -> Result<Option<ReadKey>, ReadFault>
-    requires before { IfSome before.now (λ last. (last.object < (frame_in (P.means src.old)).objects) × IsSafeKey (length (P.means src.old).octets) last) }
-    requires within { m < (frame_in (P.means src.old)).objects }
-    ensures reads { OnlyReads (is_err result) (P.means src.old) (P.means src.new) }
-    ensures key { IfOk result (λ found. IfSome found (λ key. (key.object ≡ m) × IsSafeKey (length (P.means src.old).octets) key)) }
-    ensures exact { HonestlyIn (P.means src.old) (λ f F. AreKnown f F pairs.old → IfSome before.now (IsReadKey f F)
-        → IfOk result (λ found. AreKnown f F pairs.new
-        × IfSome found (λ key. IsReadKey f F key × Follows f F before.now m))) }
-{
-    match before {
-        None => {
-            let Some(head) = object_text(src, m)? else {
-                return Ok(None);
-            };
-            Ok(Some(ReadKey {
-                object: m,
-                head: Some(head),
-            }))
-        }
-        Some(last) => ascend(src, last, m, pairs),
-    }
-}
-
 /// Reads the references to the keys of a dictionary where they are few.
 fn read_few<P: Offsets>(src: &mut P, head: &Head, into: &mut [u64]) -> Result<(), ReadFault>
     requires head { IsSafeHead (frame_in (P.means src.old)) head.now }
@@ -119,24 +98,8 @@ fn read_few<P: Offsets>(src: &mut P, head: &Head, into: &mut [u64]) -> Result<()
     read_refs_in(src, head, 0, &mut into[..head.count as usize])
 }
 
-/// The number of the reference to key `i`, which is among these where the keys are few.
-fn ref_among<P: Offsets>(src: &mut P, head: &Head, few: &[u64], i: u64) -> Result<u64, ReadFault>
-    requires head { IsSafeHead (frame_in (P.means src.old)) head.now }
-    requires dict { head.now.kind ≡ Dict }
-    requires room { length few.now ≡ 32 }
-    requires within { i < head.now.count }
-    ensures reads { OnlyReads (is_err result) (P.means src.old) (P.means src.new) }
-    ensures exact { HonestlyIn (P.means src.old) (λ f F. AreFewKeys f F head.now few.now
-        → IfOk result (λ m. m ≡ ref f F head.now i)) }
-{
-    let frame = src.frame();
-    if head.count <= FEW as u64 {
-        return Ok(few[i as usize]);
-    }
-    ref_at(src, &frame, head, i)
-}
-
-/// The object that the key at a position of a dictionary names, where there are such a key and such an object.
+/// The object that the key at a position of a dictionary names, where there are such a key and such an object. Its number is among
+/// these where the keys are few.
 fn key_at<P: Offsets>(
     src: &mut P,
     head: &Head,
@@ -154,9 +117,13 @@ fn key_at<P: Offsets>(
     if position as u64 >= head.count {
         return Ok(None);
     }
-    let objects = src.frame().objects;
-    let m = ref_among(src, head, few, position as u64)?;
-    if m >= objects as u64 {
+    let frame = src.frame();
+    let m = if head.count <= FEW as u64 {
+        few[position as usize]
+    } else {
+        ref_at(src, &frame, head, position as u64)?
+    };
+    if m >= frame.objects as u64 {
         return Ok(None);
     }
     Ok(Some(m as u32))
@@ -215,8 +182,6 @@ pub(crate) struct ListLook<'a> {
 }
 
 impl ListLook<'_> {
-    ghost use Rattle.bplist_cert.specs.KeysLooks.{HaveGoodLists};
-
     /// No key list was looked at yet, of a file of so many bytes.
     pub(crate) fn new(keys: &KeyLists, len: u64) -> ListLook
         ensures keys { result.keys.now ≡ keys.now }
@@ -254,41 +219,9 @@ fn has_good_list<P: Offsets>(
     }
 }
 
-/// Looks at the keys of dictionary `n` and at its key list. Where all vouched objects were seen, keys that are texts by marker
-/// and count are texts. The key lists are a parameter of their own, since `look`, which lends them, changes meanwhile.
-fn check_list<P: Offsets>(
-    src: &mut P,
-    seen: &VouchedPrefix,
-    keys: &KeyLists,
-    n: ObjectNo,
-    head: &Head,
-    look: &mut ListLook,
-) -> Result<(), ObjectFault>
-    requires all { length seen.now.heights.now ≡ (frame_in (P.means src.old)).objects }
-    requires head { IsSafeHead (frame_in (P.means src.old)) head.now }
-    requires dict { head.now.kind ≡ Dict }
-    requires within { n.0 < (frame_in (P.means src.old)).objects }
-    requires starts { length keys.now.starts ≡ (frame_in (P.means src.old)).objects }
-    ensures reads { OnlyReads (read_failed result) (P.means src.old) (P.means src.new) }
-    ensures known { HonestlyIn (P.means src.old) (λ f F. AreKnown f F look.old.pairs → AreLow f look.old.low.slots
-        → OnOk result (AreKnown f F look.new.pairs × AreLow f look.new.low.slots)) }
-    ensures exact { HonestlyIn (P.means src.old) (λ f F. AreKnown f F look.old.pairs → AreLow f look.old.low.slots
-        → (seen.now.bound ≡ F.objects → HaveTextShapes f F head.now → KeysAreTexts f F head.now head.now.count)
-        → Gives (λ _. KeysAreTexts f F head.now head.now.count × HasOrder f F keys.now n.0 head.now)
-        (IsKeysFault f F F.objects (Some keys.now) n.0 head.now) result) }
-{
-    let good = has_good_list(src, keys, n, head, &mut look.pairs)?;
-    if good && seen.is_whole() {
-        return Ok(());
-    }
-    check_texts(src, &mut look.low, n, head)?;
-    if good {
-        return Ok(());
-    }
-    check_order(src, keys, n, head, &mut look.pairs.runs)
-}
-
-/// Looks at the keys of vouched object `n`, where it is a dictionary.
+/// Looks at the keys of vouched object `n` and at its key list, where it is a dictionary. Where all vouched objects were seen, keys
+/// that are texts by marker and count are texts. The key lists are a parameter of their own, since `look`, which lends them,
+/// changes meanwhile.
 fn check_dict_order<P: Offsets>(
     src: &mut P,
     seen: &VouchedPrefix,
@@ -309,10 +242,18 @@ fn check_dict_order<P: Offsets>(
 {
     let _frame = src.frame();
     let head = object_shape(src, n)?;
-    match head.kind {
-        Kind::Dict => check_list(src, seen, keys, ObjectNo(n), &head, look),
-        _ => Ok(()),
+    let Kind::Dict = head.kind else {
+        return Ok(());
+    };
+    let good = has_good_list(src, keys, ObjectNo(n), &head, &mut look.pairs)?;
+    if good && seen.is_whole() {
+        return Ok(());
     }
+    check_texts(src, &mut look.low, ObjectNo(n), &head)?;
+    if good {
+        return Ok(());
+    }
+    check_order(src, keys, ObjectNo(n), &head, &mut look.pairs.runs)
 }
 
 /// Whether an object of this height may have keys, or a key list without keys that starts behind all of so many positions. An
@@ -366,8 +307,7 @@ pub(crate) fn look_at_lists<P: Offsets>(
     requires starts { length look.old.keys.now.starts ≡ (frame_in (P.means src.old)).objects }
     ensures reads { OnlyReads (read_failed result) (P.means src.old) (P.means src.new) }
     ensures keys { look.new.keys ≡ look.old.keys }
-    ensures exact { HonestlyIn (P.means src.old) (λ f F. ((k : ℕ) → k < length places.now
-        → slice_index places.now k ≡ off f F (from + k))
+    ensures exact { HonestlyIn (P.means src.old) (λ f F. ArePlaces f F from places.now
         → KeepBeforeKeysBelow f F heights.now (from + length places.now)
         → HaveGoodLists f F heights.now from look.old
         → Gives (λ _. HaveGoodLists f F heights.now (from + length places.now) look.new) Never result) }
@@ -403,8 +343,7 @@ pub(crate) fn check_key_orders<P: Offsets>(
     ensures reads { OnlyReads (read_failed result) (P.means src.old) (P.means src.new) }
     ensures exact { HonestlyIn (P.means src.old) (λ f F. KeepBeforeKeysBelow f F seen.now.heights.now seen.now.bound
         → HaveGoodLists f F seen.now.heights.now seen.now.bound look.old
-        → Gives (λ _. (n : ℕ) → n < seen.now.bound → IsVouchedBy seen.now.heights.now n
-        → HasGoodKeys f F (Some look.old.keys.now) n)
+        → Gives (λ _. HaveGoodKeys f F seen.now.heights.now (Some look.old.keys.now) seen.now.bound)
         (IsFirstKeysFault f F (lists seen.now.heights.now (Some look.old.keys.now)) seen.now.bound) result) }
 {
     let _frame = src.frame();

@@ -1,7 +1,7 @@
 //! The objects that the vouched dictionaries name as keys.
 
-ghost use Rattle.std.specs.Prelude.{◌≡◌, ◌+◌, ◌<◌, ◌≤◌, ℕ, IfOk, IfSome, length, slice_index};
-ghost use Rattle.bplist_cert.specs.Prelude.{OnlyReads, Gives, Never, read_failed, off, frame_in, HonestlyIn, KeepsAll, KeepsByObject, object_rules, HasNamedKeys, IsMarked, IsVouchedBy, KeepBeforeKeysBelow, Judges, refused_read};
+ghost use Rattle.std.specs.Prelude.{◌≡◌, ◌+◌, ◌<◌, ◌≤◌, ℕ, IfOk, IfSome, length};
+ghost use Rattle.bplist_cert.specs.Prelude.{OnlyReads, Gives, Never, read_failed, off, frame_in, HonestlyIn, KeepsAll, KeepsByObject, object_rules, HasNamedKeys, HaveNamedKeys, ArePlaces, IsMarked, IsVouchedBy, KeepBeforeKeysBelow, Judges, refused_read};
 
 use crate::refusal::Refusal;
 use crate::vouched_prefix::VouchedPrefix;
@@ -38,7 +38,7 @@ fn name_object<P: Framed>(
 
 /// Names the keys of the vouched dictionaries among the objects from number `from` on, which stand at these places. An object
 /// of height 1 has no references.
-fn name_block<P: Framed>(
+pub(crate) fn name_block<P: Framed>(
     src: &mut P,
     heights: &[u32],
     from: u32,
@@ -50,12 +50,9 @@ fn name_block<P: Framed>(
     requires all { length named.old.marks.items ≡ (frame_in (P.means src.old)).objects }
     ensures reads { OnlyReads (read_failed result) (P.means src.old) (P.means src.new) }
     ensures all { length named.new.marks.items ≡ (frame_in (P.means src.old)).objects }
-    ensures exact { HonestlyIn (P.means src.old) (λ f F. ((k : ℕ) → k < length places.now
-        → slice_index places.now k ≡ off f F (from + k))
-        → KeepBeforeKeysBelow f F heights.now (from + length places.now)
-        → ((m : ℕ) → m < from → IsVouchedBy heights.now m → HasNamedKeys f F named.old.marks.items m)
-        → Gives (λ _. (m : ℕ) → m < from + length places.now → IsVouchedBy heights.now m
-        → HasNamedKeys f F named.new.marks.items m) Never result) }
+    ensures exact { HonestlyIn (P.means src.old) (λ f F. ArePlaces f F from places.now
+        → KeepBeforeKeysBelow f F heights.now (from + length places.now) → HaveNamedKeys f F heights.now from named.old.marks.items
+        → Gives (λ _. HaveNamedKeys f F heights.now (from + length places.now) named.new.marks.items) Never result) }
 {
     let _frame = src.frame();
     for (i, place) in places.iter().enumerate() {
@@ -67,45 +64,24 @@ fn name_block<P: Framed>(
     Ok(())
 }
 
-/// The same, where keys are named.
-pub(crate) fn name_wanted<P: Framed>(
-    src: &mut P,
-    heights: &[u32],
-    from: u32,
-    places: &[u64],
-    named: &mut Option<NamedKeys>,
-) -> Result<(), ObjectFault>
-    requires heights { length heights.now ≡ (frame_in (P.means src.old)).objects }
-    requires within { from + length places.now ≤ (frame_in (P.means src.old)).objects }
-    requires all { IfSome named.old (λ keys. length keys.marks.items ≡ (frame_in (P.means src.old)).objects) }
-    ensures reads { OnlyReads (read_failed result) (P.means src.old) (P.means src.new) }
-    ensures all { IfSome named.new (λ keys. length keys.marks.items ≡ (frame_in (P.means src.old)).objects) }
-    ensures exact { HonestlyIn (P.means src.old) (λ f F. ((k : ℕ) → k < length places.now
-        → slice_index places.now k ≡ off f F (from + k))
-        → KeepBeforeKeysBelow f F heights.now (from + length places.now)
-        → IfSome named.old (λ keys. (m : ℕ) → m < from → IsVouchedBy heights.now m → HasNamedKeys f F keys.marks.items m)
-        → Gives (λ _. IfSome named.new (λ keys. (m : ℕ) → m < from + length places.now → IsVouchedBy heights.now m
-        → HasNamedKeys f F keys.marks.items m)) Never result) }
-{
-    match named {
-        Some(named) => name_block(src, heights, from, places, named),
-        None => Ok(()),
-    }
-}
-
-/// The objects that the vouched dictionaries which were seen name as keys.
+/// The objects that the vouched dictionaries which were seen name as keys, which are given or found.
 pub(crate) fn seen_keys<P: Framed>(
     alloc: Global,
     src: &mut P,
     seen: &VouchedPrefix,
+    given: Option<NamedKeys>,
 ) -> Result<NamedKeys, Refusal>
-    requires { length seen.now.heights.now ≡ (frame_in (P.means src.old)).objects }
+    requires heights { length seen.now.heights.now ≡ (frame_in (P.means src.old)).objects }
+    requires given { IfSome given (λ keys. length keys.marks.items ≡ (frame_in (P.means src.old)).objects) }
     ensures reads { OnlyReads (refused_read result) (P.means src.old) (P.means src.new) }
     ensures all { IfOk result (λ named. length named.marks.items ≡ (frame_in (P.means src.old)).objects) }
     ensures exact { HonestlyIn (P.means src.old) (λ f F. KeepBeforeKeysBelow f F seen.now.heights.now seen.now.bound
-        → Judges (λ named. (n : ℕ) → n < seen.now.bound → IsVouchedBy seen.now.heights.now n
-        → HasNamedKeys f F named.marks.items n) Never result) }
+        → IfSome given (λ keys. HaveNamedKeys f F seen.now.heights.now seen.now.bound keys.marks.items)
+        → Judges (λ named. HaveNamedKeys f F seen.now.heights.now seen.now.bound named.marks.items) Never result) }
 {
+    if let Some(named) = given {
+        return Ok(named);
+    }
     let objects = src.frame().objects;
     let mut named = NamedKeys::new(alloc, objects)?;
     let mut buffer = [0u64; BLOCK];
@@ -136,5 +112,5 @@ pub fn vouched_keys<P: Framed>(
         heights,
         bound: src.frame().objects,
     };
-    seen_keys(alloc, src, &seen)
+    seen_keys(alloc, src, &seen, None)
 }

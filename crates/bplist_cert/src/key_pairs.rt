@@ -1,7 +1,7 @@
 //! Pairs of texts that were found in order, so that dictionaries which share keys do not compare them again.
 
 ghost use Rattle.std.specs.Prelude.{◌≡◌, ◌+◌, ◌*◌, ◌<◌, ℕ, List, IsTrue};
-ghost use Rattle.bplist_cert.specs.Prelude.{Frame as frame};
+ghost use Rattle.bplist_cert.specs.Prelude.{Frame as frame, Ascends, AreKnown};
 
 use bplist_keys::Runs;
 
@@ -31,8 +31,6 @@ fn slot_of(pair: u64) -> usize
 }
 
 impl OrderedPairs {
-    ghost use Rattle.bplist_cert.specs.KeyPairs.{Ascends, AreKnown};
-
     /// No pairs yet.
     pub(crate) fn new() -> OrderedPairs
         ensures { (f : List ℕ) (F : frame) → AreKnown f F result }

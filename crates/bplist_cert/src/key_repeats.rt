@@ -1,7 +1,7 @@
 //! Whether the keys of vouched dictionaries are texts that differ, by the classes of the texts: rules 21 and 22.
 
-ghost use Rattle.std.specs.Prelude.{◌≡◌, ◌<◌, ℕ, None, IfOk, IfSome, OnOk, IsTrue, MatchOption, is_err, ⊤, length};
-ghost use Rattle.bplist_cert.specs.Prelude.{OnlyReads, frame_in, HonestlyIn, Never, IsSafeHead, HasHead, KeepsAll, KeepsByObject, object_rules, Head as head, Dict, ref, HasNamedKeys, AreClassed, IsStamped, IsNew, AreClasses, failed_to_read, lists, IsVouchedBy, KeysAreTexts, KeysDiffer, IsTwiceFault, KeepBeforeKeysBelow, AreLow, IsKeysFault, KeysAreSound, HasGoodKeys, BreaksKeys, IsFirstKeysFault, Judges, refused_read};
+ghost use Rattle.std.specs.Prelude.{◌≡◌, ◌<◌, None, IfOk, IfSome, length};
+ghost use Rattle.bplist_cert.specs.Prelude.{OnlyReads, frame_in, HonestlyIn, HasHead, KeepsAll, KeepsByObject, object_rules, Head as head, Dict, HaveNamedKeys, AreClassed, IsStamped, IsNew, AreClasses, failed_to_read, lists, KeepBeforeKeysBelow, AreLow, Honestly, KeysAreSound, HasGoodKeys, HaveGoodKeys, BreaksKeys, IsFirstKeysFault, Judges, refused_read};
 
 use crate::key_kinds::{check_texts, keyless};
 use crate::key_names::seen_keys;
@@ -46,76 +46,9 @@ fn key_classes<P: Offsets>(
     ranks_of(alloc, src, named)
 }
 
-/// What the classes of its keys show of dictionary `n`: the first key that is no text by its marker and count, or else the
-/// first with the units of an earlier one.
-fn class_fault<P: Framed>(
-    src: &mut P,
-    n: ObjectNo,
-    head: &Head,
-    table: &mut ClassTable,
-) -> Result<Option<Fault>, ReadFault>
-    requires head { IsSafeHead (frame_in (P.means src.old)) head.now }
-    requires dict { head.now.kind ≡ Dict }
-    requires within { n.0 < (frame_in (P.means src.old)).objects }
-    ensures reads { OnlyReads (is_err result) (P.means src.old) (P.means src.new) }
-    ensures same { table.new.classes.table.items ≡ table.old.classes.table.items }
-    ensures stamped { IsStamped n.0 table.old.seen.items table.new.seen.items }
-    ensures texts { HonestlyIn (P.means src.old) (λ f F. IsNew table.old.seen.items n.0
-        → AreClassed f F table.old.classes.table.items head.now → ((k : ℕ) → k < head.now.count → ref f F head.now k < F.objects)
-        → KeysAreSound f F head.now
-        → IfOk result (λ found. MatchOption found (KeysAreTexts f F head.now head.now.count) (λ _. ⊤))) }
-    ensures exact { HonestlyIn (P.means src.old) (λ f F. IsNew table.old.seen.items n.0
-        → AreClassed f F table.old.classes.table.items head.now → KeysAreTexts f F head.now head.now.count
-        → IfOk result (λ found. MatchOption found (KeysDiffer f F head.now head.now.count) (IsTwiceFault f F n.0 head.now))) }
-{
-    let _frame = src.frame();
-    match table.first_wrong(src, n.0, head)? {
-        None => Ok(None),
-        Some(KeyDefect::NotText(i)) => Ok(Some(keyless(src, n, head, i))),
-        Some(KeyDefect::Repeated(i)) => Ok(Some(Fault {
-            rule: Rule::KeyTwice,
-            object: Some(n),
-            place: ref_place(src, head, i),
-        })),
-    }
-}
-
-/// Looks at the keys of dictionary `n`. Where all vouched objects were seen their classes tell whether they are texts.
-fn check_classes<P: Offsets>(
-    src: &mut P,
-    seen: &VouchedPrefix,
-    n: ObjectNo,
-    head: &Head,
-    look: &mut ClassLook,
-) -> Result<(), Refusal>
-    requires all { length seen.now.heights.now ≡ (frame_in (P.means src.old)).objects }
-    requires head { IsSafeHead (frame_in (P.means src.old)) head.now }
-    requires dict { head.now.kind ≡ Dict }
-    requires within { n.0 < (frame_in (P.means src.old)).objects }
-    ensures reads { OnlyReads (refused_read result) (P.means src.old) (P.means src.new) }
-    ensures same { look.new.table.classes.table.items ≡ look.old.table.classes.table.items }
-    ensures low { IsTrue (P.means src.old).honest → AreLow (P.means src.old).octets look.old.low.slots
-        → AreLow (P.means src.old).octets look.new.low.slots }
-    ensures stamped { IsStamped n.0 look.old.table.seen.items look.new.table.seen.items }
-    ensures exact { HonestlyIn (P.means src.old) (λ f F. IsNew look.old.table.seen.items n.0
-        → AreLow f look.old.low.slots → AreClassed f F look.old.table.classes.table.items head.now
-        → ((k : ℕ) → k < head.now.count → ref f F head.now k < F.objects)
-        → (seen.now.bound ≡ F.objects → KeysAreSound f F head.now)
-        → Judges (λ _. KeysAreTexts f F head.now head.now.count × KeysDiffer f F head.now head.now.count)
-        (IsKeysFault f F F.objects None n.0 head.now) result) }
-{
-    let found = class_fault(src, n, head, &mut look.table)?;
-    if found.is_none() && seen.is_whole() {
-        return Ok(());
-    }
-    check_texts(src, &mut look.low, n, head)?;
-    match found {
-        None => Ok(()),
-        Some(fault) => Err(Refusal::Fault(fault)),
-    }
-}
-
-/// Looks at the keys of vouched object `n`, where it is a dictionary.
+/// Looks at the keys of vouched object `n`, where it is a dictionary, by their classes: these show the first key that is no text
+/// by its marker and count, or else the first with the units of an earlier one. Where all vouched objects were seen they tell
+/// whether the keys are texts.
 fn check_dict_repeats<P: Offsets>(
     src: &mut P,
     seen: &VouchedPrefix,
@@ -126,8 +59,7 @@ fn check_dict_repeats<P: Offsets>(
     requires within { n < (frame_in (P.means src.old)).objects }
     ensures reads { OnlyReads (refused_read result) (P.means src.old) (P.means src.new) }
     ensures same { look.new.table.classes.table.items ≡ look.old.table.classes.table.items }
-    ensures low { IsTrue (P.means src.old).honest → AreLow (P.means src.old).octets look.old.low.slots
-        → AreLow (P.means src.old).octets look.new.low.slots }
+    ensures low { Honestly (P.means src.old) (λ f. AreLow f look.old.low.slots → AreLow f look.new.low.slots) }
     ensures stamped { IsStamped n look.old.table.seen.items look.new.table.seen.items }
     ensures exact { HonestlyIn (P.means src.old) (λ f F. KeepsAll (KeepsByObject f F n) object_rules → IsNew look.old.table.seen.items n
         → AreLow f look.old.low.slots
@@ -135,10 +67,24 @@ fn check_dict_repeats<P: Offsets>(
         → AreClassed f F look.old.table.classes.table.items head × (seen.now.bound ≡ F.objects → KeysAreSound f F head))
         → Judges (λ _. HasGoodKeys f F None n) (BreaksKeys f F F.objects None n) result) }
 {
+    let _frame = src.frame();
     let head = object_shape(src, n)?;
-    match head.kind {
-        Kind::Dict => check_classes(src, seen, ObjectNo(n), &head, look),
-        _ => Ok(()),
+    let Kind::Dict = head.kind else {
+        return Ok(());
+    };
+    let found = look.table.first_wrong(src, n, &head)?;
+    if found.is_none() && seen.is_whole() {
+        return Ok(());
+    }
+    check_texts(src, &mut look.low, ObjectNo(n), &head)?;
+    match found {
+        None => Ok(()),
+        Some(KeyDefect::NotText(i)) => Err(Refusal::Fault(keyless(src, ObjectNo(n), &head, i))),
+        Some(KeyDefect::Repeated(i)) => Err(Refusal::Fault(Fault {
+            rule: Rule::KeyTwice,
+            object: Some(ObjectNo(n)),
+            place: ref_place(src, &head, i),
+        })),
     }
 }
 
@@ -154,8 +100,8 @@ fn check_named<P: Offsets>(
     requires all_named { length named.marks.items ≡ (frame_in (P.means src.old)).objects }
     ensures reads { OnlyReads (refused_read result) (P.means src.old) (P.means src.new) }
     ensures exact { HonestlyIn (P.means src.old) (λ f F. KeepBeforeKeysBelow f F seen.now.heights.now seen.now.bound
-        → ((n : ℕ) → n < seen.now.bound → IsVouchedBy seen.now.heights.now n → HasNamedKeys f F named.marks.items n)
-        → Judges (λ _. (n : ℕ) → n < seen.now.bound → IsVouchedBy seen.now.heights.now n → HasGoodKeys f F None n)
+        → HaveNamedKeys f F seen.now.heights.now seen.now.bound named.marks.items
+        → Judges (λ _. HaveGoodKeys f F seen.now.heights.now None seen.now.bound)
         (IsFirstKeysFault f F (lists seen.now.heights.now None) seen.now.bound) result) }
 {
     let _frame = src.frame();
@@ -172,29 +118,6 @@ fn check_named<P: Offsets>(
     Ok(())
 }
 
-/// The objects that the vouched dictionaries which were seen name as keys, which are given or found.
-fn named_keys<P: Framed>(
-    alloc: Global,
-    src: &mut P,
-    seen: &VouchedPrefix,
-    named: Option<NamedKeys>,
-) -> Result<NamedKeys, Refusal>
-    requires heights { length seen.now.heights.now ≡ (frame_in (P.means src.old)).objects }
-    requires named { IfSome named (λ keys. length keys.marks.items ≡ (frame_in (P.means src.old)).objects) }
-    ensures reads { OnlyReads (refused_read result) (P.means src.old) (P.means src.new) }
-    ensures all { IfOk result (λ named. length named.marks.items ≡ (frame_in (P.means src.old)).objects) }
-    ensures exact { HonestlyIn (P.means src.old) (λ f F. KeepBeforeKeysBelow f F seen.now.heights.now seen.now.bound
-        → IfSome named (λ keys. (n : ℕ) → n < seen.now.bound → IsVouchedBy seen.now.heights.now n
-        → HasNamedKeys f F keys.marks.items n)
-        → Judges (λ named. (n : ℕ) → n < seen.now.bound → IsVouchedBy seen.now.heights.now n
-        → HasNamedKeys f F named.marks.items n) Never result) }
-{
-    match named {
-        Some(named) => Ok(named),
-        None => seen_keys(alloc, src, seen),
-    }
-}
-
 /// Looks at the keys of the vouched dictionaries that were seen: they are texts that differ. With all vouched objects seen
 /// each text that is named as a key is read once to find its class, and again only where another has the same fingerprint.
 /// Where no object is named as a key, as in a file without dictionaries, neither places nor classes are worth their memory and
@@ -209,13 +132,12 @@ pub(crate) fn check_key_repeats<P: Offsets>(
     requires named { IfSome named (λ keys. length keys.marks.items ≡ (frame_in (P.means src.old)).objects) }
     ensures reads { OnlyReads (refused_read result) (P.means src.old) (P.means src.new) }
     ensures exact { HonestlyIn (P.means src.old) (λ f F. KeepBeforeKeysBelow f F seen.now.heights.now seen.now.bound
-        → IfSome named (λ keys. (n : ℕ) → n < seen.now.bound → IsVouchedBy seen.now.heights.now n
-        → HasNamedKeys f F keys.marks.items n)
-        → Judges (λ _. (n : ℕ) → n < seen.now.bound → IsVouchedBy seen.now.heights.now n → HasGoodKeys f F None n)
+        → IfSome named (λ keys. HaveNamedKeys f F seen.now.heights.now seen.now.bound keys.marks.items)
+        → Judges (λ _. HaveGoodKeys f F seen.now.heights.now None seen.now.bound)
         (IsFirstKeysFault f F (lists seen.now.heights.now None) seen.now.bound) result) }
 {
     let frame = src.frame();
-    let named = named_keys(alloc, src, seen, named)?;
+    let named = seen_keys(alloc, src, seen, named)?;
     let keys = named.count();
     if keys == 0 {
         return Ok(());

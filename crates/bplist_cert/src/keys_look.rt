@@ -1,11 +1,11 @@
 //! What a walk over the vouched objects finds of the keys of dictionaries.
 
-ghost use Rattle.std.specs.Prelude.{◌≡◌, ℕ, List, None, IfOk, IfErr, length};
-ghost use Rattle.bplist_cert.specs.Prelude.{Frame as frame, HasCount, keys_of, IsLookOf, AreSeen};
+ghost use Rattle.std.specs.Prelude.{◌≡◌, ◌+◌, ◌≤◌, ℕ, List, None, IfOk, IfErr, length};
+ghost use Rattle.bplist_cert.specs.Prelude.{OnlyReads, Gives, Never, read_failed, frame_in, HonestlyIn, Frame as frame, HasCount, lists, ArePlaces, KeepBeforeKeysBelow, HaveGoodKeys, IsFirstKeysFault, Judges, MayRefuse, refused_read, keys_of, IsLookOf, AreSeen};
 
 use crate::certificate::KeyLists;
 use crate::key_lists::{ListLook, check_key_orders, look_at_lists};
-use crate::key_names::name_wanted;
+use crate::key_names::name_block;
 use crate::key_repeats::check_key_repeats;
 use crate::refusal::Refusal;
 use crate::vouched_prefix::VouchedPrefix;
@@ -42,17 +42,6 @@ pub(crate) fn keys_look(
 }
 
 impl KeysLook<'_> {
-    ghost use Rattle.std.specs.Prelude.{◌+◌, ◌≤◌, ◌<◌, slice_index};
-    ghost use Rattle.bplist_octets.specs.Meaning.{OnlyReads};
-    ghost use Rattle.bplist_objects.specs.Answers.{Gives, Never, read_failed};
-    ghost use Rattle.bplist_objects.specs.Frame.{off};
-    ghost use Rattle.bplist_objects.specs.Framed.{frame_in, HonestlyIn};
-    ghost use Rattle.bplist_cert.specs.Lists.{lists};
-    ghost use Rattle.bplist_cert.specs.Looks.{KeepBeforeKeysBelow};
-    ghost use Rattle.bplist_cert.specs.Valid.{IsVouchedBy};
-    ghost use Rattle.bplist_cert.specs.KeyRepeats.{HasGoodKeys, IsFirstKeysFault};
-    ghost use Rattle.bplist_cert.specs.Refusals.{Judges, MayRefuse, refused_read};
-
     /// What was found counts no more, and a walk looks at no keys.
     pub(crate) fn forget(&mut self)
         ensures keys { keys_of self.new ≡ keys_of self.old }
@@ -80,14 +69,14 @@ impl KeysLook<'_> {
         ensures reads { OnlyReads (read_failed result) (P.means src.old) (P.means src.new) }
         ensures keys { keys_of self.new ≡ keys_of self.old }
         ensures all { IsLookOf (frame_in (P.means src.old)).objects self.new }
-        ensures exact { HonestlyIn (P.means src.old) (λ f F. ((k : ℕ) → k < length places.now
-            → slice_index places.now k ≡ off f F (from + k))
+        ensures exact { HonestlyIn (P.means src.old) (λ f F. ArePlaces f F from places.now
             → KeepBeforeKeysBelow f F heights.now (from + length places.now)
             → AreSeen f F heights.now from self.old
             → Gives (λ _. AreSeen f F heights.now (from + length places.now) self.new) Never result) }
     {
         match self {
-            KeysLook::Named(named) => name_wanted(src, heights, from, places, named),
+            KeysLook::Named(Some(named)) => name_block(src, heights, from, places, named),
+            KeysLook::Named(None) => Ok(()),
             KeysLook::Listed(look) => look_at_lists(src, heights, from, places, look),
         }
     }
@@ -105,8 +94,7 @@ impl KeysLook<'_> {
         ensures memory { IfErr result (MayRefuse (keys_of self.old)) }
         ensures exact { HonestlyIn (P.means src.old) (λ f F. KeepBeforeKeysBelow f F seen.now.heights.now seen.now.bound
             → AreSeen f F seen.now.heights.now seen.now.bound self.old
-            → Judges (λ _. (n : ℕ) → n < seen.now.bound → IsVouchedBy seen.now.heights.now n
-            → HasGoodKeys f F (keys_of self.old) n)
+            → Judges (λ _. HaveGoodKeys f F seen.now.heights.now (keys_of self.old) seen.now.bound)
             (IsFirstKeysFault f F (lists seen.now.heights.now (keys_of self.old)) seen.now.bound) result) }
     {
         match self {

@@ -1,8 +1,8 @@
 //! Stretches of a file that were found to have only bytes below 128, so that Ascii texts which many dictionaries name, or
 //! which lie in one another, are not read again for rule 18.
 
-ghost use Rattle.std.specs.Prelude.{◌≡◌, ◌↔◌, ◌≤◌, ◌<◌, ℕ, List, length, IsTrue, IfOk, is_err};
-ghost use Rattle.bplist_cert.specs.Prelude.{OnlyReads, IsLow, AreLow};
+ghost use Rattle.std.specs.Prelude.{◌↔◌, ◌≤◌, ◌<◌, ℕ, List, length, IsTrue, IfOk, is_err};
+ghost use Rattle.bplist_cert.specs.Prelude.{OnlyReads, Honestly, IsLow, AreLow};
 
 use bplist_objects::first_high_in;
 use bplist_octets::{ReadFault, Source};
@@ -30,8 +30,7 @@ fn is_low<S: Source>(src: &mut S, from: u64, to: u64) -> Result<bool, ReadFault>
     requires order { from ≤ to }
     requires within { to ≤ length (S.means src.old).octets }
     ensures reads { OnlyReads (is_err result) (S.means src.old) (S.means src.new) }
-    ensures exact { IfOk result (λ low. IsTrue (S.means src.old).honest
-        → IsTrue low ↔ IsLow (S.means src.old).octets from to) }
+    ensures exact { IfOk result (λ low. Honestly (S.means src.old) (λ f. IsTrue low ↔ IsLow f from to)) }
 {
     match first_high_in(src, from, to - from)? {
         Some(_) => Ok(false),
@@ -84,10 +83,8 @@ impl LowBytes {
         requires order { from ≤ to }
         requires within { to ≤ length (S.means src.old).octets }
         ensures reads { OnlyReads (is_err result) (S.means src.old) (S.means src.new) }
-        ensures low { IsTrue (S.means src.old).honest → AreLow (S.means src.old).octets self.old.slots
-            → AreLow (S.means src.old).octets self.new.slots }
-        ensures exact { IfOk result (λ low. IsTrue (S.means src.old).honest → AreLow (S.means src.old).octets self.old.slots
-            → IsTrue low ↔ IsLow (S.means src.old).octets from to) }
+        ensures low { Honestly (S.means src.old) (λ f. AreLow f self.old.slots → AreLow f self.new.slots) }
+        ensures exact { IfOk result (λ low. Honestly (S.means src.old) (λ f. AreLow f self.old.slots → IsTrue low ↔ IsLow f from to)) }
     {
         let slot = self.slot_of(from);
         let known = self.slots[slot];

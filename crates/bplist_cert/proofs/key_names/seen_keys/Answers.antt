@@ -6,7 +6,7 @@ use Rattle.bplist_cert.proofs.CheckSteps.{never_refused}
 use Rattle.bplist_cert.proofs.key_names.seen_keys.Goals as goal
 
 pub returns-in_err-name_block-clause-exact : goal.returns-in_err-name_block-clause-exact
-returns-in_err-name_block-clause-exact g c = λ honest seen.
+returns-in_err-name_block-clause-exact g c = λ honest seen given.
     let v = c.loop-done.invariant in
     let all : length c.read_offsets_in.new.into ≡ c.min-now.result = omega (arith, length-take-le c.min-now.result c.loop-done.buffer (omega arith)) in
     let p = err_from_is_err_and c.from_residual-in_err-name_block.result c.from_residual-in_err-name_block.ensures.1 in
@@ -29,5 +29,5 @@ loop-done-preserved g c =
     }
 
 pub returns-clause-exact : goal.returns-clause-exact
-returns-clause-exact g c = λ honest seen n low vouched.
+returns-clause-exact g c = λ honest seen given n low vouched.
     c.loop-done.invariant.named honest seen n (omega (arith, low, c.loop-done-test.false)) vouched

@@ -2,7 +2,7 @@ use Rattle.std.proofs.Common.{◌≡◌, ◌≤◌, ◌-◌, IsTrue}
 use Rattle.bplist_objects.specs.Framed.{HonestlyIn}
 use Rattle.bplist_cert.specs.LowBytes.{AreLow}
 use Rattle.bplist_cert.specs.DictKeys.{KeysAreTexts}
-use Rattle.bplist_cert.proofs.key_kinds.first_keyless.Given as goal
+use Rattle.bplist_cert.proofs.key_kinds.check_texts.Given as goal
 
 -- the source is as it was, and the keys so far are texts
 abbrev pub invariant-loop-done : goal.invariant-loop-done
