@@ -32,7 +32,7 @@ pub use Rattle.bplist_cert.specs.CheckRules.{HasOrder, IsOrderFault}
 pub use Rattle.bplist_cert.specs.CheckedFile.{CheckedFile, IsChecked, meaning_of}
 pub use Rattle.bplist_cert.specs.DictKeys.{AreInOrder, ComesAfter, IsKey, IsKeylessFault, IsText, KeysAreTexts, KeysDiffer}
 pub use Rattle.bplist_cert.specs.Encoding.{Fits, IsCertRefusal, IsOctetsFault, key_words, magic, octets_of, words}
-pub use Rattle.bplist_cert.specs.Heights.{AreLower, AreMet, AreMetBy, IsFirstUnmet, IsFirstUnmetBy, IsHeightFault, IsUnmetFault, Meets, rule_of}
+pub use Rattle.bplist_cert.specs.Heights.{AreMet, AreMetBy, IsFirstUnmetBy, IsUnmetFault, Meets, rule_of}
 pub use Rattle.bplist_cert.specs.KeyOffsets.{AreOffsetsOf, ArePlaces, AreRefs, IsFirstOther, IsOffsetOf, ReferToTexts}
 pub use Rattle.bplist_cert.specs.KeyPairs.{AreFewKeys, AreKnown, Ascends, Follows, HaveTextShapes, IsReadKey, IsSafeKey}
 pub use Rattle.bplist_cert.specs.KeyRepeats.{BreaksKeys, HasGoodKeys, HaveGoodKeys, HaveNamedKeys, IsFirstKeysFault, KeysAreSound}
@@ -40,7 +40,7 @@ pub use Rattle.bplist_cert.specs.KeysLooks.{AreSeen, HaveGoodLists, IsListed, Is
 pub use Rattle.bplist_cert.specs.Lists.{AreKeyed, AreWords, HasCount, HasStarts, IsCertificate, IsWhole, Keyed, Lists, list_of, lists}
 pub use Rattle.bplist_cert.specs.Looks.{IsShownFault, KeepBeforeKeysBelow}
 pub use Rattle.bplist_cert.specs.LowBytes.{AreLow, IsLow}
-pub use Rattle.bplist_cert.specs.PairFault.{AreCheckedBelow, IsCheckedObject, IsCountFault, IsPairFault, IsSeenFault, IsVouchedFault, IsWalkFault, KeepsPairRules}
+pub use Rattle.bplist_cert.specs.PairFault.{AreCheckedBelow, IsCheckedObject, IsPairFault, IsSeenFault, IsVouchedFault, IsWalkFault, KeepsPairRules}
 pub use Rattle.bplist_cert.specs.Refusals.{GivesRefusal, Judges, MayRefuse, is_read, refused_read}
 pub use Rattle.bplist_cert.specs.Sorted.{IsAccepted, IsSorted}
 pub use Rattle.bplist_cert.specs.Valid.{HoldsOneValue, IsValid, IsVouchedBy, SpellsText}
