@@ -1,5 +1,5 @@
 -- One vouched object after the other.
-use Rattle.std.proofs.Common.{◌≡◌, ℕ, suc, ◌<◌, ◌≤◌, ◌+◌, ◌-◌, ◌*◌, min, ◌⊎◌, inl, inr, List, [], ◌∷◌, length, slice_index, Result, Ok, Err, Option, Some, None, sym, ap, ◌∙◌, subst, arith}
+use Rattle.std.proofs.Common.{◌≡◌, ℕ, suc, ◌<◌, ◌≤◌, ◌+◌, ◌-◌, ◌*◌, min, ◌⊎◌, inl, inr, List, [], ◌∷◌, length, slice_index, Option, Some, None, sym, ap, ◌∙◌, subst, arith}
 use Rattle.std.proofs.lemmas.Bool.{cases_lt}
 use Rattle.std.proofs.lemmas.List.{get_or_past}
 use Rattle.bplist_objects.specs.declared.rule.Rule.{Rule}
@@ -37,7 +37,7 @@ use Rattle.bplist_cert.specs.declared.checker.Look.TheVariants.{Quick, Exact}
 use Rattle.bplist_cert.specs.Looks.{KeepsBeforeKeys, KeepBeforeKeysBelow, IsShown, IsShownFault}
 use Rattle.bplist_cert.specs.KeyRepeats.{HasGoodKeys, BreaksKeys, IsFirstKeysFault}
 use Rattle.bplist_cert.specs.PairFault.{IsCheckedObject, AreCheckedBelow, IsWalkFault, IsSeenFault, IsVouchedFault, IsPairFault}
-use Rattle.bplist_cert.specs.Refusals.{GivesRefusal, Judges, refusal_of}
+use Rattle.bplist_cert.specs.Refusals.{GivesRefusal, refusal_of}
 
 -- the fault of the first of rules 28 and 29 that is broken
 abbrev pub IsHeightFault : List ℕ → Frame → List ℕ → ℕ → Head → Fault → Type 0
