@@ -1,5 +1,5 @@
 -- One vouched object after the other.
-use Rattle.std.proofs.Common.{◌≡◌, ℕ, suc, ◌<◌, ◌≤◌, ◌+◌, ◌-◌, ◌*◌, min, ◌⊎◌, inl, inr, List, [], ◌∷◌, length, slice_index, Result, Ok, Err, Option, Some, None, sym, ap, ◌∙◌, subst, arith}
+use Rattle.std.proofs.Common.{◌≡◌, ℕ, suc, ◌<◌, ◌≤◌, ◌+◌, ◌-◌, ◌*◌, min, ◌⊎◌, inl, inr, List, [], ◌∷◌, length, slice_index, Option, Some, None, sym, ap, ◌∙◌, subst, arith}
 use Rattle.std.proofs.lemmas.Bool.{cases_lt}
 use Rattle.std.proofs.lemmas.List.{get_or_past}
 use Rattle.bplist_objects.specs.declared.rule.Rule.{Rule}
@@ -29,7 +29,7 @@ use Rattle.bplist_cert.specs.declared.refusal.Refusal.{Refusal}
 use Rattle.bplist_cert.specs.declared.refusal.Refusal.TheVariants as refusals
 use Rattle.bplist_cert.specs.Lists.{Keyed, Lists, lists, HasStarts, HasCount}
 use Rattle.bplist_cert.specs.Valid.{IsVouchedBy}
-use Rattle.bplist_cert.specs.Heights.{AreMet, IsHeightFault}
+use Rattle.bplist_cert.specs.Heights.{AreMet, IsUnmetFault}
 use Rattle.bplist_objects.specs.Claims.{FailsAt}
 use Rattle.bplist_cert.specs.DictKeys.{KeysAreTexts, KeysDiffer, IsKeylessFault}
 use Rattle.bplist_cert.specs.CheckRules.{Asks, KeepsRule, BreaksRuleAt, KeepsCheck, IsCheckFault, check_rules, rules_before_keys, key_rules, KeepsLast}
@@ -38,8 +38,15 @@ use Rattle.bplist_cert.specs.declared.checker.Look.TheVariants.{Quick, Exact}
 use Rattle.bplist_cert.specs.Looks.{KeepsBeforeKeys, KeepBeforeKeysBelow, IsShown, IsShownFault}
 use Rattle.bplist_cert.specs.KeyRepeats.{HasGoodKeys, BreaksKeys, IsFirstKeysFault}
 use Rattle.bplist_cert.specs.PairFault.{IsCheckedObject, AreCheckedBelow, IsWalkFault, IsSeenFault, IsVouchedFault, IsPairFault}
-use Rattle.bplist_cert.specs.Refusals.{GivesRefusal, Judges, refusal_of}
+use Rattle.bplist_cert.specs.Refusals.{GivesRefusal, refusal_of}
 use Rattle.bplist_cert.proofs.KeyRepeats.{rules_after, good_at}
+
+-- the fault of the first of rules 28 and 29 that is broken
+abbrev pub IsHeightFault : List ℕ → Frame → List ℕ → ℕ → Head → Fault → Type 0
+IsHeightFault f F heights n head fault =
+    IsUnmetFault f F heights n head Vouched fault
+    ⊎ (AreMet f F heights head Vouched (ref_count head.kind head.count)
+    × IsUnmetFault f F heights n head (Below (slice_index heights n)) fault)
 
 -- the first references of a dictionary are those to its keys
 pub key_count : (head : Head) → head.kind ≡ kinds.Dict → min (ref_count head.kind head.count) head.count ≡ head.count
@@ -198,18 +205,10 @@ module _ (f : List ℕ) (F : Frame) (heights : List ℕ) (keys : Option Keyed) (
     held_more t run u h = record { sums = h.sums; room = h.room; kept = below_by run.kept (λ _. h.kept) }
 
   -- the fault of a vouched object is that of the walk
-  fault_met : IsVouchedBy heights n → (look : Look) (t : ℕ) → AreCheckedBelow f F (lists heights keys) Quick n t → (fault : Fault)
+  pub fault_met : IsVouchedBy heights n → (look : Look) (t : ℕ) → AreCheckedBelow f F (lists heights keys) Quick n t → (fault : Fault)
       → IsShownFault f F (lists heights keys) look n fault → IsWalkFault f F (lists heights keys) look fault
   fault_met v Quick t run fault h = tt
   fault_met v Exact t run fault h = record { object = n; vouched = v; first = h; seen = run.kept }
-
-  -- the answer for a vouched object is that of the walk
-  pub stepped : (look : Look) → IsVouchedBy heights n → (t : ℕ) → AreCheckedBelow f F (lists heights keys) Quick n t → (result : Result ℕ Refusal)
-      → Judges (IsCheckedObject f F (lists heights keys) Quick n) (IsShownFault f F (lists heights keys) look n) result → Judges (AreCheckedBelow f F (lists heights keys) Quick (suc n)) (IsWalkFault f F (lists heights keys) look) result
-  stepped look v t run (Ok t') h = held_more Quick t run t' h
-  stepped look v t run (Err (refusals.Fault fault)) h = fault_met v look t run fault h
-  stepped look v t run (Err (refusals.Read r)) h = tt
-  stepped look v t run (Err refusals.Memory) h = tt
 
 -- what is vouched for is an object
 pub vouched_inside : (heights : List ℕ) (count n : ℕ) → length heights ≡ count → IsVouchedBy heights n → n < count

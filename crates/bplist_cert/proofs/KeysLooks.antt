@@ -5,9 +5,6 @@ use Rattle.bplist_octets.specs.Octets.{part}
 use Rattle.bplist_objects.specs.declared.frame.Frame.{Frame}
 use Rattle.bplist_cert.specs.declared.keys_look.KeysLook.{KeysLook}
 use Rattle.bplist_cert.specs.declared.keys_look.KeysLook.TheVariants.{Named, Listed}
-use Rattle.bplist_cert.specs.declared.refusal.Refusal.{Refusal}
-use Rattle.bplist_cert.specs.declared.refusal.Refusal.TheVariants as refusals
-use Rattle.bplist_cert.specs.Refusals.{GivesRefusal}
 use Rattle.bplist_cert.specs.KeysLooks.{AreSeen}
 
 -- of fewer objects less is said
@@ -19,12 +16,6 @@ none_seen f F heights bound (Listed look) h = record {
   low = h.low;
   good = λ good n low. absurd (omega (arith, low));
 }
-
--- what holds anyway holds where a fault is refused
-pub refused_always : (A : Type 0) → A → (e : Refusal) → GivesRefusal (λ _. A) e
-refused_always A a (refusals.Fault fault) = a
-refused_always A a (refusals.Read r) = tt
-refused_always A a refusals.Memory = tt
 
 -- number i of a part of a list
 pub part_at : (xs : List ℕ) (place n i : ℕ) (ys : List ℕ) → ys ≡ part xs place n → i < n → slice_index ys i ≡ slice_index xs (place + i)

@@ -1,28 +1,22 @@
 -- What a quick look at the body of object n shows.
-use Rattle.std.proofs.Common.{◌≡◌, ℕ, List, length, slice_index, Result, Ok, Err, IfOk, refl, sym, ap, ◌∙◌, subst}
-use Rattle.bplist_objects.specs.declared.fault.Fault.{Fault}
-use Rattle.bplist_objects.specs.declared.fault.ObjectFault.{ObjectFault}
+use Rattle.std.proofs.Common.{◌≡◌, ℕ, List, length, slice_index, refl, sym, ap, ◌∙◌, subst}
 use Rattle.bplist_objects.specs.declared.frame.Frame.{Frame}
 use Rattle.bplist_objects.specs.declared.head.Head.{Head}
 use Rattle.bplist_objects.specs.declared.kind.Kind.{Kind}
 use Rattle.bplist_objects.specs.declared.kind.Kind.TheVariants as kinds
 use Rattle.bplist_objects.specs.Safe.{ref_count}
-use Rattle.bplist_objects.specs.Answers.{Gives}
 use Rattle.bplist_objects.specs.Announced.{HasHead}
 use Rattle.bplist_objects.specs.Rules.{KeepsAll}
 use Rattle.bplist_objects.specs.Scan.{AreBelow, ref}
 use Rattle.bplist_objects.specs.ObjectRules.{KeepsByObject, body_rules}
 use Rattle.bplist_objects.proofs.BodyLaws.{HasHead-unique}
 use Rattle.bplist_cert.specs.declared.heights.Wanted.TheVariants.{VouchedBelow}
-use Rattle.bplist_cert.specs.Heights.{AreMet, AreLower}
+use Rattle.bplist_cert.specs.Heights.{AreMet}
 use Rattle.bplist_cert.proofs.CheckSteps.{vouched_inside}
 
 module _ (f : List ℕ) (F : Frame) (heights : List ℕ) (n : ℕ) (head : Head) where
   abbrev refs : ℕ
   refs = ref_count head.kind head.count
-
-  abbrev Body : Type 0
-  Body = KeepsAll (KeepsByObject f F n) body_rules × AreLower f F heights n head
 
   module _ (has : HasHead f F n head) (some : refs ≡ 0 → ⊥) (all : length heights ≡ F.objects) where
     -- an object of a kind without references
@@ -38,12 +32,6 @@ module _ (f : List ℕ) (F : Frame) (heights : List ℕ) (n : ℕ) (head : Head)
       refs_below : (other : Head) → HasHead f F n other → AreBelow f other.body F.ref_size (ref_count other.kind other.count) F.objects
       refs_below other h = subst (λ (x : Head). AreBelow f x.body F.ref_size (ref_count x.kind x.count) F.objects) (HasHead-unique f F n head other has h) inside
 
-      body_seen : Body
-      body_seen =
-          let rules : KeepsAll (KeepsByObject f F n) body_rules = ((λ other h e. absurd (other_kind kinds.Ascii refl other h e)), ((λ other h e. absurd (other_kind kinds.Uid refl other h e)), (refs_below, tt))) in
-          (rules, ((λ k lt. (met k lt).0), (λ k lt. (met k lt).1)))
-
-    -- with references
-    pub refs_seen : (Q : Fault → Type 0) (result : Result (Unit {0}) ObjectFault) → Gives (λ _. AreMet f F heights head (VouchedBelow (slice_index heights n)) refs) Q result → IfOk result (λ _. Body)
-    refs_seen Q (Ok x) met = body_seen met
-    refs_seen Q (Err e) h = tt
+      -- with references the body keeps its rules
+      pub body_kept : KeepsAll (KeepsByObject f F n) body_rules
+      body_kept = ((λ other h e. absurd (other_kind kinds.Ascii refl other h e)), ((λ other h e. absurd (other_kind kinds.Uid refl other h e)), (refs_below, tt)))

@@ -1,12 +1,12 @@
 -- The heights of the references of a vouched object, by index (rules 28 and 29). Source: profile.
-use Rattle.std.specs.Prelude.{◌≡◌, ◌⊎◌, ℕ, ◌+◌, ◌*◌, ◌<◌, ◌≤◌, List, length, slice_index, Some}
+use Rattle.std.specs.Prelude.{◌≡◌, ℕ, ◌+◌, ◌*◌, ◌<◌, ◌≤◌, List, length, slice_index, Some}
 use Rattle.bplist_objects.specs.declared.rule.Rule.{Rule}
 use Rattle.bplist_objects.specs.declared.rule.Rule.TheVariants as rules
 use Rattle.bplist_objects.specs.declared.fault.Fault.{Fault}
 use Rattle.bplist_objects.specs.declared.frame.Frame.{Frame}
 use Rattle.bplist_objects.specs.declared.head.Head.{Head}
 use Rattle.bplist_objects.specs.Safe.{ref_count}
-use Rattle.bplist_objects.specs.Scan.{nth_number, ref}
+use Rattle.bplist_objects.specs.Scan.{ref}
 use Rattle.bplist_objects.specs.Claims.{FailsAt}
 use Rattle.bplist_cert.specs.declared.heights.Wanted.{Wanted}
 use Rattle.bplist_cert.specs.declared.heights.Wanted.TheVariants.{Vouched, Below, VouchedBelow}
@@ -20,12 +20,6 @@ Meets (VouchedBelow bound) height = (1 ≤ height) × (height < bound)
 -- the first `count` references have heights as wanted
 abbrev pub AreMet : List ℕ → Frame → List ℕ → Head → Wanted → ℕ → Type 0
 AreMet f F heights head wanted count = (k : ℕ) → k < count → Meets wanted (slice_index heights (ref f F head k))
-
--- the references of object n are vouched for and lower
-abbrev pub AreLower : List ℕ → Frame → List ℕ → ℕ → Head → Type 0
-AreLower f F heights n head =
-    AreMet f F heights head Vouched (ref_count head.kind head.count)
-    × AreMet f F heights head (Below (slice_index heights n)) (ref_count head.kind head.count)
 
 -- reference i is the first whose height is not as wanted
 abbrev pub IsFirstUnmet : List ℕ → Frame → List ℕ → Head → Wanted → ℕ → Type 0
@@ -52,10 +46,3 @@ abbrev pub IsUnmetFault : List ℕ → Frame → List ℕ → ℕ → Head → W
 IsUnmetFault f F heights n head wanted fault =
     (fault.rule ≡ rule_of wanted) × (fault.object ≡ Some (record { 0 = n }))
     × ((i : ℕ) × IsFirstUnmet f F heights head wanted i × (fault.place ≡ head.body + i * F.ref_size))
-
--- the fault of the first of rules 28 and 29 that is broken
-abbrev pub IsHeightFault : List ℕ → Frame → List ℕ → ℕ → Head → Fault → Type 0
-IsHeightFault f F heights n head fault =
-    IsUnmetFault f F heights n head Vouched fault
-    ⊎ (AreMet f F heights head Vouched (ref_count head.kind head.count)
-    × IsUnmetFault f F heights n head (Below (slice_index heights n)) fault)

@@ -1,20 +1,20 @@
 //! The check of a certificate against a file.
 
-ghost use Rattle.std.specs.Prelude.{◌≡◌, ◌+◌, ◌≤◌, ◌<◌, ℕ, suc, length, slice_index, IfOk, IfErr, MatchResult, Some, None};
-ghost use Rattle.bplist_cert.specs.Prelude.{OnlyReads, Honestly, frame_in, HonestlyIn, off, Sums, IsSafeHead, IsSafeFrame, KeepsAll, HasHead, KeepsByObject, body_rules, ObjectNo as object_no, Keyed, lists, HasStarts, IsVouchedBy, HoldsOneValue, AreLower, IsShownFault, keys_of, IsLookOf, AreSeen, Quick as quick, Exact as exact, IsCheckedObject, AreCheckedBelow, IsWalkFault, IsSeenFault, IsVouchedFault, IsCountFault, KeepsPairRules, IsPairFault, Judges, GivesRefusal, is_read, refused_read, MayRefuse, IsAccepted, Never, read_failed, Reach, Chain, Content, Spells, refs, Frame as frame};
+ghost use Rattle.std.specs.Prelude.{◌≡◌, ◌+◌, ◌≤◌, ◌<◌, ℕ, length, slice_index, IfOk, IfErr, MatchResult, Some, None};
+ghost use Rattle.bplist_cert.specs.Prelude.{OnlyReads, Honestly, frame_in, HonestlyIn, off, Sums, IsSafeFrame, ObjectNo as object_no, lists, HasStarts, IsVouchedBy, HoldsOneValue, IsShownFault, keys_of, IsLookOf, AreSeen, Quick as quick, Exact as exact, IsCheckedObject, AreCheckedBelow, IsWalkFault, IsSeenFault, IsVouchedFault, KeepsPairRules, IsPairFault, Judges, GivesRefusal, is_read, refused_read, MayRefuse, IsAccepted, Never, Reach, Chain, Content, Spells, refs, Frame as frame};
 ghost use Rattle.std.specs.List.{AllByRecursion};
 
 use crate::certificate::{Certificate, KeyLists};
 use crate::checked::Checked;
 use crate::extents::check_extent;
-use crate::heights::{Wanted, check_heights, check_refs, height_at};
+use crate::heights::{Wanted, check_refs, height_at};
 use crate::keys_look::{KeysLook, keys_look};
 use crate::refusal::Refusal;
 use crate::vouched_prefix::VouchedPrefix;
 use bplist_keys::{OffsetReader, Offsets};
 use bplist_objects::{
-    Fault, Frame, Framed, Head, ObjectFault, ObjectNo, Rule, Visit, check_body, frame_of, head_in,
-    read_offsets_in, refs_of, visit_in,
+    Fault, Frame, Framed, ObjectNo, Rule, Visit, check_body, frame_of, head_in, read_offsets_in,
+    refs_of, visit_in,
 };
 use bplist_octets::Source;
 use std::alloc::Global;
@@ -39,31 +39,9 @@ struct Walk<'a> {
     look: Look,
 }
 
-/// Looks at the body of object `n`, which stands at `place` and has this head: at a leaf's by rules 18 and 19, and at references
-/// by rules 20, 28 and 29 at once, since objects alone have heights. A fault does not say which of them is broken.
-fn check_contents<P: Framed>(
-    src: &mut P,
-    walk: Walk,
-    n: ObjectNo,
-    place: u64,
-    head: &Head,
-) -> Result<(), ObjectFault>
-    requires all { length walk.heights.now ≡ (frame_in (P.means src.old)).objects }
-    requires head { IsSafeHead (frame_in (P.means src.old)) head.now }
-    ensures reads { OnlyReads (read_failed result) (P.means src.old) (P.means src.new) }
-    ensures kept { HonestlyIn (P.means src.old) (λ f F. place ≡ off f F n.0 → HasHead f F n.0 head.now
-        → IfOk result (λ _. KeepsAll (KeepsByObject f F n.0) body_rules × AreLower f F walk.entry.heights.now n.0 head.now)) }
-{
-    let frame = src.frame();
-    if refs_of(head) == 0 {
-        return check_body(src, &frame, n, place, head);
-    }
-    let own = height_at(walk.heights, n.0 as u64);
-    check_refs(src, walk.heights, n, head, Wanted::VouchedBelow(own))
-}
-
 /// Looks at object `n`, which is vouched for and stands at `place`, by the rules before those of keys, where the vouched
-/// objects before it take `used` bytes, and answers how many they take with it. A quick look reads no byte twice.
+/// objects before it take `used` bytes, and answers how many they take with it. A quick look reads no byte twice: at
+/// references it looks by rules 20, 28 and 29 at once, since objects alone have heights.
 fn check_object<P: Framed>(
     src: &mut P,
     walk: Walk,
@@ -80,49 +58,33 @@ fn check_object<P: Framed>(
         → Judges (IsCheckedObject f F (lists walk.entry.heights.now walk.entry.keys.now) quick n.0)
         (IsShownFault f F (lists walk.entry.heights.now walk.entry.keys.now) walk.entry.look n.0) result) }
 {
-    let _frame = src.frame();
+    let frame = src.frame();
     match walk.look {
         Look::Quick => match visit_in(src, n, place)? {
             Visit::Done(end) => Ok(check_extent(src, n, place, end, used)?),
             Visit::Body(head) => {
                 let now = check_extent(src, n, place, head.end, used)?;
-                check_contents(src, walk, n, place, &head)?;
+                if refs_of(&head) == 0 {
+                    check_body(src, &frame, n, place, &head)?;
+                } else {
+                    let own = height_at(walk.heights, n.0 as u64);
+                    check_refs(src, walk.heights, n, &head, Wanted::VouchedBelow(own))?;
+                }
                 Ok(now)
             }
         },
         Look::Exact => {
             let head = head_in(src, n, place)?;
             let now = check_extent(src, n, place, head.end, used)?;
-            check_heights(src, walk.heights, n, &head)?;
+            check_refs(src, walk.heights, n, &head, Wanted::Vouched)?;
+            let own = height_at(walk.heights, n.0 as u64);
+            check_refs(src, walk.heights, n, &head, Wanted::Below(own))?;
             Ok(now)
         }
     }
 }
 
-/// Looks at object `n`, which stands at `place`, where the vouched objects before it are as they should be.
-fn check_step<P: Framed>(
-    src: &mut P,
-    walk: Walk,
-    n: ObjectNo,
-    place: u64,
-    used: u64,
-) -> Result<u64, Refusal>
-    requires all { length walk.heights.now ≡ (frame_in (P.means src.old)).objects }
-    requires within { n.0 < (frame_in (P.means src.old)).objects }
-    ensures reads { OnlyReads (refused_read result) (P.means src.old) (P.means src.new) }
-    ensures memory { IfErr result (MayRefuse walk.entry.keys.now) }
-    ensures exact { HonestlyIn (P.means src.old) (λ f F. place ≡ off f F n.0
-        → AreCheckedBelow f F (lists walk.entry.heights.now walk.entry.keys.now) quick n.0 used
-        → Judges (AreCheckedBelow f F (lists walk.entry.heights.now walk.entry.keys.now) quick (suc n.0))
-        (IsWalkFault f F (lists walk.entry.heights.now walk.entry.keys.now) walk.entry.look) result) }
-{
-    if height_at(walk.heights, n.0 as u64) == 0 {
-        return Ok(used);
-    }
-    check_object(src, walk, n, place, used)
-}
-
-/// Looks at the objects from number `from` on, which stand at these places.
+/// Looks at the vouched objects among those from number `from` on, which stand at these places.
 fn check_block<P: Framed>(
     src: &mut P,
     walk: Walk,
@@ -144,7 +106,9 @@ fn check_block<P: Framed>(
     let mut used = used;
     for (i, place) in places.iter().enumerate() {
         let n = ObjectNo(from + i as u32);
-        used = check_step(src, walk, n, *place, used)?;
+        if height_at(walk.heights, n.0 as u64) > 0 {
+            used = check_object(src, walk, n, *place, used)?;
+        }
     }
     Ok(used)
 }
@@ -156,13 +120,13 @@ fn check_all<P: Offsets>(src: &mut P, walk: Walk, found: &mut KeysLook) -> Resul
     requires found { IsLookOf (frame_in (P.means src.old)).objects found.old }
     ensures reads { OnlyReads (refused_read result) (P.means src.old) (P.means src.new) }
     ensures memory { IfErr result (MayRefuse walk.entry.keys.now) }
-    ensures exact { HonestlyIn (P.means src.old) (λ f F. AreSeen f F walk.entry.heights.now 0 found.old
-        → Judges (AreCheckedBelow f F (lists walk.entry.heights.now walk.entry.keys.now) quick F.objects)
-        (IsWalkFault f F (lists walk.entry.heights.now walk.entry.keys.now) walk.entry.look) result) }
+    ensures exact { HonestlyIn (P.means src.old) (λ f F. AreSeen f F walk.entry.heights.now 0 found.old → Judges
+        (λ used. AreCheckedBelow f F (lists walk.entry.heights.now walk.entry.keys.now) quick F.objects used
+        × AreSeen f F walk.entry.heights.now F.objects found.new)
+        (λ fault. IsWalkFault f F (lists walk.entry.heights.now walk.entry.keys.now) walk.entry.look fault
+        × AreSeen f F walk.entry.heights.now 0 found.new) result) }
     ensures found { IsLookOf (frame_in (P.means src.old)).objects found.new }
     ensures same { keys_of found.new ≡ keys_of found.old }
-    ensures keys { HonestlyIn (P.means src.old) (λ f F. AreSeen f F walk.entry.heights.now 0 found.old
-        → Judges (λ _. AreSeen f F walk.entry.heights.now F.objects found.new) (λ _. AreSeen f F walk.entry.heights.now 0 found.new) result) }
 {
     let objects = src.frame().objects;
     let mut buffer = [0u64; BLOCK];
@@ -191,13 +155,11 @@ fn check_in_passes<P: Offsets>(
     requires found { IsLookOf (frame_in (P.means src.old)).objects found.old }
     ensures reads { OnlyReads (refused_read result) (P.means src.old) (P.means src.new) }
     ensures memory { IfErr result (MayRefuse keys.now) }
-    ensures exact { HonestlyIn (P.means src.old) (λ f F. AreSeen f F heights.now 0 found.old
-        → Judges (AreCheckedBelow f F (lists heights.now keys.now) quick F.objects)
-        (IsSeenFault f F (lists heights.now keys.now)) result) }
+    ensures exact { HonestlyIn (P.means src.old) (λ f F. AreSeen f F heights.now 0 found.old → Judges
+        (λ used. AreCheckedBelow f F (lists heights.now keys.now) quick F.objects used × AreSeen f F heights.now F.objects found.new)
+        (λ fault. IsSeenFault f F (lists heights.now keys.now) fault × AreSeen f F heights.now 0 found.new) result) }
     ensures found { IsLookOf (frame_in (P.means src.old)).objects found.new }
     ensures same { keys_of found.new ≡ keys_of found.old }
-    ensures keys { HonestlyIn (P.means src.old) (λ f F. AreSeen f F heights.now 0 found.old
-        → Judges (λ _. AreSeen f F heights.now F.objects found.new) (λ _. AreSeen f F heights.now 0 found.new) result) }
 {
     let mut walk = Walk {
         heights,
@@ -236,8 +198,7 @@ fn check_objects<P: Offsets>(
     ensures reads { OnlyReads (refused_read result) (P.means src.old) (P.means src.new) }
     ensures memory { IfErr result (MayRefuse keys.now) }
     ensures exact { HonestlyIn (P.means src.old) (λ f F.
-        Judges (AreCheckedBelow f F (lists heights.now keys.now) exact F.objects)
-        (IsVouchedFault f F (lists heights.now keys.now)) result) }
+        Judges (AreCheckedBelow f F (lists heights.now keys.now) exact F.objects) (IsVouchedFault f F (lists heights.now keys.now)) result) }
 {
     let objects = src.frame().objects;
     let mut found = keys_look(alloc, objects, src.len(), keys)?;
@@ -263,30 +224,6 @@ fn check_objects<P: Offsets>(
     }
 }
 
-/// Looks at the number of heights and at the top's.
-fn check_count(frame: &Frame, heights: &[u32]) -> Result<(), Fault>
-    requires { frame.now.top.0 < frame.now.objects }
-    ensures { MatchResult result
-        (λ _. (length heights.now ≡ frame.now.objects) × IsVouchedBy heights.now frame.now.top.0)
-        (IsCountFault frame.now heights.now) }
-{
-    if heights.len() as u64 != frame.objects as u64 {
-        return Err(Fault {
-            rule: Rule::CertCount,
-            object: None,
-            place: 8,
-        });
-    }
-    if heights[frame.top.0 as usize] == 0 {
-        return Err(Fault {
-            rule: Rule::TopNotVouched,
-            object: Some(frame.top),
-            place: 16 + 4 * frame.top.0 as u64,
-        });
-    }
-    Ok(())
-}
-
 /// The frame of the file, where the certificate is accepted.
 fn check_lists<S: Source>(alloc: Global, src: &mut S, cert: &Certificate) -> Result<Frame, Refusal>
     ensures reads { OnlyReads (refused_read result) (S.means src.old) (S.means src.new) }
@@ -296,7 +233,20 @@ fn check_lists<S: Source>(alloc: Global, src: &mut S, cert: &Certificate) -> Res
     ensures safe { IfOk result (λ frame. IsSafeFrame (length (S.means src.old).octets) frame × (length cert.now.heights ≡ frame.objects)) }
 {
     let frame = frame_of(src)?;
-    check_count(&frame, &cert.heights)?;
+    if cert.heights.len() as u64 != frame.objects as u64 {
+        return Err(Refusal::Fault(Fault {
+            rule: Rule::CertCount,
+            object: None,
+            place: 8,
+        }));
+    }
+    if cert.heights[frame.top.0 as usize] == 0 {
+        return Err(Refusal::Fault(Fault {
+            rule: Rule::TopNotVouched,
+            object: Some(frame.top),
+            place: 16 + 4 * frame.top.0 as u64,
+        }));
+    }
     let mut plist = OffsetReader::new(src, frame);
     check_objects(alloc, &mut plist, &cert.heights, &cert.keys)?;
     Ok(frame)

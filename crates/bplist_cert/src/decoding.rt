@@ -1,15 +1,15 @@
 //! Certificates from bytes, which are read by blocks.
 
-ghost use Rattle.std.specs.Prelude.{◌≡◌, ◌≢◌, ℕ, List, ◌+◌, ◌*◌, ◌≤◌, Bool, length, take, drop, IfOk, OnOk, MatchOption, MatchResult, ◌↔◌, IsTrue, is_some, vec_len, ⊤};
+ghost use Rattle.std.specs.Prelude.{◌≡◌, ◌≢◌, ℕ, List, ◌+◌, ◌*◌, ◌≤◌, Bool, length, take, IfOk, MatchOption, MatchResult, ◌↔◌, IsTrue, ⊤};
 ghost use Rattle.bplist_cert.specs.declared.certificate.CertRefusal.TheVariants.{Memory};
-ghost use Rattle.bplist_cert.specs.Prelude.{part, OnlyReads, Honestly, Gives, Never, read_failed, failed_to_read, Lists, IsCertificate, AreWords, AreKeyed, HasCount, octets_of, magic, words, key_words, Fits, IsOctetsFault, IsCertRefusal, Judges, refused_read, is_keyed, header_octets};
+ghost use Rattle.bplist_cert.specs.Prelude.{part, OnlyReads, Honestly, Gives, Never, read_failed, failed_to_read, Lists, IsCertificate, AreWords, octets_of, magic, words, Fits, IsOctetsFault, IsCertRefusal, Judges, refused_read, is_keyed, header_octets};
 
 use crate::certificate::{CertRefusal, Certificate, KeyLists};
 use crate::encoding::{KEYED_MAGIC, PLAIN_MAGIC};
 use crate::refusal::Refusal;
 use bplist_keys::Failure;
 use bplist_objects::{Fault, ObjectFault, Rule};
-use bplist_octets::{ReadFault, SliceSource, Source, sized};
+use bplist_octets::{SliceSource, Source, sized};
 use std::alloc::Global;
 
 /// How many bytes are read at once at most.
@@ -52,8 +52,24 @@ impl Certificate {
     {
         let header = header_of(src)?;
         let heights = read_words(alloc, src, 16, header.count)?;
-        let keys = read_keys(alloc, src, header)?;
-        Ok(Certificate { heights, keys })
+        match header.version {
+            Version::Plain => Ok(Certificate {
+                heights,
+                keys: None,
+            }),
+            Version::Keyed => {
+                let len = src.len();
+                let starts_at = 16 + 4 * header.count as u64;
+                let positions_at = starts_at + 4 * header.count as u64;
+                let positions = ((len - positions_at) / 4) as usize;
+                let starts = read_words(alloc, src, starts_at, header.count)?;
+                let positions = read_words(alloc, src, positions_at, positions)?;
+                Ok(Certificate {
+                    heights,
+                    keys: Some(KeyLists { starts, positions }),
+                })
+            }
+        }
     }
 
     /// The certificate whose bytes these are. Else the fault is that of rule 24, at place 0, where they begin with no
@@ -139,33 +155,6 @@ fn fits(version: Version, count: u64, len: u64) -> bool
     }
 }
 
-/// The key lists behind the heights, in version 2.
-fn read_keys<S: Source>(
-    alloc: Global,
-    src: &mut S,
-    header: Header,
-) -> Result<Option<KeyLists>, Failure>
-    requires { Fits (is_keyed header.version) header.count (length (S.means src.old).octets) }
-    ensures reads { OnlyReads (failed_to_read result) (S.means src.old) (S.means src.new) }
-    ensures version { IfOk result (λ keys. is_some keys ≡ is_keyed header.version) }
-    ensures starts { IfOk result (λ keys. HasCount keys header.count) }
-    ensures keyed { IfOk result (λ keys. AreKeyed keys) }
-    ensures spelled { Honestly (S.means src.old) (λ f. IfOk result (λ keys. drop (16 + 4 * header.count) f ≡ key_words keys)) }
-{
-    match header.version {
-        Version::Plain => Ok(None),
-        Version::Keyed => {
-            let len = src.len();
-            let starts_at = 16 + 4 * header.count as u64;
-            let positions_at = starts_at + 4 * header.count as u64;
-            let positions = ((len - positions_at) / 4) as usize;
-            let starts = read_words(alloc, src, starts_at, header.count)?;
-            let positions = read_words(alloc, src, positions_at, positions)?;
-            Ok(Some(KeyLists { starts, positions }))
-        }
-    }
-}
-
 /// So many numbers of 4 bytes each, from a place on, block by block.
 fn read_words<S: Source>(
     alloc: Global,
@@ -186,13 +175,11 @@ fn read_words<S: Source>(
     while numbers.len() < count {
         let now = (count - numbers.len()).min(BLOCK);
         let at = place + 4 * numbers.len() as u64;
-        add_words(
-            src,
-            at,
-            &mut octets[..4 * now],
-            &mut block[..now],
-            &mut numbers,
-        )?;
+        let read = &mut octets[..4 * now];
+        let spelled = &mut block[..now];
+        src.read_at(at, read)?;
+        spell_words(read, spelled);
+        numbers.extend_from_slice(spelled)?;
     }
     are_words(&numbers);
     Ok(numbers)
@@ -203,29 +190,6 @@ fn are_words(numbers: &[u32])
     ensures { AreWords numbers.now }
 {
     let _count = numbers.len();
-}
-
-/// Adds the numbers of 4 bytes each from a place on to those before them, by one read of the source. They go through `octets`
-/// and `block`.
-fn add_words<S: Source>(
-    src: &mut S,
-    place: u64,
-    octets: &mut [u8],
-    block: &mut [u32],
-    numbers: &mut Vec<u32>,
-) -> Result<(), Failure>
-    requires room { length octets.old ≡ 4 * length block.old }
-    requires within { place + 4 * length block.old ≤ length (S.means src.old).octets }
-    ensures reads { OnlyReads (failed_to_read result) (S.means src.old) (S.means src.new) }
-    ensures count { OnOk result (vec_len numbers.new ≡ vec_len numbers.old + length block.old) }
-    ensures spelled { OnOk result (Honestly (S.means src.old) (λ f. (start : ℕ) → place ≡ start + 4 * length numbers.old.items
-        → part f start (4 * length numbers.old.items) ≡ words numbers.old.items
-        → part f start (4 * length numbers.new.items) ≡ words numbers.new.items)) }
-{
-    src.read_at(place, octets)?;
-    spell_words(octets, block);
-    numbers.extend_from_slice(block)?;
-    Ok(())
 }
 
 /// Puts the numbers of 4 bytes each that the bytes spell in their places. Nothing else is done in the loop, so that it takes

@@ -1,7 +1,7 @@
 //! The bytes of a certificate.
 
 ghost use Rattle.std.specs.Prelude.{◌≡◌, ◌++◌, IfOk, OnOk, is_some};
-ghost use Rattle.bplist_cert.specs.Prelude.{IsCertificate, AreWords, AreKeyed, octets_of, words, key_words, magic};
+ghost use Rattle.bplist_cert.specs.Prelude.{IsCertificate, AreWords, octets_of, words, magic};
 
 use crate::certificate::{Certificate, KeyLists};
 use std::alloc::{AllocError, Global};
@@ -24,7 +24,10 @@ impl Certificate {
         octets.extend_from_slice(&magic_of(&self.keys))?;
         octets.extend_from_slice(&count.to_be_bytes())?;
         push_words(&mut octets, &self.heights)?;
-        push_keys(&mut octets, &self.keys)?;
+        if let Some(keys) = &self.keys {
+            push_words(&mut octets, &keys.starts)?;
+            push_words(&mut octets, &keys.positions)?;
+        }
         Ok(octets)
     }
 
@@ -60,18 +63,4 @@ fn push_words(octets: &mut Vec<u8>, numbers: &[u32]) -> Result<(), AllocError>
         octets.extend_from_slice(&number.to_be_bytes())?;
     }
     Ok(())
-}
-
-/// Puts the key lists, if there are some, behind the bytes.
-fn push_keys(octets: &mut Vec<u8>, keys: &Option<KeyLists>) -> Result<(), AllocError>
-    ensures octets { OnOk result (octets.new.items ≡ octets.old.items ++ key_words keys.now) }
-    ensures keyed { OnOk result (AreKeyed keys.now) }
-{
-    match keys {
-        None => Ok(()),
-        Some(keys) => {
-            push_words(octets, &keys.starts)?;
-            push_words(octets, &keys.positions)
-        }
-    }
 }

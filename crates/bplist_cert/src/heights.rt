@@ -1,12 +1,11 @@
 //! The heights of references: rules 28 and 29.
 
-ghost use Rattle.std.specs.Prelude.{◌≡◌, ◌↔◌, ◌<◌, length, slice_index, IsTrue, IfOk, IfSome, MatchOption, is_err};
-ghost use Rattle.bplist_cert.specs.Prelude.{OnlyReads, frame_in, HonestlyIn, IsSafeHead, ref_count, Gives, read_failed, Meets, AreMet, AreMetBy, AreLower, IsFirstUnmet, IsFirstUnmetBy, IsUnmetFault, IsHeightFault, rule_of};
+ghost use Rattle.std.specs.Prelude.{◌≡◌, ◌↔◌, length, slice_index, IsTrue, MatchOption};
+ghost use Rattle.bplist_cert.specs.Prelude.{OnlyReads, frame_in, HonestlyIn, IsSafeHead, ref_count, Gives, read_failed, Meets, AreMet, AreMetBy, IsFirstUnmetBy, IsUnmetFault, rule_of};
 
 use bplist_objects::{
     Fault, Framed, Head, ObjectFault, ObjectNo, Rule, read_refs_in, ref_place, refs_of,
 };
-use bplist_octets::ReadFault;
 
 /// How many references are read at once at most: few, as room for a block is cleared for each container.
 const BLOCK: usize = 32;
@@ -69,36 +68,6 @@ fn first_unmet_in(heights: &[u32], refs: &[u64], wanted: Wanted) -> Option<usize
     None
 }
 
-/// The first reference whose height is not as it is wanted.
-fn first_unmet<P: Framed>(
-    src: &mut P,
-    heights: &[u32],
-    head: &Head,
-    wanted: Wanted,
-) -> Result<Option<u64>, ReadFault>
-    requires { IsSafeHead (frame_in (P.means src.old)) head.now }
-    ensures reads { OnlyReads (is_err result) (P.means src.old) (P.means src.new) }
-    ensures found { IfOk result (λ found. HonestlyIn (P.means src.old)
-        (λ f F. MatchOption found (AreMet f F heights.now head.now wanted (ref_count head.now.kind head.now.count))
-        (IsFirstUnmet f F heights.now head.now wanted))) }
-    ensures inside { IfOk result (λ found. IfSome found (λ i. i < ref_count head.now.kind head.now.count)) }
-{
-    let _frame = src.frame();
-    let refs = refs_of(head);
-    let mut buffer = [0u64; BLOCK];
-    let mut done = 0u64;
-    while done < refs {
-        let now = (refs - done).min(BLOCK as u64);
-        let block = &mut buffer[..now as usize];
-        read_refs_in(src, head, done, block)?;
-        if let Some(i) = first_unmet_in(heights, block, wanted) {
-            return Ok(Some(done + i as u64));
-        }
-        done += now;
-    }
-    Ok(None)
-}
-
 /// Looks for a reference of object `n` whose height is not as it is wanted.
 pub(crate) fn check_refs<P: Framed>(
     src: &mut P,
@@ -113,29 +82,22 @@ pub(crate) fn check_refs<P: Framed>(
         (λ _. AreMet f F heights.now head.now wanted (ref_count head.now.kind head.now.count))
         (IsUnmetFault f F heights.now n.0 head.now wanted) result) }
 {
-    match first_unmet(src, heights, head, wanted)? {
-        None => Ok(()),
-        Some(i) => Err(ObjectFault::Fault(Fault {
-            rule: wanted.rule(),
-            object: Some(n),
-            place: ref_place(src, head, i),
-        })),
+    let _frame = src.frame();
+    let refs = refs_of(head);
+    let mut buffer = [0u64; BLOCK];
+    let mut done = 0u64;
+    while done < refs {
+        let now = (refs - done).min(BLOCK as u64);
+        let block = &mut buffer[..now as usize];
+        read_refs_in(src, head, done, block)?;
+        if let Some(i) = first_unmet_in(heights, block, wanted) {
+            return Err(ObjectFault::Fault(Fault {
+                rule: wanted.rule(),
+                object: Some(n),
+                place: ref_place(src, head, done + i as u64),
+            }));
+        }
+        done += now;
     }
-}
-
-/// Looks at the heights of the references of object `n`, which is vouched for, by its head.
-pub(crate) fn check_heights<P: Framed>(
-    src: &mut P,
-    heights: &[u32],
-    n: ObjectNo,
-    head: &Head,
-) -> Result<(), ObjectFault>
-    requires { IsSafeHead (frame_in (P.means src.old)) head.now }
-    ensures reads { OnlyReads (read_failed result) (P.means src.old) (P.means src.new) }
-    ensures exact { HonestlyIn (P.means src.old) (λ f F. Gives
-        (λ _. AreLower f F heights.now n.0 head.now) (IsHeightFault f F heights.now n.0 head.now) result) }
-{
-    check_refs(src, heights, n, head, Wanted::Vouched)?;
-    let own = height_at(heights, n.0 as u64);
-    check_refs(src, heights, n, head, Wanted::Below(own))
+    Ok(())
 }

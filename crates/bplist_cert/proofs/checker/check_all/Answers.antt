@@ -4,11 +4,11 @@ use Rattle.std.proofs.lemmas.Result.{err_from_is_err_and}
 use Rattle.bplist_objects.specs.declared.frame.Frame.{Frame}
 use Rattle.bplist_objects.specs.Framed.{frame_in}
 use Rattle.bplist_cert.specs.declared.checker.Look.TheVariants.{Quick}
-use Rattle.bplist_cert.specs.Lists.{lists}
-use Rattle.bplist_cert.specs.PairFault.{AreCheckedBelow, IsWalkFault}
+use Rattle.bplist_cert.specs.PairFault.{AreCheckedBelow}
 use Rattle.bplist_cert.specs.KeysLooks.{AreSeen}
-use Rattle.bplist_cert.proofs.CheckSteps.{start, never_refused}
-use Rattle.bplist_cert.proofs.KeysLooks.{none_seen, refused_always}
+use Rattle.bplist_cert.proofs.CheckSteps.{start, never_refused, refused_weaker}
+use Rattle.bplist_cert.specs.Lists.{lists}
+use Rattle.bplist_cert.proofs.KeysLooks.{none_seen}
 use Rattle.bplist_cert.proofs.checker.check_all.Goals as goal
 
 pub loop-done-init : goal.loop-done-init
@@ -29,32 +29,23 @@ look-requires-clause-all g c =
 
 pub returns-in_err-look-clause-exact : goal.returns-in_err-look-clause-exact
 returns-in_err-look-clause-exact g c = λ honest seen.
-    let m = g.P.Source.means c.args.src.now in
     let v = c.loop-done.invariant in
     let all : length c.read_offsets_in.new.into ≡ c.min-now.result = omega (arith, length-take-le c.min-now.result c.loop-done.buffer (omega arith)) in
     let places = (rw v.same at c.in_ok-read_offsets_in.ensures.offsets) honest in
     let run = ((rw (c.in_ok-read_offsets_in.ensures.reads, v.same) at c.in_ok-used.ensures.exact) honest) places (v.running honest) in
     let exact = (rw (c.in_ok-used.ensures.reads, c.in_ok-read_offsets_in.ensures.reads, v.same) at c.in_err-look.ensures.exact) honest in
     let p = err_from_is_err_and c.from_residual-in_err-look.result c.from_residual-in_err-look.ensures.1 in
-    rw (p.1, p.2) (never_refused (IsWalkFault m.octets (frame_in m) (lists c.args.walk.heights.now c.args.walk.keys.now) c.args.walk.look) c.in_err-look.field-0.0
-    (exact places run.kept (v.keys honest seen)))
+    rw (p.1, p.2) (never_refused _ c.in_err-look.field-0.0 (exact places run.kept (v.keys honest seen)))
 
-pub returns-in_err-look-clause-keys : goal.returns-in_err-look-clause-keys
-returns-in_err-look-clause-keys g c = λ honest seen.
+pub returns-in_err-used-clause-exact : goal.returns-in_err-used-clause-exact
+returns-in_err-used-clause-exact g c = λ honest seen.
     let m = g.P.Source.means c.args.src.now in
     let v = c.loop-done.invariant in
     let places = (rw v.same at c.in_ok-read_offsets_in.ensures.offsets) honest in
-    let run = ((rw (c.in_ok-read_offsets_in.ensures.reads, v.same) at c.in_ok-used.ensures.exact) honest) places (v.running honest) in
-    let exact = (rw (c.in_ok-used.ensures.reads, c.in_ok-read_offsets_in.ensures.reads, v.same) at c.in_err-look.ensures.exact) honest in
-    let p = err_from_is_err_and c.from_residual-in_err-look.result c.from_residual-in_err-look.ensures.1 in
-    rw (p.1, p.2) (never_refused (λ _. AreSeen m.octets (frame_in m) c.args.walk.heights.now 0 c.look.new.self) c.in_err-look.field-0.0 (exact places run.kept (v.keys honest seen)))
-
-pub returns-in_err-used-clause-keys : goal.returns-in_err-used-clause-keys
-returns-in_err-used-clause-keys g c = λ honest seen.
-    let m = g.P.Source.means c.args.src.now in
+    let fault = ((rw (c.in_ok-read_offsets_in.ensures.reads, v.same) at c.in_err-used.ensures.exact) honest) places (v.running honest) in
+    let none = none_seen m.octets (frame_in m) c.args.walk.heights.now c.loop-done.done c.loop-done.found (v.keys honest seen) in
     let p = err_from_is_err_and c.from_residual-in_err-used.result c.from_residual-in_err-used.ensures.1 in
-    rw (p.1, p.2) (refused_always (AreSeen m.octets (frame_in m) c.args.walk.heights.now 0 c.loop-done.found)
-    (none_seen m.octets (frame_in m) c.args.walk.heights.now c.loop-done.done c.loop-done.found (c.loop-done.invariant.keys honest seen)) c.in_err-used.field-0.0)
+    rw (p.1, p.2) (refused_weaker _ _ c.in_err-used.field-0.0 (λ x h. (h, none)) fault)
 
 pub loop-done-preserved : goal.loop-done-preserved
 loop-done-preserved g c =
@@ -84,14 +75,7 @@ pub returns-clause-exact : goal.returns-clause-exact
 returns-clause-exact g c = λ honest seen.
     let m = g.P.Source.means c.args.src.now in
     let objects : c.frame-objects.result.objects ≡ (frame_in m).objects = ap (λ (x : Frame). x.objects) c.frame-objects.ensures.frame in
-    let e : c.loop-done.done ≡ (frame_in m).objects = omega (arith, objects, c.loop-done.invariant.reached, c.loop-done-test.false) in
-    subst (λ k. AreCheckedBelow m.octets (frame_in m) (lists c.args.walk.heights.now c.args.walk.keys.now) Quick k c.loop-done.used) e
-    (c.loop-done.invariant.running honest)
-
-pub returns-clause-keys : goal.returns-clause-keys
-returns-clause-keys g c = λ honest seen.
-    let m = g.P.Source.means c.args.src.now in
-    let objects : c.frame-objects.result.objects ≡ (frame_in m).objects = ap (λ (x : Frame). x.objects) c.frame-objects.ensures.frame in
-    let e : c.loop-done.done ≡ (frame_in m).objects = omega (arith, objects, c.loop-done.invariant.reached, c.loop-done-test.false) in
-    subst (λ k. AreSeen m.octets (frame_in m) c.args.walk.heights.now k c.loop-done.found) e
-    (c.loop-done.invariant.keys honest seen)
+    let e : c.loop-done.done ≡ (frame_in m).objects = omega (arith, objects, c.loop-done.invariant.reached, c.loop-done-test.false) in (
+      subst (λ k. AreCheckedBelow m.octets (frame_in m) (lists c.args.walk.heights.now c.args.walk.keys.now) Quick k c.loop-done.used) e (c.loop-done.invariant.running honest),
+      subst (λ k. AreSeen m.octets (frame_in m) c.args.walk.heights.now k c.loop-done.found) e (c.loop-done.invariant.keys honest seen),
+    )

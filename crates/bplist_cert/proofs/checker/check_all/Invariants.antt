@@ -1,8 +1,8 @@
 use Rattle.std.proofs.Common.{◌≡◌, ◌≤◌, ◌-◌}
 use Rattle.bplist_objects.specs.Framed.{frame_in, HonestlyIn}
 use Rattle.bplist_cert.specs.declared.checker.Look.TheVariants.{Quick}
-use Rattle.bplist_cert.specs.Lists.{lists}
 use Rattle.bplist_cert.specs.PairFault.{AreCheckedBelow}
+use Rattle.bplist_cert.specs.Lists.{lists}
 use Rattle.bplist_cert.specs.KeysLooks.{keys_of, IsLookOf, AreSeen}
 use Rattle.bplist_cert.proofs.checker.check_all.Given as goal
 

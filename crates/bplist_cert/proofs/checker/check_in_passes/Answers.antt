@@ -8,11 +8,5 @@ check_all-requires-2-clause-found g c =
 pub returns-clause-exact : goal.returns-clause-exact
 returns-clause-exact g c = λ honest seen.
     let reads = rw c.in-Err-Fault.field-0-is at c.in-Err-Fault.ensures.reads in
-    let first = (rw c.in-Err-Fault.field-0-is at c.in-Err-Fault.ensures.keys) honest seen in
-    (rw reads at c.check_all-2.ensures.exact) honest (c.forget.ensures.none _ _ _ 0 first)
-
-pub returns-clause-keys : goal.returns-clause-keys
-returns-clause-keys g c = λ honest seen.
-    let reads = rw c.in-Err-Fault.field-0-is at c.in-Err-Fault.ensures.reads in
-    let first = (rw c.in-Err-Fault.field-0-is at c.in-Err-Fault.ensures.keys) honest seen in
-    (rw reads at c.check_all-2.ensures.keys) honest (c.forget.ensures.none _ _ _ 0 first)
+    let first = (rw c.in-Err-Fault.field-0-is at c.in-Err-Fault.ensures.exact) honest seen in
+    (rw reads at c.check_all-2.ensures.exact) honest (c.forget.ensures.none _ _ _ 0 first.1)

@@ -23,7 +23,7 @@ returns-in_err-check-in-Ok-clause-exact g c = λ honest.
     let same : keys_of c.check_in_passes.new.found ≡ keys = c.in-Ok.ensures.same ∙ c.in_ok-found.ensures.keys in
     let keyed = rw (c.in-Ok.ensures.reads, c.frame-objects.ensures.frame, same) at c.in_err-check-in-Ok.ensures.exact in
     let p = err_from_is_err_and c.from_residual-in_err-check-in-Ok.result c.from_residual-in_err-check-in-Ok.ensures.1 in
-    rw (p.1, p.2) (refused_weaker _ _ c.in_err-check-in-Ok.field-0.0 (λ fault h. keys_first f F heights keys fault F.objects run.kept h) (keyed honest run.kept (c.in-Ok.ensures.keys honest seen)))
+    rw (p.1, p.2) (refused_weaker _ _ c.in_err-check-in-Ok.field-0.0 (λ fault h. keys_first f F heights keys fault F.objects run.0.kept h) (keyed honest run.0.kept run.1))
 
 pub returns-in_err-check-in-Err-Fault-clause-exact : goal.returns-in_err-check-in-Err-Fault-clause-exact
 returns-in_err-check-in-Err-Fault-clause-exact g c = λ honest.
@@ -32,8 +32,9 @@ returns-in_err-check-in-Err-Fault-clause-exact g c = λ honest.
     let heights = c.args.heights.now in
     let keys = c.args.keys.now in
     let none = c.in_ok-found.ensures.none f F heights in
-    let s = (rw c.in-Err-Fault.field-0-is at c.in-Err-Fault.ensures.exact) honest none in
-    let found = (rw c.in-Err-Fault.field-0-is at c.in-Err-Fault.ensures.keys) honest none in
+    let fault = (rw c.in-Err-Fault.field-0-is at c.in-Err-Fault.ensures.exact) honest none in
+    let s = fault.0 in
+    let found = fault.1 in
     let same : keys_of c.forget.new.self ≡ keys = c.forget.ensures.keys ∙ c.in-Err-Fault.ensures.same ∙ c.in_ok-found.ensures.keys in
     let named = c.object_of.ensures _ (seen_object f F heights keys _ s) in
     let inside = vouched_inside heights F.objects s.object c.requires.all s.vouched in
@@ -55,7 +56,7 @@ returns-in-Ok-clause-exact g c = λ honest.
     let run = c.in-Ok.ensures.exact honest seen in
     let same : keys_of c.check_in_passes.new.found ≡ keys = c.in-Ok.ensures.same ∙ c.in_ok-found.ensures.keys in
     let keyed = rw (c.in-Ok.ensures.reads, c.frame-objects.ensures.frame, same) at c.in_ok-check-in-Ok.ensures.exact in
-    all_good f F heights keys c.in-Ok.used run (keyed honest run.kept (c.in-Ok.ensures.keys honest seen))
+    all_good f F heights keys c.in-Ok.used run.0 (keyed honest run.0.kept run.1)
 
 pub returns-in-Err-Fault-clause-exact : goal.returns-in-Err-Fault-clause-exact
 returns-in-Err-Fault-clause-exact g c = λ honest.
@@ -64,8 +65,9 @@ returns-in-Err-Fault-clause-exact g c = λ honest.
     let heights = c.args.heights.now in
     let keys = c.args.keys.now in
     let none = c.in_ok-found.ensures.none f F heights in
-    let s = (rw c.in-Err-Fault.field-0-is at c.in-Err-Fault.ensures.exact) honest none in
-    let found = (rw c.in-Err-Fault.field-0-is at c.in-Err-Fault.ensures.keys) honest none in
+    let fault = (rw c.in-Err-Fault.field-0-is at c.in-Err-Fault.ensures.exact) honest none in
+    let s = fault.0 in
+    let found = fault.1 in
     let same : keys_of c.forget.new.self ≡ keys = c.forget.ensures.keys ∙ c.in-Err-Fault.ensures.same ∙ c.in_ok-found.ensures.keys in
     let named = c.object_of.ensures _ (seen_object f F heights keys _ s) in
     let inside = vouched_inside heights F.objects s.object c.requires.all s.vouched in

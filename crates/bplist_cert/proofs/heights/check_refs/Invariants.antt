@@ -1,7 +1,7 @@
 use Rattle.std.proofs.Common.{◌≡◌, ◌≤◌, ◌-◌}
 use Rattle.bplist_objects.specs.Framed.{HonestlyIn}
 use Rattle.bplist_cert.specs.Heights.{AreMet}
-use Rattle.bplist_cert.proofs.heights.first_unmet.Given as goal
+use Rattle.bplist_cert.proofs.heights.check_refs.Given as goal
 
 -- the source is as it was, and the references so far have heights as they are wanted
 abbrev pub invariant-loop-done : goal.invariant-loop-done
