@@ -26,7 +26,7 @@ anywhere checked is honest file e = record {
 
 module _ (checked : CheckedFile) (certificate : Lists) (upgraded : ∥ IsUpgraded checked.source.octets checked.frame checked.certificate.heights certificate ∥₁) where
   pub has_keys : IsSome certificate.keys
-  has_keys = stable_some certificate.keys (λ bad. not_there upgraded (λ u. bad (subst IsSome (sym u.keys) refl)))
+  has_keys = stable_some certificate.keys (λ bad. not_there upgraded (λ u. bad (subst (λ (l : Lists). IsSome l.keys) (sym u.is) refl)))
 
   pub keyed_checked : (file : Bor (List ℕ)) (F : Frame) → IsChecked checked → IsTrue checked.source.honest → file.now ≡ checked.source.octets → F ≡ checked.frame
       → certificate.heights ≡ checked.certificate.heights

@@ -1,5 +1,4 @@
 -- The names that the clauses of this crate cite, passed on from one place. Declares nothing.
-pub use Rattle.std.specs.Prelude.{◌≡◌, slice_index, IsTrue, ◌+◌, ◌≤◌, ◌<◌, ℕ, length, IfOk, IfErr, MatchResult, Some, None, ◌≢◌, List, ◌*◌, Bool, take, MatchOption, ◌↔◌, ⊤, ◌++◌, OnOk, is_some, ◌-◌, IfSome, is_err, false, ◌⊎◌}
 pub use Rattle.std.specs.List.{AllByRecursion}
 pub use Rattle.bplist_octets.specs.Meaning.{Honestly, OnlyReads}
 pub use Rattle.bplist_octets.specs.Octets.{part}

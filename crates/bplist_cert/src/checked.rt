@@ -1,6 +1,7 @@
 //! A source with a certificate that the check has accepted.
 
-ghost use Rattle.bplist_cert.specs.Prelude.{◌≡◌, slice_index, IsTrue, StandsAt, IsChecked};
+ghost use Rattle.std.specs.Prelude.{◌≡◌, slice_index, IsTrue};
+ghost use Rattle.bplist_cert.specs.Prelude.{StandsAt, IsChecked};
 
 use crate::certificate::Certificate;
 use bplist_objects::{Frame, Framed, ObjectNo};

@@ -1,6 +1,7 @@
 //! The check of a certificate against a file.
 
-ghost use Rattle.bplist_cert.specs.Prelude.{◌≡◌, ◌+◌, ◌≤◌, ◌<◌, ℕ, length, slice_index, IfOk, IfErr, MatchResult, Some, None, AllByRecursion, OnlyReads, Honestly, frame_in, HonestlyIn, off, Sums, IsSafeFrame, ObjectNo as object_no, lists, HasStarts, IsVouchedBy, HoldsOneValue, IsShownFault, keys_of, IsLookOf, AreSeen, Quick as quick, Exact as exact, IsCheckedObject, AreCheckedBelow, IsWalkFault, IsSeenFault, IsVouchedFault, KeepsPairRules, IsPairFault, Judges, GivesRefusal, is_read, refused_read, MayRefuse, IsAccepted, Never, Reach, Chain, Content, Spells, refs, Frame as frame};
+ghost use Rattle.std.specs.Prelude.{◌≡◌, ◌+◌, ◌≤◌, ◌<◌, ℕ, length, slice_index, IfOk, IfErr, MatchResult, Some, None};
+ghost use Rattle.bplist_cert.specs.Prelude.{AllByRecursion, OnlyReads, Honestly, frame_in, HonestlyIn, off, Sums, IsSafeFrame, ObjectNo as object_no, lists, HasStarts, IsVouchedBy, HoldsOneValue, IsShownFault, keys_of, IsLookOf, AreSeen, Quick as quick, Exact as exact, IsCheckedObject, AreCheckedBelow, IsWalkFault, IsSeenFault, IsVouchedFault, KeepsPairRules, IsPairFault, Judges, GivesRefusal, is_read, refused_read, MayRefuse, IsAccepted, Never, Reach, Chain, Content, Spells, refs, Frame as frame};
 
 use crate::certificate::{Certificate, KeyLists};
 use crate::checked::Checked;

@@ -1,7 +1,8 @@
 //! Certificates from bytes, which are read by blocks.
 
 ghost use Rattle.bplist_cert.specs.declared.certificate.CertRefusal.TheVariants.{Memory};
-ghost use Rattle.bplist_cert.specs.Prelude.{◌≡◌, ◌≢◌, ℕ, List, ◌+◌, ◌*◌, ◌≤◌, Bool, length, take, IfOk, MatchOption, MatchResult, ◌↔◌, IsTrue, ⊤, part, OnlyReads, Honestly, Gives, Never, read_failed, failed_to_read, Lists, IsCertificate, AreWords, octets_of, magic, words, Fits, IsOctetsFault, IsCertRefusal, Judges, refused_read, is_keyed, header_octets};
+ghost use Rattle.std.specs.Prelude.{◌≡◌, ◌≢◌, ℕ, List, ◌+◌, ◌*◌, ◌≤◌, Bool, length, take, IfOk, MatchOption, MatchResult, ◌↔◌, IsTrue, ⊤};
+ghost use Rattle.bplist_cert.specs.Prelude.{part, OnlyReads, Honestly, Gives, Never, read_failed, failed_to_read, Lists, IsCertificate, AreWords, octets_of, magic, words, Fits, IsOctetsFault, IsCertRefusal, Judges, refused_read, is_keyed, header_octets};
 
 use crate::certificate::{CertRefusal, Certificate, KeyLists};
 use crate::encoding::{KEYED_MAGIC, PLAIN_MAGIC};

@@ -1,6 +1,7 @@
 //! A dictionary that is looked at.
 
-ghost use Rattle.bplist_cert.specs.Prelude.{◌≡◌, Dict};
+ghost use Rattle.std.specs.Prelude.{◌≡◌};
+ghost use Rattle.bplist_cert.specs.Prelude.{Dict};
 
 use bplist_objects::{Head, ObjectNo};
 

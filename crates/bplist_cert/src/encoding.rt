@@ -1,6 +1,7 @@
 //! The bytes of a certificate.
 
-ghost use Rattle.bplist_cert.specs.Prelude.{◌≡◌, ◌++◌, IfOk, OnOk, is_some, IsCertificate, AreWords, octets_of, words, magic};
+ghost use Rattle.std.specs.Prelude.{◌≡◌, ◌++◌, IfOk, OnOk, is_some};
+ghost use Rattle.bplist_cert.specs.Prelude.{IsCertificate, AreWords, octets_of, words, magic};
 
 use crate::certificate::{Certificate, KeyLists};
 use std::alloc::{AllocError, Global};

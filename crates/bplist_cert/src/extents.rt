@@ -1,6 +1,7 @@
 //! The bytes that vouched objects take together: rule 31.
 
-ghost use Rattle.bplist_cert.specs.Prelude.{◌≡◌, ◌+◌, ◌-◌, ◌≤◌, ◌<◌, MatchResult, Some, frame_in, Overfull};
+ghost use Rattle.std.specs.Prelude.{◌≡◌, ◌+◌, ◌-◌, ◌≤◌, ◌<◌, MatchResult, Some};
+ghost use Rattle.bplist_cert.specs.Prelude.{frame_in, Overfull};
 
 use bplist_objects::{Fault, Framed, ObjectNo, Rule};
 

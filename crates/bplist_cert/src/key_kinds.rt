@@ -1,6 +1,7 @@
 //! The keys of dictionaries: rule 21.
 
-ghost use Rattle.bplist_cert.specs.Prelude.{◌≡◌, ◌↔◌, IsTrue, ◌+◌, ◌*◌, ◌<◌, length, IfOk, IfSome, MatchOption, Some, is_err, OnlyReads, Honestly, frame_in, HonestlyIn, IsSafeHead, Gives, read_failed, KeyKind, Head as head_record, IsText, KeysAreTexts, IsKeylessFault, AreLow, IsOffsetOf, AreOffsetsOf, ReferToTexts, IsFirstOther};
+ghost use Rattle.std.specs.Prelude.{◌≡◌, ◌↔◌, IsTrue, ◌+◌, ◌*◌, ◌<◌, length, IfOk, IfSome, MatchOption, Some, is_err};
+ghost use Rattle.bplist_cert.specs.Prelude.{OnlyReads, Honestly, frame_in, HonestlyIn, IsSafeHead, Gives, read_failed, KeyKind, Head as head_record, IsText, KeysAreTexts, IsKeylessFault, AreLow, IsOffsetOf, AreOffsetsOf, ReferToTexts, IsFirstOther};
 
 use crate::dictionary::Dictionary;
 use crate::key_offsets::{BLOCK, read_ahead};

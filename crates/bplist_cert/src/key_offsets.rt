@@ -3,7 +3,8 @@
 //! The references, the offset table and the objects lie far from each other in a file. A source with one
 //! window reads each of them forward where they are read in turns, and not for one key after the other.
 
-ghost use Rattle.bplist_cert.specs.Prelude.{◌≡◌, ◌+◌, ◌≤◌, length, OnOk, is_err, OnlyReads, frame_in, HonestlyIn, IsSafeHead, ref_count, AreOffsetsOf, AreRefs};
+ghost use Rattle.std.specs.Prelude.{◌≡◌, ◌+◌, ◌≤◌, length, OnOk, is_err};
+ghost use Rattle.bplist_cert.specs.Prelude.{OnlyReads, frame_in, HonestlyIn, IsSafeHead, ref_count, AreOffsetsOf, AreRefs};
 
 use bplist_keys::Offsets;
 use bplist_objects::{Framed, Head, read_refs};

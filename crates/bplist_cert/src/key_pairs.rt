@@ -1,6 +1,7 @@
 //! Pairs of texts that were found in order, so that dictionaries which share keys do not compare them again.
 
-ghost use Rattle.bplist_cert.specs.Prelude.{◌≡◌, ◌+◌, ◌*◌, ◌<◌, ℕ, List, IsTrue, Frame as frame, Ascends, AreKnown};
+ghost use Rattle.std.specs.Prelude.{◌≡◌, ◌+◌, ◌*◌, ◌<◌, ℕ, List, IsTrue};
+ghost use Rattle.bplist_cert.specs.Prelude.{Frame as frame, Ascends, AreKnown};
 
 use bplist_keys::Runs;
 

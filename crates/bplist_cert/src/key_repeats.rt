@@ -1,6 +1,7 @@
 //! Whether the keys of vouched dictionaries are texts that differ, by the classes of the texts: rules 21 and 22.
 
-ghost use Rattle.bplist_cert.specs.Prelude.{◌≡◌, ◌<◌, None, IfOk, IfSome, length, OnlyReads, frame_in, HonestlyIn, HasHead, KeepsAll, KeepsByObject, object_rules, Head as head, Dict, HaveNamedKeys, AreClassed, IsStamped, IsNew, AreClasses, failed_to_read, lists, KeepBeforeKeysBelow, AreLow, Honestly, KeysAreSound, HasGoodKeys, HaveGoodKeys, BreaksKeys, IsFirstKeysFault, Judges, refused_read};
+ghost use Rattle.std.specs.Prelude.{◌≡◌, ◌<◌, None, IfOk, IfSome, length};
+ghost use Rattle.bplist_cert.specs.Prelude.{OnlyReads, frame_in, HonestlyIn, HasHead, KeepsAll, KeepsByObject, object_rules, Head as head, Dict, HaveNamedKeys, AreClassed, IsStamped, IsNew, AreClasses, failed_to_read, lists, KeepBeforeKeysBelow, AreLow, Honestly, KeysAreSound, HasGoodKeys, HaveGoodKeys, BreaksKeys, IsFirstKeysFault, Judges, refused_read};
 
 use crate::dictionary::Dictionary;
 use crate::key_kinds::{check_texts, keyless};

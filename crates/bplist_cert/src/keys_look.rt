@@ -1,6 +1,7 @@
 //! What a walk over the vouched objects finds of the keys of dictionaries.
 
-ghost use Rattle.bplist_cert.specs.Prelude.{◌≡◌, ◌+◌, ◌≤◌, ℕ, List, None, IfOk, IfErr, length, OnlyReads, Gives, Never, read_failed, frame_in, HonestlyIn, Frame as frame, HasCount, lists, ArePlaces, KeepBeforeKeysBelow, HaveGoodKeys, IsFirstKeysFault, Judges, MayRefuse, refused_read, keys_of, IsLookOf, AreSeen};
+ghost use Rattle.std.specs.Prelude.{◌≡◌, ◌+◌, ◌≤◌, ℕ, List, None, IfOk, IfErr, length};
+ghost use Rattle.bplist_cert.specs.Prelude.{OnlyReads, Gives, Never, read_failed, frame_in, HonestlyIn, Frame as frame, HasCount, lists, ArePlaces, KeepBeforeKeysBelow, HaveGoodKeys, IsFirstKeysFault, Judges, MayRefuse, refused_read, keys_of, IsLookOf, AreSeen};
 
 use crate::certificate::KeyLists;
 use crate::key_lists::{ListLook, check_key_orders, look_at_lists};

@@ -1,7 +1,8 @@
 //! Stretches of a file that were found to have only bytes below 128, so that Ascii texts which many dictionaries name, or
 //! which lie in one another, are not read again for rule 18.
 
-ghost use Rattle.bplist_cert.specs.Prelude.{◌↔◌, ◌≤◌, ◌<◌, ℕ, List, length, IsTrue, IfOk, is_err, OnlyReads, Honestly, IsLow, AreLow};
+ghost use Rattle.std.specs.Prelude.{◌↔◌, ◌≤◌, ◌<◌, ℕ, List, length, IsTrue, IfOk, is_err};
+ghost use Rattle.bplist_cert.specs.Prelude.{OnlyReads, Honestly, IsLow, AreLow};
 
 use bplist_objects::first_high_in;
 use bplist_octets::{ReadFault, Source};

@@ -1,6 +1,7 @@
 //! Why a certificate is refused.
 
-ghost use Rattle.bplist_cert.specs.Prelude.{◌≡◌, Read};
+ghost use Rattle.std.specs.Prelude.{◌≡◌};
+ghost use Rattle.bplist_cert.specs.Prelude.{Read};
 ghost use Rattle.bplist_cert.specs.declared.refusal.Refusal.TheVariants.{Memory, Fault as is_fault};
 
 use bplist_keys::Failure;

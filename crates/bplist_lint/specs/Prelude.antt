@@ -1,5 +1,4 @@
 -- The names that the clauses of this crate cite, passed on from one place. Declares nothing.
-pub use Rattle.std.specs.Prelude.{◌≡◌, ◌<◌, ◌≤◌, IsTrue, drop, map, length, slice_index, Contains, IfOk, IfSome, MatchOption, is_err, ◌≢◌, ℕ, ◌+◌, ◌^◌, Bool, List, [], ◌∷◌, ◌++◌, set, vec_len, OnOk, ⊤, false, ◌↔◌, ◌⊎◌, ◌-◌, Some, MatchResult, true, not, replicate, count_by}
 pub use Rattle.std.specs.Int.{from_bool}
 pub use Rattle.bplist_octets.specs.Meaning.{OnlyReads}
 pub use Rattle.bplist_objects.specs.Announced.{HasHead}

@@ -1,6 +1,7 @@
 //! The circle that keeps the top from being founded.
 
-ghost use Rattle.bplist_lint.specs.Prelude.{◌≡◌, ◌<◌, ◌≤◌, IsTrue, drop, map, length, slice_index, Contains, IfOk, IfSome, MatchOption, is_err, OnlyReads, failed_to_read, IsWhole, AreWhole, AreObjects, AreLeast, IsFirstWithout, IsCircleOf, number, object, AllHave, IsFirstIndex};
+ghost use Rattle.std.specs.Prelude.{◌≡◌, ◌<◌, ◌≤◌, IsTrue, drop, map, length, slice_index, Contains, IfOk, IfSome, MatchOption, is_err};
+ghost use Rattle.bplist_lint.specs.Prelude.{OnlyReads, failed_to_read, IsWhole, AreWhole, AreObjects, AreLeast, IsFirstWithout, IsCircleOf, number, object, AllHave, IsFirstIndex};
 
 use crate::references::{BLOCK, References};
 use bplist_keys::Failure;

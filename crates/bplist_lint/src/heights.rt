@@ -1,6 +1,7 @@
 //! Which objects are founded, and their least heights.
 
-ghost use Rattle.bplist_lint.specs.Prelude.{◌≡◌, ◌≢◌, ℕ, ◌+◌, ◌^◌, ◌<◌, Bool, List, [], ◌∷◌, ◌++◌, IsTrue, length, map, set, vec_len, IfOk, OnOk, from_bool, OnlyReads, failed_to_read, IsWhole, AreObjects, IsMarked, Finds, Shows, Standing, IsHeightWalk, AreClosed, AreLeastOf, state_at, first_state};
+ghost use Rattle.std.specs.Prelude.{◌≡◌, ◌≢◌, ℕ, ◌+◌, ◌^◌, ◌<◌, Bool, List, [], ◌∷◌, ◌++◌, IsTrue, length, map, set, vec_len, IfOk, OnOk};
+ghost use Rattle.bplist_lint.specs.Prelude.{from_bool, OnlyReads, failed_to_read, IsWhole, AreObjects, IsMarked, Finds, Shows, Standing, IsHeightWalk, AreClosed, AreLeastOf, state_at, first_state};
 ghost use Rattle.bplist_lint.specs.declared.heights.State.TheVariants as states;
 
 use crate::references::{BLOCK, References};

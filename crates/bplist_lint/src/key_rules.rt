@@ -3,7 +3,8 @@
 //! Each text that is named as a key has a class, which is found once for all dictionaries. A repeated key is a repeated
 //! class, and a key without one is no text.
 
-ghost use Rattle.bplist_lint.specs.Prelude.{◌≡◌, ◌↔◌, ℕ, ◌<◌, length, OnlyReads, frame_in, HonestlyIn, IsSafeHead, Reach, KeepsAll, KeepsByObject, object_rules, HasHead, Dict, KeysAreSound, HasGoodKeys, BreaksKeys, Judges, refused_read, IsMarked, AreChildless, KeepReachBelow, AreNamed, KeepKeysBelow, IsKeysFault, AreClassed, IsStamped, IsNew, defect_key, IsWrongFault, Head as head_record};
+ghost use Rattle.std.specs.Prelude.{◌≡◌, ◌↔◌, ℕ, ◌<◌, length};
+ghost use Rattle.bplist_lint.specs.Prelude.{OnlyReads, frame_in, HonestlyIn, IsSafeHead, Reach, KeepsAll, KeepsByObject, object_rules, HasHead, Dict, KeysAreSound, HasGoodKeys, BreaksKeys, Judges, refused_read, IsMarked, AreChildless, KeepReachBelow, AreNamed, KeepKeysBelow, IsKeysFault, AreClassed, IsStamped, IsNew, defect_key, IsWrongFault, Head as head_record};
 
 use bplist_cert::Refusal;
 use bplist_keys::{ClassTable, KeyDefect, NamedKeys, Offsets, classes_of, object_shape};

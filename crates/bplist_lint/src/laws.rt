@@ -1,7 +1,8 @@
 //! Laws of the definitions: each is the contract of a function that does nothing.
 
 ghost use Rattle.bplist_objects.specs.declared.fault.Fault.{Fault as fault};
-ghost use Rattle.bplist_lint.specs.Prelude.{◌≡◌, ◌↔◌, ◌⊎◌, ℕ, ◌<◌, ◌≤◌, List, length, slice_index, Frame as frame, Value, IsFrame, Content, Spells, FileHolds, Reach, Founded, refs_at, IsValid, Reaches, Ends, AreLeast, IsCircleOf, StandLeast, AreLeastHeights, IsWellFormed, KeepReachBelow, KeepKeysBelow, IsCircle, IsFileFault, IsFileCircle};
+ghost use Rattle.std.specs.Prelude.{◌≡◌, ◌↔◌, ◌⊎◌, ℕ, ◌<◌, ◌≤◌, List, length, slice_index};
+ghost use Rattle.bplist_lint.specs.Prelude.{Frame as frame, Value, IsFrame, Content, Spells, FileHolds, Reach, Founded, refs_at, IsValid, Reaches, Ends, AreLeast, IsCircleOf, StandLeast, AreLeastHeights, IsWellFormed, KeepReachBelow, KeepKeysBelow, IsCircle, IsFileFault, IsFileCircle};
 
 /// A file has valid heights exactly where it is well formed.
 pub fn valid_iff_well_formed()

@@ -1,6 +1,7 @@
 //! The linter.
 
-ghost use Rattle.bplist_lint.specs.Prelude.{◌≡◌, ◌↔◌, ℕ, ◌<◌, IsTrue, IfOk, IfSome, MatchOption, length, vec_len, ⊤, OnlyReads, frame_in, HonestlyIn, Reach, AreOffsets, refs_at, Value, FileHolds, Never, HasShape, Head as head, failed_to_read, IsMarked, AreLeast, AreChildless, IsReachFault, KeepReachBelow, KeepKeysBelow, HasRoomFor, IsWalked, AreNamed, IsObjectsFault, IsFileFault, IsFileCircle, IsFramedCircle, Lints, lint_failed, no_circle, KeepsRules, IsLintedBy, IsLinted, IsLintedWithKind, HasNoHeights};
+ghost use Rattle.std.specs.Prelude.{◌≡◌, ◌↔◌, ℕ, ◌<◌, IsTrue, IfOk, IfSome, MatchOption, length, vec_len, ⊤};
+ghost use Rattle.bplist_lint.specs.Prelude.{OnlyReads, frame_in, HonestlyIn, Reach, AreOffsets, refs_at, Value, FileHolds, Never, HasShape, Head as head, failed_to_read, IsMarked, AreLeast, AreChildless, IsReachFault, KeepReachBelow, KeepKeysBelow, HasRoomFor, IsWalked, AreNamed, IsObjectsFault, IsFileFault, IsFileCircle, IsFramedCircle, Lints, lint_failed, no_circle, KeepsRules, IsLintedBy, IsLinted, IsLintedWithKind, HasNoHeights};
 
 use crate::answer::Lint;
 use crate::circle::circle;

@@ -1,6 +1,7 @@
 //! The places of all objects: rule 13 of them, and the heads that stand there.
 
-ghost use Rattle.bplist_lint.specs.Prelude.{◌≡◌, ◌<◌, MatchResult, MatchOption, IfOk, IfSome, is_err, length, OnlyReads, frame_in, HonestlyIn, HasShape, IsSafe, IsSafeHead, Head as head, AreBelowTable, IsOffsetFault};
+ghost use Rattle.std.specs.Prelude.{◌≡◌, ◌<◌, MatchResult, MatchOption, IfOk, IfSome, is_err, length};
+ghost use Rattle.bplist_lint.specs.Prelude.{OnlyReads, frame_in, HonestlyIn, HasShape, IsSafe, IsSafeHead, Head as head, AreBelowTable, IsOffsetFault};
 
 use bplist_keys::{Offsets, object_shape};
 use bplist_objects::{Fault, Frame, Head, ObjectFault, ObjectNo, high_entry};

@@ -1,7 +1,8 @@
 //! Which objects the top reaches, in a file whose arrays may lie in one another: each place of a reference is followed
 //! once, however many arrays it lies in.
 
-ghost use Rattle.bplist_lint.specs.Prelude.{◌≡◌, ◌↔◌, ℕ, ◌+◌, ◌^◌, ◌≤◌, ◌<◌, true, false, not, IsTrue, IfOk, OnOk, is_err, replicate, count_by, vec_len, OnlyReads, frame_in, HonestlyIn, content_at, refs, Reach, IsSafeHead, ref_count, AreBelow, failed_to_read, IsMarked, HasMarks, place_index, index_count, IsReady, AreGood, AreFollowed, Looked, Searching};
+ghost use Rattle.std.specs.Prelude.{◌≡◌, ◌↔◌, ℕ, ◌+◌, ◌^◌, ◌≤◌, ◌<◌, true, false, not, IsTrue, IfOk, OnOk, is_err, replicate, count_by, vec_len};
+ghost use Rattle.bplist_lint.specs.Prelude.{OnlyReads, frame_in, HonestlyIn, content_at, refs, Reach, IsSafeHead, ref_count, AreBelow, failed_to_read, IsMarked, HasMarks, place_index, index_count, IsReady, AreGood, AreFollowed, Looked, Searching};
 
 use crate::bit_set::BitSet;
 use crate::object_graph::object_in;

@@ -1,6 +1,7 @@
 //! The first fault of the reached objects by rules 14 to 20 and 31.
 
-ghost use Rattle.bplist_lint.specs.Prelude.{◌≡◌, ℕ, ◌+◌, ◌<◌, ◌↔◌, Bool, IfOk, List, length, OnlyReads, frame_in, HonestlyIn, Reach, Gives, read_failed, IsMarked, IsReachFault, Tallied, IsRoomy};
+ghost use Rattle.std.specs.Prelude.{◌≡◌, ℕ, ◌+◌, ◌<◌, ◌↔◌, Bool, IfOk, List, length};
+ghost use Rattle.bplist_lint.specs.Prelude.{OnlyReads, frame_in, HonestlyIn, Reach, Gives, read_failed, IsMarked, IsReachFault, Tallied, IsRoomy};
 
 use crate::tally::Tally;
 use bplist_keys::Offsets;

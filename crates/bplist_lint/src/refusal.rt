@@ -1,6 +1,7 @@
 //! Why the linter says no.
 
-ghost use Rattle.bplist_lint.specs.Prelude.{◌≡◌, ObjectFault as object_fault, Refusal as cert_refusal, lint_refusal_of, refusal_of, refusal_of_keys};
+ghost use Rattle.std.specs.Prelude.{◌≡◌};
+ghost use Rattle.bplist_lint.specs.Prelude.{ObjectFault as object_fault, Refusal as cert_refusal, lint_refusal_of, refusal_of, refusal_of_keys};
 ghost use Rattle.bplist_lint.specs.declared.refusal.LintRefusal.TheVariants.{Fault as is_fault};
 
 use crate::object_nos::ObjectNos;

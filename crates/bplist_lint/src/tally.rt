@@ -1,6 +1,7 @@
 //! What reached objects come to together.
 
-ghost use Rattle.bplist_lint.specs.Prelude.{◌≡◌, ◌+◌, ◌-◌, ◌≤◌, ◌<◌, IfSome, MatchOption, IsSafeHead, ref_count, IsRoomy};
+ghost use Rattle.std.specs.Prelude.{◌≡◌, ◌+◌, ◌-◌, ◌≤◌, ◌<◌, IfSome, MatchOption};
+ghost use Rattle.bplist_lint.specs.Prelude.{IsSafeHead, ref_count, IsRoomy};
 
 use bplist_objects::{Frame, Head, refs_of};
 

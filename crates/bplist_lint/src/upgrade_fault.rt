@@ -1,6 +1,7 @@
 //! Why a certificate is not upgraded.
 
-ghost use Rattle.bplist_lint.specs.Prelude.{◌≡◌, ObjectFault as object_fault, Refusal as cert_refusal, refusal_of, refusal_of_keys, upgrade_fault_of};
+ghost use Rattle.std.specs.Prelude.{◌≡◌};
+ghost use Rattle.bplist_lint.specs.Prelude.{ObjectFault as object_fault, Refusal as cert_refusal, refusal_of, refusal_of_keys, upgrade_fault_of};
 ghost use Rattle.bplist_lint.specs.declared.upgrade_fault.UpgradeFault.TheVariants.{Memory as is_memory};
 
 use bplist_cert::Refusal;

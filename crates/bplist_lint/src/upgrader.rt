@@ -1,6 +1,7 @@
 //! Certificates of version 2, from those of a checked file.
 
-ghost use Rattle.bplist_lint.specs.Prelude.{◌≡◌, ◌+◌, ◌≤◌, ◌<◌, ℕ, Bool, List, set, length, IsTrue, IfOk, vec_len, OnlyReads, frame_in, HonestlyIn, AreRanks, IsVouchedBy, IsValid, HasNamedKeys, Listed, IsUpgraded, Upgrades, upgrade_failed};
+ghost use Rattle.std.specs.Prelude.{◌≡◌, ◌+◌, ◌≤◌, ◌<◌, ℕ, Bool, List, set, length, IsTrue, IfOk, vec_len};
+ghost use Rattle.bplist_lint.specs.Prelude.{OnlyReads, frame_in, HonestlyIn, AreRanks, IsVouchedBy, IsValid, HasNamedKeys, Listed, IsUpgraded, Upgrades, upgrade_failed};
 
 use crate::key_lists::KeySorting;
 use crate::upgrade_fault::UpgradeFault;

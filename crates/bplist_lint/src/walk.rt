@@ -1,6 +1,7 @@
 //! One walk over the reached objects, for files in which none of them breaks a rule and all have room.
 
-ghost use Rattle.bplist_lint.specs.Prelude.{◌≡◌, ◌≢◌, ◌↔◌, ℕ, ◌+◌, ◌≤◌, ◌<◌, [], ◌∷◌, ◌++◌, not, IsTrue, false, IfOk, IfSome, OnOk, count_by, length, slice_index, vec_len, OnlyReads, ObjectFault as object_fault, frame_in, HonestlyIn, content_at, refs, IsSafeHead, ref_count, AreBelow, ref, Dict, failed_to_read, IsMarked, IsRoomy, IsSteady, IsSteadyWalk, Noted, IsWalking, HasRoomFor, IsWalked, AreNamed, of_object, stop_failed, Read as is_read};
+ghost use Rattle.std.specs.Prelude.{◌≡◌, ◌≢◌, ◌↔◌, ℕ, ◌+◌, ◌≤◌, ◌<◌, [], ◌∷◌, ◌++◌, not, IsTrue, false, IfOk, IfSome, OnOk, count_by, length, slice_index, vec_len};
+ghost use Rattle.bplist_lint.specs.Prelude.{OnlyReads, ObjectFault as object_fault, frame_in, HonestlyIn, content_at, refs, IsSafeHead, ref_count, AreBelow, ref, Dict, failed_to_read, IsMarked, IsRoomy, IsSteady, IsSteadyWalk, Noted, IsWalking, HasRoomFor, IsWalked, AreNamed, of_object, stop_failed, Read as is_read};
 ghost use Rattle.bplist_lint.specs.declared.walk.Stop.TheVariants.{Memory as is_memory};
 
 use crate::tally::Tally;

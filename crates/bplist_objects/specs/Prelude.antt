@@ -1,5 +1,4 @@
 -- The names that the clauses of this crate cite, passed on from one place. Declares nothing.
-pub use Rattle.std.specs.Prelude.{◌≡◌, ◌<◌, IfOk, length, ℕ, ◌+◌, ◌^◌, ◌≤◌, List, true, IfSome, MatchOption, slice_index, Some, MatchResult, IsTrue, IsSome, ◌↔◌, ◌⊎◌, ◌*◌, [], ◌∷◌, Option, ◌%◌, OnOk, is_err, ℤ, min}
 pub use Rattle.std.specs.Ordering.{ordering_reverse}
 pub use Rattle.std.specs.declared.cmp.Ordering.TheVariants.{Less, Equal}
 pub use Rattle.bplist_octets.specs.Meaning.{Honestly, OnlyReads, last_count}

@@ -1,6 +1,7 @@
 //! The bodies of objects, and heads by all rules of an object by itself.
 
-ghost use Rattle.bplist_objects.specs.Prelude.{◌≡◌, ◌<◌, IfOk, length, OnlyReads, Honestly, HonestlyBy, off, IsSafe, IsSafeHead, Gives, Never, read_failed, KeepsAll, HasHead, Content, content_at, Spells, IsHeadOf, KeepsByObject, IsObjectFault, body_rules, object_rules};
+ghost use Rattle.std.specs.Prelude.{◌≡◌, ◌<◌, IfOk, length};
+ghost use Rattle.bplist_objects.specs.Prelude.{OnlyReads, Honestly, HonestlyBy, off, IsSafe, IsSafeHead, Gives, Never, read_failed, KeepsAll, HasHead, Content, content_at, Spells, IsHeadOf, KeepsByObject, IsObjectFault, body_rules, object_rules};
 
 use crate::fault::{ObjectFault, broken};
 use crate::frame::{Frame, ObjectNo};

@@ -1,6 +1,7 @@
 //! The count of an object: in its marker, or as an integer object behind it.
 
-ghost use Rattle.bplist_objects.specs.Prelude.{◌≡◌, ℕ, ◌+◌, ◌^◌, ◌≤◌, ◌<◌, List, true, IfOk, IfSome, MatchOption, length, slice_index, OnlyReads, Honestly, Gives, read_failed, Marks, markers_of, is_counted, IsLongOf, HasLongCount, Announces, MayCount, IsLongCountFault};
+ghost use Rattle.std.specs.Prelude.{◌≡◌, ℕ, ◌+◌, ◌^◌, ◌≤◌, ◌<◌, List, true, IfOk, IfSome, MatchOption, length, slice_index};
+ghost use Rattle.bplist_objects.specs.Prelude.{OnlyReads, Honestly, Gives, read_failed, Marks, markers_of, is_counted, IsLongOf, HasLongCount, Announces, MayCount, IsLongCountFault};
 
 use crate::fault::{ObjectFault, broken};
 use crate::frame::ObjectNo;

@@ -1,6 +1,7 @@
 //! Broken rules, and why a call gave no answer.
 
-ghost use Rattle.bplist_objects.specs.Prelude.{◌≡◌, Some, Fault as is_fault, Read};
+ghost use Rattle.std.specs.Prelude.{◌≡◌, Some};
+ghost use Rattle.bplist_objects.specs.Prelude.{Fault as is_fault, Read};
 
 use crate::frame::ObjectNo;
 use crate::rule::Rule;

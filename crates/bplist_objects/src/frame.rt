@@ -1,6 +1,7 @@
 //! The frame of a file: the five numbers of its trailer.
 
-ghost use Rattle.bplist_objects.specs.Prelude.{◌≡◌, ℕ, ◌^◌, ◌≤◌, ◌<◌, List, length, IfOk, MatchResult, OnlyReads, Honestly, trailer as spelled, Keeps, IsFrame, number_rules, KeepsAll, IsFirstFault, Breaks, IsTrailer, IsTrailerFault, IsFrameFault, IsSafeFrame, frame_of_trailer, Magic, Frame as frame, Gives, Never, read_failed};
+ghost use Rattle.std.specs.Prelude.{◌≡◌, ℕ, ◌^◌, ◌≤◌, ◌<◌, List, length, IfOk, MatchResult};
+ghost use Rattle.bplist_objects.specs.Prelude.{OnlyReads, Honestly, trailer as spelled, Keeps, IsFrame, number_rules, KeepsAll, IsFirstFault, Breaks, IsTrailer, IsTrailerFault, IsFrameFault, IsSafeFrame, frame_of_trailer, Magic, Frame as frame, Gives, Never, read_failed};
 
 use crate::fault::{Fault, ObjectFault};
 use crate::numbers::Width;

@@ -1,6 +1,7 @@
 //! Sources that know their frame.
 
-ghost use Rattle.bplist_objects.specs.Prelude.{◌≡◌, length, IsTrue, borrowed, IsFrame, IsSafeFrame, IsFramed, frame_in, with_frame};
+ghost use Rattle.std.specs.Prelude.{◌≡◌, length, IsTrue};
+ghost use Rattle.bplist_objects.specs.Prelude.{borrowed, IsFrame, IsSafeFrame, IsFramed, frame_in, with_frame};
 
 use crate::frame::Frame;
 use bplist_octets::{ReadFault, Source};

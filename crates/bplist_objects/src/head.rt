@@ -1,6 +1,7 @@
 //! The heads of objects: what marker and count say.
 
-ghost use Rattle.bplist_objects.specs.Prelude.{◌≡◌, ◌<◌, ◌≤◌, IfOk, length, slice_index, OnlyReads, HonestlyBy, off, IsSafe, IsSafeHead, Gives, Never, read_failed, KeepsAll, HasHead, HasShape, Head as head, KeepsByObject, IsObjectFault, shape_rules};
+ghost use Rattle.std.specs.Prelude.{◌≡◌, ◌<◌, ◌≤◌, IfOk, length, slice_index};
+ghost use Rattle.bplist_objects.specs.Prelude.{OnlyReads, HonestlyBy, off, IsSafe, IsSafeHead, Gives, Never, read_failed, KeepsAll, HasHead, HasShape, Head as head, KeepsByObject, IsObjectFault, shape_rules};
 
 use crate::count::{long_count, short_count};
 use crate::fault::{ObjectFault, broken};

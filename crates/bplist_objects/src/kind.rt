@@ -1,6 +1,7 @@
 //! The kinds of objects and their markers.
 
-ghost use Rattle.bplist_objects.specs.Prelude.{◌≡◌, ◌≤◌, MatchOption, IsSome, Marks, kind_at, item_size};
+ghost use Rattle.std.specs.Prelude.{◌≡◌, ◌≤◌, MatchOption, IsSome};
+ghost use Rattle.bplist_objects.specs.Prelude.{Marks, kind_at, item_size};
 
 /// The kind of an object.
 #[derive(Clone, Copy, Debug, PartialEq, Eq, Drop)]

@@ -1,7 +1,8 @@
 //! Laws of the definitions: each is the contract of a function that does nothing.
 
 ghost use Rattle.bplist_objects.specs.declared.fault.Fault.{Fault as fault};
-ghost use Rattle.bplist_objects.specs.Prelude.{◌≡◌, ◌↔◌, ◌⊎◌, ℕ, ◌+◌, ◌*◌, ◌^◌, ◌<◌, ◌≤◌, true, List, [], ◌∷◌, length, slice_index, Option, Frame as frame, ObjectNo as object_no, Head as head, Rule as rule, Keeps, frame_rules, IsFrame, Value, boolean, array, value, no_values, dict, pair, no_pairs, Content, refs, content_at, HasShape, Spells, IsHeadOf, Holds, FileHolds, KeepsAll, nth_number, Breaks, IsFrameFault, HasHead, KeepsByObject, BreaksByObject, shape_rules, object_rules, IsObjectFault, ref_count, IsSafe, IsSafeFrame, IsSafeHead, Chain, Founded, small_file};
+ghost use Rattle.std.specs.Prelude.{◌≡◌, ◌↔◌, ◌⊎◌, ℕ, ◌+◌, ◌*◌, ◌^◌, ◌<◌, ◌≤◌, true, List, [], ◌∷◌, length, slice_index, Option};
+ghost use Rattle.bplist_objects.specs.Prelude.{Frame as frame, ObjectNo as object_no, Head as head, Rule as rule, Keeps, frame_rules, IsFrame, Value, boolean, array, value, no_values, dict, pair, no_pairs, Content, refs, content_at, HasShape, Spells, IsHeadOf, Holds, FileHolds, KeepsAll, nth_number, Breaks, IsFrameFault, HasHead, KeepsByObject, BreaksByObject, shape_rules, object_rules, IsObjectFault, ref_count, IsSafe, IsSafeFrame, IsSafeHead, Chain, Founded, small_file};
 ghost use Rattle.bplist_objects.specs.Value.{leaf};
 
 /// At one place marker and count say at most one head.

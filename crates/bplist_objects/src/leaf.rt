@@ -1,6 +1,7 @@
 //! The values of leaves, read at a head.
 
-ghost use Rattle.bplist_objects.specs.Prelude.{◌≡◌, ◌⊎◌, ◌+◌, ◌*◌, ◌^◌, ◌%◌, ◌≤◌, length, IfOk, OnOk, is_err, part, OnlyReads, Honestly, integer, num_at, item_size, IsLeafKind, IsSafeBody, Int, Uid};
+ghost use Rattle.std.specs.Prelude.{◌≡◌, ◌⊎◌, ◌+◌, ◌*◌, ◌^◌, ◌%◌, ◌≤◌, length, IfOk, OnOk, is_err};
+ghost use Rattle.bplist_objects.specs.Prelude.{part, OnlyReads, Honestly, integer, num_at, item_size, IsLeafKind, IsSafeBody, Int, Uid};
 
 use crate::head::Head;
 use crate::numbers::wide_in;

@@ -1,6 +1,7 @@
 //! Laws of leaves and of the order of units: each is the contract of a function that does nothing.
 
-ghost use Rattle.bplist_objects.specs.Prelude.{◌≡◌, ◌↔◌, ℕ, ◌≤◌, List, ℤ, Less, Equal, ordering_reverse, part, Frame as frame, Head as head, integer, num_at, int, real, date, bytes, text, uid, content_at, Spells, IsTextKind, units_of, compare_units};
+ghost use Rattle.std.specs.Prelude.{◌≡◌, ◌↔◌, ℕ, ◌≤◌, List, ℤ};
+ghost use Rattle.bplist_objects.specs.Prelude.{Less, Equal, ordering_reverse, part, Frame as frame, Head as head, integer, num_at, int, real, date, bytes, text, uid, content_at, Spells, IsTextKind, units_of, compare_units};
 ghost use Rattle.bplist_objects.specs.declared.kind.Kind.TheVariants as kinds;
 ghost use Rattle.bplist_objects.specs.Heads.{leaf};
 

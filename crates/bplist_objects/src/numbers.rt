@@ -1,6 +1,7 @@
 //! Numbers of one to sixteen bytes at a place of a source.
 
-ghost use Rattle.bplist_objects.specs.Prelude.{◌≡◌, ℕ, ◌+◌, ◌*◌, ◌≤◌, ◌<◌, length, IfOk, OnOk, is_err, slice_index, part, num, OnlyReads, Honestly, num_at, AreNumbers, MeanNumbers};
+ghost use Rattle.std.specs.Prelude.{◌≡◌, ℕ, ◌+◌, ◌*◌, ◌≤◌, ◌<◌, length, IfOk, OnOk, is_err, slice_index};
+ghost use Rattle.bplist_objects.specs.Prelude.{part, num, OnlyReads, Honestly, num_at, AreNumbers, MeanNumbers};
 
 use bplist_octets::{ReadFault, Source, sized, wide};
 

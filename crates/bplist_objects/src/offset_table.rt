@@ -1,6 +1,7 @@
 //! The offset table, whose entries are the places of the objects.
 
-ghost use Rattle.bplist_objects.specs.Prelude.{◌≡◌, ℕ, ◌+◌, ◌*◌, ◌≤◌, ◌<◌, length, slice_index, IfOk, OnOk, is_err, OnlyReads, Honestly, off, IsSafe, OffsetHigh};
+ghost use Rattle.std.specs.Prelude.{◌≡◌, ℕ, ◌+◌, ◌*◌, ◌≤◌, ◌<◌, length, slice_index, IfOk, OnOk, is_err};
+ghost use Rattle.bplist_objects.specs.Prelude.{OnlyReads, Honestly, off, IsSafe, OffsetHigh};
 
 use crate::fault::Fault;
 use crate::frame::{Frame, ObjectNo};

@@ -1,6 +1,7 @@
 //! What stands in a file, by a source that knows its frame.
 
-ghost use Rattle.bplist_objects.specs.Prelude.{◌≡◌, ℕ, ◌+◌, ◌*◌, ◌≤◌, ◌<◌, IfOk, OnOk, length, is_err, slice_index, OnlyReads, frame_in, HonestlyIn, off, Gives, read_failed, IsSafeHead, ref_count, nth_number, IsHeadOf, HasShape, HasHead, KeepsAll, KeepsByObject, IsObjectFault, object_rules, shape_rules};
+ghost use Rattle.std.specs.Prelude.{◌≡◌, ℕ, ◌+◌, ◌*◌, ◌≤◌, ◌<◌, IfOk, OnOk, length, is_err, slice_index};
+ghost use Rattle.bplist_objects.specs.Prelude.{OnlyReads, frame_in, HonestlyIn, off, Gives, read_failed, IsSafeHead, ref_count, nth_number, IsHeadOf, HasShape, HasHead, KeepsAll, KeepsByObject, IsObjectFault, object_rules, shape_rules};
 
 use crate::body::head_at;
 use crate::fault::ObjectFault;

@@ -1,6 +1,7 @@
 //! The references of arrays, sets and dictionaries.
 
-ghost use Rattle.bplist_objects.specs.Prelude.{◌≡◌, ℕ, ◌+◌, ◌≤◌, ◌<◌, IfOk, OnOk, is_err, length, slice_index, OnlyReads, Honestly, IsSafe, IsSafeHead, ref_count, nth_number, refs, content_at};
+ghost use Rattle.std.specs.Prelude.{◌≡◌, ℕ, ◌+◌, ◌≤◌, ◌<◌, IfOk, OnOk, is_err, length, slice_index};
+ghost use Rattle.bplist_objects.specs.Prelude.{OnlyReads, Honestly, IsSafe, IsSafeHead, ref_count, nth_number, refs, content_at};
 
 use crate::frame::Frame;
 use crate::head::Head;

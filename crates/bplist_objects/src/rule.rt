@@ -1,6 +1,7 @@
 //! The rules of files and certificates, 1 to 32.
 
-ghost use Rattle.bplist_objects.specs.Prelude.{◌≡◌, ◌⊎◌, ◌<◌, MatchOption, number_of, word_of};
+ghost use Rattle.std.specs.Prelude.{◌≡◌, ◌⊎◌, ◌<◌, MatchOption};
+ghost use Rattle.bplist_objects.specs.Prelude.{number_of, word_of};
 
 /// A rule of a file, a certificate or a path text. A variant's number is the rule's, and its line has the
 /// number too, and says when the rule is broken.

@@ -1,6 +1,7 @@
 //! The first of many numbers of one size, or of many bytes, that is not below a bound, by blocks.
 
-ghost use Rattle.bplist_objects.specs.Prelude.{◌≡◌, ◌+◌, ◌*◌, ◌≤◌, ◌<◌, length, IsTrue, IfOk, IfSome, MatchOption, is_err, OnlyReads, Honestly, AreBelow, IsFirstNotBelow};
+ghost use Rattle.std.specs.Prelude.{◌≡◌, ◌+◌, ◌*◌, ◌≤◌, ◌<◌, length, IsTrue, IfOk, IfSome, MatchOption, is_err};
+ghost use Rattle.bplist_objects.specs.Prelude.{OnlyReads, Honestly, AreBelow, IsFirstNotBelow};
 
 use crate::numbers::{BLOCK_BYTES, FEW, FEW_BYTES, Width, part_of};
 use bplist_octets::{ReadFault, Source, first_high, sized};

@@ -1,6 +1,7 @@
 //! The units of texts, read and compared at a head.
 
-ghost use Rattle.bplist_objects.specs.Prelude.{◌≡◌, ◌+◌, ◌≤◌, ◌<◌, length, slice_index, min, IfOk, OnOk, is_err, part, OnlyReads, last_count, Honestly, IsSafeBody, IsTextKind, units_of, compare_units};
+ghost use Rattle.std.specs.Prelude.{◌≡◌, ◌+◌, ◌≤◌, ◌<◌, length, slice_index, min, IfOk, OnOk, is_err};
+ghost use Rattle.bplist_objects.specs.Prelude.{part, OnlyReads, last_count, Honestly, IsSafeBody, IsTextKind, units_of, compare_units};
 
 use crate::head::Head;
 use crate::kind::item_size;

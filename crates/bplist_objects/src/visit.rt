@@ -1,6 +1,7 @@
 //! The first look at an object, which for many leaves is all of it.
 
-ghost use Rattle.bplist_objects.specs.Prelude.{◌≡◌, ◌<◌, IfOk, OnlyReads, frame_in, HonestlyIn, off, Gives, read_failed, IsObjectFault, shape_rules, size_said, IsVisited, IsSafeVisit};
+ghost use Rattle.std.specs.Prelude.{◌≡◌, ◌<◌, IfOk};
+ghost use Rattle.bplist_objects.specs.Prelude.{OnlyReads, frame_in, HonestlyIn, off, Gives, read_failed, IsObjectFault, shape_rules, size_said, IsVisited, IsSafeVisit};
 
 use crate::fault::{ObjectFault, broken};
 use crate::frame::ObjectNo;
