@@ -41,7 +41,7 @@ pub use Rattle.bplist_cert.specs.Lists.{AreWords, HasCount, HasStarts, IsCertifi
 pub use Rattle.bplist_cert.specs.Looks.{IsShownFault, KeepBeforeKeysBelow}
 pub use Rattle.bplist_cert.specs.LowBytes.{AreLow, IsLow}
 pub use Rattle.bplist_cert.specs.PairFault.{AreCheckedBelow, IsCheckedObject, IsPairFault, IsSeenFault, IsVouchedFault, IsWalkFault, KeepsPairRules}
-pub use Rattle.bplist_cert.specs.Refusals.{GivesRefusal, Judges, MayRefuse, is_read, refused_read}
+pub use Rattle.bplist_cert.specs.Refusals.{GivesRefusal, Judges, MayRefuse, is_read, refusal_of, refusal_of_keys, refused_read}
 pub use Rattle.bplist_cert.specs.Sorted.{IsAccepted, IsSorted}
 pub use Rattle.bplist_cert.specs.Valid.{HoldsOneValue, IsValid, IsVouchedBy, SpellsText}
 pub use Rattle.bplist_cert.specs.Versions.{header_octets, is_keyed}

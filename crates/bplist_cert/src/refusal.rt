@@ -1,7 +1,7 @@
 //! Why a certificate is refused.
 
 ghost use Rattle.std.specs.Prelude.{◌≡◌};
-ghost use Rattle.bplist_cert.specs.Prelude.{Read};
+ghost use Rattle.bplist_cert.specs.Prelude.{Read, refusal_of, refusal_of_keys};
 ghost use Rattle.bplist_cert.specs.declared.refusal.Refusal.TheVariants.{Memory, Fault as is_fault};
 
 use bplist_keys::Failure;
@@ -38,8 +38,6 @@ impl From<ReadFault> for Refusal {
 }
 
 impl From<ObjectFault> for Refusal {
-    ghost use Rattle.bplist_cert.specs.Refusals.{refusal_of};
-
     ghost from_gives = { λ fault e. e ≡ refusal_of fault };
 
     fn from(fault: ObjectFault) -> Refusal {
@@ -51,8 +49,6 @@ impl From<ObjectFault> for Refusal {
 }
 
 impl From<Failure> for Refusal {
-    ghost use Rattle.bplist_cert.specs.Refusals.{refusal_of_keys};
-
     ghost from_gives = { λ fault e. e ≡ refusal_of_keys fault };
 
     fn from(fault: Failure) -> Refusal {
