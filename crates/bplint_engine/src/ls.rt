@@ -20,8 +20,9 @@ use std::io::Write;
 ///
 /// A line has the member's own path text, a tab, and the line of `Get` for it. The place in brackets, counted from 0,
 /// stands for the path of a set's member, and of a key whose path text could not be shown on one line of UTF-8: it has
-/// a control character (one of U+0080 to U+009F too), a separator of lines or paragraphs (U+2028 and U+2029) or a
-/// surrogate without its other half. A path that leads nowhere gets its line as with `Get`.
+/// a control character (one of U+0080 to U+009F too), a separator of lines or paragraphs (U+2028 and U+2029), a control
+/// of the direction of text (U+061C, U+200E, U+200F, U+202A to U+202E, U+2066 to U+2069) or a surrogate without its
+/// other half. A path that leads nowhere gets its line as with `Get`.
 ///
 /// The answer is the first fault: `Path` for a wrong path text, or else `Fault` or `Circle` as `Lint` answers it. Nothing
 /// went out then. `Read`, `Memory`, `Write` and `Changed` are those of [`crate::run_on`].

@@ -1,14 +1,19 @@
 -- The names that lines have for the members of containers. Source: the path texts RFC 6901; the indexes profile.
 use Rattle.std.specs.Prelude.{◌++◌, ℕ, ◌==◌, ◌||◌, ◌&&◌, not, List, Bool, if◌then◌else◌, codes, encode_utf8_all}
 use Rattle.std.specs.Char.{is_control}
+use Rattle.std.specs.Int.{is_in_range}
 use Rattle.std.specs.List.{flat_map, list_any}
 use Rattle.std.specs.Fmt.{decimal}
 use Rattle.std.specs.Char.Utf16.{has_unpaired_surrogate, utf16_lossy_chars}
 use Rattle.bplist_cursor.specs.Path.{escaped}
 
--- the key's path text is UTF-8, and has no control character and no separator of lines or paragraphs
+-- a line would not show this unit as it stands: a control character, or one that begins a line or turns the direction of text
+abbrev pub is_unshown : ℕ → Bool
+is_unshown u = is_control u || u == 0x61C || is_in_range 0x200E 0x200F u || is_in_range 0x2028 0x202E u || is_in_range 0x2066 0x2069 u
+
+-- the key's path text is UTF-8, and all of it is shown
 abbrev pub has_path_text : List ℕ → Bool
-has_path_text units = not (list_any (λ u. is_control u || u == 0x2028 || u == 0x2029) units) && not (has_unpaired_surrogate units)
+has_path_text units = not (list_any is_unshown units) && not (has_unpaired_surrogate units)
 
 -- an index among the members, in brackets
 abbrev pub bracketed : ℕ → List ℕ

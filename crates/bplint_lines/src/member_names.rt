@@ -1,11 +1,11 @@
 //! The names that lines have for the members of containers.
 //!
 //! Each call adds its name to the bytes. The one refusal is that of a growth.
-ghost use Rattle.std.specs.Prelude.{◌≡◌, ◌++◌, ◌∷◌, ◌||◌, ◌==◌, IfOk, MatchOption, OnOk, encode_utf8_all, false, string_bytes, true};
-ghost use Rattle.std.specs.Char.{is_control};
+ghost use Rattle.std.specs.Prelude.{◌≡◌, ◌++◌, ◌∷◌, IfOk, MatchOption, OnOk, encode_utf8_all, false, string_bytes, true};
 ghost use Rattle.std.specs.Char.Utf16.{utf16_lossy_chars};
 ghost use Rattle.std.specs.List.{flat_map, list_any};
 ghost use Rattle.bplist_cursor.specs.Path.{escaped};
+ghost use Rattle.bplint_lines.specs.MemberNames as spec;
 ghost use Rattle.bplint_lines.specs.MemberNames.{bracketed, has_path_text, index_name, key_name};
 
 use std::alloc::{AllocError, Global};
@@ -65,17 +65,20 @@ fn key_text(alloc: Global, units: &[u16]) -> Result<Option<String>, AllocError>
 
 /// Is there a unit that no line shows?
 fn have_unshown(units: &[u16]) -> bool
-    ensures { result ≡ list_any (λ u. is_control u || u == 0x2028 || u == 0x2029) units.now }
+    ensures { result ≡ list_any spec.is_unshown units.now }
 {
     units.iter().any(|unit| is_unshown(*unit))
 }
 
-/// Is it a control character, or a separator of lines or paragraphs? At each of these readers may begin a new line, or
-/// a terminal take a command.
+/// Is it a control character, a separator of lines or paragraphs, or a control of the direction of text? At each of these
+/// readers may begin a new line, or a terminal take a command or show a line in another order.
 fn is_unshown(unit: u16) -> bool
-    ensures { result ≡ (is_control unit || unit == 0x2028 || unit == 0x2029) }
+    ensures { result ≡ spec.is_unshown unit }
 {
-    matches!(unit, 0..=0x1F | 0x7F..=0x9F | 0x2028 | 0x2029)
+    matches!(
+        unit,
+        0..=0x1F | 0x7F..=0x9F | 0x61C | 0x200E..=0x200F | 0x2028..=0x202E | 0x2066..=0x2069
+    )
 }
 
 /// Adds a path text, `/` and a token, in which `~0` stands for `~` and `~1` for `/`.
