@@ -106,7 +106,8 @@ class Edit:
                     yield ("false" if "is false" in rest else "open"), goal
             elif found := ANSWER.match(line):
                 path, goal, why = found.groups()
-                if f"/{self.crate}/{path}".endswith(folder):
+                # An edit outside all functions, as of a table, is tried alone: what its check says is said of it.
+                if not self.path or f"/{self.crate}/{path}".endswith(folder):
                     yield ("stale" if NAMES.search(why) else "answer"), goal or "-"
             elif (found := UNPROVED.match(line)) and "/Answers.antt" not in found[2]:
                 if found[1].replace("::", "/").endswith(folder):
@@ -231,7 +232,8 @@ def check(rt, crate, edits, kept, is_short):
                     shutil.copytree(f"{crate.folder}/{part}", f"{room}/{part}")
             set_aside(crate.name, pathlib.Path(room), edits)
         lines = rt.checked(spare, turned(edits, pathlib.Path(crate.folder)), flags, kept).stdout.split("\n")
-    is_read = any(line.startswith("only=") for line in lines)
+    # Where no hole is left, as in a check of one function, the line `only=` is not there.
+    is_read = any(line.startswith(("only=", "note: no hole is left, ")) for line in lines)
     if is_short and (not is_read or any(MADE.match(line) for line in lines)):
         return check(rt, crate, edits, kept, False)
     if not is_read:
