@@ -3,7 +3,7 @@ use Rattle.std.proofs.Common.{ℕ, List, Bool, true}
 use Rattle.bplist_lint.specs.declared.refusal.LintRefusal.{LintRefusal}
 use Rattle.bplist_lint.specs.declared.refusal.LintRefusal.TheVariants as lint_refusals
 use Rattle.bplist_lint.specs.FileFault.{IsFileFault, IsFileCircle}
-use Rattle.bplist_lint.specs.Refusals.{Refuses}
+use Rattle.bplist_lint.proofs.Passes.{Refuses}
 use Rattle.bplint_engine.specs.Output.{IsRefusal}
 use Rattle.bplint_engine.specs.Certify.{CertifySays}
 use Rattle.bplint_engine.proofs.LowerFaults.{lint_fault}

@@ -38,22 +38,22 @@ line_of_found : (found : Result Value (ℕ × Why)) → reply_line (elim found [
 line_of_found (Ok w) = refl
 line_of_found (Err (k, why)) = refl
 
-lines_told : (v : Value) (paths : List (List (List ℕ))) → flat_map reply_line (map (reply v) (map Get paths)) ≡ flat_map found_line (map (look v) paths)
+lines_told : (v : Value) (paths : List (List (List ℕ))) → flat_map reply_line (map (reply v) (map Get paths)) ≡ flat_map found_line (map (look 0 v) paths)
 lines_told v [] = refl
-lines_told v (path ∷ paths) = λ i. line_of_found (look v path) i ++ lines_told v paths i
+lines_told v (path ∷ paths) = λ i. line_of_found (look 0 v path) i ++ lines_told v paths i
 
 missing_of_found : (found : Result Value (ℕ × Why)) → is_missing (elim found [ Ok w ↦ Face (face w) | Err (k, why) ↦ Missing k why ]) ≡ is_err found
 missing_of_found (Ok w) = refl
 missing_of_found (Err (k, why)) = refl
 
-missing_told : (v : Value) (paths : List (List (List ℕ))) → list_any is_missing (map (reply v) (map Get paths)) ≡ list_any is_err (map (look v) paths)
+missing_told : (v : Value) (paths : List (List (List ℕ))) → list_any is_missing (map (reply v) (map Get paths)) ≡ list_any is_err (map (look 0 v) paths)
 missing_told v [] = refl
-missing_told v (path ∷ paths) = λ i. missing_of_found (look v path) i || missing_told v paths i
+missing_told v (path ∷ paths) = λ i. missing_of_found (look 0 v path) i || missing_told v paths i
 
 -- what is said of the replies is said of what the paths lead to
 pub told_of : (v : Value) (paths : List (List (List ℕ))) (queries : List Query) (said : Said) (bytes : List ℕ) → queries ≡ map Get paths
     → (said ≡ replies_said (map (reply v) queries)) × (bytes ≡ flat_map reply_line (map (reply v) queries))
-    → (said ≡ said_of (map (look v) paths)) × (bytes ≡ flat_map found_line (map (look v) paths))
+    → (said ≡ said_of (map (look 0 v) paths)) × (bytes ≡ flat_map found_line (map (look 0 v) paths))
 told_of v paths queries said bytes asked (is, lines) = (
   is ∙ ap (λ (qs : List Query). replies_said (map (reply v) qs)) asked ∙ ap (λ (m : Bool). if m then SomeMissing else All) (missing_told v paths),
   lines ∙ ap (λ (qs : List Query). flat_map reply_line (map (reply v) qs)) asked ∙ lines_told v paths,
@@ -67,13 +67,13 @@ pub queries_say : (Says : Answer → Type 0) (f : List ℕ) (texts : List (List 
     → ∥ Answers (LinesSay found_line Says f texts) made ∥₁
 queries_say Says f texts paths queries F (Ok output) are asked (said, bytes, says) there told = ∥∥₁_map there (λ (v, _, holds, held).
     let t = told_of v paths queries output.said output.bytes.items asked (told v held) in
-    inr (inr (paths, said, bytes, v, are, says, holds, same_gives output.said (said_of (map (look v) paths)) output.bytes.items (flat_map found_line (map (look v) paths)) t.0 t.1)))
+    inr (inr (paths, said, bytes, v, are, says, holds, same_gives output.said (said_of (map (look 0 v) paths)) output.bytes.items (flat_map found_line (map (look 0 v) paths)) t.0 t.1)))
 queries_say Says f texts paths queries F (Err fault) are asked sure there told = merely (excused_refused (LinesSay found_line Says f texts) fault told)
 
 -- the same of the lines of `ls`
 pub list_says : (Says : Answer → Type 0) (f text : List ℕ) (steps : List (List ℕ)) (F : Frame) (made : Result Output RunFault)
     → AllZip IsPathOf (text ∷ []) (steps ∷ []) → IsYes Says → IsThere f F
-    → ((v : Value) → Holds f F F.top.0 v → Gives (λ output. (output.said ≡ said_of (look v steps ∷ [])) × (output.bytes.items ≡ listed text (look v steps))) made)
+    → ((v : Value) → Holds f F F.top.0 v → Gives (λ output. (output.said ≡ said_of (look 0 v steps ∷ [])) × (output.bytes.items ≡ listed text (look 0 v steps))) made)
     → Answers (LinesSay (listed text) Says f (text ∷ [])) made
 list_says Says f text steps F (Ok output) are (said, bytes, says) (v, _, holds, held) told =
     let t = told v held in
@@ -85,6 +85,6 @@ list_says Says f text steps F (Ok output) are (said, bytes, says) (v, _, holds, 
       are,
       says,
       holds,
-      same_gives output.said (said_of (look v steps ∷ [])) output.bytes.items (listed text (look v steps) ++ []) t.0 (t.1 ∙ sym (append-nil (listed text (look v steps)))),
+      same_gives output.said (said_of (look 0 v steps ∷ [])) output.bytes.items (listed text (look 0 v steps) ++ []) t.0 (t.1 ∙ sym (append-nil (listed text (look 0 v steps)))),
     ))
 list_says Says f text steps F (Err fault) are sure (v, _, _, held) told = excused_refused (LinesSay (listed text) Says f (text ∷ [])) fault (told v held)

@@ -21,15 +21,19 @@ use Rattle.bplist_objects.proofs.HeadTies.{spells_body}
 use Rattle.bplist_objects.proofs.References.{length-nums_at}
 use Rattle.bplist_objects.proofs.UnitOrder.{compare_units-less_less, compare_units-not_less}
 use Rattle.bplist_cert.specs.Lists.{Lists, lists}
-use Rattle.bplist_cert.specs.Sorted.{Ascend, IsSorted, IsAccepted}
+use Rattle.bplist_cert.specs.Sorted.{IsSorted, IsAccepted}
 use Rattle.bplist_cert.specs.Valid.{IsVouchedBy, SpellsText, IsValid}
 use Rattle.bplist_cert.proofs.AcceptedCertificates.{vouched_shape}
 use Rattle.bplist_cert.proofs.AllNumbers.{onto}
-use Rattle.bplist_lint.specs.Linted.{is_vouched}
-use Rattle.bplist_lint.specs.Upgraded.{pairs_of, pairs, pairs_below, IsUpgraded}
+use Rattle.bplist_lint.specs.Upgraded.{pairs, pairs_below, IsUpgraded}
+use Rattle.bplist_lint.proofs.ListSteps.{pairs_of}
 use Rattle.bplist_lint.proofs.RangeSums.{found_next}
 
 -- ---- positions whose units ascend
+abbrev Ascend : List (List ℕ) → List ℕ → Type 0
+Ascend us xs =
+    (j : ℕ) → suc j < length xs → compare_units (slice_index_or us (slice_index xs j) []) (slice_index_or us (slice_index xs (suc j)) []) ≡ Less
+
 module _ (us : List (List ℕ)) (n : ℕ) where
   -- so many positions below so many, in ascending order
   record IsRising (xs : List ℕ) : Type 0 where
@@ -181,13 +185,13 @@ module _ (f : List ℕ) (F : Frame) (heights : List ℕ) where
         }
     listed_with v head e _ is many = absurd (none many)
 
-    listed_by : (b : Bool) (o : Option Head) → is_vouched heights n ≡ b → head_found f F n ≡ o → pairs f F heights n ≡ cond b (option_and_then pairs_of o) None → IsListedDict n
+    listed_by : (b : Bool) (o : Option Head) → nat_lt 0 (slice_index heights n) ≡ b → head_found f F n ≡ o → pairs f F heights n ≡ cond b (option_and_then pairs_of o) None → IsListedDict n
     listed_by false o v e many = absurd (none many)
     listed_by true None v e many = absurd (none many)
     listed_by true (Some head) v e many = listed_with (vouched_by (slice_index heights n) v) head e head.kind refl many
 
     listed_dict : IsListedDict n
-    listed_dict = listed_by (is_vouched heights n) (head_found f F n) refl refl refl
+    listed_dict = listed_by (nat_lt 0 (slice_index heights n)) (head_found f F n) refl refl refl
 
   -- ---- the key lists
   module _ (c : Lists) (u : IsUpgraded f F heights c) where

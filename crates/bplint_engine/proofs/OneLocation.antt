@@ -1,5 +1,5 @@
 -- Steps lead from an object that holds a value to one object.
-use Rattle.std.proofs.Common.{◌≡◌, ℕ, zero, suc, ◌<◌, List, [], ◌∷◌, slice_index, slice_index_or, length, inl, inr, sym, ap, ◌∙◌, subst, arith}
+use Rattle.std.proofs.Common.{◌≡◌, ℕ, zero, suc, ◌<◌, List, [], ◌∷◌, slice_index, slice_index_or, length, inl, inr, refl, sym, ap, ◌∙◌, subst, arith}
 use Rattle.std.proofs.lemmas.Bool.{cases_order}
 use Rattle.std.proofs.lemmas.Fmt.{decimal_injective}
 use Rattle.bplist_objects.specs.declared.frame.Frame.{Frame}
@@ -8,8 +8,7 @@ use Rattle.bplist_objects.specs.Heads.{Content, Spells}
 use Rattle.bplist_objects.specs.Holds.{Holds, HoldPairs}
 use Rattle.bplist_objects.specs.Value.{text, Value, leaf, array, set, dict, Pairs, no_pairs, pair, keys}
 use Rattle.bplist_objects.proofs.Fronts.{one_head}
-use Rattle.bplist_cursor.specs.Found.{LeadTo}
-use Rattle.bplist_cursor.specs.Leads.{IsTaken}
+use Rattle.bplist_cursor.specs.Leads.{IsTaken, LeadTo}
 use Rattle.bplist_cursor.proofs.Counts.{few_refs}
 use Rattle.bplist_cursor.proofs.StepObjects.{leads_held}
 
@@ -54,8 +53,8 @@ module _ (f : List ℕ) (F : Frame) where
     -- steps lead to one object
     pub one_end : (steps : List (List ℕ)) (v : Value) (n m k : ℕ) → Holds f F n v → LeadTo f F n steps m → LeadTo f F n steps k → m ≡ k
     one_end [] v n m k h a b = sym a ∙ b
-    one_end (s ∷ steps) v n m k h (i, a, rest) (j, b, other) =
-        let taken = subst (λ c. IsTaken f F c s j) (one_head f F n _ _ b.1 a.1) b.2 in
-        let same : j ≡ i = one_taken v n s a.0 j i h a.1 taken a.2 in
-        let held = leads_held f F (one_head f F) v n s i h (few_refs f F is n) a in
+    one_end (s ∷ steps) v n m k h (c, i, spells, a, rest) (d, j, spells', b, other) =
+        let taken = subst (λ x. IsTaken f F x s j) (one_head f F n _ _ spells' spells) b in
+        let same : j ≡ i = one_taken v n s c j i h spells taken a in
+        let held = leads_held f F (one_head f F) v n s i h (few_refs f F is n) (c, i, spells, a, refl) in
         one_end steps held.0 i m k held.2 rest (subst (λ x. LeadTo f F x steps k) same other)

@@ -33,7 +33,7 @@ not_wrong (t ∷ ts) (p ∷ ps) place h (inr wrong) = not_wrong ts ps place h.1 
 
 one_wrong : (texts : List (List ℕ)) (p q : ℕ) → IsWrongAmong texts p → IsWrongAmong texts q → p ≡ q
 one_wrong [] p q h k = absurd h
-one_wrong (t ∷ ts) p q (inl h) (inl k) = same_place _ p q h.wrong k.wrong
+one_wrong (t ∷ ts) p q (inl h) (inl k) = same_place _ p q h k
 one_wrong (t ∷ ts) p q (inl h) (inr k) = absurd (h.none k.0 k.1)
 one_wrong (t ∷ ts) p q (inr h) (inl k) = absurd (k.none h.0 h.1)
 one_wrong (t ∷ ts) p q (inr h) (inr k) = one_wrong ts p q h.2 k.2

@@ -3,12 +3,11 @@ use Rattle.std.proofs.Common.{◌≡◌, ℕ, ◌++◌, List, [], ◌∷◌, Opt
 use Rattle.bplist_objects.specs.declared.frame.Frame.{Frame}
 use Rattle.bplist_objects.specs.Holds.{Holds}
 use Rattle.bplist_objects.specs.Value.{Value}
-use Rattle.bplist_cursor.specs.Found.{LeadTo}
+use Rattle.bplist_cursor.specs.Leads.{LeadTo}
 use Rattle.bplist_cursor.specs.declared.found.Why.{Why}
 use Rattle.bplist_cursor.specs.Look.{look}
 use Rattle.bplist_cursor.specs.OldStyle.{value_text}
 use Rattle.bplist_cursor.proofs.FormlessObjects.{one_formless}
-use Rattle.bplist_ascii.specs.Printed.{FitsLimit}
 use Rattle.bplint_lines.specs.declared.fault.RunFault.{RunFault}
 use Rattle.bplint_lines.specs.declared.fault.RunFault.TheVariants as faults
 use Rattle.bplint_lines.specs.declared.said.Said.{Said}
@@ -34,20 +33,20 @@ module _ (f : List ℕ) (F : Frame) (limit : ℕ) where
   one_refusal n w (faults.NoAsciiForm p) (faults.NoAsciiForm q) h k =
       let e = one_formless f F w n p.0 q.0 h.1 k.1 in
       λ i. faults.NoAsciiForm (record { 0 = e i })
-  one_refusal n w (faults.NoAsciiForm p) faults.TooLong h k = absurd (no_text (value_text w) k.0 h.0 k.1)
+  one_refusal n w (faults.NoAsciiForm p) faults.TooLong h k = absurd (k.0 h.0)
   one_refusal n w (faults.NoAsciiForm p) _ h k = absurd k
-  one_refusal n w faults.TooLong (faults.NoAsciiForm q) h k = absurd (no_text (value_text w) h.0 k.0 h.1)
+  one_refusal n w faults.TooLong (faults.NoAsciiForm q) h k = absurd (h.0 k.0)
   one_refusal n w faults.TooLong faults.TooLong h k = refl
   one_refusal n w faults.TooLong _ h k = absurd k
   one_refusal n w _ b h k = absurd h
 
   not_given : (n : ℕ) (w : Value) (s : Said) (xs : List ℕ) (a : RunFault) → NodeSays f F limit n w (gives s xs) → NodeSays f F limit n w (refuses a) → ⊥
   not_given n w s xs (faults.NoAsciiForm p) h k = no_text (value_text w) h.0 k.0 h.1
-  not_given n w s xs faults.TooLong h k = k.2 (subst (FitsLimit limit) (same_text (value_text w) h.0 k.0 h.1 k.1) h.2)
+  not_given n w s xs faults.TooLong h k = k.1 (h.0, h.1, h.2, h.3, tt)
   not_given n w s xs _ h k = k
 
   one_node : (n : ℕ) (w : Value) (a b : Answer) → NodeSays f F limit n w a → NodeSays f F limit n w b → a ≡ b
-  one_node n w (gives s xs) (gives t ys) (x, is, fits, (all, line)) (y, is', fits', (all', line')) =
+  one_node n w (gives s xs) (gives t ys) (x, is, low, few, (all, line)) (y, is', low', few', (all', line')) =
       same_gives s t xs ys (all ∙ sym all') (line ∙ ap (λ z. z ++ 10 ∷ []) (same_text (value_text w) x y is is') ∙ sym line')
   one_node n w (gives s xs) (refuses b) h k = absurd (not_given n w s xs b h k)
   one_node n w (refuses a) (gives t ys) h k = absurd (not_given n w t ys a k h)
@@ -60,7 +59,7 @@ module _ (f : List ℕ) (F : Frame) (limit : ℕ) where
     one_found (Err missing) a b h k = h ∙ sym k
 
     one_path_answer : (v : Value) (a b : Answer) → PathSays f F limit steps v a → PathSays f F limit steps v b → a ≡ b
-    one_path_answer v a b h k = one_found (look v steps) a b h k
+    one_path_answer v a b h k = one_found (look 0 v steps) a b h k
 
 same_steps : (a b : List (List ℕ)) → a ∷ [] ≡ b ∷ [] → a ≡ b
 same_steps a b e = cc

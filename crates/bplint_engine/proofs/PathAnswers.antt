@@ -39,7 +39,7 @@ refused_as P Q fault to h = to fault h
 
 -- what is said of paths and a value by their lines
 abbrev pub AreLines : (Result Value (ℕ × Why) → List ℕ) → List (List (List ℕ)) → Value → Answer → Type 0
-AreLines lines paths v answer = answer ≡ gives (said_of (map (look v) paths)) (flat_map lines (map (look v) paths))
+AreLines lines paths v answer = answer ≡ gives (said_of (map (look 0 v) paths)) (flat_map lines (map (look 0 v) paths))
 
 -- what is said of one path and a value by its text
 abbrev pub IsText : ℕ → List ℕ → List (List (List ℕ)) → Value → Answer → Type 0

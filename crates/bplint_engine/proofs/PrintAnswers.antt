@@ -13,7 +13,8 @@ use Rattle.bplist_cursor.specs.declared.found.Node.{Node}
 use Rattle.bplist_cursor.specs.declared.found.Found.TheVariants.{At}
 use Rattle.bplist_cursor.specs.declared.found.Why.{Why}
 use Rattle.bplist_cursor.proofs.Causes.{IsExcused}
-use Rattle.bplist_cursor.specs.Found.{IsFound, LeadTo, IsHeld}
+use Rattle.bplist_cursor.specs.Found.{IsFound, IsHeld}
+use Rattle.bplist_cursor.specs.Leads.{LeadTo}
 use Rattle.bplist_cursor.specs.Look.{look}
 use Rattle.bplist_cursor.specs.Path.{IsPathOf}
 use Rattle.bplist_ascii.specs.Sending.{Sending, SendsSome, Takes, TakesPart, AtMost}
@@ -50,11 +51,11 @@ within old new s limit start (gone, few, added) = (gone, omega (arith, few, ap (
 begun_answer : (old new : Option (List ℕ)) (s : Sending) (f : List ℕ) (F : Frame) (n : ℕ) (w : Value) (limit : ℕ)
     → s ≡ record { sent = 0; held = [] } → HasText w limit (λ t. SendsSome old new (s.held ++ t)) → AtMost old new (length s.held + limit)
     → BeginsAnswer (NodeSays f F limit n w) limit old new
-begun_answer old new s f F n w limit start (t, is, fits, some) bound =
+begun_answer old new s f F n w limit start (t, is, low, few, some) bound =
     let all : t ++ 10 ∷ [] ≡ some.0 ++ (some.1 ++ 10 ∷ []) =
     ap (λ l. l ++ 10 ∷ []) (sym (ap (λ x. x.held ++ t) start) ∙ some.3) ∙ append_assoc some.0 some.1 (10 ∷ []) in (
       within old new s limit start bound,
-      inr (All, t ++ 10 ∷ [], (t, is, fits, (refl, refl)), (some.0, some.1 ++ 10 ∷ [], some.2, all)),
+      inr (All, t ++ 10 ∷ [], (t, is, low, few, (refl, refl)), (some.0, some.1 ++ 10 ∷ [], some.2, all)),
     )
 
 -- the text was not put in whole
@@ -62,11 +63,11 @@ print_failed : (old new : Option (List ℕ)) (s u : Sending) (f : List ℕ) (F :
     → s ≡ record { sent = 0; held = [] } → IsPut old new s u f F n w limit (Err fault) → AtMost old new (length s.held + limit)
     → LeavesBy (NodeSays f F limit n w) limit old new (Err (print_fault fault))
 print_failed old new s u f F n w limit (print_faults.NoAsciiForm part) start (none, formless, (kept, _)) bound = ((none, formless), kept)
-print_failed old new s u f F n w limit print_faults.TooLong start (t, is, long, (kept, _)) bound = ((t, is, long), kept)
-print_failed old new s u f F n w limit (print_faults.Write sent) start (t, is, fits, part) bound = (
+print_failed old new s u f F n w limit print_faults.TooLong start (some, long, (kept, _)) bound = ((some, long), kept)
+print_failed old new s u f F n w limit (print_faults.Write sent) start (t, is, low, few, part) bound = (
   All,
   t ++ 10 ∷ [],
-  (t, is, fits, (refl, refl)),
+  (t, is, low, few, (refl, refl)),
   part_of_more old new (record { sent = 0; held = [] }) t (10 ∷ []) sent (out_part old old new s [] t sent (out_start old s (ap (λ x. x.sent) start) (ap (λ x. x.held) start)) part),
 )
 print_failed old new s u f F n w limit (print_faults.Read _) start (inl (none, (kept, _))) bound = (within old new s limit start bound, inl kept)
@@ -85,17 +86,17 @@ print_refused old new s u f F n w limit r fault is start put bound =
 pub end_failed : (old mid new : Option (List ℕ)) (s t : Sending) (f : List ℕ) (F : Frame) (n : ℕ) (w : Value) (limit sent : ℕ)
     → s ≡ record { sent = 0; held = [] } → IsPut old mid s t f F n w limit (Ok tt) → TakesPart mid new t (10 ∷ []) sent
     → LeavesBy (NodeSays f F limit n w) limit old new (Err (faults.Write sent))
-end_failed old mid new s t f F n w limit sent start (text, is, fits, takes) part =
+end_failed old mid new s t f F n w limit sent start (text, is, low, few, takes) part =
     let out = out_takes (out_start old s (ap (λ x. x.sent) start) (ap (λ x. x.held) start)) takes in
-    (All, text ++ 10 ∷ [], (text, is, fits, (refl, refl)), out_part old mid new t text (10 ∷ []) sent out part)
+    (All, text ++ 10 ∷ [], (text, is, low, few, (refl, refl)), out_part old mid new t text (10 ∷ []) sent out part)
 
 -- text and line feed went out
 pub printed : (old mid new : Option (List ℕ)) (s t u : Sending) (f : List ℕ) (F : Frame) (n : ℕ) (w : Value) (limit : ℕ)
     → s ≡ record { sent = 0; held = [] } → IsPut old mid s t f F n w limit (Ok tt) → Takes mid new t u (10 ∷ []) → u.held ≡ []
     → LeavesBy (NodeSays f F limit n w) limit old new (Ok All)
-printed old mid new s t u f F n w limit start (text, is, fits, takes) ended empty =
+printed old mid new s t u f F n w limit start (text, is, low, few, takes) ended empty =
     let out = out_takes (out_start old s (ap (λ x. x.sent) start) (ap (λ x. x.held) start)) takes in
-    (text ++ 10 ∷ [], (text, is, fits, (refl, refl)), out_end (out_takes out ended) empty)
+    (text ++ 10 ∷ [], (text, is, low, few, (refl, refl)), out_end (out_takes out ended) empty)
 
 -- the answer for what a path leads to
 abbrev pub FoundSays : List ℕ → Frame → ℕ → List (List ℕ) → Answer → Result Value (ℕ × Why) → Type 0
@@ -104,7 +105,7 @@ FoundSays f F limit steps answer found = MatchResult found
     (λ missing. answer ≡ gives SomeMissing (missing_line missing.0 missing.1 ++ 10 ∷ []))
 
 -- the answer for the node that a path leads to is that for the path
-node_to_path : (f : List ℕ) (F : Frame) (limit n : ℕ) (steps : List (List ℕ)) (v w : Value) → LeadTo f F F.top.0 steps n → look v steps ≡ Ok w
+node_to_path : (f : List ℕ) (F : Frame) (limit n : ℕ) (steps : List (List ℕ)) (v w : Value) → LeadTo f F F.top.0 steps n → look 0 v steps ≡ Ok w
     → (a : Answer) → NodeSays f F limit n w a → PathSays f F limit steps v a
 node_to_path f F limit n steps v w leads is a h = subst (FoundSays f F limit steps a) (sym is) (n, leads, h)
 
@@ -112,13 +113,13 @@ pub at_node : (checked : CheckedFile) (v : Value) (steps : List (List ℕ)) (nod
     → IsFound checked checked.frame.top.0 v steps (At node)
     → ((w : Value) → IsHeld checked node.object.0 w → LeavesBy (NodeSays checked.source.octets checked.frame limit node.object.0 w) limit old new result)
     → LeavesBy (PathSays checked.source.octets checked.frame limit steps v) limit old new result
-at_node checked v steps node limit old new result (leads, (w, is, held)) left =
+at_node checked v steps node limit old new result (leads, vouched, (w, is, holds)) left =
     said_as (NodeSays checked.source.octets checked.frame limit node.object.0 w) (PathSays checked.source.octets checked.frame limit steps v) limit old new result
-    (node_to_path checked.source.octets checked.frame limit node.object.0 steps v w leads is) (left w held)
+    (node_to_path checked.source.octets checked.frame limit node.object.0 steps v w leads is) (left w (vouched, holds))
 
 -- a path leads nowhere
 pub missing_says : (f : List ℕ) (F : Frame) (limit : ℕ) (steps : List (List ℕ)) (v : Value) (step : ℕ) (why : Why) (made : Result Output RunFault)
-    → look v steps ≡ Err (step, why)
+    → look 0 v steps ≡ Err (step, why)
     → IfOk made (λ output. (output.said ≡ SomeMissing) × (output.bytes.items ≡ missing_line step why ++ 10 ∷ []))
     → IfErr made (λ fault. fault ≡ faults.Memory) → Answers (PathSays f F limit steps v) made
 missing_says f F limit steps v step why (Ok output) is told _ =

@@ -25,7 +25,7 @@ said_of found = if list_any is_err found then SomeMissing else All
 -- lines for what the paths lead to, one after the other, in a file of which Says says yes
 abbrev pub LinesSay : (Result Value (ℕ × Why) → List ℕ) → (Answer → Type 0) → List ℕ → List (List ℕ) → Answer → Type 0
 LinesSay lines Says f texts = ForPaths Says f texts (λ paths v answer.
-    answer ≡ gives (said_of (map (look v) paths)) (flat_map lines (map (look v) paths)))
+    answer ≡ gives (said_of (map (look 0 v) paths)) (flat_map lines (map (look 0 v) paths)))
 
 -- ---- replies
 -- the line of a reply to a path

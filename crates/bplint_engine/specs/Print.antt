@@ -1,13 +1,13 @@
 -- What `print` says. Source: profile.
-use Rattle.std.specs.Prelude.{◌≡◌, ◌∷◌, ◌++◌, ℕ, List, [], codes, None, Some, Err, MatchResult}
+use Rattle.std.specs.Prelude.{◌≡◌, ◌≢◌, ◌∷◌, ◌++◌, ℕ, List, [], codes, None, Err, MatchResult, ⊤}
 use Rattle.bplist_objects.specs.declared.frame.Frame.{Frame}
 use Rattle.bplist_objects.specs.Frame.{IsFrame}
 use Rattle.bplist_objects.specs.Value.{Value}
 use Rattle.bplist_cursor.specs.Formless.{IsFormless}
-use Rattle.bplist_cursor.specs.Found.{LeadTo}
+use Rattle.bplist_cursor.specs.Leads.{LeadTo}
 use Rattle.bplist_cursor.specs.Look.{look}
 use Rattle.bplist_cursor.specs.OldStyle.{value_text}
-use Rattle.bplist_ascii.specs.Printed.{FitsLimit, HasText}
+use Rattle.bplist_ascii.specs.Printed.{HasText}
 use Rattle.bplint_lines.specs.declared.said.Said.TheVariants.{All, SomeMissing}
 use Rattle.bplint_lines.specs.declared.fault.RunFault.TheVariants as faults
 use Rattle.bplint_lines.specs.Answers.{Answer, gives, refuses}
@@ -18,12 +18,12 @@ use Rattle.bplint_engine.specs.PathTexts.{ForPaths}
 abbrev pub NodeSays : List ℕ → Frame → ℕ → ℕ → Value → Answer → Type 0
 NodeSays f F limit n w (gives said bytes) = HasText w limit (λ text. (said ≡ All) × (bytes ≡ text ++ codes "\n"))
 NodeSays f F limit n w (refuses (faults.NoAsciiForm part)) = (value_text w ≡ None) × IsFormless f F n w part.0
-NodeSays f F limit n w (refuses faults.TooLong) = (text : List ℕ) × (value_text w ≡ Some text) × (¬ FitsLimit limit text)
+NodeSays f F limit n w (refuses faults.TooLong) = (value_text w ≢ None) × (¬ HasText w limit (λ _. ⊤))
 NodeSays f F limit n w (refuses _) = ⊥
 
 -- `print` answers for the value under the path, or that the path leads nowhere
 abbrev pub PathSays : List ℕ → Frame → ℕ → List (List ℕ) → Value → Answer → Type 0
-PathSays f F limit steps v answer = MatchResult (look v steps)
+PathSays f F limit steps v answer = MatchResult (look 0 v steps)
     (λ w. (n : ℕ) × LeadTo f F F.top.0 steps n × NodeSays f F limit n w answer)
     (λ missing. answer ≡ gives SomeMissing (found_line (Err missing)))
 

@@ -66,8 +66,8 @@ fn list_checked<S: Source>(
     ensures source { OnlyReads (read_failed result.0) checked.source (S.means result.1) }
     ensures exact { IsTrue checked.source.honest → (v : Value)
         → Holds checked.source.octets checked.frame checked.frame.top.0 v
-        → Gives (λ output. (output.said ≡ said_of (look v path.now ∷ []))
-        × (output.bytes.items ≡ listed text.now (look v path.now))) result.0 }
+        → Gives (λ output. (output.said ≡ said_of (look 0 v path.now ∷ []))
+        × (output.bytes.items ≡ listed text.now (look 0 v path.now))) result.0 }
 {
     let mut checked = checked;
     let made = list_path(alloc, &mut checked, path, text);
@@ -84,8 +84,8 @@ fn list_path<S: Source>(
     ensures reads { OnlyReadsFile (read_failed result) checked.old checked.new }
     ensures exact { IsTrue checked.old.source.honest → (v : Value)
         → Holds checked.old.source.octets checked.old.frame checked.old.frame.top.0 v
-        → Gives (λ output. (output.said ≡ said_of (look v path.now ∷ []))
-        × (output.bytes.items ≡ listed text.now (look v path.now))) result }
+        → Gives (λ output. (output.said ≡ said_of (look 0 v path.now ∷ []))
+        × (output.bytes.items ≡ listed text.now (look 0 v path.now))) result }
 {
     match locate(checked, path)? {
         Found::At(node) => {

@@ -4,4 +4,3 @@ pub mod FaultLines
 pub mod Faults
 pub mod MemberNames
 pub mod OutputLines
-pub mod RuleTexts

@@ -1,5 +1,5 @@
 -- The names that lines have for the members of containers. Source: the path texts RFC 6901; the indexes profile.
-use Rattle.std.specs.Prelude.{◌++◌, ℕ, ◌==◌, ◌||◌, ◌&&◌, not, List, Bool, if◌then◌else◌, codes, encode_utf8_all}
+use Rattle.std.specs.Prelude.{◌++◌, ℕ, ◌==◌, ◌||◌, List, Bool, if◌then◌else◌, codes, encode_utf8_all}
 use Rattle.std.specs.Char.{is_control}
 use Rattle.std.specs.Int.{is_in_range}
 use Rattle.std.specs.List.{flat_map, list_any}
@@ -11,10 +11,6 @@ use Rattle.bplist_cursor.specs.Path.{escaped}
 abbrev pub is_unshown : ℕ → Bool
 is_unshown u = is_control u || u == 0x61C || is_in_range 0x200E 0x200F u || is_in_range 0x2028 0x202E u || is_in_range 0x2066 0x2069 u
 
--- the key's path text is UTF-8, and all of it is shown
-abbrev pub has_path_text : List ℕ → Bool
-has_path_text units = not (list_any is_unshown units) && not (has_unpaired_surrogate units)
-
 -- an index among the members, in brackets
 abbrev pub bracketed : ℕ → List ℕ
 bracketed i = codes "[" ++ decimal i ++ codes "]"
@@ -23,7 +19,8 @@ bracketed i = codes "[" ++ decimal i ++ codes "]"
 abbrev pub index_name : List ℕ → ℕ → List ℕ
 index_name path i = path ++ codes "/" ++ decimal i
 
--- the name of value i: its container's path text, `/` and the escaped key, or its index if that cannot be shown
+-- the name of value i: its index if the key is not UTF-16 or not all of it is shown, else its container's path text, `/` and
+-- the escaped key
 abbrev pub key_name : List ℕ → ℕ → List ℕ → List ℕ
-key_name path i key =
-    if has_path_text key then path ++ codes "/" ++ flat_map escaped (encode_utf8_all (utf16_lossy_chars key)) else bracketed i
+key_name path i key = if list_any is_unshown key || has_unpaired_surrogate key then bracketed i
+    else path ++ codes "/" ++ flat_map escaped (encode_utf8_all (utf16_lossy_chars key))

@@ -1,5 +1,5 @@
 -- The lines of standard output, without line feeds. Source: profile.
-use Rattle.std.specs.Prelude.{ℕ, List, [], ◌∷◌, ◌++◌, codes, get_or, true, false}
+use Rattle.std.specs.Prelude.{ℕ, List, [], ◌∷◌, ◌++◌, codes, get_or, if◌then◌else◌}
 use denote.Enum.Declared.{tag_of}
 use Rattle.std.specs.Fmt.{decimal, signed_decimal}
 use Rattle.hex.specs.Hex.{encode_lower}
@@ -28,8 +28,7 @@ check_line n h = codes "ok objects " ++ decimal n ++ codes " height " ++ decimal
 -- the line of `get`: a kind, and a leaf's value or a container's count
 abbrev pub face_line : Face → List ℕ
 face_line faces.Null = codes "null"
-face_line (faces.Bool false) = codes "false"
-face_line (faces.Bool true) = codes "true"
+face_line (faces.Bool b) = if b then codes "true" else codes "false"
 face_line (faces.Int i) = codes "int " ++ signed_decimal i
 face_line (faces.Real l) = codes "real " ++ encode_lower l
 face_line (faces.Date l) = codes "date " ++ encode_lower l
@@ -40,10 +39,7 @@ face_line (faces.Array count) = codes "array " ++ decimal count
 face_line (faces.Set count) = codes "set " ++ decimal count
 face_line (faces.Dict count) = codes "dict " ++ decimal count
 
--- why a step can't be taken
-abbrev pub why_word : Why → List ℕ
-why_word why = codes (elim why [ NoKey ↦ "NoKey" | NoIndex ↦ "NoIndex" | NotSteppable ↦ "NotSteppable" ])
-
--- the line for a path that leads nowhere
+-- the line for a path that leads nowhere: the step that can't be taken, and why
 abbrev pub missing_line : ℕ → Why → List ℕ
-missing_line step why = codes "missing " ++ decimal step ++ codes " " ++ why_word why
+missing_line step why = codes "missing " ++ decimal step ++ codes " "
+    ++ codes (elim why [ NoKey ↦ "NoKey" | NoIndex ↦ "NoIndex" | NotSteppable ↦ "NotSteppable" ])

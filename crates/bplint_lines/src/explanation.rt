@@ -1,9 +1,9 @@
 //! What is said under a fault's line: the rule, the numbers of the file, the path to the object, the bytes.
-ghost use Rattle.std.specs.Prelude.{◌≡◌, ◌<◌, ◌++◌, IfOk, IfSome, length, string_bytes};
+ghost use Rattle.std.specs.Prelude.{◌≡◌, ℕ, List, [], ◌<◌, ◌++◌, IfOk, IfSome, MatchOption, length, string_bytes};
 ghost use Rattle.bplist_octets.specs.Meaning.{OnlyReads};
 ghost use Rattle.bplist_objects.specs.Safe.{IsSafeFrame};
 ghost use Rattle.bplint_lines.specs.Answers.{read_failed};
-ghost use Rattle.bplint_lines.specs.Explanation.{Explains, rule_line};
+ghost use Rattle.bplint_lines.specs.Explanation.{rule_line, rule_of};
 
 use crate::fault::RunFault;
 use crate::object_path::{ObjectPath, head_in, key_front, path_to};
@@ -34,7 +34,8 @@ pub fn explain<S: Source>(
     fault: &RunFault,
 ) -> Result<String, RunFault>
     ensures reads { OnlyReads (read_failed result) (S.means src.old) (S.means src.new) }
-    ensures rule { IfOk result (λ text. Explains fault.now (string_bytes text)) }
+    ensures rule { IfOk result (λ text. MatchOption (rule_of fault.now) (string_bytes text ≡ [])
+        (λ rule. (rest : List ℕ) × (string_bytes text ≡ rule_line rule ++ rest))) }
 {
     match fault {
         RunFault::Fault(fault) => {

@@ -1,12 +1,11 @@
 //! The names that lines have for the members of containers.
 //!
 //! Each call adds its name to the bytes. The one refusal is that of a growth.
-ghost use Rattle.std.specs.Prelude.{◌≡◌, ◌++◌, ◌∷◌, IfOk, MatchOption, OnOk, encode_utf8_all, false, string_bytes, true};
-ghost use Rattle.std.specs.Char.Utf16.{utf16_lossy_chars};
+ghost use Rattle.std.specs.Prelude.{◌≡◌, ◌++◌, ◌∷◌, OnOk};
 ghost use Rattle.std.specs.List.{flat_map, list_any};
 ghost use Rattle.bplist_cursor.specs.Path.{escaped};
 ghost use Rattle.bplint_lines.specs.MemberNames as spec;
-ghost use Rattle.bplint_lines.specs.MemberNames.{bracketed, has_path_text, index_name, key_name};
+ghost use Rattle.bplint_lines.specs.MemberNames.{bracketed, index_name, key_name};
 
 use std::alloc::{AllocError, Global};
 
@@ -43,24 +42,12 @@ pub fn add_key_name(
 ) -> Result<(), AllocError>
     ensures { OnOk result (lines.new.items ≡ lines.old.items ++ key_name path.now i units.now) }
 {
-    match key_text(alloc, units)? {
-        Some(text) => add_path(path, text.as_bytes(), lines),
-        None => add_index(alloc, i, lines),
+    if !have_unshown(units) {
+        if let Ok(key) = String::from_utf16(alloc, units)? {
+            return add_path(path, key.as_bytes(), lines);
+        }
     }
-}
-
-/// The text of a key, where it is UTF-16 and stays on its line.
-fn key_text(alloc: Global, units: &[u16]) -> Result<Option<String>, AllocError>
-    ensures { IfOk result (λ key. MatchOption key (has_path_text units.now ≡ false)
-        (λ text. (has_path_text units.now ≡ true) × (string_bytes text ≡ encode_utf8_all (utf16_lossy_chars units.now)))) }
-{
-    if have_unshown(units) {
-        return Ok(None);
-    }
-    match String::from_utf16(alloc, units)? {
-        Ok(text) => Ok(Some(text)),
-        Err(_) => Ok(None),
-    }
+    add_index(alloc, i, lines)
 }
 
 /// Is there a unit that no line shows?

@@ -2,10 +2,10 @@
 //!
 //! Each call adds its line to the bytes, without a line feed. The one refusal is that of a growth.
 
-ghost use Rattle.std.specs.Prelude.{◌≡◌, ◌++◌, OnOk};
+ghost use Rattle.std.specs.Prelude.{◌≡◌, ℕ, ◌++◌, OnOk, codes};
 ghost use Rattle.std.specs.Fmt.{decimal};
 ghost use Rattle.hex.specs.Hex.{encode_lower};
-ghost use Rattle.bplint_lines.specs.OutputLines.{kind_word, why_word, lint_line, check_line, face_line, missing_line};
+ghost use Rattle.bplint_lines.specs.OutputLines.{kind_word, lint_line, check_line, face_line, missing_line};
 
 use bplist_ascii::{text_of_bytes, text_of_units};
 use bplist_cursor::{Face, Why};
@@ -133,8 +133,9 @@ pub fn kind_name(kind: Kind) -> &'static str
     }
 }
 
+/// The word that ends the line for a path that leads nowhere.
 fn reason_of(why: Why) -> &'static str
-    ensures { result.now ≡ why_word why }
+    ensures { (step : ℕ) → missing_line step why ≡ codes "missing " ++ decimal step ++ codes " " ++ result.now }
 {
     match why {
         Why::NoKey => "NoKey",

@@ -1,8 +1,9 @@
 //! Rules in plain words: of a fault, and by their words.
-ghost use Rattle.std.specs.Prelude.{◌≡◌, IfOk, MatchOption, string_bytes};
-ghost use Rattle.bplist_objects.specs.Words.{word_of};
+ghost use Rattle.std.specs.Prelude.{◌≡◌, ◌++◌, IfOk, MatchOption, codes, string_bytes};
+ghost use Rattle.std.specs.Fmt.{decimal};
+ghost use Rattle.bplist_objects.specs.Words.{number_of, word_of};
 ghost use Rattle.bplist_objects.specs.declared.rule.Rule.{Rule};
-ghost use Rattle.bplint_lines.specs.Explanation.{rule_line, rule_page};
+ghost use Rattle.bplint_lines.specs.Explanation.{rule_line, text_of};
 
 use crate::rule_texts::texts_of;
 use bplist_objects::{Rule, rule_name, rule_number, rule_of_number};
@@ -23,7 +24,8 @@ pub fn rule_of_word(word: &str) -> Option<Rule>
 
 /// What a rule asks, with its number and its word, and something that breaks it, in two lines.
 pub fn rule_text(alloc: Global, rule: Rule) -> Result<String, AllocError>
-    ensures { IfOk result (λ text. string_bytes text ≡ rule_page rule) }
+    ensures { IfOk result (λ text. string_bytes text ≡ codes "rule " ++ decimal (number_of rule) ++ codes " " ++ word_of rule
+        ++ codes ": " ++ (text_of rule).0 ++ codes "\nbroken by: " ++ (text_of rule).1 ++ codes "\n") }
 {
     let (number, word) = (rule_number(rule), rule_name(rule));
     let (demand, breach) = texts_of(rule);

@@ -1,6 +1,6 @@
 //! What the rules ask, in plain words.
-ghost use Rattle.std.specs.Prelude.{◌≡◌, codes, map};
-ghost use Rattle.bplint_lines.specs.RuleTexts.{text_of, texts};
+ghost use Rattle.std.specs.Prelude.{◌≡◌};
+ghost use Rattle.bplint_lines.specs.Explanation.{text_of};
 
 use bplist_objects::{Rule, rule_number};
 
@@ -135,18 +135,8 @@ const TEXTS: [(&str, &str); 32] = [
 
 /// What the rule asks, as one sentence, and something that breaks it.
 pub(crate) fn texts_of(rule: Rule) -> (&'static str, &'static str)
-    ensures asked { result.0.now ≡ codes (text_of rule).0 }
-    ensures broken { result.1.now ≡ codes (text_of rule).1 }
+    ensures asked { result.0.now ≡ (text_of rule).0 }
+    ensures broken { result.1.now ≡ (text_of rule).1 }
 {
-    row_of(&TEXTS, rule)
-}
-
-/// The row of a rule in a table that has the texts.
-fn row_of(rows: &[(&'static str, &'static str); 32], rule: Rule) -> (&'static str, &'static str)
-    requires asked { map (λ row. row.0.now) rows.now ≡ map (λ text. codes text.0) texts }
-    requires broken { map (λ row. row.1.now) rows.now ≡ map (λ text. codes text.1) texts }
-    ensures asked { result.0.now ≡ codes (text_of rule).0 }
-    ensures broken { result.1.now ≡ codes (text_of rule).1 }
-{
-    rows[rule_number(rule) as usize - 1]
+    TEXTS[rule_number(rule) as usize - 1]
 }

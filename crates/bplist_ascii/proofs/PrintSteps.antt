@@ -1,5 +1,5 @@
 -- What printing answers, by what the walk and the sink answer.
-use Rattle.std.proofs.Common.{◌≡◌, ◌≢◌, inl, inr, ◌≤◌, ℕ, List, [], ◌++◌, arith, length, refl, ap, subst, Option, Some, None, Err, append-nil}
+use Rattle.std.proofs.Common.{◌≡◌, ◌≢◌, inl, inr, ◌≤◌, ◌<◌, ℕ, List, [], ◌++◌, arith, length, refl, ap, subst, Option, Some, None, Err, append-nil}
 use Rattle.std.proofs.KnownBytes.{Keeps-refl}
 use Rattle.bplist_objects.specs.declared.frame.Frame.{Frame}
 use Rattle.bplist_objects.specs.Value.{Value}
@@ -10,7 +10,7 @@ use Rattle.bplist_ascii.specs.declared.print_fault.PrintFault.{PrintFault}
 use Rattle.bplist_ascii.specs.declared.print_fault.PrintFault.TheVariants.{NoAsciiForm, TooLong, Write, Read, Changed, Memory}
 use Rattle.bplist_ascii.specs.Sending.{Sending, SendsPart, SendsSome, Takes, TakesPart, IsOut, AtMost}
 use Rattle.bplist_ascii.specs.BoundedWrites.{AddFails, TakesWithin}
-use Rattle.bplist_ascii.specs.Printed.{FitsLimit, IsPut, IsPrinted, HasText}
+use Rattle.bplist_ascii.specs.Printed.{IsPut, IsPrinted, HasText}
 use Rattle.bplist_ascii.proofs.SinkSteps.{out_start, out_takes, out_part, out_long}
 use Rattle.bplist_ascii.proofs.WriteSteps.{print_fault_of}
 
@@ -23,23 +23,23 @@ read_prints now s f F n v limit unread.Changed none h = absurd (h refl)
 -- what was not put into a new sink was not written
 pub put_failed : (old new : Option (List ℕ)) (s t : Sending) (f : List ℕ) (F : Frame) (n : ℕ) (v : Value) (limit : ℕ) (e : PrintFault) → s.sent ≡ 0 → s.held ≡ [] → IsPut old new s t f F n v limit (Err e) → IsPrinted old new f F n v limit (Err e)
 put_failed old new s t f F n v limit (NoAsciiForm m) sent held (none, formless, (kept, _)) = (none, formless, kept)
-put_failed old new s t f F n v limit TooLong sent held (text, is, long, (kept, _)) = (text, is, long, kept)
-put_failed old new s t f F n v limit (Write k) sent held (text, is, fits, part) =
-    (text, is, fits, subst (λ h. SendsPart old new 0 (h ++ text) k) held (subst (λ b. SendsPart old new b (s.held ++ text) k) sent part))
+put_failed old new s t f F n v limit TooLong sent held (some, long, (kept, _)) = (some, long, kept)
+put_failed old new s t f F n v limit (Write k) sent held (text, is, low, few, part) =
+    (text, is, low, few, subst (λ h. SendsPart old new 0 (h ++ text) k) held (subst (λ b. SendsPart old new b (s.held ++ text) k) sent part))
 put_failed old new s t f F n v limit (Read fault) sent held (inl (none, (kept, _))) = inl (none, kept)
-put_failed old new s t f F n v limit (Read fault) sent held (inr (text, is, fits, some)) = inr (text, is, fits, subst (λ h. SendsSome old new (h ++ text)) held some)
+put_failed old new s t f F n v limit (Read fault) sent held (inr (text, is, low, few, some)) = inr (text, is, low, few, subst (λ h. SendsSome old new (h ++ text)) held some)
 put_failed old new s t f F n v limit Changed sent held h = absurd h
-put_failed old new s t f F n v limit Memory sent held (text, is, fits, some) = (text, is, fits, subst (λ h. SendsSome old new (h ++ text)) held some)
+put_failed old new s t f F n v limit Memory sent held (text, is, low, few, some) = (text, is, low, few, subst (λ h. SendsSome old new (h ++ text)) held some)
 
-pub walk_fails : (old new : Option (List ℕ)) (before after : Sending) (f : List ℕ) (F : Frame) (n : ℕ) (v : Value) (limit : ℕ) (e : PrintFault) (t : List ℕ) → value_text v ≡ Some t → plain v ≡ t → FitsLimit limit t
+pub walk_fails : (old new : Option (List ℕ)) (before after : Sending) (f : List ℕ) (F : Frame) (n : ℕ) (v : Value) (limit : ℕ) (e : PrintFault) (t : List ℕ) → value_text v ≡ Some t → plain v ≡ t → length t ≤ limit → length t < 18446744073709551615
     → (length (plain v) ≤ limit → AddFails old new before (plain v) e) → IsPut old new before after f F n v limit (Err e)
-walk_fails old new before after f F n v limit e t some is fits h = go e (h (let long = ap length is in let low = fits.0 in omega (arith, long, low)))
+walk_fails old new before after f F n v limit e t some is low few h = go e (h (let long = ap length is in omega (arith, long, low)))
   where
     begins : SendsSome old new (before.held ++ plain v) → HasText v limit (λ t. SendsSome old new (before.held ++ t))
-    begins p = (t, some, fits, subst (λ l. SendsSome old new (before.held ++ l)) is p)
+    begins p = (t, some, low, few, subst (λ l. SendsSome old new (before.held ++ l)) is p)
 
     go : (e : PrintFault) → AddFails old new before (plain v) e → IsPut old new before after f F n v limit (Err e)
-    go (Write sent) p = (t, some, fits, subst (λ l. TakesPart old new before l sent) is p)
+    go (Write sent) p = (t, some, low, few, subst (λ l. TakesPart old new before l sent) is p)
     go (Read fault) p = inr (begins p)
     go Memory p = begins p
     go Changed p = absurd p

@@ -11,11 +11,13 @@ use lib.Seq.{take-add}
 use Rattle.bplist_octets.specs.Octets.{part}
 use Rattle.bplist_cert.specs.CheckedFile.{CheckedFile}
 use Rattle.bplist_ascii.specs.Sending.{Sending, SendsSome, TakesPart}
-use Rattle.bplist_cursor.specs.Texts.{is_plain, text_of_units, quoted}
+use Rattle.std.specs.Char.{is_ascii_alphanumeric}
+use Rattle.hex.specs.Hex.{encode_lower, encode_with}
+use Rattle.bplist_cursor.specs.Texts.{text_of_units, quoted}
 use Rattle.bplist_ascii.specs.declared.style.Style.TheVariants.{Unquoted, Quoted}
 use Rattle.bplist_cursor.specs.declared.faults.Unread.{Unread}
 use Rattle.bplist_cursor.specs.declared.faults.Unread.TheVariants as unread
-use Rattle.bplist_ascii.specs.BoundedWrites.{styled, fits, is_unquoted_text, Adds, AddsText, AddFails, StaysWithin}
+use Rattle.bplist_ascii.specs.BoundedWrites.{styled, fits, hex_digits, is_unquoted_text, Adds, AddsText, AddFails, StaysWithin}
 use Rattle.bplist_ascii.specs.declared.print_fault.PrintFault.{PrintFault}
 use Rattle.bplist_ascii.specs.declared.print_fault.PrintFault.TheVariants.{NoAsciiForm, TooLong, Write, Read, Changed, Memory}
 use Rattle.bplist_cursor.proofs.StepObjects.{not_true}
@@ -142,17 +144,23 @@ all_fit (u ∷ us) = all_fit us
 pub all_more : (p : ℕ → Bool) (us : List ℕ) (a n : ℕ) → list_all p (take a us) ≡ true → list_all p (part us a n) ≡ true → list_all p (take (a + n) us) ≡ true
 all_more p us a n h k = ap (list_all p) (take-add a n us) ∙ list_all-append p (take a us) (part us a n) ∙ ap (λ b. b && list_all p (part us a n)) h ∙ k
 
-pub all_is_unquoted : (us : List ℕ) → 0 < length us → list_all is_plain us ≡ true → is_unquoted_text us ≡ true
+-- the digits of bytes, one by one
+pub all_digits : (bytes : List ℕ) → flat_map hex_digits bytes ≡ encode_lower bytes
+unfolding encode_with
+all_digits [] = refl
+all_digits (b ∷ bytes) = ap (λ l. hex_digits b ++ l) (all_digits bytes)
+
+pub all_is_unquoted : (us : List ℕ) → 0 < length us → list_all is_ascii_alphanumeric us ≡ true → is_unquoted_text us ≡ true
 all_is_unquoted [] l h = absurd (omega (arith, l))
 all_is_unquoted (u ∷ us) l h = h
 
-unquoted_all : (us : List ℕ) → is_unquoted_text us ≡ true → list_all is_plain us ≡ true
+unquoted_all : (us : List ℕ) → is_unquoted_text us ≡ true → list_all is_ascii_alphanumeric us ≡ true
 unquoted_all [] h = refl
 unquoted_all (u ∷ us) h = h
 
 -- a part that is not plain
-pub part_not_unquoted : (us : List ℕ) (a n : ℕ) → list_all is_plain (part us a n) ≡ false → false ≡ is_unquoted_text us
-part_not_unquoted us a n h = sym (not_true (is_unquoted_text us) (λ unquoted. let k = all_in_part is_plain us a n (unquoted_all us unquoted) in cc (h, k)))
+pub part_not_unquoted : (us : List ℕ) (a n : ℕ) → list_all is_ascii_alphanumeric (part us a n) ≡ false → false ≡ is_unquoted_text us
+part_not_unquoted us a n h = sym (not_true (is_unquoted_text us) (λ unquoted. let k = all_in_part is_ascii_alphanumeric us a n (unquoted_all us unquoted) in cc (h, k)))
 
 pub unquoted_text : (us : List ℕ) → is_unquoted_text us ≡ true → (text_of_units us ≡ us) × (list_all (fits Unquoted) us ≡ true)
 unquoted_text [] h = absurd (cc h)

@@ -1,7 +1,9 @@
 -- What is put into a sink where there is room for so many bytes. Source: profile.
-use Rattle.std.specs.Prelude.{◌≡◌, ℕ, ◌+◌, ◌≤◌, Bool, true, false, List, [], ◌∷◌, ◌++◌, length, Option, Result, Err}
+use Rattle.std.specs.Prelude.{◌≡◌, ℕ, ◌+◌, ◌/◌, ◌%◌, ◌≤◌, Bool, true, false, List, [], ◌∷◌, ◌++◌, length, slice_index, Option, Result, Err}
 use Rattle.std.specs.List.{list_all}
-use Rattle.bplist_cursor.specs.Texts.{is_plain, quoted_unit}
+use Rattle.hex.specs.Hex.{lower_digits}
+use Rattle.std.specs.Char.{is_ascii_alphanumeric}
+use Rattle.bplist_cursor.specs.Texts.{quoted_unit}
 use Rattle.bplist_ascii.specs.Sending.{Sending, SendsSome, Takes, TakesPart, AtMost}
 use Rattle.bplist_ascii.specs.declared.print_fault.PrintFault.{PrintFault}
 use Rattle.bplist_ascii.specs.declared.print_fault.PrintFault.TheVariants.{Write, Read, Memory}
@@ -47,6 +49,10 @@ StaysWithin old new before room = AtMost old new (length before.held + room)
 abbrev pub TakesWithin : Option (List ℕ) → Option (List ℕ) → Sending → Sending → ℕ → Type 0
 TakesWithin old new before after room = (bytes : List ℕ) × Takes old new before after bytes × (length bytes ≤ room)
 
+-- the two hexadecimal digits of a byte
+abbrev pub hex_digits : ℕ → List ℕ
+hex_digits b = slice_index lower_digits (b / 16) ∷ slice_index lower_digits (b % 16) ∷ []
+
 -- a unit as a text of this style has it
 abbrev pub styled : Style → ℕ → List ℕ
 styled Unquoted u = u ∷ []
@@ -54,10 +60,10 @@ styled Quoted u = quoted_unit u
 
 -- units that a text of this style can have
 abbrev pub fits : Style → ℕ → Bool
-fits Unquoted u = is_plain u
+fits Unquoted u = is_ascii_alphanumeric u
 fits Quoted u = true
 
 -- a text with these units is written as it is: it has a unit, and all are plain
 abbrev pub is_unquoted_text : List ℕ → Bool
 is_unquoted_text [] = false
-is_unquoted_text (u ∷ us) = list_all is_plain (u ∷ us)
+is_unquoted_text (u ∷ us) = list_all is_ascii_alphanumeric (u ∷ us)

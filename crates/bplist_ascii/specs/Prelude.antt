@@ -14,10 +14,10 @@ pub use Rattle.bplist_cursor.specs.Found.{IsHeld}
 pub use Rattle.bplist_cursor.specs.Kept.{OnlyReadsFile}
 pub use Rattle.bplist_cursor.specs.OldStyle.{value_text}
 pub use Rattle.bplist_cursor.specs.Sizes.{AreMeasures, form_in}
-pub use Rattle.bplist_cursor.specs.Texts.{hex_digits, quoted, text_of_bytes, text_of_units}
+pub use Rattle.bplist_cursor.specs.Texts.{quoted, text_of_bytes, text_of_units}
 pub use Rattle.bplist_cursor.specs.declared.faults.Unread.TheVariants.{Read}
 pub use Rattle.bplist_cursor.specs.declared.form.Form.TheVariants.{NoForm}
-pub use Rattle.bplist_ascii.specs.BoundedWrites.{AddFails, Adds, AddsSome, AddsText, FailsWithin, StaysWithin, TakesWithin, fits, is_unquoted_text, print_read, styled}
+pub use Rattle.bplist_ascii.specs.BoundedWrites.{AddFails, Adds, AddsSome, AddsText, FailsWithin, StaysWithin, TakesWithin, fits, hex_digits, is_unquoted_text, print_read, styled}
 pub use Rattle.bplist_ascii.specs.FormlessSearch.{HasSameFormless, first_value_of}
 pub use Rattle.bplist_ascii.specs.Printed.{IsPrinted, IsPut}
 pub use Rattle.bplist_ascii.specs.Sending.{AtMost, Takes}

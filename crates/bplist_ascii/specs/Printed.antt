@@ -1,5 +1,5 @@
 -- What printing the value of an object answers, and what it leaves. Source: profile.
-use Rattle.std.specs.Prelude.{◌≡◌, ◌⊎◌, ℕ, ◌<◌, ◌≤◌, List, ◌++◌, length, Option, Some, None, Result, Ok, Err}
+use Rattle.std.specs.Prelude.{◌≡◌, ◌≢◌, ◌⊎◌, ℕ, ◌<◌, ◌≤◌, List, ◌++◌, length, Option, Some, None, Result, Ok, Err, ⊤}
 use Rattle.std.specs.Io.KnownBytes.{Keeps, Appends}
 use Rattle.bplist_objects.specs.declared.frame.Frame.{Frame}
 use Rattle.bplist_objects.specs.Value.{Value}
@@ -9,13 +9,9 @@ use Rattle.bplist_ascii.specs.Sending.{Sending, SendsPart, SendsSome, Takes}
 use Rattle.bplist_ascii.specs.declared.print_fault.PrintFault.{PrintFault}
 use Rattle.bplist_ascii.specs.declared.print_fault.PrintFault.TheVariants.{NoAsciiForm, TooLong, Write, Read, Changed, Memory}
 
--- the text is not too long: it has at most `limit` bytes, and fewer than 18446744073709551615
-abbrev pub FitsLimit : ℕ → List ℕ → Type 0
-FitsLimit limit text = (length text ≤ limit) × (length text < 18446744073709551615)
-
--- the value has a text that is not too long, and that became of it
+-- the value has a text that is not too long, at most `limit` bytes and fewer than 18446744073709551615, and that became of it
 abbrev pub HasText : Value → ℕ → (List ℕ → Type 0) → Type 0
-HasText v limit P = (t : List ℕ) × (value_text v ≡ Some t) × FitsLimit limit t × P t
+HasText v limit P = (t : List ℕ) × (value_text v ≡ Some t) × (length t ≤ limit) × (length t < 18446744073709551615) × P t
 
 -- where nothing of a text goes out, or all, or a first part, or so many bytes before a write failed
 module _ (nothing : Type 0) (all some : List ℕ → Type 0) (cut : List ℕ → ℕ → Type 0) where
@@ -24,7 +20,7 @@ module _ (nothing : Type 0) (all some : List ℕ → Type 0) (cut : List ℕ →
     abbrev pub Prints : Result (Unit {0}) PrintFault → Type 0
     Prints (Ok _) = HasText v limit all
     Prints (Err (NoAsciiForm m)) = (value_text v ≡ None) × IsFormless f F n v m.0 × nothing
-    Prints (Err TooLong) = (t : List ℕ) × (value_text v ≡ Some t) × (¬ FitsLimit limit t) × nothing
+    Prints (Err TooLong) = (value_text v ≢ None) × (¬ HasText v limit (λ _. ⊤)) × nothing
     Prints (Err (Write sent)) = HasText v limit (λ t. cut t sent)
     Prints (Err (Read _)) = ((value_text v ≡ None) × nothing) ⊎ HasText v limit some
     Prints (Err Changed) = ⊥

@@ -1,8 +1,10 @@
 //! The old-style form of texts and data.
 
 ghost use Rattle.std.specs.Prelude.{◌≡◌, ◌≤◌, ◌++◌, ℕ, List, true, length, take, IfOk, OnOk};
+ghost use Rattle.std.specs.Char.{is_ascii_alphanumeric};
 ghost use Rattle.std.specs.List.{list_all};
 ghost use Rattle.bplist_cursor.specs.Texts as spec;
+ghost use Rattle.bplist_ascii.specs.Prelude.{hex_digits};
 
 use bplist_cursor::are_plain;
 use std::alloc::{AllocError, Global};
@@ -29,7 +31,7 @@ pub fn text_of_units(alloc: Global, units: &[u16]) -> Result<Vec<u8>, AllocError
 
 /// The units themselves, a byte for each.
 fn unquoted_text(alloc: Global, units: &[u16]) -> Result<Vec<u8>, AllocError>
-    requires { list_all spec.is_plain units.now ≡ true }
+    requires { list_all is_ascii_alphanumeric units.now ≡ true }
     ensures { IfOk result (λ text. text.items ≡ units.now) }
 {
     let mut text = Vec::new(alloc);
@@ -63,7 +65,7 @@ fn add_quoted(unit: u16, text: &mut Vec<u8>) -> Result<(), AllocError>
 
 /// Adds the two hexadecimal digits of a byte.
 fn add_digits(byte: u8, text: &mut Vec<u8>) -> Result<(), AllocError>
-    ensures { OnOk result (text.new.items ≡ text.old.items ++ spec.hex_digits byte) }
+    ensures { OnOk result (text.new.items ≡ text.old.items ++ hex_digits byte) }
 {
     text.extend_from_slice(&digits_of(byte))
 }
@@ -71,7 +73,7 @@ fn add_digits(byte: u8, text: &mut Vec<u8>) -> Result<(), AllocError>
 /// The two hexadecimal digits of a byte.
 #[tactic(auto, unfolding(hex::specs::Hex::encode_with))]
 pub(crate) fn digits_of(byte: u8) -> [u8; 2]
-    ensures { result ≡ spec.hex_digits byte }
+    ensures { result ≡ hex_digits byte }
 {
     let mut digits = [0; 2];
     // Two digits are the room that one byte wants, so this is never refused.
@@ -98,6 +100,7 @@ impl Model for QuotedUnit {
 
 impl QuotedUnit {
     /// The unit between quotes.
+    #[tactic(auto, unfolding(hex::specs::Hex::encode_with))]
     pub(crate) fn new(unit: u16) -> QuotedUnit
         ensures { result ≡ spec.quoted_unit unit }
     {

@@ -1,26 +1,23 @@
--- What a head of one kind spells, and of every other.
-use Rattle.std.proofs.Common.{◌≡◌, ◌%◌, ◌^◌, ℕ, List, Ok, Err, refl}
+-- The units that a head of a text spells, and of every other.
+use Rattle.std.proofs.Common.{◌≡◌, ℕ, List, Ok, Err, refl}
 use Rattle.bplist_octets.specs.Octets.{part}
 use Rattle.bplist_objects.specs.declared.frame.Frame.{Frame}
 use Rattle.bplist_objects.specs.declared.kind.Kind.{Kind}
 use Rattle.bplist_objects.specs.declared.kind.Kind.TheVariants as kinds
-use Rattle.bplist_objects.specs.Value.{int}
-use Rattle.bplist_objects.specs.Heads.{content_of, leaf}
-use Rattle.bplist_objects.specs.Numbers.{integer, num_at}
-use Rattle.bplist_c.specs.Objects.{int_answer, uid_answer}
+use Rattle.bplist_objects.specs.Heads.{content_of}
+use Rattle.bplist_objects.specs.Units.{IsTextKind, units_at}
+use Rattle.bplist_c.specs.Objects.{units_answer}
 use Rattle.bplist_c.specs.declared.status.Status.TheVariants as statuses
 
 module _ (f : List ℕ) (F : Frame) where
-  pub is_int : (kind : Kind) (count body : ℕ) → kind ≡ kinds.Int → int_answer (leaf (int (integer (part f body count)))) ≡ int_answer (content_of f F kind count body)
-  is_int kind count body e = rw e
+  pub is_text : (from room : ℕ) (kind : Kind) (count body : ℕ) → IsTextKind kind
+      → Ok (part (units_at f kind count body) from room) ≡ units_answer from room (content_of f F kind count body)
+  is_text from room kinds.Ascii count body text = refl
+  is_text from room kinds.Wide count body text = refl
+  is_text from room _ count body text = absurd text
 
-  pub other_int : (kind : Kind) (count body : ℕ) → (kind ≡ kinds.Int → ⊥) → Err statuses.OtherKind ≡ int_answer (content_of f F kind count body)
-  other_int kinds.Int count body other = absurd (other refl)
-  other_int _ count body other = refl
-
-  pub is_uid : (kind : Kind) (count body : ℕ) → kind ≡ kinds.Uid → Ok (num_at f body count % 2 ^ 32) ≡ uid_answer (content_of f F kind count body)
-  is_uid kind count body e = rw e
-
-  pub other_uid : (kind : Kind) (count body : ℕ) → (kind ≡ kinds.Uid → ⊥) → Err statuses.OtherKind ≡ uid_answer (content_of f F kind count body)
-  other_uid kinds.Uid count body other = absurd (other refl)
-  other_uid _ count body other = refl
+  pub no_text : (from room : ℕ) (kind : Kind) (count body : ℕ) → (kind ≡ kinds.Ascii → ⊥) → (kind ≡ kinds.Wide → ⊥)
+      → Err statuses.OtherKind ≡ units_answer from room (content_of f F kind count body)
+  no_text from room kinds.Ascii count body ascii wide = absurd (ascii refl)
+  no_text from room kinds.Wide count body ascii wide = absurd (wide refl)
+  no_text from room _ count body ascii wide = refl

@@ -1,5 +1,5 @@
 -- The head of an object that a checked file vouches for, from call to call.
-use Rattle.std.proofs.Common.{arith, ◌≡◌, ◌≤◌, ◌∙◌, ◌-◌, ℕ, IsTrue, false, Result, Ok, Err, ap, inl, inr, subst}
+use Rattle.std.proofs.Common.{arith, ◌≡◌, ◌≤◌, ◌∙◌, ℕ, IsTrue, false, Result, Ok, Err, ap, inl, inr, subst}
 use Rattle.std.proofs.lemmas.Bool.{cases_lt}
 use Rattle.std.proofs.lemmas.Grind.{not_there}
 use Rattle.bplist_objects.specs.declared.fault.ObjectFault.{ObjectFault}
@@ -8,11 +8,9 @@ use Rattle.bplist_objects.specs.declared.frame.Frame.{Frame}
 use Rattle.bplist_objects.specs.declared.head.Head.{Head}
 use Rattle.bplist_objects.specs.Answers.{Gives, Never, read_failed}
 use Rattle.bplist_objects.specs.Heads.{Content, HasShape, IsHeadOf, Spells, content_at}
-use Rattle.bplist_objects.proofs.HeadLaws.{head_parts}
 use Rattle.bplist_cert.specs.CheckedFile.{CheckedFile, IsChecked}
 use Rattle.bplist_cert.specs.Valid.{IsVouchedBy}
-use Rattle.bplist_c.specs.Objects.{OnObject, body_of, kind_number}
-use Rattle.bplist_c.specs.declared.object.BplistBody.{BplistBody}
+use Rattle.bplist_c.specs.Objects.{OnObject, kind_number}
 use Rattle.bplist_c.specs.declared.status.Status.{Status}
 use Rattle.bplist_c.specs.declared.status.Status.TheVariants as statuses
 use Rattle.bplist_c.specs.declared.verdict.Top.{Top}
@@ -67,19 +65,6 @@ module _ (checked : CheckedFile) (n : ℕ) where
           let spelled = subst (Spells checked.source.octets checked.frame n) spells.means spells in
           let f = known.said vouched spells.shape (spells.has, spelled) in absurd (cc);
     }
-
--- the length of a body is from its place to the end of the object
-pub body_by_end : (checked : CheckedFile) (n : ℕ) (h : Head) (kind : ℕ) → IsHead checked n (Ok h) → kind ≡ kind_number h.kind
-    → let body : BplistBody = record { kind = kind; count = h.count; place = h.body; length = h.end - h.body } in
-    OnObject checked n IsHeadOf (λ head answer. answer ≡ Ok (body_of checked.frame head)) (Ok body)
-body_by_end checked n h kind known is = record {
-  none = λ no. let e = known.none no in absurd (cc);
-  said = λ vouched head has.
-      let f = known.said vouched head has in
-      let same : h ≡ head = cc in
-      let ends = (head_parts checked.source.octets checked.frame n head has.0.has).1 in
-      rw (is, same) (ap (λ size. Ok (record { kind = kind_number head.kind; count = head.count; place = head.body; length = size })) (omega (arith, ends)));
-}
 
 -- numbers that can't but be in order are
 stable_le : (a b : ℕ) → ((a ≤ b → ⊥) → ⊥) → a ≤ b

@@ -7,3 +7,4 @@ pub mod TextSteps
 pub mod Values
 pub mod Handles
 pub mod OpenedHandles
+pub mod UnitSteps

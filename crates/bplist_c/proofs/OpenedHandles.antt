@@ -5,7 +5,6 @@ use denote.Ref.{Bor}
 use Rattle.bplist_octets.specs.Meaning.{Meaning}
 use Rattle.bplist_octets.specs.Slices.{source_over}
 use Rattle.bplist_objects.specs.declared.fault.Fault.{Fault}
-use Rattle.bplist_objects.specs.declared.frame.Frame.{Frame}
 use Rattle.bplist_objects.specs.Frame.{IsFrame}
 use Rattle.bplist_cert.specs.CheckedFile.{CheckedFile, IsChecked}
 use Rattle.bplist_cert.specs.Encoding.{octets_of}
@@ -15,12 +14,11 @@ use Rattle.bplist_lint.specs.declared.answer.Lint.{Lint}
 use Rattle.bplist_lint.specs.declared.refusal.LintRefusal.{LintRefusal}
 use Rattle.bplist_lint.specs.declared.refusal.LintRefusal.TheVariants as refusals
 use Rattle.bplist_lint.specs.Refusals.{Lints}
-use Rattle.bplist_lint.proofs.FirstFaults.{one_frame}
 use Rattle.bplist_c.specs.declared.handle.BplistHandle.{BplistHandle}
 use Rattle.bplist_c.specs.declared.verdict.BplistVerdict.{BplistVerdict}
 use Rattle.bplist_c.specs.Lifecycle.{IsOpened, IsPair, certified}
 use Rattle.bplist_c.specs.declared.verdict.TheConstants.{NO_VERDICT}
-use Rattle.bplist_c.specs.Verdicts.{ShowsLint, ShowsTop}
+use Rattle.bplist_c.specs.Verdicts.{ShowsLint}
 
 -- the session is kept and the verdict as it was shown, or memory was refused
 abbrev pub IsKeptOrNot : List ℕ → Lists → Bool → BplistHandle → BplistVerdict → BplistVerdict → ℕ → Type 0
@@ -31,11 +29,11 @@ IsKeptOrNot f certificate sorted handle shown verdict status =
 module _ (f : List ℕ) (sorted : Bool) (P : Lint → Type 0) (Q : Fault → Type 0) (R : List ℕ → Type 0) where
   -- refused memory is an answer too
   pub opened : (lint : Lint) (handle : BplistHandle) (shown verdict : BplistVerdict) (status : ℕ) → P lint
-      → ((F : Frame) → IsFrame f F → ShowsTop f F lint shown) → IsKeptOrNot f lint.certificate sorted handle shown verdict status
+      → ShowsLint f (Ok lint) shown 0 → IsKeptOrNot f lint.certificate sorted handle shown verdict status
       → (answer : Result Lint LintRefusal) × Lints P Q R answer × ShowsLint f answer verdict status
       × MatchResult answer (λ x. IsOpened f x.certificate sorted handle) (λ _. handle.length ≡ 0)
   opened lint handle shown verdict status given top kept = elim kept [
-    | inl k ↦ (Ok lint, given, (k.0, λ F framed head is. rw k.1 (top F framed head is)), k.2)
+    | inl k ↦ (Ok lint, given, (k.0, rw k.1 top.1), k.2)
     | inr k ↦ (Err refusals.Memory, tt, (k.0, k.1), k.2)
   ]
 
@@ -52,11 +50,3 @@ module _ (file : Bor (List ℕ)) (checked : CheckedFile) (is : IsChecked checked
   is_pair octets spelled e =
       let accepted = subst (λ (m : Meaning). ∥ IsAccepted m.octets checked.frame checked.certificate ∥₁) same (is.accepted honest) in
       (checked.frame, framed, (spelled, e, accepted), refl, refl, refl)
-
-  -- what is shown of the checked file's top is shown of the file's
-  pub shows_top : (verdict : BplistVerdict) → ShowsTop checked.source.octets checked.frame (certified checked.frame checked.certificate) verdict
-      → (F : Frame) → IsFrame file.now F → ShowsTop file.now F (certified checked.frame checked.certificate) verdict
-  shows_top verdict shown F other =
-      let here = subst (λ (m : Meaning). ShowsTop m.octets checked.frame (certified checked.frame checked.certificate) verdict) same shown in
-      subst (λ (G : Frame). ShowsTop file.now G (certified checked.frame checked.certificate) verdict)
-      (one_frame file.now checked.frame F framed other) here

@@ -1,13 +1,14 @@
 -- The text of a value, from call to call.
-use Rattle.std.proofs.Common.{◌≡◌, ◌∙◌, ℕ, List, [], length, Some, Result, Ok, Err, Vec, ap, refl, sym, subst}
+use Rattle.std.proofs.Common.{◌≡◌, ◌≢◌, ◌∙◌, ℕ, List, [], length, Option, Some, None, Result, Ok, Err, Vec, ap, refl, sym}
 use Rattle.std.specs.Global.{Global}
 use Rattle.bplist_objects.specs.Value.{Value}
 use Rattle.bplist_objects.specs.declared.frame.Frame.{Frame}
+use Rattle.bplist_cursor.specs.declared.form.Form.TheVariants.{Length}
 use Rattle.bplist_cursor.specs.Forms.{form_of, form_of_text}
 use Rattle.bplist_cursor.specs.Nodes.{cap}
 use Rattle.bplist_cursor.specs.OldStyle.{value_text}
 use Rattle.bplist_cursor.specs.Sizes.{Table, form_in}
-use Rattle.bplist_ascii.specs.Printed.{FitsLimit, IsPrinted}
+use Rattle.bplist_ascii.specs.Printed.{IsPrinted}
 use Rattle.bplist_ascii.specs.declared.print_fault.PrintFault.{PrintFault}
 use Rattle.bplist_ascii.specs.declared.print_fault.PrintFault.TheVariants as faults
 use Rattle.bplist_c.specs.Texts.{IsTextOf, length_in, printed_as, text_length}
@@ -17,12 +18,16 @@ pub told_length : (sizes : Table) (n : ℕ) (v : Value) (t : List ℕ) → form_
     → text_length sizes n ≡ cap (length t)
 told_length sizes n v t e is = ap length_in e ∙ ap (λ x. length_in (Some (form_of_text x))) is
 
+-- the length that is told of a text is that of its form
+told_form : (text : Option (List ℕ)) (told : ℕ) → text ≢ None → ((t : List ℕ) → text ≡ Some t → told ≡ cap (length t)) → form_of_text text ≡ Length told
+told_form None told some length = absurd (some refl)
+told_form (Some t) told some length = ap Length (sym (length t refl))
+
 -- what was printed into an empty list is the text, and else it is said why there is none
 pub text_said : (f : List ℕ) (F : Frame) (n : ℕ) (v : Value) (room told : ℕ) (text : Vec ℕ Global) (r : Result (Unit {0}) PrintFault)
     → IsPrinted (Some []) (Some text.items) f F n v room r → ((t : List ℕ) → value_text v ≡ Some t → told ≡ cap (length t))
     → IsTextOf f F n v room (printed_as r text told)
-text_said f F n v room told text (Ok _) (t, is, fits, added) length =
-    (is ∙ ap (λ x. Some x) (sym added), subst (FitsLimit room) (sym added) fits)
+text_said f F n v room told text (Ok _) (t, is, low, few, added) length = (t, is, low, few, sym added)
 text_said f F n v room told text (Err (faults.NoAsciiForm part)) (none, formless, kept) length = (none, formless)
-text_said f F n v room told text (Err faults.TooLong) (t, is, long, kept) length = (t, is, long, length t is)
+text_said f F n v room told text (Err faults.TooLong) (some, long, kept) length = (told_form (value_text v) told some length, long)
 text_said f F n v room told text (Err _) printed length = refl

@@ -1,6 +1,5 @@
 -- What opening a file answers. Source: profile.
-use Rattle.std.specs.Prelude.{◌≡◌, ◌≢◌, ◌⊎◌, ℕ, List, length, slice_index, Bool, IsTrue, IsSome, Some, Result, Ok, Err, Vec}
-use Rattle.std.specs.Global.{Global}
+use Rattle.std.specs.Prelude.{◌≡◌, ◌≢◌, ◌⊎◌, ℕ, List, length, slice_index, Bool, IsTrue, IsSome, Some, Result, Ok, Err}
 use denote.Ref.{Bor}
 use Rattle.bplist_octets.specs.Slices.{source_over}
 use Rattle.bplist_objects.specs.declared.frame.Frame.{Frame}
@@ -25,15 +24,11 @@ IsAcceptedFor f certificate = (F : Frame) × IsFrame f F × IsAccepted f F certi
 abbrev pub IsCheckedFor : Bor (List ℕ) → Lists → CheckedFile → Type 0
 IsCheckedFor file certificate checked = (checked.source ≡ source_over file) × (checked.certificate ≡ certificate)
 
--- the session is of these bytes and heights, with key lists if they are asked for
-abbrev pub IsSessionFor : List ℕ → Lists → Bool → Session → Type 0
-IsSessionFor f certificate sorted s = IsSessionOf f s × (s.certificate.heights ≡ certificate.heights)
-    × (IsSome certificate.keys → s.certificate ≡ certificate) × (IsTrue sorted → IsSome s.certificate.keys)
-
--- the handle has such a session, of a file of this length
+-- the handle has a session of these bytes, their length and these heights, with key lists if they are asked for
 abbrev pub IsOpened : List ℕ → Lists → Bool → BplistHandle → Type 0
-IsOpened f certificate sorted h =
-    (h.length ≡ length f) × ((s : Session) × (h.held.value ≡ Some s) × IsSessionFor f certificate sorted s)
+IsOpened f certificate sorted h = (h.length ≡ length f) × ((s : Session) × (h.held.value ≡ Some s) × IsSessionOf f s
+    × (s.certificate.heights ≡ certificate.heights) × (IsSome certificate.keys → s.certificate ≡ certificate)
+    × (IsTrue sorted → IsSome s.certificate.keys))
 
 -- what is shown of a file by its certificate: the height of the top, and no counts
 abbrev pub certified : Frame → Lists → Lint
@@ -46,6 +41,6 @@ IsPair f octets lint = (F : Frame) × IsFrame f F × IsVouchedFor f octets F lin
     × (lint.height ≡ slice_index lint.certificate.heights F.top.0) × (lint.reached ≡ 0) × (lint.references ≡ 0)
 
 -- the bytes of the handle's certificate, or refused memory, or that it is closed
-abbrev pub CertificateSays : BplistHandle → Result (Vec ℕ Global) Status → Type 0
-CertificateSays h (Ok bytes) = (s : Session) × (h.length ≢ 0) × (h.held.value ≡ Some s) × (bytes.items ≡ octets_of s.certificate)
+abbrev pub CertificateSays : BplistHandle → Result (List ℕ) Status → Type 0
+CertificateSays h (Ok bytes) = (s : Session) × (h.length ≢ 0) × (h.held.value ≡ Some s) × (bytes ≡ octets_of s.certificate)
 CertificateSays h (Err why) = ((h.length ≡ 0) × (why ≡ statuses.Closed)) ⊎ ((h.length ≢ 0) × (why ≡ statuses.Memory))

@@ -1,15 +1,13 @@
 -- What C is told of an object. Source: profile.
-use Rattle.std.specs.Prelude.{◌≡◌, ℕ, suc, ◌-◌, ◌*◌, ◌/◌, ◌%◌, ◌^◌, List, ◌++◌, length, drop, min, Result, Ok, Err}
+use Rattle.std.specs.Prelude.{◌≡◌, ℕ, suc, ◌-◌, ◌/◌, ◌%◌, ◌^◌, List, Result, Ok, Err}
 use Rattle.std.specs.Int.{w128, cast_unsigned}
 use denote.Enum.Declared.{tag_of}
 use Rattle.bplist_octets.specs.Octets.{part}
 use Rattle.bplist_objects.specs.contracts.kind.Kind.{the_type}
-use Rattle.bplist_objects.specs.Units.{IsTextKind, units_of}
-use Rattle.bplist_objects.specs.Value.{int, uid}
+use Rattle.bplist_objects.specs.Value.{int, text, uid}
 use Rattle.bplist_objects.specs.declared.frame.Frame.{Frame}
 use Rattle.bplist_objects.specs.declared.head.Head.{Head}
 use Rattle.bplist_objects.specs.declared.kind.Kind.{Kind}
-use Rattle.bplist_objects.specs.Announced.{item_size}
 use Rattle.bplist_objects.specs.Heads.{Content, leaf}
 use Rattle.bplist_cert.specs.CheckedFile.{CheckedFile}
 use Rattle.bplist_cert.specs.Valid.{IsVouchedBy}
@@ -23,9 +21,8 @@ abbrev pub kind_number : Kind → ℕ
 kind_number kind = suc (tag_of the_type kind)
 
 -- what a head tells of the body
-abbrev pub body_of : Frame → Head → BplistBody
-body_of F head =
-    record { kind = kind_number head.kind; count = head.count; place = head.body; length = head.count * item_size F.ref_size head.kind }
+abbrev pub body_of : Head → BplistBody
+body_of head = record { kind = kind_number head.kind; count = head.count; place = head.body; length = head.«end» - head.body }
 
 -- what is said of an object by whatever it has of a sort, its head or its value; NoObject if it is not vouched for
 pub record OnObject {X Y : Type 0} (checked : CheckedFile) (n : ℕ) (Has : List ℕ → Frame → ℕ → Y → Type 0)
@@ -42,8 +39,6 @@ int_answer _ = Err statuses.OtherKind
 abbrev pub uid_answer : Content → Result ℕ Status
 uid_answer content = elim content [ leaf (uid x) ↦ Ok (x % 2 ^ 32) | _ ↦ Err statuses.OtherKind ]
 
--- the text's units from one on, as many as fit, are at the front of the buffer, and the answer is their count; or OtherKind
-pub record UnitsSay (f : List ℕ) (from : ℕ) (old new : List ℕ) (head : Head) (answer : Result ℕ Status) : Type 0 where
-  pub text : IsTextKind head.kind → let count = min (head.count - from) (length old) in
-      (answer ≡ Ok count) × (new ≡ part (units_of f head) from count ++ drop count old)
-  pub other : (IsTextKind head.kind → ⊥) → answer ≡ Err statuses.OtherKind
+-- the units of the text that is spelled, from one on, as many as there is room for
+abbrev pub units_answer : ℕ → ℕ → Content → Result (List ℕ) Status
+units_answer from room content = elim content [ leaf (text units) ↦ Ok (part units from room) | _ ↦ Err statuses.OtherKind ]

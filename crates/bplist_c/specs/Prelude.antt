@@ -4,13 +4,13 @@ pub use Rattle.bplist_octets.specs.Slices.{source_over}
 pub use Rattle.bplist_objects.specs.Frame.{IsFrame}
 pub use Rattle.bplist_objects.specs.Heads.{IsHeadOf, Spells, leaf}
 pub use Rattle.bplist_objects.specs.Holds.{Holds}
-pub use Rattle.bplist_objects.specs.Numbers.{integer, num_at}
 pub use Rattle.bplist_objects.specs.Safe.{IsSafeBody, IsSafeHead}
 pub use Rattle.bplist_objects.specs.Units.{IsTextKind, units_of}
 pub use Rattle.bplist_objects.specs.Value.{int}
 pub use Rattle.bplist_objects.specs.declared.frame.Frame.{Frame}
 pub use Rattle.bplist_objects.specs.declared.head.Head.{Head}
-pub use Rattle.bplist_objects.specs.declared.kind.Kind.TheVariants.{Int, Uid}
+pub use Rattle.bplist_objects.specs.declared.rule.Rule.{Rule}
+pub use Rattle.bplist_objects.specs.Words.{number_of as number_of_rule, word_of}
 pub use Rattle.bplist_cert.specs.CertifiedFile.{IsVouchingFault}
 pub use Rattle.bplist_cert.specs.CheckedFile.{IsChecked}
 pub use Rattle.bplist_cert.specs.Encoding.{octets_of}
@@ -25,21 +25,20 @@ pub use Rattle.bplist_cursor.specs.Forms.{form_of}
 pub use Rattle.bplist_cursor.specs.Found.{AreMeasuresOf, IsFound}
 pub use Rattle.bplist_cursor.specs.Members.{member_reference}
 pub use Rattle.bplist_cursor.specs.Nodes.{cap, nodes}
-pub use Rattle.bplist_cursor.specs.Sizes.{form_in, nodes_in}
 pub use Rattle.bplist_cursor.specs.declared.found.Found.{Found}
-pub use Rattle.bplist_c.specs.Lifecycle.{CertificateSays, IsAcceptedFor, IsCheckedFor, IsOpened, IsPair, IsSessionFor, certified}
+pub use Rattle.bplist_c.specs.Lifecycle.{CertificateSays, IsAcceptedFor, IsCheckedFor, IsOpened, IsPair, certified}
 pub use Rattle.bplist_c.specs.Lookup.{FindSays, step_answer, told_found, why_status}
-pub use Rattle.bplist_c.specs.Objects.{OnObject, UnitsSay, body_of, int_answer, kind_number, uid_answer}
+pub use Rattle.bplist_c.specs.Objects.{OnObject, body_of, int_answer, kind_number, uid_answer, units_answer}
 pub use Rattle.bplist_c.specs.Sessions.{IsFileOf, IsRefused, IsSame, IsSessionOf, OnHandle, checked_of}
-pub use Rattle.bplist_c.specs.Sizes.{sizes_by, sizes_told}
-pub use Rattle.bplist_c.specs.Statuses.{Puts, PutsAll, Tells, number_of}
+pub use Rattle.bplist_c.specs.Sizes.{sizes_by}
+pub use Rattle.bplist_c.specs.Statuses.{Puts, Tells, items_of, number_of}
 pub use Rattle.bplist_c.specs.Texts.{IsTextOf, TellsText, printed_as, text_length}
-pub use Rattle.bplist_c.specs.Verdicts.{CircleSays, NamesRule, ShowsLint, ShowsTop, circle_verdict, fault_verdict}
+pub use Rattle.bplist_c.specs.Verdicts.{ShowsLint, circle_answer, refused_told}
 pub use Rattle.bplist_c.specs.declared.object.BplistBody.{BplistBody}
 pub use Rattle.bplist_c.specs.declared.object.BplistInteger.{BplistInteger}
 pub use Rattle.bplist_c.specs.declared.session.Session.{Session}
 pub use Rattle.bplist_c.specs.declared.sizes.BplistSizes.{BplistSizes}
 pub use Rattle.bplist_c.specs.declared.status.Status.{Status}
-pub use Rattle.bplist_c.specs.declared.status.Status.TheVariants.{Closed, Memory, NoMember, Opened}
+pub use Rattle.bplist_c.specs.declared.status.Status.TheVariants.{Closed, Memory, NoMember, NoRule, Opened}
 pub use Rattle.bplist_c.specs.declared.text.Text.{Text}
 pub use Rattle.bplist_c.specs.declared.verdict.TheConstants.{NO_VERDICT}

@@ -1,5 +1,5 @@
 -- What C is told of the size of a value. Source: profile.
-use Rattle.std.specs.Prelude.{ℕ, Option, Some, None}
+use Rattle.std.specs.Prelude.{ℕ}
 use Rattle.bplist_cursor.specs.declared.form.Form.{Form}
 use Rattle.bplist_cursor.specs.declared.form.Form.TheVariants.{NoForm, Length}
 use Rattle.bplist_c.specs.declared.sizes.BplistSizes.{BplistSizes}
@@ -8,8 +8,3 @@ use Rattle.bplist_c.specs.declared.sizes.BplistSizes.{BplistSizes}
 abbrev pub sizes_by : ℕ → Form → BplistSizes
 sizes_by nodes NoForm = record { nodes = nodes; text = 0; has_text = 0 }
 sizes_by nodes (Length length) = record { nodes = nodes; text = length; has_text = 1 }
-
--- what is told of an object, if the table has it
-abbrev pub sizes_told : Option ℕ → Option Form → Option BplistSizes
-sizes_told (Some nodes) (Some form) = Some (sizes_by nodes form)
-sizes_told _ _ = None

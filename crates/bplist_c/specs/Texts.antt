@@ -1,15 +1,15 @@
 -- What C is told of the text of a value. Source: profile.
-use Rattle.std.specs.Prelude.{◌≡◌, ℕ, List, length, Option, Some, None, Result, Ok, Err, Vec}
+use Rattle.std.specs.Prelude.{◌≡◌, ℕ, List, Option, Some, None, Result, Ok, Err, Vec, ⊤}
 use Rattle.std.specs.Global.{Global}
 use Rattle.bplist_objects.specs.Value.{Value}
 use Rattle.bplist_objects.specs.declared.frame.Frame.{Frame}
 use Rattle.bplist_cursor.specs.declared.form.Form.{Form}
 use Rattle.bplist_cursor.specs.declared.form.Form.TheVariants.{NoForm, Length}
 use Rattle.bplist_cursor.specs.Formless.{IsFormless}
-use Rattle.bplist_cursor.specs.Nodes.{cap}
+use Rattle.bplist_cursor.specs.Forms.{form_of}
 use Rattle.bplist_cursor.specs.OldStyle.{value_text}
 use Rattle.bplist_cursor.specs.Sizes.{Table, form_in}
-use Rattle.bplist_ascii.specs.Printed.{FitsLimit}
+use Rattle.bplist_ascii.specs.Printed.{HasText}
 use Rattle.bplist_ascii.specs.declared.print_fault.PrintFault.{PrintFault}
 use Rattle.bplist_ascii.specs.declared.print_fault.PrintFault.TheVariants as faults
 use Rattle.bplist_c.specs.declared.status.Status.{Status}
@@ -17,7 +17,7 @@ use Rattle.bplist_c.specs.declared.status.Status.TheVariants.{Memory, NoText, Sh
 use Rattle.bplist_c.specs.declared.text.BplistWritten.{BplistWritten}
 use Rattle.bplist_c.specs.declared.text.Text.{Text}
 use Rattle.bplist_c.specs.declared.text.Text.TheVariants.{Fits, TooLong, Formless}
-use Rattle.bplist_c.specs.Statuses.{PutsAll, number_of}
+use Rattle.bplist_c.specs.Statuses.{Puts, number_of}
 
 -- the length that a form tells, 0 where there is none
 abbrev pub length_in : Option Form → ℕ
@@ -38,16 +38,15 @@ printed_as (Err _) text told = Err Memory
 
 -- the text of v if it fits `room`, else its length; or the first part without a text, or refused memory
 abbrev pub IsTextOf : List ℕ → Frame → ℕ → Value → ℕ → Result Text Status → Type 0
-IsTextOf f F n v room (Ok (Fits text)) = (value_text v ≡ Some text.items) × FitsLimit room text.items
-IsTextOf f F n v room (Ok (TooLong told)) =
-    (text : List ℕ) × (value_text v ≡ Some text) × (¬ FitsLimit room text) × (told ≡ cap (length text))
+IsTextOf f F n v room (Ok (Fits text)) = HasText v room (λ t. t ≡ text.items)
+IsTextOf f F n v room (Ok (TooLong told)) = (form_of v ≡ Length told) × (¬ HasText v room (λ _. ⊤))
 IsTextOf f F n v room (Ok (Formless part)) = (value_text v ≡ None) × IsFormless f F n v part.0
 IsTextOf f F n v room (Err why) = why ≡ Memory
 
 module _ (old new : List ℕ) (was out : BplistWritten) (status : ℕ) where
   -- buffer, output and status tell the answer
   abbrev pub TellsText : Result Text Status → Type 0
-  TellsText (Ok (Fits text)) = PutsAll text.items old new out.length status × (out.object ≡ 0)
+  TellsText (Ok (Fits text)) = Puts (Ok text.items) old new was.length out.length status × (out.object ≡ 0)
   TellsText (Ok (TooLong n)) = (status ≡ number_of Short) × (new ≡ old) × (out ≡ record { length = n; object = 0 })
   TellsText (Ok (Formless part)) = (status ≡ number_of NoText) × (new ≡ old) × (out ≡ record { length = 0; object = part.0 })
   TellsText (Err why) = (status ≡ number_of why) × (new ≡ old) × (out ≡ was)

@@ -1,8 +1,7 @@
 //! Handles, opened and closed.
 
-ghost use Rattle.std.specs.Prelude.{◌≡◌, ◌≢◌, ◌⊎◌, ⊤, ℕ, None, Result, IfSome, IsSome, MatchResult, Vec as vec};
-ghost use Rattle.std.specs.Global.{Global as global};
-ghost use Rattle.bplist_c.specs.Prelude.{Head as head, IsHeadOf, source_over, IsVouchingFault, IsChecked, octets_of as certificate_octets, IsCertificate, Lint as lint_answer, LintRefusal as lint_refusal, IsFileFault, IsFileCircle, IsLinted, Lints, no_circle, Status as status, Closed, Memory, Opened, CertificateSays, IsAcceptedFor, IsCheckedFor, IsSessionFor, IsOpened, IsPair, certified, kind_number, IsSame, IsSessionOf, Puts, number_of as number, NO_VERDICT, ShowsLint, ShowsTop};
+ghost use Rattle.std.specs.Prelude.{◌≡◌, ◌≢◌, ◌⊎◌, ⊤, ℕ, List, None, Ok, Result, IfSome, IsSome, MatchResult, false};
+ghost use Rattle.bplist_c.specs.Prelude.{Head as head, IsHeadOf, source_over, IsVouchingFault, IsChecked, octets_of as certificate_octets, IsCertificate, Lint as lint_answer, LintRefusal as lint_refusal, IsFileFault, IsFileCircle, IsLinted, Lints, no_circle, Status as status, Closed, Opened, CertificateSays, IsAcceptedFor, IsCheckedFor, IsOpened, IsPair, certified, kind_number, IsSame, Puts, items_of, number_of as number, NO_VERDICT, ShowsLint};
 ghost use Rattle.bplist_cert.specs.declared.certificate.CertRefusal.TheVariants as refusals;
 
 use crate::handle::BplistHandle;
@@ -47,32 +46,31 @@ fn with_keys(alloc: Global, checked: Checked<SliceSource<'_>>) -> Option<Checked
     }
 }
 
-/// The session of a checked file. None where a growth was refused.
-fn session_of(alloc: Global, checked: Checked<SliceSource<'_>>) -> Option<Box<Session>>
-    ensures { IfSome result (λ session. IsSessionOf checked.entry.source.octets session.value
-        × (session.value.certificate ≡ checked.entry.certificate)) }
+/// The handle of a checked file. None where a growth was refused.
+fn handle_of(alloc: Global, checked: Checked<SliceSource<'_>>) -> Option<BplistHandle>
+    ensures { IfSome result (IsOpened checked.entry.source.octets checked.entry.certificate false) }
 {
-    let _octets = checked.octets();
+    let length = checked.octets().len() as u64;
     let frame = checked.frame();
     let (_, certificate) = checked.into_parts();
     match Box::new(alloc, Session { frame, certificate }) {
-        Ok(session) => Some(session),
+        Ok(session) => Some(BplistHandle::open(session, length)),
         Err(_) => None,
     }
 }
 
-/// The session of a checked file, with key lists where `sorted` asks for them. None where a growth was refused.
-fn sorted_session(
+/// The handle of a checked file, with key lists where `sorted` asks for them. None where a growth was refused.
+fn sorted_handle(
     alloc: Global,
     checked: Checked<SliceSource<'_>>,
     sorted: bool,
-) -> Option<Box<Session>>
-    ensures { IfSome result (λ session. IsSessionFor checked.entry.source.octets checked.entry.certificate sorted session.value) }
+) -> Option<BplistHandle>
+    ensures { IfSome result (IsOpened checked.entry.source.octets checked.entry.certificate sorted) }
 {
     if sorted && checked.certificate().keys.is_none() {
-        return session_of(alloc, with_keys(alloc, checked)?);
+        return handle_of(alloc, with_keys(alloc, checked)?);
     }
-    session_of(alloc, checked)
+    handle_of(alloc, checked)
 }
 
 /// Puts the session of a checked file into a closed handle. `out` is what C is told of the file, and of a refused growth.
@@ -88,10 +86,9 @@ fn keep(
         × IsOpened checked.entry.source.octets checked.entry.certificate sorted handle.new)
         ⊎ ((result ≡ 2) × (out.new ≡ NO_VERDICT) × (handle.new.length ≡ 0)) }
 {
-    let length = checked.octets().len() as u64;
-    match sorted_session(alloc, checked, sorted) {
-        Some(session) => {
-            *handle = BplistHandle::open(session, length);
+    match sorted_handle(alloc, checked, sorted) {
+        Some(opened) => {
+            *handle = opened;
             0
         }
         None => {
@@ -170,8 +167,9 @@ fn top_kind(checked: &Checked<SliceSource<'_>>) -> u32
 
 /// The verdict on a file by its certificate.
 fn verdict_of(checked: &Checked<SliceSource<'_>>) -> BplistVerdict
-    ensures { ShowsTop checked.now.source.octets checked.now.frame (certified checked.now.frame checked.now.certificate) result }
+    ensures { ShowsLint checked.now.source.octets (Ok (certified checked.now.frame checked.now.certificate)) result 0 }
 {
+    let _octets = checked.octets();
     let frame = checked.frame();
     let top = Top {
         objects: frame.objects,
@@ -232,29 +230,22 @@ pub extern "C" fn bplist_close(alloc: Global, handle: &mut BplistHandle) -> u32
     0
 }
 
-/// The bytes of a certificate.
-fn octets_of(alloc: Global, certificate: &Certificate) -> Result<Vec<u8>, Status>
-    ensures { MatchResult result (λ octets. octets.items ≡ certificate_octets certificate.now) (λ why. why ≡ Memory) }
-{
-    match certificate.to_octets(alloc) {
-        Ok(octets) => Ok(octets),
-        Err(_) => Err(Status::Memory),
-    }
-}
-
 /// The bytes of the certificate of a handle.
 fn octets_in(alloc: Global, handle: &mut BplistHandle) -> Result<Vec<u8>, Status>
     ensures kept { IsSame handle.old handle.new }
-    ensures exact { CertificateSays handle.old result }
+    ensures exact { CertificateSays handle.old (items_of result) }
 {
     if handle.length == 0 {
         return Err(Status::Closed);
     }
     let length = handle.length;
     let session = mem::replace(handle, BplistHandle::closed(alloc)).into_session();
-    let octets = octets_of(alloc, &session.certificate);
+    let octets = session.certificate.to_octets(alloc);
     *handle = BplistHandle::open(session, length);
-    octets
+    match octets {
+        Ok(octets) => Ok(octets),
+        Err(_) => Err(Status::Memory),
+    }
 }
 
 /// The bytes of the certificate of an open handle.
@@ -266,7 +257,7 @@ pub extern "C" fn bplist_certificate(
     count: &mut u64,
 ) -> u32
     ensures kept { IsSame handle.old handle.new }
-    ensures exact { (octets : Result (vec ℕ global) status) × CertificateSays handle.old octets
+    ensures exact { (octets : Result (List ℕ) status) × CertificateSays handle.old octets
         × Puts octets buffer.old buffer.new count.old count.new result }
 {
     let octets = octets_in(alloc, handle);

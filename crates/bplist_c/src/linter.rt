@@ -1,8 +1,7 @@
 //! The linter, for C.
 
-ghost use Rattle.std.specs.Prelude.{◌≡◌, ℕ, Result, MatchResult, map, Vec as vec};
-ghost use Rattle.bplist_c.specs.Prelude.{Frame as frame, Head as head, IsFrame, IsHeadOf, Lint as lint_answer, LintRefusal as lint_refusal, IsFileFault, IsFileCircle, IsLinted, Lints, number, Status as status, Memory, Puts, kind_number as number_of_kind, CircleSays, NamesRule, ShowsLint};
-ghost use Rattle.std.specs.Global.{Global as global};
+ghost use Rattle.std.specs.Prelude.{◌≡◌, ◌⊎◌, ◌<◌, Err, MatchOption, MatchResult, Option, Result, map, ok_or, option_map};
+ghost use Rattle.bplist_c.specs.Prelude.{Frame as frame, Head as head, IsFrame, IsHeadOf, Lint as lint_answer, LintRefusal as lint_refusal, IsFileFault, IsFileCircle, IsLinted, Lints, number, Memory, NoRule, Rule as rule_type, number_of_rule, word_of, Puts, items_of, kind_number as number_of_kind, circle_answer, ShowsLint};
 
 use crate::object::number_of as kind_number;
 use crate::status::{Status, put_all, put_answer};
@@ -60,7 +59,11 @@ pub(crate) fn show(file: &[u8], answer: &Result<Lint, LintRefusal>, out: &mut Bp
             *out = BplistVerdict::of_top(top, found.reached, found.references);
             0
         }
-        Err(refusal) => refused(refusal, out),
+        Err(refusal) => {
+            let (status, verdict) = refused(refusal);
+            *out = verdict;
+            status.number()
+        }
     }
 }
 
@@ -78,7 +81,8 @@ pub extern "C" fn bplist_lint(alloc: Global, file: &[u8], out: &mut BplistVerdic
 /// The name of a rule, by its number.
 #[unsafe(no_mangle)]
 pub extern "C" fn bplist_rule_name(rule: u32, name: &mut [u8], count: &mut u64) -> u32
-    ensures exact { NamesRule rule name.old name.new count.old count.new result }
+    ensures { (found : Option rule_type) × MatchOption found ((rule ≡ 0) ⊎ (32 < rule)) (λ r. number_of_rule r ≡ rule)
+        × Puts (ok_or (option_map word_of found) NoRule) name.old name.new count.old count.new result }
 {
     match rule_of_number(rule) {
         Some(rule) => put_all(rule_name(rule).as_bytes(), name, count),
@@ -88,12 +92,11 @@ pub extern "C" fn bplist_rule_name(rule: u32, name: &mut [u8], count: &mut u64) 
 
 /// The circle for which the linter refuses a file.
 fn circle_of(alloc: Global, answer: Result<Lint, LintRefusal>) -> Result<Vec<u32>, Status>
-    ensures { CircleSays answer result }
+    ensures { (items_of result ≡ circle_answer answer) ⊎ (result ≡ Err Memory) }
 {
     match answer {
         Err(LintRefusal::Circle(circle)) => numbers_of(alloc, circle.as_slice()),
-        Err(LintRefusal::Fault(_)) => Err(Status::Fault),
-        Err(_) => Err(Status::Memory),
+        Err(refusal) => Err(refused(&refusal).0),
         Ok(_) => Err(Status::NoRule),
     }
 }
@@ -121,8 +124,7 @@ pub extern "C" fn bplist_circle(
 ) -> u32
     ensures { (linted : Result lint_answer lint_refusal)
         × Lints (IsLinted file.now) (IsFileFault file.now) (IsFileCircle file.now) linted
-        × ((circle : Result (vec ℕ global) status) × CircleSays linted circle
-        × Puts circle objects.old objects.new count.old count.new result) }
+        × Puts (circle_answer linted) objects.old objects.new count.old count.new result }
 {
     let linted = lint_file(alloc, file);
     let circle = circle_of(alloc, linted);

@@ -109,18 +109,9 @@ fn step_of(
     let found = step_from(checked, node, units);
     let _after = checked.octets();
     match found {
-        Ok(place) => step_object(place),
+        Ok(Found::At(node)) => Ok(node.object.0),
+        Ok(Found::Missing { step: _, why }) => Err(status_of(why)),
         Err(_) => Err(Status::NoObject),
-    }
-}
-
-/// What C is told of one step.
-fn step_object(place: Found) -> Result<u32, Status>
-    ensures { result ≡ step_answer place }
-{
-    match place {
-        Found::At(node) => Ok(node.object.0),
-        Found::Missing { step: _, why } => Err(status_of(why)),
     }
 }
 

@@ -1,7 +1,7 @@
 //! What an object shows.
 
-ghost use Rattle.std.specs.Prelude.{◌≡◌, ◌≢◌, ◌+◌, ◌*◌, ◌%◌, ◌^◌, ◌≤◌, ℕ, IfErr, IfOk, Ok, Result, length, ok_or};
-ghost use Rattle.bplist_c.specs.Prelude.{part, integer, num_at, IsTextKind, units_of, int, Int, Uid, IsHeadOf, Spells, leaf, IsSafeBody, IsSafeHead, member_reference, BplistBody as body, Status as status, NoMember, BplistInteger as number, OnObject, UnitsSay, body_of, int_answer, kind_number, uid_answer, IsFileOf, IsSame, OnHandle, Tells};
+ghost use Rattle.std.specs.Prelude.{◌≡◌, ◌+◌, ◌≤◌, ℕ, IfOk, List, Ok, Result, length, ok_or};
+ghost use Rattle.bplist_c.specs.Prelude.{part, IsTextKind, units_of, int, IsHeadOf, Spells, leaf, IsSafeBody, IsSafeHead, member_reference, BplistBody as body, Status as status, NoMember, BplistInteger as number, OnObject, body_of, int_answer, kind_number, uid_answer, units_answer, IsFileOf, IsSame, OnHandle, Puts, Tells};
 
 use crate::handle::BplistHandle;
 use crate::loan::{give_back, lend};
@@ -66,7 +66,7 @@ pub(crate) fn number_of(kind: Kind) -> u32
 
 /// What an object shows of itself.
 fn face_of(checked: &Checked<SliceSource<'_>>, object: u32) -> Result<BplistBody, Status>
-    ensures { OnObject checked.now object IsHeadOf (λ head answer. answer ≡ Ok (body_of checked.now.frame head)) result }
+    ensures { OnObject checked.now object IsHeadOf (λ head answer. answer ≡ Ok (body_of head)) result }
 {
     let head = head_of_object(checked, object)?;
     Ok(BplistBody {
@@ -85,30 +85,6 @@ fn halves(number: i128) -> BplistInteger
     BplistInteger {
         low: (bits % (1 << 64)) as u64,
         high: (bits >> 64) as u64,
-    }
-}
-
-/// The integer of an Int.
-fn integer_at(file: &[u8], head: &Head) -> i128
-    requires kind { head.now.kind ≡ Int }
-    requires body { IsSafeBody (length file.now) head.now }
-    ensures { result ≡ integer (part file.now head.now.body head.now.count) }
-{
-    match int_of(&mut SliceSource::new(file), head) {
-        Ok(number) => number,
-        Err(_) => unreachable!(),
-    }
-}
-
-/// The number of a Uid.
-fn uid_at(file: &[u8], head: &Head) -> u32
-    requires kind { head.now.kind ≡ Uid }
-    requires body { IsSafeBody (length file.now) head.now }
-    ensures { result ≡ num_at file.now head.now.body head.now.count % 2 ^ 32 }
-{
-    match uid_of(&mut SliceSource::new(file), head) {
-        Ok(number) => number,
-        Err(_) => unreachable!(),
     }
 }
 
@@ -132,7 +108,10 @@ fn integer_of(checked: &Checked<SliceSource<'_>>, object: u32) -> Result<BplistI
     let file = checked.octets();
     let head = head_of_object(checked, object)?;
     match head.kind {
-        Kind::Int => Ok(halves(integer_at(file, &head))),
+        Kind::Int => match int_of(&mut SliceSource::new(file), &head) {
+            Ok(number) => Ok(halves(number)),
+            Err(_) => unreachable!(),
+        },
         _ => Err(Status::OtherKind),
     }
 }
@@ -144,31 +123,39 @@ fn uid_of_object(checked: &Checked<SliceSource<'_>>, object: u32) -> Result<u32,
     let file = checked.octets();
     let head = head_of_object(checked, object)?;
     match head.kind {
-        Kind::Uid => Ok(uid_at(file, &head)),
+        Kind::Uid => match uid_of(&mut SliceSource::new(file), &head) {
+            Ok(number) => Ok(number),
+            Err(_) => unreachable!(),
+        },
         _ => Err(Status::OtherKind),
     }
 }
 
-/// Fills `into` with units of a text from unit `from` on, as many as there are and as fit, and says how many.
-fn units_of_object(
+/// Puts the units of a text from unit `from` on into a buffer, as many as there are and as fit, and tells how many.
+fn put_units(
     checked: &Checked<SliceSource<'_>>,
     object: u32,
     from: u64,
-    into: &mut [u16],
-) -> Result<u64, Status>
-    ensures exact { OnObject checked.now object IsHeadOf (UnitsSay checked.now.source.octets from into.old into.new) result }
-    ensures left { IfErr result (λ why. into.new ≡ into.old) }
+    buffer: &mut [u16],
+    count: &mut u64,
+) -> u32
+    ensures { (answer : Result (List ℕ) status) × Puts answer buffer.old buffer.new count.old count.new result
+        × OnObject checked.now object Spells (λ content answer. answer ≡ units_answer from (length buffer.old) content) answer }
 {
     let file = checked.octets();
-    let head = head_of_object(checked, object)?;
+    let head = match head_of_object(checked, object) {
+        Ok(head) => head,
+        Err(status) => return status.number(),
+    };
     match head.kind {
         Kind::Ascii | Kind::Wide => {
             let from = from.min(head.count);
-            let now = (head.count - from).min(into.len() as u64);
-            read_part(file, &head, from, &mut into[..now as usize]);
-            Ok(now)
+            let now = (head.count - from).min(buffer.len() as u64);
+            read_part(file, &head, from, &mut buffer[..now as usize]);
+            *count = now;
+            0
         }
-        _ => Err(Status::OtherKind),
+        _ => Status::OtherKind.number(),
     }
 }
 
@@ -202,7 +189,7 @@ pub extern "C" fn bplist_face(
     ensures kept { IsSame handle.old handle.new }
     ensures exact { (answer : Result body status) × Tells answer out.old out.new result
         × OnHandle file.entry handle.old (λ checked. OnObject checked object IsHeadOf
-        (λ head answer. answer ≡ Ok (body_of checked.frame head))) answer }
+        (λ head answer. answer ≡ Ok (body_of head))) answer }
 {
     let answer = match lend(alloc, handle, file) {
         Ok(lent) => {
@@ -308,18 +295,16 @@ pub extern "C" fn bplist_units(
 ) -> u32
     requires same { IsFileOf file.now handle.old }
     ensures kept { IsSame handle.old handle.new }
-    ensures exact { (answer : Result ℕ status) × Tells answer count.old count.new result
-        × OnHandle file.entry handle.old (λ checked. OnObject checked object IsHeadOf
-        (UnitsSay checked.source.octets from units.old units.new)) answer }
-    ensures left { result ≢ 0 → units.new ≡ units.old }
+    ensures exact { (answer : Result (List ℕ) status) × Puts answer units.old units.new count.old count.new result
+        × OnHandle file.entry handle.old (λ checked. OnObject checked object Spells
+        (λ content answer. answer ≡ units_answer from (length units.old) content)) answer }
 {
-    let answer = match lend(alloc, handle, file) {
+    match lend(alloc, handle, file) {
         Ok(lent) => {
-            let answer = units_of_object(&lent.checked, object, from, units);
+            let status = put_units(&lent.checked, object, from, units, count);
             give_back(handle, lent);
-            answer
+            status
         }
-        Err(status) => Err(status),
-    };
-    tell(answer, count)
+        Err(status) => status.number(),
+    }
 }

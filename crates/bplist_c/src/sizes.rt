@@ -1,7 +1,7 @@
 //! How large values are, and their texts.
 
 ghost use Rattle.std.specs.Prelude.{◌≡◌, ◌⊎◌, Result, Ok, Err, IfSome};
-ghost use Rattle.bplist_c.specs.Prelude.{Holds, BplistSizes as sizes, Status as status, Memory, OnObject, IsFileOf, IsSame, OnHandle, sizes_by, sizes_told, Tells, form_of, AreMeasuresOf, cap, nodes as node_count, form_in, nodes_in};
+ghost use Rattle.bplist_c.specs.Prelude.{Holds, BplistSizes as sizes, Status as status, Memory, OnObject, IsFileOf, IsSame, OnHandle, sizes_by, Tells, form_of, AreMeasuresOf, cap, nodes as node_count};
 
 use crate::handle::BplistHandle;
 use crate::loan::{give_back, lend};
@@ -73,19 +73,10 @@ fn size_of(
     let Some(measures) = measures_of(alloc, checked) else {
         return Err(Status::Memory);
     };
-    match sizes_in(&measures, n) {
-        Some(sizes) => Ok(sizes),
-        None => Err(Status::NoObject),
+    match (measures.nodes(n), measures.form(n)) {
+        (Some(nodes), Some(form)) => Ok(sizes(nodes, form)),
+        _ => Err(Status::NoObject),
     }
-}
-
-/// The sizes of the value of an object, as the table has them.
-fn sizes_in(measures: &Measures, n: ObjectNo) -> Option<BplistSizes>
-    ensures { result ≡ sizes_told (nodes_in measures.now n.0) (form_in measures.now n.0) }
-{
-    let nodes = measures.nodes(n)?;
-    let form = measures.form(n)?;
-    Some(sizes(nodes, form))
 }
 
 /// How large the value of an object is.

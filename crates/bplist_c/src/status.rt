@@ -1,7 +1,7 @@
 //! What a call returns, and how it tells its answer.
 
-ghost use Rattle.std.specs.Prelude.{◌≡◌};
-ghost use Rattle.bplist_c.specs.Prelude.{number_of, Puts, PutsAll, Tells};
+ghost use Rattle.std.specs.Prelude.{◌≡◌, Ok};
+ghost use Rattle.bplist_c.specs.Prelude.{number_of, Puts, Tells, items_of};
 
 /// Why a call has no answer, in the order of the numbers of the header.
 #[derive(Clone, Copy, Debug, PartialEq, Eq, Drop)]
@@ -64,7 +64,7 @@ pub(crate) fn tell<T: Drop>(answer: Result<T, Status>, out: &mut T) -> u32
 
 /// Puts all items at the front of a buffer, where it is long enough, and tells how many there are.
 pub(crate) fn put_all<T: Copy>(items: &[T], buffer: &mut [T], count: &mut u64) -> u32
-    ensures { PutsAll items.now buffer.old buffer.new count.new result }
+    ensures { Puts (Ok items.now) buffer.old buffer.new count.old count.new result }
 {
     *count = items.len() as u64;
     if items.len() > buffer.len() {
@@ -80,7 +80,7 @@ pub(crate) fn put_answer<T: Copy>(
     buffer: &mut [T],
     count: &mut u64,
 ) -> u32
-    ensures { Puts answer.now buffer.old buffer.new count.old count.new result }
+    ensures { Puts (items_of answer.now) buffer.old buffer.new count.old count.new result }
 {
     match answer {
         Ok(items) => put_all(items, buffer, count),

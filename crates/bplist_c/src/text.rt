@@ -1,7 +1,7 @@
 //! The old-style texts of values.
 
 ghost use Rattle.std.specs.Prelude.{◌≡◌, Result, length};
-ghost use Rattle.bplist_c.specs.Prelude.{Status as status, Text as text, IsFileOf, IsSame, OnHandle, PutsAll, OnObject, Holds, IsTextOf, TellsText, printed_as, text_length};
+ghost use Rattle.bplist_c.specs.Prelude.{Status as status, Text as text, IsFileOf, IsSame, OnHandle, OnObject, Holds, IsTextOf, TellsText, printed_as, text_length};
 
 use crate::handle::BplistHandle;
 use crate::loan::{give_back, lend};
@@ -92,7 +92,10 @@ fn tell_text(answer: Result<Text, Status>, buffer: &mut [u8], out: &mut BplistWr
     ensures { TellsText buffer.old buffer.new out.old out.new result answer }
 {
     match answer {
-        Ok(Text::Fits(text)) => put(&text, buffer, out),
+        Ok(Text::Fits(text)) => {
+            out.object = 0;
+            put_all(&text, buffer, &mut out.length)
+        }
         Ok(Text::TooLong(length)) => {
             *out = BplistWritten { length, object: 0 };
             Status::Short.number()
@@ -106,15 +109,6 @@ fn tell_text(answer: Result<Text, Status>, buffer: &mut [u8], out: &mut BplistWr
         }
         Err(status) => status.number(),
     }
-}
-
-/// Puts a text into the buffer, and tells its length.
-fn put(text: &[u8], buffer: &mut [u8], out: &mut BplistWritten) -> u32
-    ensures puts { PutsAll text.now buffer.old buffer.new out.new.length result }
-    ensures none { out.new.object ≡ 0 }
-{
-    out.object = 0;
-    put_all(text, buffer, &mut out.length)
 }
 
 /// The old-style text of the value of an object.

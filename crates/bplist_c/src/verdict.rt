@@ -1,7 +1,8 @@
 //! What was found of a file, for C.
 
-ghost use Rattle.std.specs.Prelude.{◌≡◌, ℕ, List, Err};
-ghost use Rattle.bplist_c.specs.Prelude.{NO_VERDICT, ShowsLint, circle_verdict, fault_verdict};
+ghost use Rattle.std.specs.Prelude.{◌≡◌};
+ghost use Rattle.bplist_c.specs.Prelude.{NO_VERDICT, refused_told};
+ghost use Rattle.bplist_lint.specs.declared.refusal.LintRefusal.TheVariants as refusals;
 
 use crate::status::Status;
 use bplist_lint::{LintRefusal, ObjectNos};
@@ -88,7 +89,7 @@ impl BplistVerdict {
 
     /// The verdict on a file with this fault.
     pub(crate) fn of_fault(fault: Fault) -> BplistVerdict
-        ensures { result ≡ fault_verdict fault }
+        ensures { result ≡ (refused_told (refusals.Fault fault)).1 }
     {
         let (has_object, object) = match fault.object {
             Some(object) => (1, object.0),
@@ -105,7 +106,7 @@ impl BplistVerdict {
 
     /// The verdict on a file with this circle.
     fn of_circle(circle: &ObjectNos) -> BplistVerdict
-        ensures { result ≡ circle_verdict circle.now }
+        ensures { result ≡ (refused_told (refusals.Circle circle.now)).1 }
     {
         let objects = circle.as_slice();
         BplistVerdict {
@@ -121,15 +122,13 @@ impl BplistVerdict {
     }
 }
 
-/// Tells C why the linter refuses a file.
-pub(crate) fn refused(refusal: &LintRefusal, out: &mut BplistVerdict) -> u32
-    ensures { (f : List ℕ) → ShowsLint f (Err refusal.now) out.new result }
+/// What C is told of a file that the linter refuses.
+pub(crate) fn refused(refusal: &LintRefusal) -> (Status, BplistVerdict)
+    ensures { result ≡ refused_told refusal.now }
 {
-    let (status, verdict) = match refusal {
+    match refusal {
         LintRefusal::Fault(fault) => (Status::Fault, BplistVerdict::of_fault(*fault)),
         LintRefusal::Circle(circle) => (Status::Fault, BplistVerdict::of_circle(circle)),
         LintRefusal::Read(_) | LintRefusal::Memory => (Status::Memory, NO_VERDICT),
-    };
-    *out = verdict;
-    status.number()
+    }
 }

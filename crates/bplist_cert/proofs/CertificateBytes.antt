@@ -1,20 +1,21 @@
 -- Laws of the bytes of certificates.
-use Rattle.std.proofs.Common.{◌≡◌, inl, inr, Bool, true, false, is_some, ℕ, suc, ◌+◌, ◌-◌, ◌*◌, ◌/◌, ◌%◌, ◌^◌, ◌<◌, ◌≤◌, min, List, [], ◌∷◌, ◌++◌, length, get_or, take, drop, Option, Some, None, refl, sym, ap, ap₂, ◌∙◌, subst, arith, append_assoc}
+use Rattle.std.proofs.Common.{◌≡◌, inl, inr, Bool, true, false, is_some, ℕ, suc, ◌+◌, ◌-◌, ◌*◌, ◌/◌, ◌%◌, ◌^◌, ◌<◌, ◌≤◌, min, List, [], ◌∷◌, ◌++◌, length, get_or, take, drop, Option, Some, None, IfSome, refl, sym, ap, ap₂, ◌∙◌, subst, arith, lit≤, append_assoc}
 use Rattle.std.specs.Int.{bytes_high_first}
+use Rattle.std.specs.Option.{option_map_or}
 use Rattle.std.proofs.Math.Seq.{take-add}
 use Rattle.std.proofs.lemmas.Bool.{cases_lt}
-use Rattle.std.proofs.lemmas.List.{append_cancel_left, length-append, length-drop, length-take, length-take-le, take-append-drop, take_all, take_rest, drop-drop, take_at, drop_at}
+use Rattle.std.proofs.lemmas.List.{append_cancel_left, length-append, length-drop, length-take, length-take-le, take-append-drop, take_all, take_rest, take-take, drop-take, drop-drop, take_at, drop_at}
 use Rattle.std.proofs.lemmas.List.Concat.{flat_map-append}
 use Rattle.bplist_octets.specs.Octets.{part, num}
 use Rattle.bplist_objects.specs.Answers.{GivesFault, Never}
 use Rattle.bplist_objects.specs.declared.fault.ObjectFault.{ObjectFault}
 use Rattle.bplist_objects.specs.declared.fault.ObjectFault.TheVariants as errors
 use Rattle.bplist_cert.specs.Refusals.{GivesRefusal, refusal_of}
-use Rattle.bplist_objects.proofs.Units.{length-part}
-use Rattle.bplist_cert.specs.Lists.{Keyed, Lists, lists, AreWords, AreKeyed, HasStarts, HasCount, IsCertificate}
-use Rattle.bplist_cert.specs.Encoding.{magic, words, key_words, octets_of, height_count, Fits, IsOctetsFault}
+use Rattle.bplist_cert.specs.Lists.{Keyed, Lists, lists, AreWords, HasStarts, HasCount, IsCertificate}
+use Rattle.bplist_cert.specs.Encoding.{magic, words, octets_of, Fits, IsOctetsFault}
 use Rattle.bplist_objects.specs.declared.fault.Fault.{Fault}
-use Rattle.bplist_cert.proofs.NumberBytes.{AreBytes, num-bytes, bytes-num, length-bytes, length-words, part-low}
+use Rattle.bplist_objects.specs.declared.rule.Rule.TheVariants as rules
+use Rattle.bplist_cert.proofs.NumberBytes.{num-bytes, length-bytes, length-words}
 
 -- equal lists whose fronts are of one length
 parts_same : (p q x y : List ℕ) → length p ≡ length q → p ++ x ≡ q ++ y → (p ≡ q) × (x ≡ y)
@@ -34,6 +35,10 @@ words_once (x ∷ xs) (y ∷ ys) p q e =
     let rest = words_once xs ys (λ k. p (suc k)) (λ k. q (suc k)) s.1 in
     cc
 
+-- the key lists, if there are some
+abbrev pub key_words : Option Keyed → List ℕ
+key_words keys = option_map_or (λ (keyed : Keyed). words keyed.starts ++ words keyed.positions) keys []
+
 -- what stands behind the magic
 abbrev behind : Lists → List ℕ
 behind lists = bytes_high_first 8 (length lists.heights) ++ (words lists.heights ++ key_words lists.keys)
@@ -46,7 +51,7 @@ heights_once a b p q e =
     let t = parts_same (words a.heights) (words b.heights) (key_words a.keys) (key_words b.keys) (length-words a.heights ∙ ap (λ n. 4 * n) count ∙ sym (length-words b.heights)) s.1 in
     (words_once a.heights b.heights p.heights q.heights t.0, t.1)
 
-keyed_once : (a b : Keyed) → length a.starts ≡ length b.starts → AreKeyed (Some a) → AreKeyed (Some b) → key_words (Some a) ≡ key_words (Some b) → a ≡ b
+keyed_once : (a b : Keyed) → length a.starts ≡ length b.starts → AreWords a.starts × AreWords a.positions → AreWords b.starts × AreWords b.positions → key_words (Some a) ≡ key_words (Some b) → a ≡ b
 keyed_once a b l p q e =
     let t = parts_same (words a.starts) (words b.starts) (words a.positions) (words b.positions) (length-words a.starts ∙ ap (λ n. 4 * n) l ∙ sym (length-words b.starts)) e in
     let s = words_once a.starts b.starts p.0 q.0 t.0 in
@@ -86,14 +91,24 @@ front_is f room n r e =
     ]
 
 -- the first 16 bytes, by the magic and the number of heights in them
-pub header_is : (f front magic : List ℕ) (count : ℕ) → AreBytes front → front ≡ take 16 f → 16 ≤ length front → take 8 front ≡ magic
-    → count ≡ num (part front 8 8) → take 16 f ≡ magic ++ bytes_high_first 8 count
-header_is f front magic count low e long m n =
+pub header_is : (f front magic : List ℕ) (count : ℕ) → front ≡ take 16 f → take 8 front ≡ magic
+    → part front 8 8 ≡ bytes_high_first 8 count → take 16 f ≡ magic ++ bytes_high_first 8 count
+header_is f front magic count e m bytes =
     let all : length front ≤ 16 = omega (arith, ap length e, length-take 16 f) in
-    let bytes = bytes-num 8 (part front 8 8) (length-part front 8 8 (omega arith)) (part-low front 8 8 low) in
     let rest : part front 8 8 ≡ drop 8 front = take_all 8 (drop 8 front) (omega (arith, length-drop 8 front)) in
     sym e ∙ sym (take-append-drop 8 front) ∙ ap (λ ys. ys ++ drop 8 front) m
-    ∙ ap (λ ys. magic ++ ys) (sym rest ∙ sym bytes ∙ ap (bytes_high_first 8) (sym n))
+    ∙ ap (λ ys. magic ++ ys) (sym rest ∙ bytes)
+
+-- a magic with another number of bytes than the number of heights asks for
+pub length_refused : (f front : List ℕ) (keyed : Bool) (count len : ℕ) → front ≡ take 16 f → len ≡ length f → take 8 front ≡ magic keyed
+    → part front 8 8 ≡ bytes_high_first 8 count → count < 2 ^ 64 → (Fits keyed count len → ⊥) → IsOctetsFault f (record { rule = rules.CertLength; object = None; place = len })
+length_refused f front keyed count len e l m bytes low never =
+    let short : take 8 front ≡ take 8 f = ap (take 8) e ∙ take-take 8 16 f (lit≤ tt) in
+    let inner : part front 8 8 ≡ part f 8 8 = ap (λ xs. part xs 8 8) e ∙ ap (take 8) (drop-take 8 8 f) ∙ take-take 8 8 (drop 8 f) (lit≤ tt) in
+    let told : count ≡ num (part f 8 8) = sym (num-bytes 8 count low) ∙ ap num (sym bytes ∙ inner) in
+    let none = λ (fits : Fits keyed (num (part f 8 8)) (length f)).
+    never (subst (λ k. Fits keyed k len) (sym told) (subst (Fits keyed (num (part f 8 8))) (sym l) fits)) in
+    inr (keyed, sym short ∙ m, none, ap (λ place. record { rule = rules.CertLength; object = None; place = place }) l)
 
 -- the numbers behind those so far
 pub words_grown : (f xs ys : List ℕ) (place : ℕ) → part f place (4 * length xs) ≡ words xs
@@ -116,7 +131,7 @@ keyed_words f starts positions place count fits whole s p =
 
 -- the parts of a certificate are its bytes
 pub whole : (f heights : List ℕ) (keys : Option Keyed) (count : ℕ) → take 16 f ≡ magic (is_some keys) ++ bytes_high_first 8 count
-    → length heights ≡ count → count < 2 ^ 64 → AreWords heights → AreKeyed keys → HasCount keys count
+    → length heights ≡ count → count < 2 ^ 64 → AreWords heights → IfSome keys (λ keyed. AreWords keyed.starts × AreWords keyed.positions) → HasCount keys count
     → part f 16 (4 * count) ≡ words heights → drop (16 + 4 * count) f ≡ key_words keys
     → IsCertificate (lists heights keys) × (f ≡ octets_of (lists heights keys))
 whole f heights keys count front n most p q starts w v =
@@ -130,7 +145,7 @@ whole f heights keys count front n most p q starts w v =
     )
 
 -- the number that a certificate's bytes tell is that of its heights
-height_count_is : (h : List ℕ) (j : Option Keyed) → IsCertificate (lists h j) → height_count (octets_of (lists h j)) ≡ length h
+height_count_is : (h : List ℕ) (j : Option Keyed) → IsCertificate (lists h j) → num (part (octets_of (lists h j)) 8 8) ≡ length h
 height_count_is h None p = ap num (take_at (bytes_high_first 8 (length h)) (words h ++ []) 8 (length-bytes 8 (length h))) ∙ num-bytes 8 (length h) p.count
 height_count_is h (Some k) p = ap num (take_at (bytes_high_first 8 (length h)) (words h ++ key_words (Some k)) 8 (length-bytes 8 (length h))) ∙ num-bytes 8 (length h) p.count
 
@@ -142,7 +157,7 @@ length_behind h j =
     let d = length-words h in
     omega (arith, a, b, c, d)
 
-length_of : (h : List ℕ) (j : Option Keyed) → IsCertificate (lists h j) → Fits (is_some j) (height_count (octets_of (lists h j))) (length (octets_of (lists h j)))
+length_of : (h : List ℕ) (j : Option Keyed) → IsCertificate (lists h j) → Fits (is_some j) (num (part (octets_of (lists h j)) 8 8)) (length (octets_of (lists h j)))
 length_of h None p =
     let t = height_count_is h None p in
     let l = length_behind h None in
@@ -170,9 +185,9 @@ one_magic true false e = absurd (omega (arith, ap (λ xs. get_or xs 7 0) e))
 pub octets_kept : (octets : List ℕ) (c : Lists) (a : Fault) → IsCertificate c → octets ≡ octets_of c → IsOctetsFault octets a → ⊥
 octets_kept octets c a p e (inl h) = h.0 (is_some c.keys) (ap (take 8) e ∙ magic_of c.heights c.keys)
 octets_kept octets c a p e (inr (keyed, is, never, _)) =
-    let fits = subst (λ xs. Fits (is_some c.keys) (height_count xs) (length xs)) (sym e) (length_of c.heights c.keys p) in
+    let fits = subst (λ xs. Fits (is_some c.keys) (num (part xs 8 8)) (length xs)) (sym e) (length_of c.heights c.keys p) in
     let same : is_some c.keys ≡ keyed = one_magic (is_some c.keys) keyed (sym (magic_of c.heights c.keys) ∙ sym (ap (take 8) e) ∙ is) in
-    never (subst (λ k. Fits k (height_count octets) (length octets)) same fits)
+    never (subst (λ k. Fits k (num (part octets 8 8)) (length octets)) same fits)
 
 -- the first broken rule of 24 and 25 is one
 pub one_octets_fault : (octets : List ℕ) (a b : Fault) → IsOctetsFault octets a → IsOctetsFault octets b → a ≡ b

@@ -129,7 +129,7 @@ module _ (f : List ℕ) (F : Frame) (heights : List ℕ) (keys : Option Keyed) (
     keys_break fault h = first_fault_after Keeps Breaks rules_before_keys (key_rules keys) fault s (first_of_keys f F (IsVouchedBy heights) heights n keys fault h)
 
   -- a fault of the object by itself
-  pub object_fault : (e : ObjectFault) → GivesFault (IsObjectFault f F n object_rules) e → GivesRefusal Broken (refusal_of e)
+  pub object_fault : (e : ObjectFault) → GivesFault (IsObjectFault f F n object_rules) e → GivesFault Broken e
   object_fault (errors.Fault fault) h = first_fault_among Keeps Breaks object_rules (rules_after (key_rules keys)) fault h
   object_fault (errors.Read r) h = tt
 
@@ -162,7 +162,7 @@ module _ (f : List ℕ) (F : Frame) (heights : List ℕ) (keys : Option Keyed) (
       by_head rule = any_head f F n head has (Asks f F heights n rule)
 
       -- a fault of the heights
-      pub heights_fault : (e : ObjectFault) → GivesFault (IsHeightFault f F heights n head) e → GivesRefusal Broken (refusal_of e)
+      pub heights_fault : (e : ObjectFault) → GivesFault (IsHeightFault f F heights n head) e → GivesFault Broken e
       heights_fault (errors.Fault fault) (inl (rule, object, (i, first, place))) =
           after_own fault (inr (roomy, inl (rule, (object, (head, i, has, first, place)))))
       heights_fault (errors.Fault fault) (inr (met, (rule, object, (i, first, place)))) =

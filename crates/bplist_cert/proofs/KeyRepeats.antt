@@ -1,5 +1,5 @@
 -- What the classes of the keys of a vouched dictionary say of them.
-use Rattle.std.proofs.Common.{Bool, not, IsTrue, Option, Some, None, MatchOption, is_some, Result, Ok, Err, OnOk, ◌≡◌, ℕ, ◌*◌, ◌<◌, ◌≤◌, List, [], ◌∷◌, slice_index, count_by, sym, ap, ◌∙◌, subst, inr, arith}
+use Rattle.std.proofs.Common.{Bool, not, IsTrue, Option, Some, None, MatchOption, is_some, Result, Ok, Err, ◌≡◌, ℕ, ◌*◌, ◌<◌, ◌≤◌, List, [], ◌∷◌, slice_index, count_by, sym, ap, ◌∙◌, subst, inr, arith}
 use Rattle.std.proofs.lemmas.Bool.{false≢true}
 use Rattle.bplist_objects.specs.declared.rule.Rule.{Rule}
 use Rattle.bplist_objects.specs.declared.rule.Rule.TheVariants as rules
@@ -24,7 +24,7 @@ use Rattle.bplist_keys.proofs.RankLaws.{none_marked}
 use Rattle.bplist_keys.proofs.WeightSteps.{text_units-head}
 use Rattle.bplist_cert.specs.DictKeys.{IsKey, KeysAreTexts, KeysDiffer, IsFirstTwice}
 use Rattle.bplist_cert.specs.Lists.{Keyed, lists}
-use Rattle.bplist_cert.specs.CheckRules.{KeepsRule, HasOrder, KeepsLast, IsKeysFault, IsOrderFault}
+use Rattle.bplist_cert.specs.CheckRules.{KeepsRule, HasOrder, KeepsLast, IsOrderFault}
 use Rattle.bplist_objects.specs.declared.fault.ObjectFault.{ObjectFault}
 use Rattle.bplist_objects.specs.declared.fault.ObjectFault.TheVariants as errors
 use Rattle.bplist_objects.specs.Answers.{Gives}
@@ -33,11 +33,6 @@ use Rattle.bplist_cert.specs.Valid.{IsVouchedBy}
 use Rattle.bplist_cert.specs.Looks.{KeepsBeforeKeys, KeepBeforeKeysBelow}
 use Rattle.bplist_cert.specs.KeyRepeats.{KeysAreSound, HasGoodKeys, BreaksKeys}
 use Rattle.bplist_cert.proofs.TextObjects.{text_there}
-
--- what holds anyway holds after a yes
-pub on_ok_always : {X E : Type 0} (P : Type 0) (r : Result X E) → P → OnOk r P
-on_ok_always P (Ok x) p = p
-on_ok_always P (Err e) p = tt
 
 -- none is found
 pub none_there : {X : Type 0} (A : Type 0) (B : X → Type 0) (found : Option X) (none : Bool) → is_some found ≡ not none → IsTrue none → MatchOption found A B → A
@@ -67,19 +62,12 @@ module _ (f : List ℕ) (F : Frame) where
   pub good_at : (keys : Option Keyed) (n : ℕ) (head : Head) → HasHead f F n head → (head.kind ≡ Dict → KeysAreTexts f F head head.count × KeepsLast f F keys n head) → HasGoodKeys f F keys n
   good_at keys n head has good other h = subst (λ (x : Head). x.kind ≡ Dict → KeysAreTexts f F x x.count × KeepsLast f F keys n x) (HasHead-unique f F n head other has h) good
 
-  -- what is said of the keys by one head is said of the object
-  pub keys_given : (count : ℕ) (keys : Option Keyed) (n : ℕ) (head : Head) → HasHead f F n head → (r : Result (Unit {0}) ObjectFault)
-      → Gives (λ _. KeysAreTexts f F head head.count × KeepsLast f F keys n head) (IsKeysFault f F count keys n head) r → Gives (λ _. HasGoodKeys f F keys n) (BreaksKeys f F count keys n) r
-  keys_given count keys n head has (Ok x) h = good_at keys n head has (λ _. h)
-  keys_given count keys n head has (Err (errors.Fault fault)) h = (head, has, h)
-  keys_given count keys n head has (Err (errors.Read r)) h = tt
-
-  -- keys that are texts, and a key list
-  pub order_given : (count : ℕ) (keyed : Keyed) (n : ℕ) (head : Head) → head.kind ≡ Dict → KeysAreTexts f F head head.count → (r : Result (Unit {0}) ObjectFault)
-      → Gives (λ _. HasOrder f F keyed n head) (IsOrderFault f F count keyed n head) r → Gives (λ _. KeysAreTexts f F head head.count × HasOrder f F keyed n head) (IsKeysFault f F count (Some keyed) n head) r
-  order_given count keyed n head dict texts (Ok x) h = (texts, h)
-  order_given count keyed n head dict texts (Err (errors.Fault fault)) h = (dict, inr (texts, h))
-  order_given count keyed n head dict texts (Err (errors.Read r)) h = tt
+  -- what is said of the key list of a dictionary whose keys are texts is said of the object, and what was learnt with it
+  pub order_given : {A B : Type 0} → (A → B) → (count : ℕ) (keyed : Keyed) (n : ℕ) (head : Head) → HasHead f F n head → head.kind ≡ Dict → KeysAreTexts f F head head.count → (r : Result (Unit {0}) ObjectFault)
+      → Gives (λ _. A × HasOrder f F keyed n head) (IsOrderFault f F count keyed n head) r → Gives (λ _. B × HasGoodKeys f F (Some keyed) n) (BreaksKeys f F count (Some keyed) n) r
+  order_given learn count keyed n head has dict texts (Ok x) h = (learn h.0, good_at (Some keyed) n head has (λ _. (texts, h.1)))
+  order_given learn count keyed n head has dict texts (Err (errors.Fault fault)) h = (head, has, (dict, inr (texts, h)))
+  order_given learn count keyed n head has dict texts (Err (errors.Read r)) h = tt
 
   -- what an object keeps that keeps the rules before those of keys
   module _ (heights : List ℕ) (n : ℕ) (seen : KeepsBeforeKeys f F heights n) where

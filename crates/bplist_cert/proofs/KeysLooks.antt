@@ -1,22 +1,21 @@
 -- What a walk over the vouched objects finds of the keys of dictionaries.
-use Rattle.std.proofs.Common.{◌≡◌, ℕ, ◌+◌, ◌<◌, List, drop, slice_index, Some, None, ap, ◌∙◌, arith}
-use Rattle.std.proofs.lemmas.List.{get_or-take, get_or-drop}
-use Rattle.bplist_octets.specs.Octets.{part}
+use Rattle.std.proofs.Common.{ℕ, List, Option, Some, None, arith}
 use Rattle.bplist_objects.specs.declared.frame.Frame.{Frame}
-use Rattle.bplist_cert.specs.declared.keys_look.KeysLook.{KeysLook}
-use Rattle.bplist_cert.specs.declared.keys_look.KeysLook.TheVariants.{Named, Listed}
-use Rattle.bplist_cert.specs.KeysLooks.{AreSeen}
+use Rattle.bplist_keys.specs.declared.named_keys.NamedKeys.{NamedKeys}
+use Rattle.bplist_cert.specs.declared.key_lists.ListLook.{ListLook}
+use Rattle.bplist_cert.specs.Lists.{Keyed, lists}
+use Rattle.bplist_cert.specs.KeysLooks.{AreLearnt, HaveGoodLists, AreSeen}
 
--- of fewer objects less is said
-pub none_seen : (f : List ℕ) (F : Frame) (heights : List ℕ) (bound : ℕ) (look : KeysLook) → AreSeen f F heights bound look → AreSeen f F heights 0 look
-none_seen f F heights bound (Named None) h = tt
-none_seen f F heights bound (Named (Some keys)) h = λ n low. absurd (omega (arith, low))
-none_seen f F heights bound (Listed look) h = record {
-  pairs = h.pairs;
-  low = h.low;
+-- of no objects nothing is said but what was learnt
+pub none_listed : (f : List ℕ) (F : Frame) (heights : List ℕ) (keyed : Keyed) (look : ListLook) → AreLearnt f F look → HaveGoodLists f F heights keyed 0 look
+none_listed f F heights keyed look learnt = record {
+  learnt = learnt;
   good = λ good n low. absurd (omega (arith, low));
 }
 
--- number i of a part of a list
-pub part_at : (xs : List ℕ) (place n i : ℕ) (ys : List ℕ) → ys ≡ part xs place n → i < n → slice_index ys i ≡ slice_index xs (place + i)
-part_at xs place n i ys e low = ap (λ zs. slice_index zs i) e ∙ get_or-take n (drop place xs) i 0 low ∙ get_or-drop place xs i 0
+-- of fewer objects less is said
+pub none_seen : (f : List ℕ) (F : Frame) (heights : List ℕ) (keys : Option Keyed) (bound : ℕ) (named : Option NamedKeys) (look : ListLook)
+    → AreSeen f F (lists heights keys) bound (record { named = named; lists = look }) → AreSeen f F (lists heights keys) 0 (record { named = named; lists = look })
+none_seen f F heights None bound None look h = tt
+none_seen f F heights None bound (Some marks) look h = (h.0, λ n low. absurd (omega (arith, low)))
+none_seen f F heights (Some keyed) bound named look h = none_listed f F heights keyed look h.learnt

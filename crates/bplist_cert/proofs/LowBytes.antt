@@ -1,6 +1,6 @@
 -- Stretches of low bytes that are put together, and texts by them.
-use Rattle.std.proofs.Common.{◌≡◌, ℕ, ◌+◌, ◌*◌, ◌-◌, ◌<◌, ◌≤◌, inl, inr, IsTrue, List, length, set, replicate, sym, ap, ◌∙◌, subst, arith}
-use Rattle.std.proofs.lemmas.Bool.{cases_eq, cases_lt}
+use Rattle.std.proofs.Common.{Option, Some, None, MatchOption, is_some, false, ◌≡◌, ℕ, ◌+◌, ◌*◌, ◌-◌, ◌<◌, ◌≤◌, inl, inr, IsTrue, List, length, set, replicate, sym, ap, ◌∙◌, subst, arith}
+use Rattle.std.proofs.lemmas.Bool.{cases_eq, cases_lt, false≢true}
 use Rattle.std.proofs.lemmas.List.{get_or-set_same, get_or-set_other, get_or-replicate, get_or_past, length-replicate}
 use Rattle.bplist_objects.specs.declared.frame.Frame.{Frame}
 use Rattle.bplist_objects.specs.declared.head.Head.{Head}
@@ -52,19 +52,14 @@ module _ (f : List ℕ) where
   pub low_below : (body count : ℕ) → IsLow f body (body + count) → AreBelow f body 1 count 128
   low_below body count low k l = low (body + k * 1) (omega arith) (omega (arith, l))
 
+  -- no high byte is found
+  pub none_high : (from to : ℕ) (found : Option ℕ) → is_some found ≡ false → MatchOption found (AreBelow f from 1 (to - from) 128) (IsFirstNotBelow f from 1 (to - from) 128) → IsLow f from to
+  none_high from to None none h = below_low from to h
+  none_high from to (Some i) none h = absurd (false≢true (sym none))
+
   -- a high byte
   pub not_low : (from to i : ℕ) → IsFirstNotBelow f from 1 (to - from) 128 i → IsLow f from to → ⊥
   not_low from to i first low = first.2 (λ k l. low (from + k * 1) (omega arith) (omega (arith, l, first.0)))
-
-  -- two stretches that meet
-  pub low_joined : (a b c d from to : ℕ) → c ≤ b → a ≤ d → (k : ℕ) → from ≤ k → k < to → ((k < a) → c ≤ k) → ((b ≤ k) → k < d) → IsLow f a b → IsLow f c d → num_at f k 1 < 128
-  low_joined a b c d from to meet met k low high first last x y = elim (cases_lt k a) [
-    | inl before ↦ y k (first before) (omega (arith, before, met))
-    | inr from_a ↦ elim (cases_lt k b) [
-      | inl inside ↦ x k from_a inside
-      | inr behind ↦ y k (omega (arith, behind, meet)) (last behind)
-    ]
-  ]
 
   -- what is known with what was read before it and behind it
   pub low_filled : (known : Stretch) (from to begin end : ℕ) → IsLow f known.from known.to → IsLow f from begin → IsLow f end to → (begin < to → known.from ≤ begin) → (begin < end → end ≤ known.to) → IsLow f from to

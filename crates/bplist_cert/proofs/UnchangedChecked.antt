@@ -1,10 +1,11 @@
 -- A call that only reads a checked file leaves frame and certificate.
-use Rattle.std.proofs.Common.{◌≡◌, ℕ, List, [], ◌++◌, slice_index, slice_index_or, drop, Option, Some, None, Bool, true, false, refl, ap, ap₂, arith}
+use Rattle.std.proofs.Common.{◌≡◌, ℕ, List, [], ◌∷◌, ◌++◌, slice_index, slice_index_or, drop, Option, Some, None, Bool, true, false, refl, ap, ap₂, arith}
+use Rattle.std.specs.Option.{option_map_or}
 use Rattle.bplist_octets.specs.Meaning.{Meaning, OnlyReads}
 use Rattle.bplist_objects.specs.declared.frame.Frame.{Frame}
 use Rattle.bplist_objects.specs.Framed.{with_frame}
 use Rattle.bplist_cert.specs.Lists.{Keyed}
-use Rattle.bplist_cert.specs.CheckedFile.{CheckedFile, meaning_of, key_numbers}
+use Rattle.bplist_cert.specs.CheckedFile.{CheckedFile, meaning_of}
 
 frame_same : (a b : Frame) (m : Meaning) → slice_index_or (with_frame a m).extra 0 [] ≡ slice_index_or (with_frame b m).extra 0 [] → a ≡ b
 frame_same a b m e =
@@ -14,6 +15,10 @@ frame_same a b m e =
     let t = ap (λ xs. slice_index xs 3) e in
     let o = ap (λ xs. slice_index xs 4) e in
     λ i. record { offset_size = s i; ref_size = r i; objects = n i; top = record { 0 = t i }; table = o i }
+
+-- key lists as lists of numbers, behind the version as a list of one
+abbrev key_numbers : Option Keyed → List (List ℕ)
+key_numbers keys = option_map_or (λ (keyed : Keyed). (2 ∷ []) ∷ keyed.starts ∷ keyed.positions ∷ []) keys ((1 ∷ []) ∷ [])
 
 keys_same : (j k : Option Keyed) (xs ys : List (List ℕ)) → key_numbers j ++ xs ≡ key_numbers k ++ ys → (j ≡ k) × (xs ≡ ys)
 keys_same None None xs ys e = (refl, ap (λ zs. drop 1 zs) e)

@@ -1,6 +1,6 @@
 -- The rules of objects, whichever objects count and whatever the certificate says: how each is kept, and how it is broken and where;
 -- and those of the check in order. Source: profile.
-use Rattle.std.specs.Prelude.{◌≡◌, ◌⊎◌, ℕ, ◌+◌, ◌*◌, ◌<◌, min, Bool, true, false, cond, List, [], ◌∷◌, ◌++◌, length, slice_index, Option, Some, None, IfSome, MatchOption}
+use Rattle.std.specs.Prelude.{◌≡◌, ◌⊎◌, ℕ, ◌+◌, ◌*◌, ◌<◌, min, Bool, true, false, cond, List, [], ◌∷◌, ◌++◌, length, slice_index, Option, Some, None, is_some, IfSome, MatchOption}
 use Rattle.bplist_objects.specs.declared.rule.Rule.{Rule}
 use Rattle.bplist_objects.specs.declared.rule.Rule.TheVariants.{KeyKind, KeyTwice, ChildNotVouched, HeightNotLess, Overfull, KeyOrder}
 use Rattle.bplist_objects.specs.declared.fault.Fault.{Fault}
@@ -22,8 +22,7 @@ use Rattle.bplist_cert.specs.DictKeys.{KeysAreTexts, KeysDiffer, AreInOrder, IsK
 
 -- the rules of keys: 21, and 22 or in version 2 32
 abbrev pub key_rules : Option Keyed → List Rule
-key_rules None = KeyKind ∷ KeyTwice ∷ []
-key_rules (Some keyed) = KeyKind ∷ KeyOrder ∷ []
+key_rules keys = KeyKind ∷ cond (is_some keys) KeyOrder KeyTwice ∷ []
 
 -- the rules of a vouched object before those of keys, in order
 abbrev pub rules_before_keys : List Rule

@@ -1,5 +1,6 @@
 -- A file with a certificate that the check has accepted. Source: profile.
-use Rattle.std.specs.Prelude.{◌≡◌, ℕ, IsTrue, List, [], ◌∷◌, ◌++◌, length, Option, Some, None}
+use Rattle.std.specs.Prelude.{◌≡◌, ℕ, IsTrue, List, [], ◌∷◌, ◌++◌, length}
+use Rattle.std.specs.Option.{option_map_or}
 use Rattle.bplist_octets.specs.Meaning.{Meaning}
 use Rattle.bplist_objects.specs.declared.frame.Frame.{Frame}
 use Rattle.bplist_objects.specs.Frame.{IsFrame}
@@ -21,15 +22,11 @@ pub record IsChecked (checked : CheckedFile) : Type 0 where
   pub framed : IsTrue checked.source.honest → IsFrame checked.source.octets checked.frame
   pub accepted : IsTrue checked.source.honest → ∥ IsAccepted checked.source.octets checked.frame checked.certificate ∥₁
 
--- key lists as lists of numbers, behind the version as a list of one
-abbrev pub key_numbers : Option Keyed → List (List ℕ)
-key_numbers None = (1 ∷ []) ∷ []
-key_numbers (Some keyed) = (2 ∷ []) ∷ keyed.starts ∷ keyed.positions ∷ []
-
--- as a source: what its source means, with frame and certificate beside it
+-- as a source: what its source means, with frame and certificate beside it, whose version is a list of one
 abbrev pub meaning_of : CheckedFile → Meaning
 meaning_of checked = with_frame checked.frame (record checked.source {
-  extra = checked.certificate.heights ∷ (key_numbers checked.certificate.keys ++ checked.source.extra);
+  extra = checked.certificate.heights ∷ (option_map_or (λ (keyed : Keyed). (2 ∷ []) ∷ keyed.starts ∷ keyed.positions ∷ [])
+      checked.certificate.keys ((1 ∷ []) ∷ []) ++ checked.source.extra);
 })
 
 -- P holds of the bytes and the frame, if the source is honest

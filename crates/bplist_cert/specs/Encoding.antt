@@ -18,29 +18,23 @@ magic keyed = elim keyed [ false ↦ codes "bplcert1" | true ↦ codes "bplcert2
 abbrev pub words : List ℕ → List ℕ
 words xs = flat_map (bytes_high_first 4) xs
 
--- the key lists, if there are some
-abbrev pub key_words : Option Keyed → List ℕ
-key_words keys = option_map_or (λ (keyed : Keyed). words keyed.starts ++ words keyed.positions) keys []
-
 -- the bytes of a certificate: magic, number of heights, heights, and in version 2 starts and positions
 abbrev pub octets_of : Lists → List ℕ
 octets_of lists =
-    magic (is_some lists.keys) ++ (bytes_high_first 8 (length lists.heights) ++ (words lists.heights ++ key_words lists.keys))
-
--- the number of heights, as the bytes tell it
-abbrev pub height_count : List ℕ → ℕ
-height_count octets = num (part octets 8 8)
+    magic (is_some lists.keys) ++ (bytes_high_first 8 (length lists.heights) ++ (words lists.heights
+    ++ option_map_or (λ (keyed : Keyed). words keyed.starts ++ words keyed.positions) lists.keys []))
 
 -- a certificate of so many heights, without key lists or with them, can have so many bytes
 abbrev pub Fits : Bool → ℕ → ℕ → Type 0
 Fits false count len = len ≡ 16 + 4 * count
 Fits true count len = (16 + 8 * count ≤ len) × (len % 4 ≡ 0)
 
--- the first broken rule of 24 and 25: there is no magic, at place 0, or another number of bytes, which is the place
+-- the first broken rule of 24 and 25: there is no magic, at place 0, or another number of bytes than fits the number of heights, which
+-- stands behind the magic, and that number of bytes is the place
 abbrev pub IsOctetsFault : List ℕ → Fault → Type 0
 IsOctetsFault octets fault =
     (((keyed : Bool) → take 8 octets ≢ magic keyed) × (fault ≡ record { rule = rules.CertMagic; object = None; place = 0 }))
-    ⊎ ((keyed : Bool) × (take 8 octets ≡ magic keyed) × (Fits keyed (height_count octets) (length octets) → ⊥)
+    ⊎ ((keyed : Bool) × (take 8 octets ≡ magic keyed) × (Fits keyed (num (part octets 8 8)) (length octets) → ⊥)
     × (fault ≡ record { rule = rules.CertLength; object = None; place = length octets }))
 
 -- bytes are refused by the first broken rule of 24 and 25, or because memory was refused

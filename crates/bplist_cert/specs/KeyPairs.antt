@@ -5,11 +5,12 @@ use Rattle.bplist_octets.specs.Meaning.{Meaning}
 use Rattle.bplist_objects.specs.declared.frame.Frame.{Frame}
 use Rattle.bplist_objects.specs.Framed.{frame_in}
 use Rattle.bplist_objects.specs.declared.head.Head.{Head}
+use Rattle.bplist_objects.specs.Heads.{HasShape}
 use Rattle.bplist_objects.specs.Units.{IsTextKind, compare_units}
 use Rattle.bplist_keys.specs.Runs.{AreRuns}
 use Rattle.bplist_cert.specs.declared.key_lists.ReadKey.{ReadKey}
 use Rattle.bplist_cert.specs.declared.key_pairs.OrderedPairs.{OrderedPairs}
-use Rattle.bplist_keys.specs.Texts.{HasTextShape, IsTextHead, text_units}
+use Rattle.bplist_keys.specs.Texts.{HasTextShape, text_units}
 use Rattle.bplist_objects.specs.Safe.{IsSafeBody}
 use Rattle.bplist_objects.specs.Scan.{ref}
 
@@ -24,7 +25,7 @@ IsSafeKey m key = (key.object < (frame_in m).objects) × IfSome key.head (IsSafe
 module _ (f : List ℕ) (F : Frame) where
   -- the head of a key, where it was read, is that of its text
   abbrev pub IsReadKey : ReadKey → Type 0
-  IsReadKey key = IfSome key.head (IsTextHead f F key.object)
+  IsReadKey key = IfSome key.head (λ head. HasShape f F key.object head × IsTextKind head.kind)
 
   -- objects a and b are texts by marker and count, and the units of the first come before those of the second
   abbrev pub Ascends : ℕ → ℕ → Type 0

@@ -27,9 +27,10 @@ HasGoodKeys f F keys n =
 abbrev pub HaveGoodKeys : List ℕ → Frame → List ℕ → Option Keyed → ℕ → Type 0
 HaveGoodKeys f F heights keys bound = (n : ℕ) → n < bound → IsVouchedBy heights n → HasGoodKeys f F keys n
 
--- the keys of the vouched dictionaries below a bound are marked as named
+-- there is a mark for each object, and the keys of the vouched dictionaries below a bound are marked as named
 abbrev pub HaveNamedKeys : List ℕ → Frame → List ℕ → ℕ → List Bool → Type 0
-HaveNamedKeys f F heights bound marks = (n : ℕ) → n < bound → IsVouchedBy heights n → HasNamedKeys f F marks n
+HaveNamedKeys f F heights bound marks =
+    (length marks ≡ F.objects) × ((n : ℕ) → n < bound → IsVouchedBy heights n → HasNamedKeys f F marks n)
 
 -- object n is a dictionary whose keys break them, first with this fault
 abbrev pub BreaksKeys : List ℕ → Frame → ℕ → Option Keyed → ℕ → Fault → Type 0

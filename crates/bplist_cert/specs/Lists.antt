@@ -36,13 +36,9 @@ HasCount keys count = IfSome keys (λ keyed. length keyed.starts ≡ count)
 abbrev pub AreWords : List ℕ → Type 0
 AreWords xs = (k : ℕ) → slice_index xs k < 2 ^ 32
 
--- starts and positions are numbers of 32 bits
-abbrev pub AreKeyed : Option Keyed → Type 0
-AreKeyed keys = IfSome keys (λ keyed. AreWords keyed.starts × AreWords keyed.positions)
-
--- the lists that a certificate can have
+-- the lists that a certificate can have: numbers of 32 bits, and a start for each height
 pub record IsCertificate (certificate : Lists) : Type 0 where
   pub count : length certificate.heights < 2 ^ 64
   pub heights : AreWords certificate.heights
-  pub keys : AreKeyed certificate.keys
+  pub keys : IfSome certificate.keys (λ keyed. AreWords keyed.starts × AreWords keyed.positions)
   pub starts : HasStarts certificate.heights certificate.keys

@@ -1,4 +1,5 @@
 -- The names that the clauses of this crate cite, passed on from one place. Declares nothing.
+pub use Rattle.std.specs.Int.{bytes_high_first}
 pub use Rattle.std.specs.List.{AllByRecursion}
 pub use Rattle.bplist_octets.specs.Meaning.{Honestly, OnlyReads}
 pub use Rattle.bplist_octets.specs.Octets.{part}
@@ -9,14 +10,16 @@ pub use Rattle.bplist_objects.specs.Claims.{FailsAt}
 pub use Rattle.bplist_objects.specs.Extents.{Sums}
 pub use Rattle.bplist_objects.specs.Frame.{off}
 pub use Rattle.bplist_objects.specs.Framed.{HonestlyIn, frame_in}
-pub use Rattle.bplist_objects.specs.Heads.{Content, Spells, refs}
+pub use Rattle.bplist_objects.specs.Heads.{Content, HasShape, Spells, refs}
 pub use Rattle.bplist_objects.specs.Holds.{Holds}
 pub use Rattle.bplist_objects.specs.ObjectRules.{KeepsByObject, object_rules}
 pub use Rattle.bplist_objects.specs.Reach.{Chain, Reach, Refs}
 pub use Rattle.bplist_objects.specs.Rules.{KeepsAll}
 pub use Rattle.bplist_objects.specs.Safe.{IsSafeFrame, IsSafeHead, ref_count}
 pub use Rattle.bplist_objects.specs.Scan.{ref}
+pub use Rattle.bplist_objects.specs.Units.{IsTextKind}
 pub use Rattle.bplist_objects.specs.Value.{Value}
+pub use Rattle.bplist_objects.specs.declared.fault.Fault.{Fault}
 pub use Rattle.bplist_objects.specs.declared.frame.Frame.{Frame}
 pub use Rattle.bplist_objects.specs.declared.frame.ObjectNo.{ObjectNo}
 pub use Rattle.bplist_objects.specs.declared.head.Head.{Head}
@@ -27,7 +30,7 @@ pub use Rattle.bplist_keys.specs.Failures.{failed_to_read}
 pub use Rattle.bplist_keys.specs.Marks.{IsMarked}
 pub use Rattle.bplist_keys.specs.Ranks.{AreClasses}
 pub use Rattle.bplist_keys.specs.Runs.{AreRuns}
-pub use Rattle.bplist_keys.specs.Texts.{HasTextShape, IsTextHead}
+pub use Rattle.bplist_keys.specs.Texts.{HasTextShape}
 pub use Rattle.bplist_cert.specs.CheckRules.{HasOrder, IsOrderFault}
 pub use Rattle.bplist_cert.specs.CheckedFile.{CheckedFile, IsChecked, meaning_of}
 pub use Rattle.bplist_cert.specs.DictKeys.{AreInOrder, ComesAfter, IsKey, IsKeylessFault, IsText, KeysAreTexts, KeysDiffer}
@@ -35,8 +38,8 @@ pub use Rattle.bplist_cert.specs.Encoding.{Fits, IsCertRefusal, IsOctetsFault, m
 pub use Rattle.bplist_cert.specs.Heights.{AreMet, AreMetBy, IsFirstUnmetBy, IsUnmetFault, Meets, rule_of}
 pub use Rattle.bplist_cert.specs.KeyOffsets.{AreOffsetsOf, ArePlaces, AreRefs, IsFirstOther, IsOffsetOf, ReferToTexts}
 pub use Rattle.bplist_cert.specs.KeyPairs.{AreFewKeys, AreKnown, Ascends, Follows, HaveTextShapes, IsReadKey, IsSafeKey, IsSafeText}
-pub use Rattle.bplist_cert.specs.KeyRepeats.{BreaksKeys, HasGoodKeys, HaveGoodKeys, HaveNamedKeys, IsFirstKeysFault, KeysAreSound}
-pub use Rattle.bplist_cert.specs.KeysLooks.{AreSeen, HaveGoodLists, IsListed, IsLookOf, keys_of}
+pub use Rattle.bplist_cert.specs.KeyRepeats.{BreaksKeys, HasGoodKeys, HaveGoodKeys, HaveNamedKeys, IsFirstKeysFault}
+pub use Rattle.bplist_cert.specs.KeysLooks.{AreLearnt, AreSeen, HaveGoodLists, IsListed}
 pub use Rattle.bplist_cert.specs.Lists.{AreWords, HasCount, HasStarts, IsCertificate, IsWhole, Lists, list_of, lists}
 pub use Rattle.bplist_cert.specs.Looks.{IsShownFault, KeepBeforeKeysBelow}
 pub use Rattle.bplist_cert.specs.LowBytes.{AreLow, IsLow}
@@ -46,4 +49,5 @@ pub use Rattle.bplist_cert.specs.Sorted.{IsAccepted, IsSorted}
 pub use Rattle.bplist_cert.specs.Valid.{HoldsOneValue, IsValid, IsVouchedBy, SpellsText}
 pub use Rattle.bplist_cert.specs.Versions.{header_octets, is_keyed}
 pub use Rattle.bplist_cert.specs.declared.checker.Look.TheVariants.{Exact, Quick}
-pub use Rattle.bplist_cert.specs.declared.refusal.Refusal.TheVariants.{Read}
+pub use Rattle.bplist_cert.specs.declared.certificate.CertRefusal.TheVariants.{Memory as CertMemory}
+pub use Rattle.bplist_cert.specs.declared.refusal.Refusal.TheVariants.{Memory, Read}

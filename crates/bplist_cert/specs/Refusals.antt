@@ -1,5 +1,5 @@
 -- What a refusal of the check says. Source: profile.
-use Rattle.std.specs.Prelude.{◌≡◌, Bool, true, false, Result, Ok, Err, MatchResult, Option, None}
+use Rattle.std.specs.Prelude.{◌≡◌, Bool, true, false, Result, Err, MatchResult, Option, None}
 use Rattle.bplist_objects.specs.declared.fault.Fault.{Fault}
 use Rattle.bplist_objects.specs.declared.fault.ObjectFault.{ObjectFault}
 use Rattle.bplist_objects.specs.declared.fault.ObjectFault.TheVariants as errors

@@ -1,7 +1,7 @@
 //! A source with a certificate that the check has accepted.
 
 ghost use Rattle.std.specs.Prelude.{◌≡◌, slice_index, IsTrue};
-ghost use Rattle.bplist_cert.specs.Prelude.{StandsAt, IsChecked};
+ghost use Rattle.bplist_cert.specs.Prelude.{StandsAt, IsChecked, meaning_of};
 
 use crate::certificate::Certificate;
 use bplist_objects::{Frame, Framed, ObjectNo};
@@ -27,8 +27,6 @@ impl<S: Source> Model for Checked<S> {
 }
 
 impl<S: Source> Source for Checked<S> {
-    ghost use Rattle.bplist_cert.specs.CheckedFile.{meaning_of};
-
     ghost means = { λ c. meaning_of c };
 
     fn len(&self) -> u64 {

@@ -1,19 +1,17 @@
 //! The check of a certificate against a file.
 
-ghost use Rattle.std.specs.Prelude.{◌≡◌, ◌+◌, ◌≤◌, ◌<◌, ℕ, length, slice_index, IfOk, IfErr, MatchResult, Some, None};
-ghost use Rattle.bplist_cert.specs.Prelude.{AllByRecursion, OnlyReads, Honestly, frame_in, HonestlyIn, off, Sums, IsSafeFrame, ObjectNo as object_no, lists, HasStarts, IsVouchedBy, HoldsOneValue, IsShownFault, keys_of, IsLookOf, AreSeen, Quick as quick, Exact as exact, IsCheckedObject, AreCheckedBelow, IsWalkFault, IsSeenFault, IsVouchedFault, KeepsPairRules, IsPairFault, Judges, GivesRefusal, is_read, refused_read, MayRefuse, IsAccepted, Never, Reach, Chain, Content, Spells, refs, Frame as frame};
+ghost use Rattle.std.specs.Prelude.{◌≡◌, ◌+◌, ◌-◌, ◌≤◌, ◌<◌, ℕ, length, IfOk, IfErr, MatchResult, Some};
+ghost use Rattle.bplist_cert.specs.Prelude.{AllByRecursion, OnlyReads, Honestly, frame_in, HonestlyIn, off, Overfull, Sums, IsSafeFrame, ObjectNo as object_no, IsVouchedBy, HoldsOneValue, IsShownFault, ArePlaces, AreSeen, Quick as quick, Exact as exact, IsCheckedObject, AreCheckedBelow, IsWalkFault, IsSeenFault, IsVouchedFault, KeepsPairRules, IsPairFault, Gives, read_failed, Judges, GivesRefusal, is_read, refused_read, MayRefuse, IsAccepted, Never, Reach, Chain, Content, Spells, refs, Frame as frame};
 
-use crate::certificate::{Certificate, KeyLists};
+use crate::certificate::Certificate;
 use crate::checked::Checked;
-use crate::extents::check_extent;
 use crate::heights::{Wanted, check_refs, height_at};
-use crate::keys_look::{KeysLook, keys_look};
+use crate::keys_look::{KeysLook, VouchedPrefix, keys_look};
 use crate::refusal::Refusal;
-use crate::vouched_prefix::VouchedPrefix;
 use bplist_keys::{OffsetReader, Offsets};
 use bplist_objects::{
-    Fault, Frame, Framed, ObjectNo, Rule, Visit, check_body, frame_of, head_in, read_offsets_in,
-    refs_of, visit_in,
+    Fault, Frame, Framed, ObjectFault, ObjectNo, Rule, Visit, check_body, frame_of, head_in,
+    read_offsets_in, refs_of, visit_in,
 };
 use bplist_octets::Source;
 use std::alloc::Global;
@@ -33,9 +31,36 @@ enum Look {
 /// What a walk over the vouched objects goes by, beside the source. It is handed on as a copy, so that its parts stay in registers.
 #[derive(Clone, Copy, Drop)]
 struct Walk<'a> {
-    heights: &'a [u32],
-    keys: &'a Option<KeyLists>,
+    certificate: &'a Certificate,
     look: Look,
+}
+
+/// The bytes that the vouched objects take, where those before object `n` take `used` and `n` stands at
+/// `place` and ends at `end`.
+#[inline(always)]
+fn check_extent<P: Framed>(
+    src: &P,
+    n: ObjectNo,
+    place: u64,
+    end: u64,
+    used: u64,
+) -> Result<u64, Fault>
+    requires { place < «end» }
+    ensures { MatchResult result
+        (λ now. (now ≡ used + («end» - place)) × (now + 8 ≤ (frame_in (P.means src.now)).table))
+        (λ fault. (fault.rule ≡ Overfull) × (fault.object ≡ Some n) × (fault.place ≡ place)
+        × ((frame_in (P.means src.now)).table < used + («end» - place) + 8)) }
+{
+    let extent = end - place;
+    let room = src.frame().table - 8;
+    if used > room || extent > room - used {
+        return Err(Fault {
+            rule: Rule::Overfull,
+            object: Some(n),
+            place,
+        });
+    }
+    Ok(used + extent)
 }
 
 /// Looks at object `n`, which is vouched for and stands at `place`, by the rules before those of keys, where the vouched
@@ -47,17 +72,18 @@ fn check_object<P: Framed>(
     n: ObjectNo,
     place: u64,
     used: u64,
-) -> Result<u64, Refusal>
-    requires all { length walk.heights.now ≡ (frame_in (P.means src.old)).objects }
+) -> Result<u64, ObjectFault>
+    requires all { length walk.certificate.now.heights ≡ (frame_in (P.means src.old)).objects }
     requires within { n.0 < (frame_in (P.means src.old)).objects }
-    ensures reads { OnlyReads (refused_read result) (P.means src.old) (P.means src.new) }
-    ensures memory { IfErr result (MayRefuse walk.entry.keys.now) }
+    ensures reads { OnlyReads (read_failed result) (P.means src.old) (P.means src.new) }
     ensures exact { HonestlyIn (P.means src.old) (λ f F. place ≡ off f F n.0
-        → IsVouchedBy walk.entry.heights.now n.0 → Sums f F (IsVouchedBy walk.entry.heights.now) n.0 used
-        → Judges (IsCheckedObject f F (lists walk.entry.heights.now walk.entry.keys.now) quick n.0)
-        (IsShownFault f F (lists walk.entry.heights.now walk.entry.keys.now) walk.entry.look n.0) result) }
+        → IsVouchedBy walk.entry.certificate.now.heights n.0 → Sums f F (IsVouchedBy walk.entry.certificate.now.heights) n.0 used
+        → Gives (IsCheckedObject f F walk.entry.certificate.now quick n.0)
+        (IsShownFault f F walk.entry.certificate.now walk.entry.look n.0) result) }
 {
     let frame = src.frame();
+    let cert = walk.certificate;
+    let heights: &[u32] = &cert.heights;
     match walk.look {
         Look::Quick => match visit_in(src, n, place)? {
             Visit::Done(end) => Ok(check_extent(src, n, place, end, used)?),
@@ -66,8 +92,8 @@ fn check_object<P: Framed>(
                 if refs_of(&head) == 0 {
                     check_body(src, &frame, n, place, &head)?;
                 } else {
-                    let own = height_at(walk.heights, n.0 as u64);
-                    check_refs(src, walk.heights, n, &head, Wanted::VouchedBelow(own))?;
+                    let own = height_at(heights, n.0 as u64);
+                    check_refs(src, heights, n, &head, Wanted::VouchedBelow(own))?;
                 }
                 Ok(now)
             }
@@ -75,9 +101,9 @@ fn check_object<P: Framed>(
         Look::Exact => {
             let head = head_in(src, n, place)?;
             let now = check_extent(src, n, place, head.end, used)?;
-            check_refs(src, walk.heights, n, &head, Wanted::Vouched)?;
-            let own = height_at(walk.heights, n.0 as u64);
-            check_refs(src, walk.heights, n, &head, Wanted::Below(own))?;
+            check_refs(src, heights, n, &head, Wanted::Vouched)?;
+            let own = height_at(heights, n.0 as u64);
+            check_refs(src, heights, n, &head, Wanted::Below(own))?;
             Ok(now)
         }
     }
@@ -90,22 +116,22 @@ fn check_block<P: Framed>(
     from: u32,
     places: &[u64],
     used: u64,
-) -> Result<u64, Refusal>
-    requires all { length walk.heights.now ≡ (frame_in (P.means src.old)).objects }
+) -> Result<u64, ObjectFault>
+    requires all { length walk.certificate.now.heights ≡ (frame_in (P.means src.old)).objects }
     requires within { from + length places.now ≤ (frame_in (P.means src.old)).objects }
-    ensures reads { OnlyReads (refused_read result) (P.means src.old) (P.means src.new) }
-    ensures memory { IfErr result (MayRefuse walk.entry.keys.now) }
-    ensures exact { HonestlyIn (P.means src.old) (λ f F. ((k : ℕ) → k < length places.now
-        → slice_index places.now k ≡ off f F (from + k))
-        → AreCheckedBelow f F (lists walk.entry.heights.now walk.entry.keys.now) quick from used
-        → Judges (AreCheckedBelow f F (lists walk.entry.heights.now walk.entry.keys.now) quick (from + length places.now))
-        (IsWalkFault f F (lists walk.entry.heights.now walk.entry.keys.now) walk.entry.look) result) }
+    ensures reads { OnlyReads (read_failed result) (P.means src.old) (P.means src.new) }
+    ensures exact { HonestlyIn (P.means src.old) (λ f F. ArePlaces f F from places.now
+        → AreCheckedBelow f F walk.entry.certificate.now quick from used
+        → Gives (AreCheckedBelow f F walk.entry.certificate.now quick (from + length places.now))
+        (IsWalkFault f F walk.entry.certificate.now walk.entry.look) result) }
 {
     let _frame = src.frame();
+    let cert = walk.certificate;
+    let heights: &[u32] = &cert.heights;
     let mut used = used;
     for (i, place) in places.iter().enumerate() {
         let n = ObjectNo(from + i as u32);
-        if height_at(walk.heights, n.0 as u64) > 0 {
+        if height_at(heights, n.0 as u64) > 0 {
             used = check_object(src, walk, n, *place, used)?;
         }
     }
@@ -114,20 +140,18 @@ fn check_block<P: Framed>(
 
 /// Looks at all vouched objects, in the order of their numbers, and at the keys of the dictionaries among them: block by block,
 /// as places and objects are at hand then. How many bytes they take.
-fn check_all<P: Offsets>(src: &mut P, walk: Walk, found: &mut KeysLook) -> Result<u64, Refusal>
-    requires all { length walk.heights.now ≡ (frame_in (P.means src.old)).objects }
-    requires found { IsLookOf (frame_in (P.means src.old)).objects found.old }
-    ensures reads { OnlyReads (refused_read result) (P.means src.old) (P.means src.new) }
-    ensures memory { IfErr result (MayRefuse walk.entry.keys.now) }
-    ensures exact { HonestlyIn (P.means src.old) (λ f F. AreSeen f F walk.entry.heights.now 0 found.old → Judges
-        (λ used. AreCheckedBelow f F (lists walk.entry.heights.now walk.entry.keys.now) quick F.objects used
-        × AreSeen f F walk.entry.heights.now F.objects found.new)
-        (λ fault. IsWalkFault f F (lists walk.entry.heights.now walk.entry.keys.now) walk.entry.look fault
-        × AreSeen f F walk.entry.heights.now 0 found.new) result) }
-    ensures found { IsLookOf (frame_in (P.means src.old)).objects found.new }
-    ensures same { keys_of found.new ≡ keys_of found.old }
+fn check_all<P: Offsets>(src: &mut P, walk: Walk, found: &mut KeysLook) -> Result<u64, ObjectFault>
+    requires { length walk.certificate.now.heights ≡ (frame_in (P.means src.old)).objects }
+    ensures reads { OnlyReads (read_failed result) (P.means src.old) (P.means src.new) }
+    ensures exact { HonestlyIn (P.means src.old) (λ f F. AreSeen f F walk.entry.certificate.now 0 found.old → Gives
+        (λ used. AreCheckedBelow f F walk.entry.certificate.now quick F.objects used
+        × AreSeen f F walk.entry.certificate.now F.objects found.new)
+        (λ fault. IsWalkFault f F walk.entry.certificate.now walk.entry.look fault
+        × AreSeen f F walk.entry.certificate.now 0 found.new) result) }
 {
     let objects = src.frame().objects;
+    let cert = walk.certificate;
+    let heights: &[u32] = &cert.heights;
     let mut buffer = [0u64; BLOCK];
     let mut used = 0u64;
     let mut done = 0u32;
@@ -136,7 +160,12 @@ fn check_all<P: Offsets>(src: &mut P, walk: Walk, found: &mut KeysLook) -> Resul
         let places = &mut buffer[..now as usize];
         read_offsets_in(src, done, places)?;
         used = check_block(src, walk, done, places, used)?;
-        found.look(src, walk.heights, done, places)?;
+        let seen = VouchedPrefix {
+            heights,
+            keys: &cert.keys,
+            bound: done,
+        };
+        found.look(src, &seen, places)?;
         done += now;
     }
     Ok(used)
@@ -146,27 +175,21 @@ fn check_all<P: Offsets>(src: &mut P, walk: Walk, found: &mut KeysLook) -> Resul
 /// in their order. What the first walk found of keys counts only where it found no fault. How many bytes they take.
 fn check_in_passes<P: Offsets>(
     src: &mut P,
-    heights: &[u32],
-    keys: &Option<KeyLists>,
+    cert: &Certificate,
     found: &mut KeysLook,
-) -> Result<u64, Refusal>
-    requires all { length heights.now ≡ (frame_in (P.means src.old)).objects }
-    requires found { IsLookOf (frame_in (P.means src.old)).objects found.old }
-    ensures reads { OnlyReads (refused_read result) (P.means src.old) (P.means src.new) }
-    ensures memory { IfErr result (MayRefuse keys.now) }
-    ensures exact { HonestlyIn (P.means src.old) (λ f F. AreSeen f F heights.now 0 found.old → Judges
-        (λ used. AreCheckedBelow f F (lists heights.now keys.now) quick F.objects used × AreSeen f F heights.now F.objects found.new)
-        (λ fault. IsSeenFault f F (lists heights.now keys.now) fault × AreSeen f F heights.now 0 found.new) result) }
-    ensures found { IsLookOf (frame_in (P.means src.old)).objects found.new }
-    ensures same { keys_of found.new ≡ keys_of found.old }
+) -> Result<u64, ObjectFault>
+    requires { length cert.now.heights ≡ (frame_in (P.means src.old)).objects }
+    ensures reads { OnlyReads (read_failed result) (P.means src.old) (P.means src.new) }
+    ensures exact { HonestlyIn (P.means src.old) (λ f F. AreSeen f F cert.now 0 found.old → Gives
+        (λ used. AreCheckedBelow f F cert.now quick F.objects used × AreSeen f F cert.now F.objects found.new)
+        (λ fault. IsSeenFault f F cert.now fault × AreSeen f F cert.now 0 found.new) result) }
 {
     let mut walk = Walk {
-        heights,
-        keys,
+        certificate: cert,
         look: Look::Quick,
     };
     match check_all(src, walk, found) {
-        Err(Refusal::Fault(_)) => {}
+        Err(ObjectFault::Fault(_)) => {}
         answer => return answer,
     }
     walk.look = Look::Exact;
@@ -186,40 +209,37 @@ fn object_of(fault: &Fault) -> u32
 
 /// Looks at all vouched objects, and then at the keys of the dictionaries among them, up to the first object that breaks a
 /// rule before those of keys. How many bytes they take.
-fn check_objects<P: Offsets>(
-    alloc: Global,
-    src: &mut P,
-    heights: &[u32],
-    keys: &Option<KeyLists>,
-) -> Result<u64, Refusal>
-    requires all { length heights.now ≡ (frame_in (P.means src.old)).objects }
-    requires starts { HasStarts heights.now keys.now }
+fn check_objects<P: Offsets>(alloc: Global, src: &mut P, cert: &Certificate) -> Result<u64, Refusal>
+    requires { length cert.now.heights ≡ (frame_in (P.means src.old)).objects }
     ensures reads { OnlyReads (refused_read result) (P.means src.old) (P.means src.new) }
-    ensures memory { IfErr result (MayRefuse keys.now) }
+    ensures memory { IfErr result (MayRefuse cert.now.keys) }
     ensures exact { HonestlyIn (P.means src.old) (λ f F.
-        Judges (AreCheckedBelow f F (lists heights.now keys.now) exact F.objects) (IsVouchedFault f F (lists heights.now keys.now)) result) }
+        Judges (AreCheckedBelow f F cert.now exact F.objects) (IsVouchedFault f F cert.now) result) }
 {
     let objects = src.frame().objects;
-    let mut found = keys_look(alloc, objects, src.len(), keys)?;
-    match check_in_passes(src, heights, keys, &mut found) {
+    let heights: &[u32] = &cert.heights;
+    let mut found = keys_look(alloc, src, &cert.keys)?;
+    match check_in_passes(src, cert, &mut found) {
         Ok(used) => {
             let seen = VouchedPrefix {
                 heights,
+                keys: &cert.keys,
                 bound: objects,
             };
             found.check(alloc, src, &seen)?;
             Ok(used)
         }
-        Err(Refusal::Fault(fault)) => {
+        Err(ObjectFault::Fault(fault)) => {
             let seen = VouchedPrefix {
                 heights,
+                keys: &cert.keys,
                 bound: object_of(&fault).min(objects),
             };
             found.forget();
             found.check(alloc, src, &seen)?;
             Err(Refusal::Fault(fault))
         }
-        Err(refusal) => Err(refusal),
+        Err(ObjectFault::Read(fault)) => Err(Refusal::Read(fault)),
     }
 }
 
@@ -247,7 +267,7 @@ fn check_lists<S: Source>(alloc: Global, src: &mut S, cert: &Certificate) -> Res
         }));
     }
     let mut plist = OffsetReader::new(src, frame);
-    check_objects(alloc, &mut plist, &cert.heights, &cert.keys)?;
+    check_objects(alloc, &mut plist, cert)?;
     Ok(frame)
 }
 

@@ -1,8 +1,7 @@
 //! Certificates from bytes, which are read by blocks.
 
-ghost use Rattle.bplist_cert.specs.declared.certificate.CertRefusal.TheVariants.{Memory};
-ghost use Rattle.std.specs.Prelude.{◌≡◌, ◌≢◌, ℕ, List, ◌+◌, ◌*◌, ◌≤◌, Bool, length, take, IfOk, MatchOption, MatchResult, ◌↔◌, IsTrue, ⊤};
-ghost use Rattle.bplist_cert.specs.Prelude.{part, OnlyReads, Honestly, Gives, Never, read_failed, failed_to_read, Lists, IsCertificate, AreWords, octets_of, magic, words, Fits, IsOctetsFault, IsCertRefusal, Judges, refused_read, is_keyed, header_octets};
+ghost use Rattle.std.specs.Prelude.{◌≡◌, ◌≢◌, ◌+◌, ◌*◌, ◌≤◌, Bool, length, take, IfOk, MatchOption, MatchResult, ◌↔◌, IsTrue, ⊤};
+ghost use Rattle.bplist_cert.specs.Prelude.{part, OnlyReads, Honestly, Gives, Never, read_failed, failed_to_read, Lists, IsCertificate, AreWords, octets_of, magic, bytes_high_first, words, Fits, IsOctetsFault, IsCertRefusal, CertMemory as Memory, Judges, refused_read, is_keyed, header_octets};
 
 use crate::certificate::{CertRefusal, Certificate, KeyLists};
 use crate::encoding::{KEYED_MAGIC, PLAIN_MAGIC};
@@ -99,24 +98,15 @@ fn header_of<S: Source>(src: &mut S) -> Result<Header, ObjectFault>
     let mut octets = [0u8; 16];
     let front = &mut octets[..len.min(16) as usize];
     src.read_at(0, front)?;
-    Ok(header_in(front, len)?)
-}
-
-/// The header of `len` bytes that begin with these.
-fn header_in(front: &[u8], len: u64) -> Result<Header, Fault>
-    ensures fits { IfOk result (λ header. Fits (is_keyed header.version) header.count len) }
-    ensures exact { (f : List ℕ) → front.now ≡ take 16 f → len ≡ length f
-        → MatchResult result (λ header. take 16 f ≡ header_octets header) (IsOctetsFault f) }
-{
     let Some(version) = version_of(front) else {
-        return Err(Fault {
+        return Err(ObjectFault::Fault(Fault {
             rule: Rule::CertMagic,
             object: None,
             place: 0,
-        });
+        }));
     };
     if front.len() >= 16 {
-        let count = sized(part_of(front, 8, 8));
+        let count = count_in(front);
         if fits(version, count, len) {
             return Ok(Header {
                 version,
@@ -124,11 +114,19 @@ fn header_in(front: &[u8], len: u64) -> Result<Header, Fault>
             });
         }
     }
-    Err(Fault {
+    Err(ObjectFault::Fault(Fault {
         rule: Rule::CertLength,
         object: None,
         place: len,
-    })
+    }))
+}
+
+/// The number of heights, as a header tells it.
+fn count_in(header: &[u8]) -> u64
+    requires { 16 ≤ length header.now }
+    ensures { part header.now 8 8 ≡ bytes_high_first 8 result }
+{
+    sized(&header[8..16])
 }
 
 /// The version that the magic tells, where there is one.
@@ -199,14 +197,6 @@ fn spell_words(octets: &[u8], into: &mut [u32])
     ensures { octets.now ≡ words into.new }
 {
     for k in 0..into.len() {
-        into[k] = sized(part_of(octets, 4 * k, 4)) as u32;
+        into[k] = sized(&octets[4 * k..4 * k + 4]) as u32;
     }
-}
-
-/// The `n` bytes from a place on.
-fn part_of(octets: &[u8], place: usize, n: usize) -> &[u8]
-    requires { place + n ≤ length octets.now }
-    ensures { result.now ≡ part octets.now place n }
-{
-    &octets[place..place + n]
 }

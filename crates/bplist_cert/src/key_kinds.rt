@@ -1,14 +1,21 @@
 //! The keys of dictionaries: rule 21.
 
 ghost use Rattle.std.specs.Prelude.{◌≡◌, ◌↔◌, IsTrue, ◌+◌, ◌*◌, ◌<◌, length, IfOk, IfSome, MatchOption, Some, is_err};
-ghost use Rattle.bplist_cert.specs.Prelude.{OnlyReads, Honestly, frame_in, HonestlyIn, IsSafeHead, Gives, read_failed, KeyKind, Head as head_record, IsText, KeysAreTexts, IsKeylessFault, AreLow, IsOffsetOf, AreOffsetsOf, ReferToTexts, IsFirstOther};
+ghost use Rattle.bplist_cert.specs.Prelude.{OnlyReads, frame_in, HonestlyIn, IsSafeHead, Gives, read_failed, KeyKind, Dict, Head as head_record, IsText, KeysAreTexts, IsKeylessFault, AreLow, IsOffsetOf, AreOffsetsOf, ReferToTexts, IsFirstOther};
 
-use crate::dictionary::Dictionary;
 use crate::key_offsets::{BLOCK, read_ahead};
 use crate::low_bytes::LowBytes;
 use bplist_keys::Offsets;
 use bplist_objects::{Fault, Framed, Head, Kind, ObjectFault, ObjectNo, Rule, ref_place, shape_at};
 use bplist_octets::ReadFault;
+
+/// An object with its head, which is that of a dictionary.
+#[derive(Clone, Copy, Debug, Drop)]
+pub(crate) struct Dictionary {
+    pub n: ObjectNo,
+    pub head: Head,
+    pub ghost dict: { head.kind ≡ Dict },
+}
 
 /// Whether object number `m`, which stands at `place`, spells a text. The bytes of an Ascii one that are not known to be low
 /// are read.
@@ -19,9 +26,8 @@ fn is_text<P: Framed>(
     place: u64,
 ) -> Result<bool, ReadFault>
     ensures reads { OnlyReads (is_err result) (P.means src.old) (P.means src.new) }
-    ensures low { Honestly (P.means src.old) (λ f. AreLow f low.old.slots → AreLow f low.new.slots) }
-    ensures exact { IfOk result (λ text. HonestlyIn (P.means src.old) (λ f F. AreLow f low.old.slots → IsOffsetOf f F m place
-        → IsTrue text ↔ ((key : head_record) × IsText f F m key))) }
+    ensures exact { HonestlyIn (P.means src.old) (λ f F. AreLow f low.old.slots → IsOffsetOf f F m place
+        → IfOk result (λ text. AreLow f low.new.slots × (IsTrue text ↔ ((key : head_record) × IsText f F m key)))) }
 {
     let frame = src.frame();
     let _len = src.len();
@@ -48,10 +54,9 @@ fn first_other<P: Framed>(
 ) -> Result<Option<usize>, ReadFault>
     requires { length offsets.now ≡ length refs.now }
     ensures reads { OnlyReads (is_err result) (P.means src.old) (P.means src.new) }
-    ensures low { Honestly (P.means src.old) (λ f. AreLow f low.old.slots → AreLow f low.new.slots) }
-    ensures found { IfOk result (λ found. HonestlyIn (P.means src.old)
-        (λ f F. AreLow f low.old.slots → AreOffsetsOf f F refs.now offsets.now (length refs.now)
-        → MatchOption found (ReferToTexts f F refs.now (length refs.now)) (IsFirstOther f F refs.now))) }
+    ensures exact { HonestlyIn (P.means src.old) (λ f F. AreLow f low.old.slots
+        → AreOffsetsOf f F refs.now offsets.now (length refs.now) → IfOk result (λ found. AreLow f low.new.slots
+        × MatchOption found (ReferToTexts f F refs.now (length refs.now)) (IsFirstOther f F refs.now))) }
     ensures inside { IfOk result (λ found. IfSome found (λ i. i < length refs.now)) }
 {
     for i in 0..refs.len() {
@@ -71,9 +76,9 @@ pub(crate) fn check_texts<P: Offsets>(
 ) -> Result<(), ObjectFault>
     requires head { IsSafeHead (frame_in (P.means src.old)) dict.now.head }
     ensures reads { OnlyReads (read_failed result) (P.means src.old) (P.means src.new) }
-    ensures low { Honestly (P.means src.old) (λ f. AreLow f low.old.slots → AreLow f low.new.slots) }
     ensures exact { HonestlyIn (P.means src.old) (λ f F. AreLow f low.old.slots
-        → Gives (λ _. KeysAreTexts f F dict.now.head dict.now.head.count) (IsKeylessFault f F dict.now.n.0 dict.now.head) result) }
+        → Gives (λ _. AreLow f low.new.slots × KeysAreTexts f F dict.now.head dict.now.head.count)
+        (IsKeylessFault f F dict.now.n.0 dict.now.head) result) }
 {
     let count = dict.head.count;
     let mut refs = [0u64; BLOCK];

@@ -1,15 +1,15 @@
 //! Whether the key lists of vouched dictionaries have the keys in order, which are texts: rules 21 and 32.
 
-ghost use Rattle.std.specs.Prelude.{◌≡◌, ◌+◌, ◌≤◌, ◌<◌, ℕ, List, Some, IsTrue, false, IfOk, IfSome, OnOk, MatchOption, ⊤, is_err, length};
-ghost use Rattle.bplist_cert.specs.Prelude.{OnlyReads, Gives, Never, read_failed, off, ArePlaces, Frame as frame, HasHead, frame_in, HonestlyIn, KeepsAll, KeepsByObject, object_rules, IsSafeHead, Head as head, Dict, ref, HasTextShape, IsTextHead, lists, IsWhole, list_of, HasOrder, AreInOrder, KeysAreSound, HasGoodKeys, HaveGoodKeys, BreaksKeys, IsFirstKeysFault, AreFewKeys, AreKnown, HaveTextShapes, Follows, IsReadKey, IsSafeKey, IsSafeText, AreLow, KeepBeforeKeysBelow, IsListed, HaveGoodLists};
+ghost use Rattle.std.specs.Prelude.{◌≡◌, ◌+◌, ◌≤◌, ◌<◌, ℕ, List, Some, IsTrue, false, IfOk, IfSome, OnOk, MatchOption, ⊤, is_err, length, slice_index};
+ghost use Rattle.bplist_cert.specs.Prelude.{OnlyReads, Gives, Never, read_failed, off, ArePlaces, Frame as frame, frame_in, HonestlyIn, KeepsAll, KeepsByObject, object_rules, IsSafeHead, Head as head, Dict, ref, HasShape, IsTextKind, HasTextShape, lists, IsWhole, list_of, HasOrder, AreInOrder, HasGoodKeys, HaveGoodKeys, BreaksKeys, IsFirstKeysFault, AreFewKeys, AreKnown, HaveTextShapes, Follows, IsReadKey, IsSafeKey, IsSafeText, KeepBeforeKeysBelow, IsListed, HaveGoodLists, AreLearnt, IsVouchedBy};
 
 use crate::certificate::KeyLists;
-use crate::dictionary::Dictionary;
-use crate::key_kinds::check_texts;
+use crate::heights::height_at;
+use crate::key_kinds::{Dictionary, check_texts};
 use crate::key_order::{check_order, comes_after, part_of};
 use crate::key_pairs::OrderedPairs;
+use crate::keys_look::VouchedPrefix;
 use crate::low_bytes::LowBytes;
-use crate::vouched_prefix::VouchedPrefix;
 use bplist_keys::{Offsets, object_shape, object_text};
 use bplist_objects::{Framed, Head, Kind, ObjectFault, ObjectNo, read_refs_in, ref_at, shape_in};
 use bplist_octets::ReadFault;
@@ -28,8 +28,8 @@ struct ReadKey {
 fn head_of<P: Offsets>(src: &mut P, key: &ReadKey) -> Result<Option<Head>, ReadFault>
     requires { IsSafeKey (P.means src.old) key.now }
     ensures reads { OnlyReads (is_err result) (P.means src.old) (P.means src.new) }
-    ensures exact { HonestlyIn (P.means src.old) (λ f F. IsReadKey f F key.now
-        → IfOk result (λ found. MatchOption found (HasTextShape f F key.now.object → ⊥) (IsTextHead f F key.now.object))) }
+    ensures exact { HonestlyIn (P.means src.old) (λ f F. IsReadKey f F key.now → IfOk result (λ found. MatchOption found
+        (HasTextShape f F key.now.object → ⊥) (λ x. HasShape f F key.now.object x × IsTextKind x.kind))) }
     ensures safe { IfOk result (λ found. IfSome found (IsSafeText (length (P.means src.old).octets))) }
 {
     match key.head {
@@ -85,9 +85,12 @@ fn follows<P: Offsets>(
 }
 
 /// Reads the references to the keys of a dictionary where they are few.
-fn read_few<P: Offsets>(src: &mut P, dict: &Dictionary, into: &mut [u64]) -> Result<(), ReadFault>
-    requires head { IsSafeHead (frame_in (P.means src.old)) dict.now.head }
-    requires room { length into.old ≡ 32 }
+fn read_few<P: Offsets>(
+    src: &mut P,
+    dict: &Dictionary,
+    into: &mut [u64; FEW],
+) -> Result<(), ReadFault>
+    requires { IsSafeHead (frame_in (P.means src.old)) dict.now.head }
     ensures reads { OnlyReads (is_err result) (P.means src.old) (P.means src.new) }
     ensures few { HonestlyIn (P.means src.old) (λ f F. OnOk result (AreFewKeys f F dict.now.head into.new)) }
 {
@@ -102,11 +105,10 @@ fn read_few<P: Offsets>(src: &mut P, dict: &Dictionary, into: &mut [u64]) -> Res
 fn key_at<P: Offsets>(
     src: &mut P,
     dict: &Dictionary,
-    few: &[u64],
+    few: &[u64; FEW],
     position: u32,
 ) -> Result<Option<u32>, ReadFault>
-    requires head { IsSafeHead (frame_in (P.means src.old)) dict.now.head }
-    requires room { length few.now ≡ 32 }
+    requires { IsSafeHead (frame_in (P.means src.old)) dict.now.head }
     ensures reads { OnlyReads (is_err result) (P.means src.old) (P.means src.new) }
     ensures inside { IfOk result (λ found. IfSome found (λ m. (position < dict.now.head.count)
         × (m < (frame_in (P.means src.old)).objects))) }
@@ -159,34 +161,30 @@ fn is_ascending<P: Offsets>(
 
 /// The key list of dictionary `n`, of so many positions, where it is wholly there.
 fn key_list(keys: &KeyLists, n: u32, count: u64) -> Option<&[u32]>
-    requires { n < length keys.now.starts }
     ensures { MatchOption result ⊤ (λ list. IsWhole keys.now n count × (list.now ≡ list_of keys.now n count) × (length list.now ≡ count)) }
 {
-    let start = keys.starts[n as usize] as u64;
+    let start = height_at(&keys.starts, n as u64) as u64;
     if start as u128 + count as u128 > keys.positions.len() as u128 {
         return None;
     }
     Some(part_of(&keys.positions, start as usize, count as usize))
 }
 
-/// Key lists, what their keys are looked up in, and what a walk over the vouched objects finds of them.
+/// What the keys of key lists are looked up in, and what a walk over the vouched objects finds of the lists.
 #[derive(Drop)]
-pub(crate) struct ListLook<'a> {
-    pub keys: &'a KeyLists,
+pub(crate) struct ListLook {
     pub pairs: OrderedPairs,
     pub low: LowBytes,
     /// The key lists that the walk came by are good.
     pub good: bool,
 }
 
-impl ListLook<'_> {
+impl ListLook {
     /// No key list was looked at yet, of a file of so many bytes.
-    pub(crate) fn new(keys: &KeyLists, len: u64) -> ListLook
-        ensures keys { result.keys.now ≡ keys.now }
-        ensures none { (f : List ℕ) (F : frame) (heights : List ℕ) → HaveGoodLists f F heights 0 result }
+    pub(crate) fn new(len: u64) -> ListLook
+        ensures { (f : List ℕ) (F : frame) → AreLearnt f F result }
     {
         ListLook {
-            keys,
             pairs: OrderedPairs::new(),
             low: LowBytes::new(len),
             good: true,
@@ -201,9 +199,7 @@ fn has_good_list<P: Offsets>(
     dict: &Dictionary,
     pairs: &mut OrderedPairs,
 ) -> Result<bool, ReadFault>
-    requires head { IsSafeHead (frame_in (P.means src.old)) dict.now.head }
-    requires within { dict.now.n.0 < (frame_in (P.means src.old)).objects }
-    requires starts { length keys.now.starts ≡ (frame_in (P.means src.old)).objects }
+    requires { IsSafeHead (frame_in (P.means src.old)) dict.now.head }
     ensures reads { OnlyReads (is_err result) (P.means src.old) (P.means src.new) }
     ensures exact { HonestlyIn (P.means src.old) (λ f F. AreKnown f F pairs.old
         → IfOk result (λ good. AreKnown f F pairs.new
@@ -216,8 +212,7 @@ fn has_good_list<P: Offsets>(
 }
 
 /// Looks at the keys of vouched object `n` and at its key list, where it is a dictionary. Where all vouched objects were seen, keys
-/// that are texts by marker and count are texts. The key lists are a parameter of their own, since `look`, which lends them,
-/// changes meanwhile.
+/// that are texts by marker and count are texts.
 fn check_dict_order<P: Offsets>(
     src: &mut P,
     seen: &VouchedPrefix,
@@ -225,18 +220,13 @@ fn check_dict_order<P: Offsets>(
     n: u32,
     look: &mut ListLook,
 ) -> Result<(), ObjectFault>
-    requires all { length seen.now.heights.now ≡ (frame_in (P.means src.old)).objects }
-    requires within { n < (frame_in (P.means src.old)).objects }
-    requires starts { length keys.now.starts ≡ (frame_in (P.means src.old)).objects }
+    requires { n < (frame_in (P.means src.old)).objects }
     ensures reads { OnlyReads (read_failed result) (P.means src.old) (P.means src.new) }
-    ensures known { HonestlyIn (P.means src.old) (λ f F. AreKnown f F look.old.pairs → AreLow f look.old.low.slots
-        → OnOk result (AreKnown f F look.new.pairs × AreLow f look.new.low.slots)) }
-    ensures exact { HonestlyIn (P.means src.old) (λ f F. AreKnown f F look.old.pairs → AreLow f look.old.low.slots
-        → KeepsAll (KeepsByObject f F n) object_rules
-        → ((head : head) → HasHead f F n head → head.kind ≡ Dict → seen.now.bound ≡ F.objects → KeysAreSound f F head)
-        → Gives (λ _. HasGoodKeys f F (Some keys.now) n) (BreaksKeys f F F.objects (Some keys.now) n) result) }
+    ensures exact { HonestlyIn (P.means src.old) (λ f F. n < seen.now.bound → IsVouchedBy seen.now.heights.now n
+        → KeepBeforeKeysBelow f F seen.now.heights.now seen.now.bound → AreLearnt f F look.old
+        → Gives (λ _. AreLearnt f F look.new × HasGoodKeys f F (Some keys.now) n) (BreaksKeys f F F.objects (Some keys.now) n) result) }
 {
-    let _frame = src.frame();
+    let frame = src.frame();
     let head = object_shape(src, n)?;
     let Kind::Dict = head.kind else {
         return Ok(());
@@ -246,7 +236,7 @@ fn check_dict_order<P: Offsets>(
         head,
     };
     let good = has_good_list(src, keys, &dict, &mut look.pairs)?;
-    if good && seen.is_whole() {
+    if good && seen.bound == frame.objects {
         return Ok(());
     }
     check_texts(src, &mut look.low, &dict)?;
@@ -256,16 +246,17 @@ fn check_dict_order<P: Offsets>(
     check_order(src, keys, &dict, &mut look.pairs.runs)
 }
 
-/// Whether an object of this height may have keys, or a key list without keys that starts behind all of so many positions. An
-/// object of height 1 has no references.
-fn may_be_wrong(height: u32, start: u32, positions: usize) -> bool
-    ensures vouched { IsTrue result → 1 ≤ height }
-    ensures none { result ≡ false → 1 ≤ height → (height ≤ 1) × (start ≤ positions) }
+/// Whether object `n` is vouched for and may have keys, or a key list without keys that starts behind all positions. An object of
+/// height 1 has no references.
+fn may_be_wrong(heights: &[u32], keys: &KeyLists, n: u32) -> bool
+    ensures vouched { IsTrue result → IsVouchedBy heights.now n }
+    ensures none { result ≡ false → IsVouchedBy heights.now n → (slice_index heights.now n ≤ 1) × IsWhole keys.now n 0 }
 {
+    let height = height_at(heights, n as u64);
     if height != 1 {
         return height > 1;
     }
-    start as usize > positions
+    height_at(&keys.starts, n as u64) as usize > keys.positions.len()
 }
 
 /// Whether object `n`, which stands at `place`, has its keys in order in its key list, where it is a dictionary. Not inlined,
@@ -278,8 +269,7 @@ fn is_listed<P: Offsets>(
     place: u64,
     pairs: &mut OrderedPairs,
 ) -> Result<bool, ObjectFault>
-    requires within { n < (frame_in (P.means src.old)).objects }
-    requires starts { length keys.now.starts ≡ (frame_in (P.means src.old)).objects }
+    requires { n < (frame_in (P.means src.old)).objects }
     ensures reads { OnlyReads (read_failed result) (P.means src.old) (P.means src.new) }
     ensures exact { HonestlyIn (P.means src.old) (λ f F. AreKnown f F pairs.old → place ≡ off f F n
         → KeepsAll (KeepsByObject f F n) object_rules
@@ -295,38 +285,33 @@ fn is_listed<P: Offsets>(
     }
 }
 
-/// Looks at the key lists of the vouched dictionaries among the objects from number `from` on, which stand at these places, up
-/// to the first that is not good. Not inlined either, for the loop over all objects.
+/// Looks at the key lists of the vouched dictionaries among the objects after those that were seen, which stand at these places,
+/// up to the first that is not good. Not inlined either, for the loop over all objects.
 #[inline(never)]
 pub(crate) fn look_at_lists<P: Offsets>(
     src: &mut P,
-    heights: &[u32],
-    from: u32,
+    seen: &VouchedPrefix,
+    keys: &KeyLists,
     places: &[u64],
     look: &mut ListLook,
 ) -> Result<(), ObjectFault>
-    requires heights { length heights.now ≡ (frame_in (P.means src.old)).objects }
-    requires within { from + length places.now ≤ (frame_in (P.means src.old)).objects }
-    requires starts { length look.old.keys.now.starts ≡ (frame_in (P.means src.old)).objects }
+    requires { seen.now.bound + length places.now ≤ (frame_in (P.means src.old)).objects }
     ensures reads { OnlyReads (read_failed result) (P.means src.old) (P.means src.new) }
-    ensures keys { look.new.keys ≡ look.old.keys }
-    ensures exact { HonestlyIn (P.means src.old) (λ f F. ArePlaces f F from places.now
-        → KeepBeforeKeysBelow f F heights.now (from + length places.now)
-        → HaveGoodLists f F heights.now from look.old
-        → Gives (λ _. HaveGoodLists f F heights.now (from + length places.now) look.new) Never result) }
+    ensures exact { HonestlyIn (P.means src.old) (λ f F. ArePlaces f F seen.now.bound places.now
+        → KeepBeforeKeysBelow f F seen.now.heights.now (seen.now.bound + length places.now)
+        → HaveGoodLists f F seen.now.heights.now keys.now seen.now.bound look.old → Gives (λ _.
+        HaveGoodLists f F seen.now.heights.now keys.now (seen.now.bound + length places.now) look.new) Never result) }
 {
     if !look.good {
         return Ok(());
     }
     let _frame = src.frame();
-    let keys = look.keys;
-    let block = part_of(heights, from as usize, places.len());
-    let starts = part_of(&keys.starts, from as usize, places.len());
-    for (i, height) in block.iter().enumerate() {
-        if !may_be_wrong(*height, starts[i], keys.positions.len()) {
+    for (i, place) in places.iter().enumerate() {
+        let n = seen.bound + i as u32;
+        if !may_be_wrong(seen.heights, keys, n) {
             continue;
         }
-        if !is_listed(src, keys, from + i as u32, places[i], &mut look.pairs)? {
+        if !is_listed(src, keys, n, *place, &mut look.pairs)? {
             look.good = false;
             return Ok(());
         }
@@ -339,24 +324,21 @@ pub(crate) fn look_at_lists<P: Offsets>(
 pub(crate) fn check_key_orders<P: Offsets>(
     src: &mut P,
     seen: &VouchedPrefix,
+    keys: &KeyLists,
     look: &mut ListLook,
 ) -> Result<(), ObjectFault>
-    requires all { length seen.now.heights.now ≡ (frame_in (P.means src.old)).objects }
-    requires starts { length look.old.keys.now.starts ≡ (frame_in (P.means src.old)).objects }
+    requires { length seen.now.heights.now ≡ (frame_in (P.means src.old)).objects }
     ensures reads { OnlyReads (read_failed result) (P.means src.old) (P.means src.new) }
     ensures exact { HonestlyIn (P.means src.old) (λ f F. KeepBeforeKeysBelow f F seen.now.heights.now seen.now.bound
-        → HaveGoodLists f F seen.now.heights.now seen.now.bound look.old
-        → Gives (λ _. HaveGoodKeys f F seen.now.heights.now (Some look.old.keys.now) seen.now.bound)
-        (IsFirstKeysFault f F (lists seen.now.heights.now (Some look.old.keys.now)) seen.now.bound) result) }
+        → HaveGoodLists f F seen.now.heights.now keys.now seen.now.bound look.old
+        → Gives (λ _. HaveGoodKeys f F seen.now.heights.now (Some keys.now) seen.now.bound)
+        (IsFirstKeysFault f F (lists seen.now.heights.now (Some keys.now)) seen.now.bound) result) }
 {
-    let _frame = src.frame();
-    if look.good && seen.is_whole() {
+    if look.good && seen.bound == src.frame().objects {
         return Ok(());
     }
-    let keys = look.keys;
     for n in 0..seen.bound {
-        let start = keys.starts[n as usize];
-        if may_be_wrong(seen.heights[n as usize], start, keys.positions.len()) {
+        if may_be_wrong(seen.heights, keys, n) {
             check_dict_order(src, seen, keys, n, look)?;
         }
     }

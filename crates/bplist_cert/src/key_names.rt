@@ -3,8 +3,8 @@
 ghost use Rattle.std.specs.Prelude.{◌≡◌, ◌+◌, ◌<◌, ◌≤◌, ℕ, IfOk, IfSome, length};
 ghost use Rattle.bplist_cert.specs.Prelude.{OnlyReads, Gives, Never, read_failed, off, frame_in, HonestlyIn, KeepsAll, KeepsByObject, object_rules, HasNamedKeys, HaveNamedKeys, ArePlaces, IsMarked, IsVouchedBy, KeepBeforeKeysBelow, Judges, refused_read};
 
+use crate::heights::height_at;
 use crate::refusal::Refusal;
-use crate::vouched_prefix::VouchedPrefix;
 use bplist_keys::{NamedKeys, name_keys};
 use bplist_objects::{Framed, Kind, ObjectFault, ObjectNo, read_offsets_in, shape_in};
 use std::alloc::Global;
@@ -21,13 +21,12 @@ fn name_object<P: Framed>(
     place: u64,
     named: &mut NamedKeys,
 ) -> Result<(), ObjectFault>
-    requires within { n < (frame_in (P.means src.old)).objects }
-    requires all { length named.old.marks.items ≡ (frame_in (P.means src.old)).objects }
+    requires { n < (frame_in (P.means src.old)).objects }
     ensures reads { OnlyReads (read_failed result) (P.means src.old) (P.means src.new) }
-    ensures all { length named.new.marks.items ≡ (frame_in (P.means src.old)).objects }
+    ensures all { length named.new.marks.items ≡ length named.old.marks.items }
     ensures keeps { (m : ℕ) → IsMarked named.old.marks.items m → IsMarked named.new.marks.items m }
     ensures exact { HonestlyIn (P.means src.old) (λ f F. place ≡ off f F n → KeepsAll (KeepsByObject f F n) object_rules
-        → Gives (λ _. HasNamedKeys f F named.new.marks.items n) Never result) }
+        → length named.old.marks.items ≡ F.objects → Gives (λ _. HasNamedKeys f F named.new.marks.items n) Never result) }
 {
     let head = shape_in(src, ObjectNo(n), place)?;
     match head.kind {
@@ -45,11 +44,9 @@ pub(crate) fn name_block<P: Framed>(
     places: &[u64],
     named: &mut NamedKeys,
 ) -> Result<(), ObjectFault>
-    requires heights { length heights.now ≡ (frame_in (P.means src.old)).objects }
-    requires within { from + length places.now ≤ (frame_in (P.means src.old)).objects }
-    requires all { length named.old.marks.items ≡ (frame_in (P.means src.old)).objects }
+    requires { from + length places.now ≤ (frame_in (P.means src.old)).objects }
     ensures reads { OnlyReads (read_failed result) (P.means src.old) (P.means src.new) }
-    ensures all { length named.new.marks.items ≡ (frame_in (P.means src.old)).objects }
+    ensures all { length named.new.marks.items ≡ length named.old.marks.items }
     ensures exact { HonestlyIn (P.means src.old) (λ f F. ArePlaces f F from places.now
         → KeepBeforeKeysBelow f F heights.now (from + length places.now) → HaveNamedKeys f F heights.now from named.old.marks.items
         → Gives (λ _. HaveNamedKeys f F heights.now (from + length places.now) named.new.marks.items) Never result) }
@@ -57,40 +54,42 @@ pub(crate) fn name_block<P: Framed>(
     let _frame = src.frame();
     for (i, place) in places.iter().enumerate() {
         let n = from + i as u32;
-        if heights[n as usize] > 1 {
+        if height_at(heights, n as u64) > 1 {
             name_object(src, n, *place, named)?;
         }
     }
     Ok(())
 }
 
-/// The objects that the vouched dictionaries which were seen name as keys, which are given or found.
+/// The objects that the vouched dictionaries below `bound` name as keys. They are given, with a mark for each object, or found.
 pub(crate) fn seen_keys<P: Framed>(
     alloc: Global,
     src: &mut P,
-    seen: &VouchedPrefix,
+    heights: &[u32],
+    bound: u32,
     given: Option<NamedKeys>,
 ) -> Result<NamedKeys, Refusal>
-    requires heights { length seen.now.heights.now ≡ (frame_in (P.means src.old)).objects }
-    requires given { IfSome given (λ keys. length keys.marks.items ≡ (frame_in (P.means src.old)).objects) }
+    requires { bound ≤ (frame_in (P.means src.old)).objects }
     ensures reads { OnlyReads (refused_read result) (P.means src.old) (P.means src.new) }
     ensures all { IfOk result (λ named. length named.marks.items ≡ (frame_in (P.means src.old)).objects) }
-    ensures exact { HonestlyIn (P.means src.old) (λ f F. KeepBeforeKeysBelow f F seen.now.heights.now seen.now.bound
-        → IfSome given (λ keys. HaveNamedKeys f F seen.now.heights.now seen.now.bound keys.marks.items)
-        → Judges (λ named. HaveNamedKeys f F seen.now.heights.now seen.now.bound named.marks.items) Never result) }
+    ensures exact { HonestlyIn (P.means src.old) (λ f F. KeepBeforeKeysBelow f F heights.now bound
+        → IfSome given (λ keys. HaveNamedKeys f F heights.now bound keys.marks.items)
+        → Judges (λ named. HaveNamedKeys f F heights.now bound named.marks.items) Never result) }
 {
-    if let Some(named) = given {
-        return Ok(named);
-    }
     let objects = src.frame().objects;
+    if let Some(named) = given {
+        if named.marks.len() == objects as usize {
+            return Ok(named);
+        }
+    }
     let mut named = NamedKeys::new(alloc, objects)?;
     let mut buffer = [0u64; BLOCK];
     let mut done = 0u32;
-    while done < seen.bound {
-        let now = (seen.bound - done).min(BLOCK as u32);
+    while done < bound {
+        let now = (bound - done).min(BLOCK as u32);
         let places = &mut buffer[..now as usize];
         read_offsets_in(src, done, places)?;
-        name_block(src, seen.heights, done, places, &mut named)?;
+        name_block(src, heights, done, places, &mut named)?;
         done += now;
     }
     Ok(named)
@@ -108,9 +107,6 @@ pub fn vouched_keys<P: Framed>(
     ensures exact { HonestlyIn (P.means src.old) (λ f F. KeepBeforeKeysBelow f F heights.now F.objects
         → Judges (λ named. (n : ℕ) → IsVouchedBy heights.now n → HasNamedKeys f F named.marks.items n) Never result) }
 {
-    let seen = VouchedPrefix {
-        heights,
-        bound: src.frame().objects,
-    };
-    seen_keys(alloc, src, &seen, None)
+    let bound = src.frame().objects;
+    seen_keys(alloc, src, heights, bound, None)
 }

@@ -1,6 +1,6 @@
 //! Pairs of texts that were found in order, so that dictionaries which share keys do not compare them again.
 
-ghost use Rattle.std.specs.Prelude.{◌≡◌, ◌+◌, ◌*◌, ◌<◌, ℕ, List, IsTrue};
+ghost use Rattle.std.specs.Prelude.{◌≡◌, ◌+◌, ◌*◌, ℕ, List, IsTrue};
 ghost use Rattle.bplist_cert.specs.Prelude.{Frame as frame, Ascends, AreKnown};
 
 use bplist_keys::Runs;
@@ -23,13 +23,6 @@ fn pair_of(a: u32, b: u32) -> u64
     a as u64 * 4_294_967_296 + b as u64
 }
 
-/// The slot of a pair.
-fn slot_of(pair: u64) -> usize
-    ensures { result < 2039 }
-{
-    (pair % SLOTS as u64) as usize
-}
-
 impl OrderedPairs {
     /// No pairs yet.
     pub(crate) fn new() -> OrderedPairs
@@ -46,10 +39,7 @@ impl OrderedPairs {
         ensures { (f : List ℕ) (F : frame) → AreKnown f F self.now → IsTrue result → Ascends f F a b }
     {
         let pair = pair_of(a, b);
-        if pair == 0 || self.slots[slot_of(pair)] != pair {
-            return false;
-        }
-        true
+        pair != 0 && self.slots[(pair % SLOTS as u64) as usize] == pair
     }
 
     /// Keeps that objects `a` and `b` are texts in this order.
@@ -57,6 +47,6 @@ impl OrderedPairs {
         ensures { (f : List ℕ) (F : frame) → AreKnown f F self.old → Ascends f F a b → AreKnown f F self.new }
     {
         let pair = pair_of(a, b);
-        self.slots[slot_of(pair)] = pair;
+        self.slots[(pair % SLOTS as u64) as usize] = pair;
     }
 }

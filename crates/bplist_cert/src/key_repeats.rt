@@ -1,14 +1,14 @@
 //! Whether the keys of vouched dictionaries are texts that differ, by the classes of the texts: rules 21 and 22.
 
 ghost use Rattle.std.specs.Prelude.{◌≡◌, ◌<◌, None, IfOk, IfSome, length};
-ghost use Rattle.bplist_cert.specs.Prelude.{OnlyReads, frame_in, HonestlyIn, HasHead, KeepsAll, KeepsByObject, object_rules, Head as head, Dict, HaveNamedKeys, AreClassed, IsStamped, IsNew, AreClasses, failed_to_read, lists, KeepBeforeKeysBelow, AreLow, Honestly, KeysAreSound, HasGoodKeys, HaveGoodKeys, BreaksKeys, IsFirstKeysFault, Judges, refused_read};
+ghost use Rattle.bplist_cert.specs.Prelude.{OnlyReads, frame_in, HonestlyIn, HasHead, Head as head, Dict, HaveNamedKeys, AreClassed, IsStamped, IsNew, AreClasses, failed_to_read, lists, KeepBeforeKeysBelow, AreLow, IsVouchedBy, HasGoodKeys, HaveGoodKeys, BreaksKeys, IsFirstKeysFault, Judges, refused_read};
 
-use crate::dictionary::Dictionary;
-use crate::key_kinds::{check_texts, keyless};
+use crate::heights::height_at;
+use crate::key_kinds::{Dictionary, check_texts, keyless};
 use crate::key_names::seen_keys;
+use crate::keys_look::VouchedPrefix;
 use crate::low_bytes::LowBytes;
 use crate::refusal::Refusal;
-use crate::vouched_prefix::VouchedPrefix;
 use bplist_keys::{
     ClassTable, Failure, KeyDefect, NamedKeys, OffsetTable, Offsets, Ranks, classes_of,
     object_shape, offsets_of, ranks_of,
@@ -40,8 +40,7 @@ fn key_classes<P: Offsets>(
     ensures exact { HonestlyIn (P.means src.old) (λ f F.
         IfOk result (λ ranks. AreClasses f F named.marks.items ranks.table.items)) }
 {
-    let _frame = src.frame();
-    if seen.is_whole() {
+    if seen.bound == src.frame().objects {
         return classes_of(alloc, src, named);
     }
     ranks_of(alloc, src, named)
@@ -56,19 +55,17 @@ fn check_dict_repeats<P: Offsets>(
     n: u32,
     look: &mut ClassLook,
 ) -> Result<(), Refusal>
-    requires all { length seen.now.heights.now ≡ (frame_in (P.means src.old)).objects }
-    requires within { n < (frame_in (P.means src.old)).objects }
+    requires { n < (frame_in (P.means src.old)).objects }
     ensures reads { OnlyReads (refused_read result) (P.means src.old) (P.means src.new) }
     ensures same { look.new.table.classes.table.items ≡ look.old.table.classes.table.items }
-    ensures low { Honestly (P.means src.old) (λ f. AreLow f look.old.low.slots → AreLow f look.new.low.slots) }
     ensures stamped { IsStamped n look.old.table.seen.items look.new.table.seen.items }
-    ensures exact { HonestlyIn (P.means src.old) (λ f F. KeepsAll (KeepsByObject f F n) object_rules → IsNew look.old.table.seen.items n
-        → AreLow f look.old.low.slots
-        → ((head : head) → HasHead f F n head → head.kind ≡ Dict
-        → AreClassed f F look.old.table.classes.table.items head × (seen.now.bound ≡ F.objects → KeysAreSound f F head))
-        → Judges (λ _. HasGoodKeys f F None n) (BreaksKeys f F F.objects None n) result) }
+    ensures exact { HonestlyIn (P.means src.old) (λ f F. n < seen.now.bound → IsVouchedBy seen.now.heights.now n
+        → KeepBeforeKeysBelow f F seen.now.heights.now seen.now.bound
+        → ((head : head) → HasHead f F n head → head.kind ≡ Dict → AreClassed f F look.old.table.classes.table.items head)
+        → IsNew look.old.table.seen.items n → AreLow f look.old.low.slots
+        → Judges (λ _. AreLow f look.new.low.slots × HasGoodKeys f F None n) (BreaksKeys f F F.objects None n) result) }
 {
-    let _frame = src.frame();
+    let frame = src.frame();
     let head = object_shape(src, n)?;
     let Kind::Dict = head.kind else {
         return Ok(());
@@ -78,7 +75,7 @@ fn check_dict_repeats<P: Offsets>(
         head,
     };
     let found = look.table.first_wrong(src, n, &dict.head)?;
-    if found.is_none() && seen.is_whole() {
+    if found.is_none() && seen.bound == frame.objects {
         return Ok(());
     }
     check_texts(src, &mut look.low, &dict)?;
@@ -116,7 +113,7 @@ fn check_named<P: Offsets>(
         low: LowBytes::new(src.len()),
     };
     for n in 0..seen.bound {
-        if seen.heights[n as usize] > 1 {
+        if height_at(seen.heights, n as u64) > 1 {
             check_dict_repeats(src, seen, n, &mut look)?;
         }
     }
@@ -133,8 +130,7 @@ pub(crate) fn check_key_repeats<P: Offsets>(
     seen: &VouchedPrefix,
     named: Option<NamedKeys>,
 ) -> Result<(), Refusal>
-    requires heights { length seen.now.heights.now ≡ (frame_in (P.means src.old)).objects }
-    requires named { IfSome named (λ keys. length keys.marks.items ≡ (frame_in (P.means src.old)).objects) }
+    requires { length seen.now.heights.now ≡ (frame_in (P.means src.old)).objects }
     ensures reads { OnlyReads (refused_read result) (P.means src.old) (P.means src.new) }
     ensures exact { HonestlyIn (P.means src.old) (λ f F. KeepBeforeKeysBelow f F seen.now.heights.now seen.now.bound
         → IfSome named (λ keys. HaveNamedKeys f F seen.now.heights.now seen.now.bound keys.marks.items)
@@ -142,7 +138,7 @@ pub(crate) fn check_key_repeats<P: Offsets>(
         (IsFirstKeysFault f F (lists seen.now.heights.now None) seen.now.bound) result) }
 {
     let frame = src.frame();
-    let named = seen_keys(alloc, src, seen, named)?;
+    let named = seen_keys(alloc, src, seen.heights, seen.bound, named)?;
     let keys = named.count();
     if keys == 0 {
         return Ok(());

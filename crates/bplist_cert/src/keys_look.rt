@@ -1,83 +1,85 @@
 //! What a walk over the vouched objects finds of the keys of dictionaries.
 
 ghost use Rattle.std.specs.Prelude.{◌≡◌, ◌+◌, ◌≤◌, ℕ, List, None, IfOk, IfErr, length};
-ghost use Rattle.bplist_cert.specs.Prelude.{OnlyReads, Gives, Never, read_failed, frame_in, HonestlyIn, Frame as frame, HasCount, lists, ArePlaces, KeepBeforeKeysBelow, HaveGoodKeys, IsFirstKeysFault, Judges, MayRefuse, refused_read, keys_of, IsLookOf, AreSeen};
+ghost use Rattle.bplist_cert.specs.Prelude.{OnlyReads, Gives, Never, read_failed, frame_in, HonestlyIn, Frame as frame, Lists, lists, ArePlaces, KeepBeforeKeysBelow, HaveGoodKeys, IsFirstKeysFault, Judges, MayRefuse, refused_read, AreSeen};
 
 use crate::certificate::KeyLists;
 use crate::key_lists::{ListLook, check_key_orders, look_at_lists};
 use crate::key_names::name_block;
 use crate::key_repeats::check_key_repeats;
 use crate::refusal::Refusal;
-use crate::vouched_prefix::VouchedPrefix;
 use bplist_keys::{NamedKeys, Offsets};
-use bplist_objects::ObjectFault;
+use bplist_objects::{Framed, ObjectFault};
 use std::alloc::{AllocError, Global};
+
+/// The vouched objects with numbers below `bound`, which keep the rules before those of keys, and the key lists beside them.
+#[derive(Drop)]
+pub(crate) struct VouchedPrefix<'a> {
+    pub heights: &'a [u32],
+    pub keys: &'a Option<KeyLists>,
+    pub bound: u32,
+    pub ghost within: { bound ≤ length heights.now },
+}
 
 /// What a walk over the vouched objects finds of the keys of dictionaries.
 #[derive(Drop)]
-pub(crate) enum KeysLook<'a> {
+pub(crate) struct KeysLook {
     /// The objects that are named as keys, where they are to be found: for version 1.
-    Named(Option<NamedKeys>),
+    pub named: Option<NamedKeys>,
     /// Whether the key lists are good: for version 2.
-    Listed(ListLook<'a>),
+    pub lists: ListLook,
 }
 
-/// The look with which a walk begins, over a file of so many objects and bytes.
-pub(crate) fn keys_look(
+/// The look with which a walk begins.
+pub(crate) fn keys_look<P: Framed>(
     alloc: Global,
-    objects: u32,
-    len: u64,
+    src: &P,
     keys: &Option<KeyLists>,
 ) -> Result<KeysLook, AllocError>
-    requires { HasCount keys.now objects }
-    ensures keys { IfOk result (λ look. keys_of look ≡ keys.now) }
-    ensures all { IfOk result (IsLookOf objects) }
-    ensures none { IfOk result (λ look. (f : List ℕ) (F : frame) (heights : List ℕ) → AreSeen f F heights 0 look) }
+    ensures none { HonestlyIn (P.means src.now) (λ f F. IfOk result (λ look. (heights : List ℕ) → AreSeen f F (lists heights keys.now) 0 look)) }
     ensures memory { IfErr result (λ _. keys.now ≡ None) }
 {
-    match keys {
-        None => Ok(KeysLook::Named(Some(NamedKeys::new(alloc, objects)?))),
-        Some(keys) => Ok(KeysLook::Listed(ListLook::new(keys, len))),
-    }
+    let objects = src.frame().objects;
+    let named = match keys {
+        None => Some(NamedKeys::new(alloc, objects)?),
+        Some(_) => None,
+    };
+    Ok(KeysLook {
+        named,
+        lists: ListLook::new(src.len()),
+    })
 }
 
-impl KeysLook<'_> {
+impl KeysLook {
     /// What was found counts no more, and a walk looks at no keys.
     pub(crate) fn forget(&mut self)
-        ensures keys { keys_of self.new ≡ keys_of self.old }
-        ensures all { (objects : ℕ) → IsLookOf objects self.old → IsLookOf objects self.new }
-        ensures none { (f : List ℕ) (F : frame) (heights : List ℕ) (bound : ℕ) → AreSeen f F heights 0 self.old
-            → AreSeen f F heights bound self.new }
+        ensures { (f : List ℕ) (F : frame) (certificate : Lists) (bound : ℕ) → AreSeen f F certificate 0 self.old
+            → AreSeen f F certificate bound self.new }
     {
-        match self {
-            KeysLook::Named(named) => *named = None,
-            KeysLook::Listed(look) => look.good = false,
-        }
+        self.named = None;
+        self.lists.good = false;
     }
 
-    /// Looks at the keys of the vouched dictionaries among the objects from number `from` on, which stand at these places.
+    /// Looks at the keys of the vouched dictionaries among the objects after those that were seen, which stand at these places.
     pub(crate) fn look<P: Offsets>(
         &mut self,
         src: &mut P,
-        heights: &[u32],
-        from: u32,
+        seen: &VouchedPrefix,
         places: &[u64],
     ) -> Result<(), ObjectFault>
-        requires heights { length heights.now ≡ (frame_in (P.means src.old)).objects }
-        requires within { from + length places.now ≤ (frame_in (P.means src.old)).objects }
-        requires all { IsLookOf (frame_in (P.means src.old)).objects self.old }
+        requires { seen.now.bound + length places.now ≤ (frame_in (P.means src.old)).objects }
         ensures reads { OnlyReads (read_failed result) (P.means src.old) (P.means src.new) }
-        ensures keys { keys_of self.new ≡ keys_of self.old }
-        ensures all { IsLookOf (frame_in (P.means src.old)).objects self.new }
-        ensures exact { HonestlyIn (P.means src.old) (λ f F. ArePlaces f F from places.now
-            → KeepBeforeKeysBelow f F heights.now (from + length places.now)
-            → AreSeen f F heights.now from self.old
-            → Gives (λ _. AreSeen f F heights.now (from + length places.now) self.new) Never result) }
+        ensures exact { HonestlyIn (P.means src.old) (λ f F. ArePlaces f F seen.now.bound places.now
+            → KeepBeforeKeysBelow f F seen.now.heights.now (seen.now.bound + length places.now)
+            → AreSeen f F (lists seen.now.heights.now seen.now.keys.now) seen.now.bound self.old
+            → Gives (λ _. AreSeen f F (lists seen.now.heights.now seen.now.keys.now) (seen.now.bound + length places.now) self.new) Never result) }
     {
-        match self {
-            KeysLook::Named(Some(named)) => name_block(src, heights, from, places, named),
-            KeysLook::Named(None) => Ok(()),
-            KeysLook::Listed(look) => look_at_lists(src, heights, from, places, look),
+        match seen.keys {
+            None => match &mut self.named {
+                Some(named) => name_block(src, seen.heights, seen.bound, places, named),
+                None => Ok(()),
+            },
+            Some(keys) => look_at_lists(src, seen, keys, places, &mut self.lists),
         }
     }
 
@@ -88,18 +90,17 @@ impl KeysLook<'_> {
         src: &mut P,
         seen: &VouchedPrefix,
     ) -> Result<(), Refusal>
-        requires heights { length seen.now.heights.now ≡ (frame_in (P.means src.old)).objects }
-        requires all { IsLookOf (frame_in (P.means src.old)).objects self.old }
+        requires { length seen.now.heights.now ≡ (frame_in (P.means src.old)).objects }
         ensures reads { OnlyReads (refused_read result) (P.means src.old) (P.means src.new) }
-        ensures memory { IfErr result (MayRefuse (keys_of self.old)) }
+        ensures memory { IfErr result (MayRefuse seen.now.keys.now) }
         ensures exact { HonestlyIn (P.means src.old) (λ f F. KeepBeforeKeysBelow f F seen.now.heights.now seen.now.bound
-            → AreSeen f F seen.now.heights.now seen.now.bound self.old
-            → Judges (λ _. HaveGoodKeys f F seen.now.heights.now (keys_of self.old) seen.now.bound)
-            (IsFirstKeysFault f F (lists seen.now.heights.now (keys_of self.old)) seen.now.bound) result) }
+            → AreSeen f F (lists seen.now.heights.now seen.now.keys.now) seen.now.bound self.old
+            → Judges (λ _. HaveGoodKeys f F seen.now.heights.now seen.now.keys.now seen.now.bound)
+            (IsFirstKeysFault f F (lists seen.now.heights.now seen.now.keys.now) seen.now.bound) result) }
     {
-        match self {
-            KeysLook::Named(named) => check_key_repeats(alloc, src, seen, named.take()),
-            KeysLook::Listed(look) => Ok(check_key_orders(src, seen, look)?),
+        match seen.keys {
+            None => check_key_repeats(alloc, src, seen, self.named.take()),
+            Some(keys) => Ok(check_key_orders(src, seen, keys, &mut self.lists)?),
         }
     }
 }

@@ -1,8 +1,7 @@
 //! Laws of the definitions: each is the contract of a function that does nothing.
 
 ghost use Rattle.std.specs.Prelude.{◌≡◌, ◌⊎◌, ℕ, ◌<◌, List, length, slice_index, Bool};
-ghost use Rattle.bplist_cert.specs.Prelude.{OnlyReads, Frame as frame, Head as head, Value, Content, Spells, Holds, Chain, Reach, Refs, Lists, IsCertificate, octets_of, IsVouchedBy, IsValid, HoldsOneValue, SpellsText, IsSorted, IsAccepted, KeysAreTexts, KeysDiffer, AreInOrder, IsPairFault, CheckedFile, meaning_of};
-ghost use Rattle.bplist_objects.specs.declared.fault.Fault.{Fault as fault};
+ghost use Rattle.bplist_cert.specs.Prelude.{OnlyReads, Fault as fault, Frame as frame, Head as head, Value, Content, Spells, Holds, Chain, Reach, Refs, Lists, IsCertificate, octets_of, IsVouchedBy, IsValid, HoldsOneValue, SpellsText, IsSorted, IsAccepted, KeysAreTexts, KeysDiffer, AreInOrder, IsPairFault, CheckedFile, meaning_of};
 
 /// Two certificates with the same bytes are the same.
 pub fn one_certificate()

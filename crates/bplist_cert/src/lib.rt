@@ -27,9 +27,7 @@ mod certificate;
 mod checked;
 mod checker;
 mod decoding;
-mod dictionary;
 mod encoding;
-mod extents;
 mod heights;
 mod key_kinds;
 mod key_lists;
@@ -42,7 +40,6 @@ mod keys_look;
 mod laws;
 mod low_bytes;
 mod refusal;
-mod vouched_prefix;
 
 pub use certificate::{CertRefusal, Certificate, KeyLists};
 pub use checked::Checked;

@@ -25,19 +25,6 @@ pub(crate) struct LowBytes {
     part: u64,
 }
 
-/// Whether the bytes from one place up to before another are below 128.
-fn is_low<S: Source>(src: &mut S, from: u64, to: u64) -> Result<bool, ReadFault>
-    requires order { from ≤ to }
-    requires within { to ≤ length (S.means src.old).octets }
-    ensures reads { OnlyReads (is_err result) (S.means src.old) (S.means src.new) }
-    ensures exact { IfOk result (λ low. Honestly (S.means src.old) (λ f. IsTrue low ↔ IsLow f from to)) }
-{
-    match first_high_in(src, from, to - from)? {
-        Some(_) => Ok(false),
-        None => Ok(true),
-    }
-}
-
 /// One stretch of two: both together where they meet, and else the longer.
 fn joined(known: Stretch, found: Stretch) -> Stretch
     ensures { (f : List ℕ) → IsLow f known.from known.to → IsLow f found.from found.to → IsLow f result.from result.to }
@@ -66,13 +53,6 @@ impl LowBytes {
         }
     }
 
-    /// The slot of the part that this place lies in.
-    fn slot_of(&self, place: u64) -> usize
-        ensures { result < 256 }
-    {
-        (place / (self.part.max(1)) % SLOTS as u64) as usize
-    }
-
     /// Whether the bytes from one place up to before another are below 128. Those are read that are not known to be.
     pub(crate) fn covers<S: Source>(
         &mut self,
@@ -83,14 +63,17 @@ impl LowBytes {
         requires order { from ≤ to }
         requires within { to ≤ length (S.means src.old).octets }
         ensures reads { OnlyReads (is_err result) (S.means src.old) (S.means src.new) }
-        ensures low { Honestly (S.means src.old) (λ f. AreLow f self.old.slots → AreLow f self.new.slots) }
-        ensures exact { IfOk result (λ low. Honestly (S.means src.old) (λ f. AreLow f self.old.slots → IsTrue low ↔ IsLow f from to)) }
+        ensures exact { Honestly (S.means src.old) (λ f. AreLow f self.old.slots
+            → IfOk result (λ low. AreLow f self.new.slots × (IsTrue low ↔ IsLow f from to))) }
     {
-        let slot = self.slot_of(from);
+        // The slot of the part that the first byte lies in.
+        let slot = (from / self.part.max(1) % SLOTS as u64) as usize;
         let known = self.slots[slot];
         let begin = known.from.max(from).min(to);
         let end = known.to.max(begin).min(to);
-        if !is_low(src, from, begin)? || !is_low(src, end, to)? {
+        if first_high_in(src, from, begin - from)?.is_some()
+            || first_high_in(src, end, to - end)?.is_some()
+        {
             return Ok(false);
         }
         self.slots[slot] = joined(known, Stretch { from, to });

@@ -1,8 +1,8 @@
 //! Why a certificate is refused.
 
 ghost use Rattle.std.specs.Prelude.{◌≡◌};
-ghost use Rattle.bplist_cert.specs.Prelude.{Read, refusal_of, refusal_of_keys};
-ghost use Rattle.bplist_cert.specs.declared.refusal.Refusal.TheVariants.{Memory, Fault as is_fault};
+ghost use Rattle.bplist_cert.specs.Prelude.{Memory, Read, refusal_of, refusal_of_keys};
+ghost use Rattle.bplist_cert.specs.declared.refusal.Refusal.TheVariants.{Fault as is_fault};
 
 use bplist_keys::Failure;
 use bplist_objects::{Fault, ObjectFault};

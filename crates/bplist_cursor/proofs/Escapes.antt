@@ -1,10 +1,11 @@
 -- Path texts and their loose `~`, as lists of characters.
 use Rattle.std.proofs.Common.{◌≡◌, ◌≢◌, ◌⊎◌, inl, inr, ℕ, zero, suc, ◌<◌, ◌==◌, Bool, true, false, cond, List, [], ◌∷◌, ◌++◌, arith, length, take, drop, flat_map, refl, sym, ap, ◌∙◌, subst, append_assoc, append-nil}
 use Rattle.std.specs.Prelude.{encode_utf8_all, slice_get, Some, None}
+use Rattle.std.specs.Str.{chars}
 use Rattle.std.proofs.Math.Seq.{drop-append_seam, take-append_seam, drop-nil}
 use Rattle.std.proofs.lemmas.Bool.{cases_lt}
 use Rattle.std.proofs.lemmas.Bool.Decides.{nat_tests}
-use Rattle.bplist_cursor.specs.Path.{escaped, IsLoose, IsWrong, IsWrongAt}
+use Rattle.bplist_cursor.specs.Path.{escaped, IsPathOf, IsLoose, IsWrong, IsNoPath}
 use Rattle.bplist_cursor.specs.Tokens.{IsClosed}
 
 -- the path text of tokens
@@ -54,15 +55,6 @@ closed_written (t ∷ ts) xs closed =
     closed-cons 0x2F ((flat_map escaped t ++ written ts) ++ xs) (λ e. omega (arith, e))
     (subst IsClosed (sym (append_assoc (flat_map escaped t) (written ts) xs)) (closed_token t (written ts ++ xs) (closed_written ts xs closed)))
 
--- a loose `~` behind what has none, in characters that begin with `/`
-pub first_wrong : (cs front tail rest : List ℕ) → cs ≡ front ++ tail → cs ≡ 0x2F ∷ rest → IsClosed front → IsLoose tail → IsWrongAt cs (length (encode_utf8_all front))
-first_wrong cs front tail rest is begins closed loose = record {
-  before = length front;
-  wrong = inr (subst IsLoose (sym (ap (drop (length front)) is ∙ drop-append_seam front tail)) loose);
-  first = λ k low w. elim w [ inl other ↦ other.2 (ap (λ xs. slice_get xs 0) begins) | inr l ↦ closed tail k low (subst (λ xs. IsLoose (drop k xs)) is l) ];
-  counted = ap (λ xs. length (encode_utf8_all xs)) (sym (ap (take (length front)) is ∙ take-append_seam front tail));
-}
-
 loose_within : (cs : List ℕ) (k : ℕ) → IsLoose (drop k cs) → k < length cs
 loose_within [] k loose = let none : None ≡ Some 0x7E = (subst IsLoose (drop-nil k) loose).0 in absurd (cc none)
 loose_within (c ∷ cs) zero loose = omega arith
@@ -82,6 +74,22 @@ pub written_not_wrong : (cs : List ℕ) (k : ℕ) (tokens : List (List ℕ)) →
 written_not_wrong cs k [] (inl other) is = let long = ap length is in omega (arith, long, other.1)
 written_not_wrong cs k (t ∷ ts) (inl other) is = other.2 (ap (λ xs. slice_get xs 0) is)
 written_not_wrong cs k tokens (inr loose) is = written_not_loose cs k tokens loose is
+
+-- so it spells no steps
+pub wrong_no_path : (text : List ℕ) (k : ℕ) → IsWrong (chars text) k → (steps : List (List ℕ)) → ¬ IsPathOf text steps
+wrong_no_path text k wrong steps (tokens, spelled, _) = written_not_wrong (chars text) k tokens wrong spelled
+
+-- a loose `~` behind what has none, in characters that begin with `/`
+pub first_wrong : (text front tail rest : List ℕ) → chars text ≡ front ++ tail → chars text ≡ 0x2F ∷ rest → IsClosed front → IsLoose tail → IsNoPath text (length (encode_utf8_all front))
+first_wrong text front tail rest is begins closed loose =
+    let wrong : IsWrong (chars text) (length front) = inr (subst IsLoose (sym (ap (drop (length front)) is ∙ drop-append_seam front tail)) loose) in
+    record {
+      none = wrong_no_path text (length front) wrong;
+      before = length front;
+      wrong = wrong;
+      first = λ k low w. elim w [ inl other ↦ other.2 (ap (λ xs. slice_get xs 0) begins) | inr l ↦ closed tail k low (subst (λ xs. IsLoose (drop k xs)) is l) ];
+      counted = ap (λ xs. length (encode_utf8_all xs)) (sym (ap (take (length front)) is ∙ take-append_seam front tail));
+    }
 
 -- the escape of one character says which it is
 
@@ -161,10 +169,10 @@ same_written (t ∷ ts) (u ∷ us) e =
     cc
 
 -- a text is wrong at one byte
-pub same_place : (cs : List ℕ) (p q : ℕ) → IsWrongAt cs p → IsWrongAt cs q → p ≡ q
-same_place cs p q f g = elim (order f.before g.before) [
+pub same_place : (text : List ℕ) (p q : ℕ) → IsNoPath text p → IsNoPath text q → p ≡ q
+same_place text p q f g = elim (order f.before g.before) [
   | inl less ↦ absurd (g.first f.before less f.wrong)
-  | inr (inl is) ↦ f.counted ∙ ap (λ k. length (encode_utf8_all (take k cs))) is ∙ sym g.counted
+  | inr (inl is) ↦ f.counted ∙ ap (λ k. length (encode_utf8_all (take k (chars text)))) is ∙ sym g.counted
   | inr (inr more) ↦ absurd (f.first g.before more g.wrong)
 ]
   where

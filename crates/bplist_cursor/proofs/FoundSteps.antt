@@ -11,10 +11,10 @@ use Rattle.bplist_objects.proofs.Fronts.{one_head}
 use Rattle.bplist_cert.proofs.VouchedObjects.{object_holds, references_lower}
 use Rattle.bplist_cert.specs.Valid.{IsVouchedBy, IsValid}
 use Rattle.bplist_cert.specs.CheckedFile.{CheckedFile, IsChecked}
-use Rattle.bplist_cursor.specs.Look.{stepped, look, look_from}
-use Rattle.bplist_cursor.specs.Leads.{Leads}
-use Rattle.bplist_cursor.specs.Found.{LeadTo, IsHeld}
-use Rattle.bplist_cursor.specs.KeySearch.{halvings, halvings_at, RisesAtMost}
+use Rattle.bplist_cursor.specs.Look.{stepped, look}
+use Rattle.bplist_cursor.specs.Leads.{LeadTo}
+use Rattle.bplist_cursor.specs.Found.{IsHeld}
+use Rattle.bplist_cursor.specs.KeySearch.{halvings, RisesAtMost}
 use Rattle.bplist_cursor.specs.declared.found.Why.{Why}
 use Rattle.std.specs.Bool.{⊤}
 use Rattle.bplist_cursor.specs.Causes.{GivesCursor, read_failed}
@@ -25,6 +25,7 @@ use Rattle.bplist_cursor.specs.declared.faults.Unread.{Unread}
 use Rattle.bplist_cursor.specs.declared.faults.Unread.TheVariants as unread
 use Rattle.bplist_cursor.specs.declared.faults.CursorFault.{CursorFault}
 use Rattle.bplist_cursor.proofs.Counts.{few_refs}
+use Rattle.bplist_cursor.proofs.IndexSteps.{halvings_here}
 use Rattle.bplist_cursor.proofs.StepObjects.{leads_held}
 use Rattle.bplist_cursor.proofs.StepReferences.{taken_there}
 
@@ -45,7 +46,7 @@ module _ (checked : CheckedFile) where
   -- after k steps, with so many comparisons made since: at object n
   pub record Along (v : Value) (steps : List (List ℕ)) (k n before comparisons : ℕ) : Type 0 where
     pub value : Value
-    pub led : look_from k value (drop k steps) ≡ look v steps
+    pub led : look k value (drop k steps) ≡ look 0 v steps
     pub holds : IsHeld checked n value
     pub leads : (m : ℕ) → LeadTo checked.source.octets checked.frame n (drop k steps) m → LeadTo checked.source.octets checked.frame checked.frame.top.0 steps m
     pub spent : RisesAtMost checked (before + halvings v steps) (comparisons + halvings value (drop k steps)) 0
@@ -79,48 +80,51 @@ module _ (checked : CheckedFile) (is : IsChecked checked) (honest : IsTrue check
   begin v steps before h = record { value = v; led = refl; holds = (top_vouched, h); leads = λ m l. l; spent = λ keyed e. omega arith }
 
   module _ (v : Value) (steps : List (List ℕ)) (k n before comparisons more : ℕ) (s : List ℕ) (e : drop k steps ≡ s ∷ drop (suc k) steps) (a : Along checked v steps k n before comparisons) where
-    pub on : (m : ℕ) → RisesAtMost checked comparisons more (halvings_at a.value) → Leads f F n s m → Along checked v steps (k + 1) m before more
+    pub on : (m : ℕ) → RisesAtMost checked comparisons more (halvings a.value (s ∷ [])) → LeadTo f F n (s ∷ []) m → Along checked v steps (k + 1) m before more
     on m rises b =
         let q = leads_held f F (one_head f F) a.value n s m a.holds.1 (λ h sp. few_refs f F (is.framed honest) n h sp) b in
         let z : suc k ≡ k + 1 = omega arith in
-        let there = taken_there f F a.value n s m a.holds.1 b.0 b.1 b.2 in
+        let there = taken_there f F a.value n s b.1 a.holds.1 b.0 b.2 b.3 in
         record {
           value = q.0;
-          led = sym (ap (λ d. look_from k a.value d) e ∙ ap (λ x. on_either x (λ w. look_from (k + 1) w (drop (suc k) steps)) (λ why. Err (k, why))) q.1 ∙ ap (λ j. look_from (k + 1) q.0 (drop j steps)) z) ∙ a.led;
-          holds = (lower_vouched n m b.0 a.holds.0 b.1 there, q.2);
-          leads = λ j l. a.leads j (subst (λ d. LeadTo f F n d j) (sym e) (m, b, subst (λ i. LeadTo f F m (drop i steps) j) (sym z) l));
+          led = sym (ap (λ d. look k a.value d) e ∙ ap (λ x. on_either x (λ w. look (k + 1) w (drop (suc k) steps)) (λ why. Err (k, why))) q.1 ∙ ap (λ j. look (k + 1) q.0 (drop j steps)) z) ∙ a.led;
+          holds = (subst (IsVouchedBy heights) b.4 (lower_vouched n b.1 b.0 a.holds.0 b.2 there), q.2);
+          leads = λ j l. a.leads j (subst (λ d. LeadTo f F n d j) (sym e) (b.0, b.1, b.2, b.3, subst (λ i. LeadTo f F b.1 (drop i steps) j) (sym z) (subst (λ x. LeadTo f F x (drop (k + 1) steps) j) (sym b.4) l)));
           spent = λ keyed has.
               let old = a.spent keyed has in
               let rise = rises keyed has in
-              let sum = ap (λ d. halvings a.value d) e ∙ ap (λ x. halvings_at a.value + on_either x (λ w. halvings w (drop (suc k) steps)) (λ why. 0)) q.1 ∙ ap (λ j. halvings_at a.value + halvings q.0 (drop j steps)) z in
-              omega (arith, old, rise, sum);
+              let here = ap (λ x. halvings_here a.value + on_either x (λ w. 0) (λ why. 0)) q.1 in
+              let sum = ap (λ d. halvings a.value d) e ∙ ap (λ x. halvings_here a.value + on_either x (λ w. halvings w (drop (suc k) steps)) (λ why. 0)) q.1 ∙ ap (λ j. halvings_here a.value + halvings q.0 (drop j steps)) z in
+              omega (arith, old, rise, here, sum);
         }
 
-    pub off : (y : Why) → stepped a.value s ≡ Err y → look v steps ≡ Err (k, y)
-    off y x = sym a.led ∙ ap (λ d. look_from k a.value d) e ∙ ap (λ x. on_either x (λ w. look_from (k + 1) w (drop (suc k) steps)) (λ why. Err (k, why))) x
+    pub off : (y : Why) → stepped a.value s ≡ Err y → look 0 v steps ≡ Err (k, y)
+    off y x = sym a.led ∙ ap (λ d. look k a.value d) e ∙ ap (λ x. on_either x (λ w. look (k + 1) w (drop (suc k) steps)) (λ why. Err (k, why))) x
 
-    pub spent_off : (y : Why) → stepped a.value s ≡ Err y → RisesAtMost checked comparisons more (halvings_at a.value) → RisesAtMost checked before more (halvings v steps)
+    pub spent_off : (y : Why) → stepped a.value s ≡ Err y → RisesAtMost checked comparisons more (halvings a.value (s ∷ [])) → RisesAtMost checked before more (halvings v steps)
     spent_off y x rises keyed has =
         let old = a.spent keyed has in
         let rise = rises keyed has in
-        let sum = ap (λ d. halvings a.value d) e ∙ ap (λ x. halvings_at a.value + on_either x (λ w. halvings w (drop (suc k) steps)) (λ why. 0)) x in
-        omega (arith, old, rise, sum)
+        let here = ap (λ x. halvings_here a.value + on_either x (λ w. 0) (λ why. 0)) x in
+        let sum = ap (λ d. halvings a.value d) e ∙ ap (λ x. halvings_here a.value + on_either x (λ w. halvings w (drop (suc k) steps)) (λ why. 0)) x in
+        omega (arith, old, rise, here, sum)
 
   module _ (v : Value) (steps : List (List ℕ)) (k n before comparisons : ℕ) (e : drop k steps ≡ []) (a : Along checked v steps k n before comparisons) where
-    pub done : LeadTo f F F.top.0 steps n × ((w : Value) × (look v steps ≡ Ok w) × IsHeld checked n w)
-    done = (a.leads n (subst (λ d. LeadTo f F n d n) (sym e) refl), (a.value, sym a.led ∙ ap (λ d. look_from k a.value d) e, a.holds))
+    pub done : LeadTo f F F.top.0 steps n × IsVouchedBy heights n × ((w : Value) × (look 0 v steps ≡ Ok w) × Holds f F n w)
+    done = (a.leads n (subst (λ d. LeadTo f F n d n) (sym e) refl), a.holds.0, (a.value, sym a.led ∙ ap (λ d. look k a.value d) e, a.holds.1))
 
     pub spent_done : RisesAtMost checked before comparisons (halvings v steps)
     spent_done keyed has = let old = a.spent keyed has in omega (arith, old)
 
   -- one step from an object that is vouched for
-  pub one_step : (v : Value) (n : ℕ) (s : List ℕ) (m : ℕ) → IsHeld checked n v → Leads f F n s m
-      → LeadTo f F n (s ∷ []) m × ((w : Value) × (look v (s ∷ []) ≡ Ok w) × IsHeld checked m w)
+  pub one_step : (v : Value) (n : ℕ) (s : List ℕ) (m : ℕ) → IsHeld checked n v → LeadTo f F n (s ∷ []) m
+      → LeadTo f F n (s ∷ []) m × IsVouchedBy heights m × ((w : Value) × (look 0 v (s ∷ []) ≡ Ok w) × Holds f F m w)
   one_step v n s m held leads =
       let q = leads_held f F (one_head f F) v n s m held.1 (λ c sp. few_refs f F (is.framed honest) n c sp) leads in
-      let there = taken_there f F v n s m held.1 leads.0 leads.1 leads.2 in (
-        (m, leads, refl),
-        (q.0, ap (λ x. on_either x (λ w. look_from 1 w []) (λ why. Err (0, why))) q.1, (lower_vouched n m leads.0 held.0 leads.1 there, q.2)),
+      let there = taken_there f F v n s leads.1 held.1 leads.0 leads.2 leads.3 in (
+        leads,
+        subst (IsVouchedBy heights) leads.4 (lower_vouched n leads.1 leads.0 held.0 leads.2 there),
+        (q.0, ap (λ x. on_either x (λ w. look 1 w []) (λ why. Err (0, why))) q.1, q.2),
       )
 
   -- why nothing was read, where the answer for any value of the object says it
@@ -138,8 +142,8 @@ module _ (checked : CheckedFile) (is : IsChecked checked) (honest : IsTrue check
   quiet n vouched P (Err e) h = excused_for n vouched e h
 
 -- one step that can't be taken
-pub no_step : (v : Value) (s : List ℕ) (why : Why) → stepped v s ≡ Err why → look v (s ∷ []) ≡ Err (0, why)
-no_step v s why is = ap (λ x. on_either x (λ w. look_from 1 w []) (λ why. Err (0, why))) is
+pub no_step : (v : Value) (s : List ℕ) (why : Why) → stepped v s ≡ Err why → look 0 v (s ∷ []) ≡ Err (0, why)
+no_step v s why is = ap (λ x. on_either x (λ w. look 1 w []) (λ why. Err (0, why))) is
 
 -- a source without failures has not failed
 pub never_read : (old new : CheckedFile) (e : Unread) → OnlyReadsFile (read_failed {X = ⊤} (Err e)) old new → new.source.failures ≡ 0 → IsUnread e → ⊥

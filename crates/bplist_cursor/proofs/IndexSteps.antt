@@ -1,8 +1,8 @@
 -- The reference that is taken for a step.
-use Rattle.std.proofs.Common.{arith, ◌≡◌, ◌≢◌, ◌<◌, ℕ, ◌+◌, ◌*◌, List, slice_index, Option, Some, None, refl, sym, ap, ◌∙◌, subst}
+use Rattle.std.proofs.Common.{arith, ◌≡◌, ◌≢◌, ◌<◌, ℕ, ◌+◌, ◌*◌, List, length, slice_index, Option, Some, None, refl, sym, ap, ◌∙◌, subst}
 use Rattle.std.specs.Fmt.{decimal}
 use Rattle.bplist_objects.specs.declared.frame.Frame.{Frame}
-use Rattle.bplist_objects.specs.Value.{Leaf, Value, leaf, array, set, dict}
+use Rattle.bplist_objects.specs.Value.{Leaf, Value, leaf, array, set, dict, keys}
 use Rattle.bplist_objects.specs.Numbers.{nums_at}
 use Rattle.bplist_objects.specs.Heads as H
 use Rattle.bplist_objects.specs.Heads.{Spells}
@@ -10,7 +10,7 @@ use Rattle.bplist_objects.specs.Holds.{Holds}
 use Rattle.bplist_cursor.specs.Leads.{IsTaken, HasTextKeys, why_of}
 use Rattle.bplist_objects.proofs.References.{length-nums_at, as_many, dict_parts}
 use Rattle.bplist_objects.specs.declared.head.Head.{Head}
-use Rattle.bplist_cursor.specs.KeySearch.{halvings_of, halvings_at}
+use Rattle.bplist_cursor.specs.KeySearch.{halvings_of}
 use Rattle.bplist_cursor.proofs.BinaryDigits.{digits_2}
 use Rattle.bplist_objects.specs.declared.kind.Kind.{Kind}
 use Rattle.bplist_objects.specs.declared.kind.Kind.TheVariants as kinds
@@ -19,6 +19,10 @@ use Rattle.bplist_cursor.specs.declared.found.Why.TheVariants as why
 use Rattle.bplist_cursor.specs.declared.path_step.RefIndex.TheVariants as ref_index
 use Rattle.bplist_cursor.proofs.Counts.{pair_counts}
 use Rattle.bplist_cursor.proofs.Keys.{value_ref}
+
+-- so many comparisons suffice for a step at this value
+abbrev pub halvings_here : Value → ℕ
+halvings_here v = elim v [ dict ps ↦ digits_2 (length (keys ps)) | _ ↦ 0 ]
 
 module _ (f : List ℕ) (F : Frame) where
   abbrev keys_at : Head → List ℕ
@@ -69,7 +73,7 @@ module _ (f : List ℕ) (F : Frame) where
       subst (λ x. ((m : ℕ) → IsTaken f F x s m → ⊥) × (why.NoIndex ≡ why_of x)) (array_is h head d e) (λ m q. none q.0 (omega (arith, n, q.1)) q.2, refl)
 
   -- so many comparisons suffice for the value as for the head
-  pub same_halvings : (v : Value) (n : ℕ) (head : Head) → Holds f F n v → ((content : H.Content) → Spells f F n content → content ≡ H.content_at f F head) → halvings_of head.kind head.count ≡ halvings_at v
+  pub same_halvings : (v : Value) (n : ℕ) (head : Head) → Holds f F n v → ((content : H.Content) → Spells f F n content → content ≡ H.content_at f F head) → halvings_of head.kind head.count ≡ halvings_here v
   same_halvings (leaf l) n head o e = leaf_halvings head.kind head.count head.body l (e _ o)
     where
       leaf_halvings : (kind : Kind) (c at : ℕ) (l : Leaf) → H.Content.leaf l ≡ H.content_of f F kind c at → halvings_of kind c ≡ 0

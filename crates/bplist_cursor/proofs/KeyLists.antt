@@ -10,9 +10,9 @@ use Rattle.bplist_objects.specs.Heads.{Spells, leaf, dict}
 use Rattle.bplist_objects.specs.Units.{compare_units}
 use Rattle.bplist_objects.proofs.Fronts.{one_head}
 use Rattle.bplist_objects.proofs.UnitOrder.{compare_units-less_less}
-use Rattle.bplist_cert.specs.Lists.{Keyed}
+use Rattle.bplist_cert.specs.Lists.{Keyed, IsWhole, list_of}
 use Rattle.bplist_cert.specs.Valid.{IsVouchedBy, SpellsText}
-use Rattle.bplist_cert.specs.Sorted.{IsSorted, HasSortedKeys, AreListed}
+use Rattle.bplist_cert.specs.Sorted.{IsSorted}
 use Rattle.bplist_cert.specs.CheckedFile.{CheckedFile, IsChecked}
 use Rattle.bplist_cursor.specs.KeySearch.{IsKeyList}
 
@@ -59,8 +59,8 @@ module _ (f : List ℕ) (F : Frame) where
 module _ (checked : CheckedFile) (is : IsChecked checked) (honest : IsTrue checked.source.honest) (n : ℕ) (ks ms : List ℕ)
     (vouched : IsVouchedBy checked.certificate.heights n) (spells : Spells checked.source.octets checked.frame n (dict ks ms))
     (keyed : Keyed) (has : checked.certificate.keys ≡ Some keyed) where
-  listed : ∥ HasSortedKeys checked.source.octets checked.frame keyed n ks ∥₁
-  listed = ∥∥₁_map (is.accepted honest) (λ a. (subst (AreListed checked.source.octets checked.frame checked.certificate.heights) has a.listed) n ks ms vouched spells)
+  listed : ∥ IsWhole keyed n (length ks) × IsSorted checked.source.octets checked.frame ks (list_of keyed n (length ks)) ∥₁
+  listed = ∥∥₁_map (is.accepted honest) (λ a. (rw has at a.listed) n ks ms vouched spells)
 
   pub list_room : slice_index keyed.starts n + length ks ≤ length keyed.positions
   list_room = ∥∥₁_elim listed (hlevel props) (λ p. p.0)

@@ -54,7 +54,7 @@ module _ (f : List ℕ) (F : Frame) where
   no_keys (dict ps) n head o e other = absurd (other (dict_parts f F head.kind head.count head.body o.0 o.1 (e _ o.2)).0)
 
 -- the reply of a value is that of what the query's path leads to
-pub reply_found : (v w : Value) (query : Query) → look v (steps_in query) ≡ Ok w → reply v query ≡ reply_at w query
+pub reply_found : (v w : Value) (query : Query) → look 0 v (steps_in query) ≡ Ok w → reply v query ≡ reply_at w query
 reply_found v w (queries.Get steps) e = rw (e, reply) refl
 reply_found v w (queries.Keys steps) e = rw (e, reply) refl
 reply_found v w (queries.Size steps) e = rw (e, reply) refl

@@ -14,17 +14,14 @@ use Rattle.bplist_objects.proofs.References.{length-nums_at}
 use Rattle.bplist_objects.proofs.Units.{length-part}
 use Rattle.bplist_cursor.specs.declared.form.Form.{Form}
 use Rattle.bplist_cursor.specs.declared.form.Form.TheVariants.{Length}
+use Rattle.hex.specs.Hex.{encode_lower, lower_digits}
+use Rattle.hex.proofs.HexLemmas.{length-encode_with}
 use Rattle.bplist_cursor.specs.Nodes.{cap}
-use Rattle.bplist_cursor.specs.Texts.{hex_digits}
 use Rattle.bplist_cursor.specs.OldStyle.{leaf_text}
 use Rattle.bplist_cursor.specs.Forms.{form_of_text}
 use Rattle.bplist_cursor.specs.Sizes.{Table, size_of, added, IsSized}
 use Rattle.bplist_cursor.specs.ObjectSizes.{punctuation_of}
 use Rattle.bplist_cursor.proofs.SizeSteps.{added_members, added_pairs, array_size, set_size, dict_size}
-
-two_digits : (bs : List ℕ) → length (flat_map hex_digits bs) ≡ 2 * length bs
-two_digits [] = refl
-two_digits (b ∷ bs) = omega (arith, two_digits bs)
 
 module _ (f : List ℕ) (F : Frame) where
   -- the form of data
@@ -33,7 +30,7 @@ module _ (f : List ℕ) (F : Frame) where
   bytes_form kinds.Bytes c at n l k within e is =
       let same : bytes (part f at c) ≡ l = cc e in
       let long = length-part f at c within in
-      ap Length (omega (arith, is, long, two_digits (part f at c), length-append (flat_map hex_digits (part f at c)) (0x3E ∷ [])))
+      ap Length (omega (arith, is, long, length-encode_with lower_digits (part f at c), length-append (encode_lower (part f at c)) (0x3E ∷ [])))
       ∙ ap (λ x. form_of_text (leaf_text x)) same
   bytes_form _ c at n l k within e is = cc k
 

@@ -15,7 +15,7 @@ use Rattle.bplist_cursor.specs.Look.{stepped}
 use Rattle.bplist_cursor.specs.Members.{members, entries}
 use Rattle.bplist_cursor.specs.declared.found.Why.{Why}
 use Rattle.bplist_cursor.specs.declared.found.Why.TheVariants as why
-use Rattle.bplist_cursor.specs.Leads.{IsTaken, Leads}
+use Rattle.bplist_cursor.specs.Leads.{IsTaken, LeadTo}
 use Rattle.bplist_objects.proofs.ObjectValues.{OneHead}
 
 -- a test that is not true is false
@@ -96,18 +96,18 @@ module _ (f : List ℕ) (F : Frame) (one : OneHead f F) where
       (r.0, ap (member_by j v s vs) (other_is (decimal j) s ne) ∙ r.1, r.2)
 
   -- the object of the reference taken for a step holds what the step leads to
-  pub leads_held : (v : Value) (n : ℕ) (s : List ℕ) (m : ℕ) → Holds f F n v → ((h : Content) → Spells f F n h → length (refs h) < 2 ^ 64) → Leads f F n s m → (w : Value) × (stepped v s ≡ Ok w) × Holds f F m w
-  leads_held (leaf l) n s m h b e = absurd (subst (λ x. IsTaken f F x s m) (one n e.0 _ e.1 h) e.2)
+  pub leads_held : (v : Value) (n : ℕ) (s : List ℕ) (m : ℕ) → Holds f F n v → ((h : Content) → Spells f F n h → length (refs h) < 2 ^ 64) → LeadTo f F n (s ∷ []) m → (w : Value) × (stepped v s ≡ Ok w) × Holds f F m w
+  leads_held (leaf l) n s m h b e = absurd (subst (λ x. IsTaken f F x s e.1) (one n e.0 _ e.2 h) e.3)
   leads_held (array vs) n s m h b e =
-      let t = subst (λ x. IsTaken f F x s m) (one n e.0 _ e.1 h.1) e.2 in
+      let t = subst (λ x. IsTaken f F x s e.1) (one n e.0 _ e.2 h.1) e.3 in
       let z : 0 + t.0 ≡ t.0 = omega arith in
       let r = by_place vs h.0 s 0 h.2 (omega (arith, b _ h.1)) t.0 t.1 (ap decimal z ∙ t.2) in
-      (r.0, ap (λ o. ok_or o why.NoIndex) r.1, subst (λ k. Holds f F k r.0) t.3 r.2)
-  leads_held (set vs) n s m h b e = absurd (subst (λ x. IsTaken f F x s m) (one n e.0 _ e.1 h.1) e.2)
+      (r.0, ap (λ o. ok_or o why.NoIndex) r.1, subst (λ k. Holds f F k r.0) (t.3 ∙ e.4) r.2)
+  leads_held (set vs) n s m h b e = absurd (subst (λ x. IsTaken f F x s e.1) (one n e.0 _ e.2 h.1) e.3)
   leads_held (dict ps) n s m h b e =
-      let t = subst (λ x. IsTaken f F x s m) (one n e.0 _ e.1 h.2) e.2 in
+      let t = subst (λ x. IsTaken f F x s e.1) (one n e.0 _ e.2 h.2) e.3 in
       let r = by_key ps h.0 h.1 s h.3 h.4 t.0 t.1 t.2 in
-      (r.0, ap (λ o. ok_or o why.NoKey) r.1, subst (λ k. Holds f F k r.0) t.3 r.2)
+      (r.0, ap (λ o. ok_or o why.NoKey) r.1, subst (λ k. Holds f F k r.0) (t.3 ∙ e.4) r.2)
 
   -- ---- the other way round: where a step goes on, a reference is taken
   from_key : (ps : Pairs) (ks ms : List ℕ) (s : List ℕ) (w : Value) → HoldPairs f F ks ms ps → value_at s ps ≡ Some w → (i : ℕ) × (i < length ks) × Spells f F (slice_index ks i) (Content.leaf (text s)) × Holds f F (slice_index ms i) w
@@ -145,13 +145,13 @@ module _ (f : List ℕ) (F : Frame) (one : OneHead f F) where
   ok_or_is None y w e = cc e
   ok_or_is (Some x) y w e = cc e
 
-  pub step_leads : (v : Value) (n : ℕ) (s : List ℕ) (w : Value) → Holds f F n v → stepped v s ≡ Ok w → (m : ℕ) × Leads f F n s m × Holds f F m w
+  pub step_leads : (v : Value) (n : ℕ) (s : List ℕ) (w : Value) → Holds f F n v → stepped v s ≡ Ok w → (m : ℕ) × LeadTo f F n (s ∷ []) m × Holds f F m w
   step_leads (leaf l) n s w h e = cc e
   step_leads (array vs) n s w h e =
       let r = from_place vs h.0 s 0 w h.2 (ok_or_is _ why.NoIndex w e) in
       let z : r.0 ≡ 0 + r.0 = omega arith in
-      (slice_index h.0 r.0, (Content.array h.0, h.1, (r.0, r.1, ap decimal z ∙ r.2, refl)), r.3)
+      (slice_index h.0 r.0, (Content.array h.0, slice_index h.0 r.0, h.1, (r.0, r.1, ap decimal z ∙ r.2, refl), refl), r.3)
   step_leads (set vs) n s w h e = cc e
   step_leads (dict ps) n s w h e =
       let r = from_key ps h.0 h.1 s w h.3 (ok_or_is _ why.NoKey w e) in
-      (slice_index h.1 r.0, (Content.dict h.0 h.1, h.2, (r.0, r.1, r.2, refl)), r.3)
+      (slice_index h.1 r.0, (Content.dict h.0 h.1, slice_index h.1 r.0, h.2, (r.0, r.1, r.2, refl), refl), r.3)

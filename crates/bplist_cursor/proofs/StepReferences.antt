@@ -41,11 +41,11 @@ module _ (f : List ℕ) (F : Frame) where
   not_taken (set vs) n s c h sp none = ap (λ x. Err (why_of x)) (one_head f F n _ _ h.1 sp)
   not_taken (array vs) n s c h sp none =
       not_some (member_at s 0 vs) why.NoIndex
-      (λ w e. let r = step_leads f F (one_head f F) (array vs) n s w h e in none r.0 (subst (λ x. IsTaken f F x s r.0) (one_head f F n _ _ r.1.1 sp) r.1.2))
+      (λ w e. let r = step_leads f F (one_head f F) (array vs) n s w h e in none r.1.1 (subst (λ x. IsTaken f F x s r.1.1) (one_head f F n _ _ r.1.2 sp) r.1.3))
       ∙ ap (λ x. Err (why_of x)) (one_head f F n _ _ h.1 sp)
   not_taken (dict ps) n s c h sp none =
       not_some (value_at s ps) why.NoKey
-      (λ w e. let r = step_leads f F (one_head f F) (dict ps) n s w h e in none r.0 (subst (λ x. IsTaken f F x s r.0) (one_head f F n _ _ r.1.1 sp) r.1.2))
+      (λ w e. let r = step_leads f F (one_head f F) (dict ps) n s w h e in none r.1.1 (subst (λ x. IsTaken f F x s r.1.1) (one_head f F n _ _ r.1.2 sp) r.1.3))
       ∙ ap (λ x. Err (why_of x)) (one_head f F n _ _ h.2 sp)
 
   -- the reference that is taken is one of the object's

@@ -1,5 +1,5 @@
 -- What is read of a path text.
-use Rattle.std.proofs.Common.{◌≡◌, ◌≢◌, ◌⊎◌, inl, inr, ℕ, ◌+◌, Bool, true, false, List, [], ◌∷◌, ◌++◌, arith, length, map, flat_map, refl, sym, ap, ◌∙◌, subst, append_assoc, append-nil, IsTrue}
+use Rattle.std.proofs.Common.{◌≡◌, ◌≢◌, ◌⊎◌, inl, inr, ℕ, ◌+◌, Bool, true, false, List, [], ◌∷◌, ◌++◌, arith, length, take, map, flat_map, refl, sym, ap, ◌∙◌, subst, append_assoc, append-nil, IsTrue}
 use Rattle.std.specs.Prelude.{encode_utf8_all, encode_utf8, Some}
 use Rattle.std.specs.Str.{chars}
 use Rattle.std.specs.Str.Iter.{char_indices_rest, char_indices_offset}
@@ -8,12 +8,12 @@ use Rattle.std.specs.Char.Escape.{encode_utf16}
 use Rattle.std.proofs.lemmas.List.{length-append, map-append}
 use Rattle.std.proofs.lemmas.Grind.{flat_map-append}
 use Rattle.std.proofs.lemmas.Str.{chars_past_char, IsUtf8-past_char, chars-nil, encodes-append}
-use Rattle.bplist_cursor.specs.Path.{escaped, units, IsPathOf, IsLoose, IsWrongAt, IsNoPath}
+use Rattle.bplist_cursor.specs.Path.{escaped, units, IsPathOf, IsLoose, IsWrong, IsNoPath}
 use Rattle.bplist_cursor.specs.Tokens.{IsReadable, Reads, IsClosed, MeetsLoose, left, slash}
 use Rattle.bplist_cursor.specs.PathFaults.{OnText}
 use Rattle.bplist_cursor.specs.declared.path.PathFault.{PathFault}
 use Rattle.bplist_cursor.specs.declared.path.PathFault.TheVariants.{Text, Memory}
-use Rattle.bplist_cursor.proofs.Escapes.{written, closed-nil, closed-append, closed_written, closed-cons, first_wrong, written_not_wrong}
+use Rattle.bplist_cursor.proofs.Escapes.{written, closed-nil, closed-append, closed_written, closed-cons, first_wrong, wrong_no_path}
 
 -- a token in a path text, with its `/`
 abbrev written_token : List ℕ → List ℕ
@@ -169,15 +169,17 @@ parsing_ends text s steps p = (
 pub empty_text : (text : List ℕ) (s : CharIndices) → char_indices_rest s ≡ text → length (char_indices_rest s) ≡ 0 → IsPathOf text []
 empty_text text s is none = ([], ap chars (sym is) ∙ left_none s none, refl)
 
--- a text that is wrong spells no steps
-no_path : (text : List ℕ) (place : ℕ) → IsWrongAt (chars text) place → IsNoPath text place
-no_path text place at = record { wrong = at; none = λ steps (tokens, spelled, _). written_not_wrong (chars text) at.before tokens at.wrong spelled }
-
 -- a path text is empty or begins with `/`
 pub not_begun : (text : List ℕ) (c : ℕ) (cs : List ℕ) → chars text ≡ c ∷ cs → c ≢ 0x2F → IsNoPath text 0
 not_begun text c cs is other =
-    let here : IsWrongAt (c ∷ cs) 0 = record { before = 0; wrong = inl (refl, omega arith, λ e. other (cc e)); first = λ k low w. omega (arith, low); counted = refl } in
-    no_path text 0 (subst (λ l. IsWrongAt l 0) (sym is) here)
+    let wrong : IsWrong (chars text) 0 = subst (λ l. IsWrong l 0) (sym is) (inl (refl, omega arith, λ e. other (cc e))) in
+    record {
+      none = wrong_no_path text 0 wrong;
+      before = 0;
+      wrong = wrong;
+      first = λ k low w. omega (arith, low);
+      counted = ap (λ l. length (encode_utf8_all (take 0 l))) (sym is);
+    }
 
 -- a token with a loose `~`
 pub not_read : (text : List ℕ) (s : CharIndices) (steps : List (List ℕ)) (place : ℕ) → IsParsing text s true steps → MeetsLoose s place → IsNoPath text place
@@ -193,7 +195,7 @@ not_read text s steps place p m =
     omega (arith, a, b, long) in
     let begun = begins p.tokens (m.front ++ m.tail) in
     let is : chars text ≡ 0x2F ∷ begun.0 = all ∙ append_assoc (written p.tokens ++ 0x2F ∷ []) m.front m.tail ∙ begun.1 in
-    no_path text place (subst (IsWrongAt (chars text)) (sym at) (first_wrong (chars text) front m.tail begun.0 all is closed m.loose))
+    subst (IsNoPath text) (sym at) (first_wrong text front m.tail begun.0 all is closed m.loose)
   where
     begins : (tokens : List (List ℕ)) (xs : List ℕ) → (ys : List ℕ) × ((written tokens ++ 0x2F ∷ []) ++ xs ≡ 0x2F ∷ ys)
     begins [] xs = (xs, refl)

@@ -1,14 +1,13 @@
 -- Where a path leads. Source: profile.
-use Rattle.std.specs.Prelude.{◌≡◌, ℕ, List, [], ◌∷◌, map, Ok, Err, Vec}
+use Rattle.std.specs.Prelude.{◌≡◌, ℕ, List, map, Ok, Err, Vec}
 use Rattle.std.specs.Global.{Global}
-use Rattle.bplist_objects.specs.declared.frame.Frame.{Frame}
 use Rattle.bplist_objects.specs.Value.{Value}
 use Rattle.bplist_objects.specs.Holds.{Holds}
 use Rattle.bplist_cert.specs.CheckedFile.{CheckedFile}
 use Rattle.bplist_cert.specs.Valid.{IsVouchedBy}
 use Rattle.bplist_cursor.specs.Look.{look}
 use Rattle.bplist_cursor.specs.Sizes.{Table, AreMeasures}
-use Rattle.bplist_cursor.specs.Leads.{Leads}
+use Rattle.bplist_cursor.specs.Leads.{LeadTo}
 use Rattle.bplist_cursor.specs.declared.found.Found.{Found}
 use Rattle.bplist_cursor.specs.declared.found.Found.TheVariants.{At, Missing}
 
@@ -16,22 +15,16 @@ use Rattle.bplist_cursor.specs.declared.found.Found.TheVariants.{At, Missing}
 abbrev pub units_of : List (Vec ℕ Global) → List (List ℕ)
 units_of steps = map (λ step. step.items) steps
 
-module _ (f : List ℕ) (F : Frame) where
-  -- the steps lead from object n to m by references
-  abbrev pub LeadTo : ℕ → List (List ℕ) → ℕ → Type 0
-  LeadTo n [] m = n ≡ m
-  LeadTo n (s ∷ steps) m = (k : ℕ) × Leads f F n s k × LeadTo k steps m
-
 -- object n is vouched for and holds v
 abbrev pub IsHeld : CheckedFile → ℕ → Value → Type 0
 IsHeld checked n v = IsVouchedBy checked.certificate.heights n × Holds checked.source.octets checked.frame n v
 
--- the node holds what the steps from object n, which holds v, lead to, or the first step that can't be taken is named
+-- the node is vouched for and holds what the steps from object n, which holds v, lead to, or the first step that can't be taken is named
 abbrev pub IsFound : CheckedFile → ℕ → Value → List (List ℕ) → Found → Type 0
 IsFound checked n v steps (At node) =
-    LeadTo checked.source.octets checked.frame n steps node.object.0
-    × ((w : Value) × (look v steps ≡ Ok w) × IsHeld checked node.object.0 w)
-IsFound checked n v steps (Missing k y) = look v steps ≡ Err (k, y)
+    LeadTo checked.source.octets checked.frame n steps node.object.0 × IsVouchedBy checked.certificate.heights node.object.0
+    × ((w : Value) × (look 0 v steps ≡ Ok w) × Holds checked.source.octets checked.frame node.object.0 w)
+IsFound checked n v steps (Missing k y) = look 0 v steps ≡ Err (k, y)
 
 -- the table has the sizes of the values that the objects of the checked file hold
 abbrev pub AreMeasuresOf : CheckedFile → Table → Type 0

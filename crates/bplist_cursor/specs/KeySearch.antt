@@ -20,14 +20,11 @@ abbrev pub halvings_of : Kind → ℕ → ℕ
 halvings_of Dict count = length (digits_of 2 count)
 halvings_of _ count = 0
 
--- how many comparisons a step at this value may take: the binary digits of the count of pairs
-abbrev pub halvings_at : Value → ℕ
-halvings_at v = elim v [ dict ps ↦ length (digits_of 2 (length (keys ps))) | _ ↦ 0 ]
-
 -- the sum, over the dictionaries met, of the binary digits of their count of pairs
 abbrev pub halvings : Value → List (List ℕ) → ℕ
 halvings v [] = 0
-halvings v (s ∷ steps) = halvings_at v + (elim (stepped v s) [ Ok w ↦ halvings w steps | Err why ↦ 0 ])
+halvings v (s ∷ steps) = (elim v [ dict ps ↦ length (digits_of 2 (length (keys ps))) | _ ↦ 0 ])
+    + (elim (stepped v s) [ Ok w ↦ halvings w steps | Err why ↦ 0 ])
 
 -- with key lists the counter rises by at most this
 abbrev pub RisesAtMost : CheckedFile → ℕ → ℕ → ℕ → Type 0

@@ -1,5 +1,5 @@
 -- The reference that is taken for a step. Source: profile.
-use Rattle.std.specs.Prelude.{◌≡◌, ℕ, ◌<◌, List, length, slice_index, ⊤}
+use Rattle.std.specs.Prelude.{◌≡◌, ℕ, ◌<◌, List, [], ◌∷◌, length, slice_index, ⊤}
 use Rattle.std.specs.Fmt.{decimal}
 use Rattle.bplist_objects.specs.declared.frame.Frame.{Frame}
 use Rattle.bplist_objects.specs.Value.{text}
@@ -14,9 +14,10 @@ module _ (f : List ℕ) (F : Frame) where
   IsTaken (array ms) s m = (i : ℕ) × (i < length ms) × (decimal i ≡ s) × (slice_index ms i ≡ m)
   IsTaken _ s m = ⊥
 
-  -- from object n the step leads to object m
-  abbrev pub Leads : ℕ → List ℕ → ℕ → Type 0
-  Leads n s m = (c : Content) × Spells f F n c × IsTaken c s m
+  -- the steps lead from object n to m by references
+  abbrev pub LeadTo : ℕ → List (List ℕ) → ℕ → Type 0
+  LeadTo n [] m = n ≡ m
+  LeadTo n (s ∷ steps) m = (c : Content) × (k : ℕ) × Spells f F n c × IsTaken c s k × LeadTo k steps m
 
   -- each key of the dictionary is a text
   abbrev pub HasTextKeys : Content → Type 0

@@ -15,11 +15,7 @@ stepped (array vs) s =
     ok_or (option_map (λ e. e.1) (find (λ e. bytes_eq (decimal e.0) s) (enumerate_from 0 (members vs)))) NoIndex
 stepped _ s = Err NotSteppable
 
--- where the steps from number k on lead, or the number of the first that can't be taken, and why
-abbrev pub look_from : ℕ → Value → List (List ℕ) → Result Value (ℕ × Why)
-look_from k v [] = Ok v
-look_from k v (s ∷ steps) = elim (stepped v s) [ Ok w ↦ look_from (k + 1) w steps | Err why ↦ Err (k, why) ]
-
--- where the steps lead, or the first that can't be taken, and why
-abbrev pub look : Value → List (List ℕ) → Result Value (ℕ × Why)
-look v steps = look_from 0 v steps
+-- where the steps lead, or the number of the first that can't be taken, and why; they are numbered from k on
+abbrev pub look : ℕ → Value → List (List ℕ) → Result Value (ℕ × Why)
+look k v [] = Ok v
+look k v (s ∷ steps) = elim (stepped v s) [ Ok w ↦ look (k + 1) w steps | Err why ↦ Err (k, why) ]

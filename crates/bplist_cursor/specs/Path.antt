@@ -24,14 +24,10 @@ IsLoose cs = (slice_get cs 0 ≡ Some 0x7E) × (slice_get cs 1 ≢ Some 0x30) ×
 abbrev pub IsWrong : List ℕ → ℕ → Type 0
 IsWrong cs k = ((k ≡ 0) × (0 < length cs) × (slice_get cs 0 ≢ Some 0x2F)) ⊎ IsLoose (drop k cs)
 
--- the first wrong character begins at this byte
-pub record IsWrongAt (cs : List ℕ) (place : ℕ) : Type 0 where
-  pub before : ℕ
-  pub wrong : IsWrong cs before
-  pub first : (k : ℕ) → k < before → ¬ IsWrong cs k
-  pub counted : place ≡ length (encode_utf8_all (take before cs))
-
--- the text is wrong at this byte, and spells no steps
+-- the text spells no steps, and its first wrong character begins at this byte
 pub record IsNoPath (text : List ℕ) (place : ℕ) : Type 0 where
-  pub wrong : IsWrongAt (chars text) place
   pub none : (steps : List (List ℕ)) → ¬ IsPathOf text steps
+  pub before : ℕ
+  pub wrong : IsWrong (chars text) before
+  pub first : (k : ℕ) → k < before → ¬ IsWrong (chars text) k
+  pub counted : place ≡ length (encode_utf8_all (take before (chars text)))

@@ -20,8 +20,8 @@ pub use Rattle.bplist_cursor.specs.Formless.{IsFormless}
 pub use Rattle.bplist_cursor.specs.Forms.{Formed, form_at, form_of, form_of_text, joined}
 pub use Rattle.bplist_cursor.specs.Found.{AreMeasuresOf, IsFound, IsHeld}
 pub use Rattle.bplist_cursor.specs.Kept.{OnlyReadsFile}
-pub use Rattle.bplist_cursor.specs.KeySearch.{IsCompared, IsKeyList, IsUnlisted, ListStarts, RisesAtMost, halvings, halvings_at, halvings_of}
-pub use Rattle.bplist_cursor.specs.Leads.{HasTextKeys, IsTaken, Leads, why_of}
+pub use Rattle.bplist_cursor.specs.KeySearch.{IsCompared, IsKeyList, IsUnlisted, ListStarts, RisesAtMost, halvings, halvings_of}
+pub use Rattle.bplist_cursor.specs.Leads.{HasTextKeys, IsTaken, LeadTo, why_of}
 pub use Rattle.bplist_cursor.specs.LentBodies.{SpellsBytes, StandsAtBody}
 pub use Rattle.bplist_cursor.specs.Look.{stepped}
 pub use Rattle.bplist_cursor.specs.Measured.{Measured}
@@ -29,7 +29,7 @@ pub use Rattle.bplist_cursor.specs.Members.{HoldsMember, IsNumberOf, member_of, 
 pub use Rattle.bplist_cursor.specs.Nodes.{cap, nodes}
 pub use Rattle.bplist_cursor.specs.ObjectSizes.{AreInside, AreSet, AreVouched, IsEmpty, IsOrder, punctuation_of}
 pub use Rattle.bplist_cursor.specs.OldStyle.{IsFormed, leaf_text, plain, value_text}
-pub use Rattle.bplist_cursor.specs.Path.{IsPathOf, IsWrongAt}
+pub use Rattle.bplist_cursor.specs.Path.{IsNoPath, IsPathOf}
 pub use Rattle.bplist_cursor.specs.Queries.{reply_at, steps_in}
 pub use Rattle.bplist_cursor.specs.Replies.{face, keys_reply, reply}
 pub use Rattle.bplist_cursor.specs.Shown.{HasRoom, content_face}

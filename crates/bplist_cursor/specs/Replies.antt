@@ -31,6 +31,6 @@ keys_reply v = elim v [ dict ps ↦ replies.Keys (keys ps) | _ ↦ replies.NoKey
 
 -- a value's reply to a query
 abbrev pub reply : Value → Query → Reply
-reply v (queries.Get steps) = elim (look v steps) [ Ok w ↦ replies.Face (face w) | Err (k, why) ↦ replies.Missing k why ]
-reply v (queries.Keys steps) = elim (look v steps) [ Ok w ↦ keys_reply w | Err (k, why) ↦ replies.Missing k why ]
-reply v (queries.Size steps) = elim (look v steps) [ Ok w ↦ replies.Size (cap (nodes w)) | Err (k, why) ↦ replies.Missing k why ]
+reply v (queries.Get steps) = elim (look 0 v steps) [ Ok w ↦ replies.Face (face w) | Err (k, why) ↦ replies.Missing k why ]
+reply v (queries.Keys steps) = elim (look 0 v steps) [ Ok w ↦ keys_reply w | Err (k, why) ↦ replies.Missing k why ]
+reply v (queries.Size steps) = elim (look 0 v steps) [ Ok w ↦ replies.Size (cap (nodes w)) | Err (k, why) ↦ replies.Missing k why ]

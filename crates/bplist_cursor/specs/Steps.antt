@@ -1,12 +1,12 @@
 -- Where one step goes, from function to function. Source: profile.
-use Rattle.std.specs.Prelude.{◌≡◌, ℕ, ◌<◌, List, length, slice_index, MatchOption, Option, Err, ⊤}
+use Rattle.std.specs.Prelude.{◌≡◌, ℕ, ◌<◌, List, [], ◌∷◌, length, slice_index, MatchOption, Option, Err, ⊤}
 use Rattle.bplist_objects.specs.declared.frame.Frame.{Frame}
 use Rattle.bplist_objects.specs.declared.head.Head.{Head}
 use Rattle.bplist_objects.specs.Value.{Value, text}
 use Rattle.bplist_objects.specs.Heads.{Content, Spells, leaf, dict, refs, content_at}
 use Rattle.bplist_cert.specs.CheckedFile.{CheckedFile, HonestlyChecked}
 use Rattle.bplist_cursor.specs.Look.{stepped}
-use Rattle.bplist_cursor.specs.Leads.{IsTaken, Leads, why_of}
+use Rattle.bplist_cursor.specs.Leads.{IsTaken, LeadTo, why_of}
 use Rattle.bplist_cursor.specs.declared.path_step.RefIndex.{RefIndex}
 use Rattle.bplist_cursor.specs.declared.path_step.RefIndex.TheVariants as ref_index
 use Rattle.bplist_cursor.specs.declared.path_step.Step.{Step}
@@ -34,7 +34,7 @@ module _ (f : List ℕ) (F : Frame) where
 
   -- where the step s goes from object n, which holds v
   abbrev pub IsStep : ℕ → Value → List ℕ → Step → Type 0
-  IsStep n v s (step.On m) = Leads f F n s m.0
+  IsStep n v s (step.On m) = LeadTo f F n (s ∷ []) m.0
   IsStep n v s (step.Not y) = stepped v s ≡ Err y
 
   -- the reference that is taken for the step s at an object with this content, or none is

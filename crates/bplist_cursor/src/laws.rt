@@ -1,8 +1,8 @@
 //! Laws of the definitions: each is the contract of a function that does nothing. Those of the crate alone say what its bodies
 //! rest on: tables by object, and the text of a value in two parts.
 
-ghost use Rattle.std.specs.Prelude.{◌≡◌, ◌≤◌, ◌↔◌, ℕ, ◌<◌, List, Ok, Err, Some, None, Contains, slice_index};
-ghost use Rattle.bplist_cursor.specs.Prelude.{Frame as frame, IsFrame, Value, Content, Spells, refs, Holds, Refs, IsPathOf, IsWrongAt, stepped, IsTaken, Leads, HasTextKeys, why_of, cap, nodes, Measured, value_text, IsFormed, plain, IsFormless, Formed, form_at, form_of, Form};
+ghost use Rattle.std.specs.Prelude.{◌≡◌, ◌≤◌, ◌↔◌, ℕ, ◌<◌, List, [], ◌∷◌, Ok, Err, Some, None, Contains, slice_index};
+ghost use Rattle.bplist_cursor.specs.Prelude.{Frame as frame, IsFrame, Value, Content, Spells, refs, Holds, Refs, IsNoPath, IsPathOf, stepped, IsTaken, LeadTo, HasTextKeys, why_of, cap, nodes, Measured, value_text, IsFormed, plain, IsFormless, Formed, form_at, form_of, Form};
 
 /// A path text spells one list of steps.
 pub fn one_path()
@@ -11,16 +11,16 @@ pub fn one_path()
 
 /// A text that is no path text is wrong at one byte.
 pub fn one_place()
-    ensures { (cs : List ℕ) (p q : ℕ) → IsWrongAt cs p → IsWrongAt cs q → p ≡ q }
+    ensures { (text : List ℕ) (p q : ℕ) → IsNoPath text p → IsNoPath text q → p ≡ q }
 {}
 
 /// A step goes on exactly where a reference is taken for it, and the object of that reference holds what the step leads
 /// to.
 pub fn steps_follow_references()
     ensures taken { (f : List ℕ) (F : frame) → IsFrame f F → (n : ℕ) (v : Value) (step : List ℕ) (m : ℕ) → Holds f F n v
-        → Leads f F n step m → (w : Value) × (stepped v step ≡ Ok w) × Holds f F m w }
+        → LeadTo f F n (step ∷ []) m → (w : Value) × (stepped v step ≡ Ok w) × Holds f F m w }
     ensures goes_on { (f : List ℕ) (F : frame) (n : ℕ) (v : Value) (step : List ℕ) (w : Value) → Holds f F n v
-        → stepped v step ≡ Ok w → (m : ℕ) × Leads f F n step m × Holds f F m w }
+        → stepped v step ≡ Ok w → (m : ℕ) × LeadTo f F n (step ∷ []) m × Holds f F m w }
 {}
 
 /// An object that holds a value spells something, and where no reference of that is taken for a step, the step can't be

@@ -1,7 +1,7 @@
 //! One step of a path.
 
-ghost use Rattle.std.specs.Prelude.{◌≡◌, ◌<◌, ◌+◌, IfOk, OnOk};
-ghost use Rattle.bplist_cursor.specs.Prelude.{HonestlyChecked, Value, Spells, Content, content_at, Holds, IsSafeHead, ref_count, IsVouchedBy, GivesRead, read_failed, OnlyReadsFile, IsStep, IsInside, IsRefIndex, IsRefIndexBelow, HasTextKeys, halvings_of, halvings_at, RisesAtMost};
+ghost use Rattle.std.specs.Prelude.{◌≡◌, ◌<◌, ◌+◌, [], ◌∷◌, IfOk, OnOk};
+ghost use Rattle.bplist_cursor.specs.Prelude.{HonestlyChecked, Value, Spells, Content, content_at, Holds, IsSafeHead, ref_count, IsVouchedBy, GivesRead, read_failed, OnlyReadsFile, IsStep, IsInside, IsRefIndex, IsRefIndexBelow, HasTextKeys, halvings, halvings_of, RisesAtMost};
 
 use crate::checked_objects::{head_in, reference_in};
 use crate::faults::Unread;
@@ -72,7 +72,7 @@ pub(crate) fn step_at<S: Source>(
         → Holds f F n.0 v → GivesRead (IsStep f F n.0 v units.now) result) }
     ensures inside { IfOk result (IsInside checked.old.frame.objects) }
     ensures bound { OnOk result (HonestlyChecked checked.old (λ f F. (v : Value) → Holds f F n.0 v
-        → RisesAtMost checked.old comparisons.old comparisons.new (halvings_at v))) }
+        → RisesAtMost checked.old comparisons.old comparisons.new (halvings v (units.now ∷ [])))) }
 {
     let head = head_in(checked, n)?;
     match ref_index(checked, n, &head, units, comparisons)? {

@@ -1,6 +1,7 @@
 //! The length of a text's old-style form.
 
 ghost use Rattle.std.specs.Prelude.{◌≡◌, ◌≤◌, length, flat_map};
+ghost use Rattle.std.specs.Char.{is_ascii_alphanumeric};
 ghost use Rattle.std.specs.List.{list_all};
 ghost use Rattle.bplist_cursor.specs.Prelude.{HonestlyChecked, IsSafeBody, IsTextKind, GivesRead, read_failed, OnlyReadsFile, cap};
 ghost use Rattle.bplist_objects.specs.Units.{units_of};
@@ -18,19 +19,20 @@ const BLOCK: usize = 128;
 /// Whether all of these 16-bit units are letters and digits of ASCII, so that a text of them that is not empty needs
 /// no quotes.
 pub fn are_plain(units: &[u16]) -> bool
-    ensures { result ≡ list_all texts.is_plain units.now }
+    ensures { result ≡ list_all is_ascii_alphanumeric units.now }
 {
     units.iter().all(|unit| is_plain(*unit))
 }
 
 /// Whether this 16-bit unit is a letter or a digit of ASCII: one of A-Z, a-z and 0-9.
 pub fn is_plain(unit: u16) -> bool
-    ensures { result ≡ texts.is_plain unit }
+    ensures { result ≡ is_ascii_alphanumeric unit }
 {
     matches!(unit, 0x30..=0x39 | 0x41..=0x5A | 0x61..=0x7A)
 }
 
 /// How many bytes a unit takes between quotes.
+#[tactic(auto, unfolding(hex::specs::Hex::encode_with))]
 fn quoted_unit_length(unit: u16) -> u64
     ensures { result ≡ length (texts.quoted_unit unit) }
 {
@@ -42,6 +44,7 @@ fn quoted_unit_length(unit: u16) -> u64
 }
 
 /// How many bytes a block of units takes between quotes.
+#[tactic(auto, unfolding(hex::specs::Hex::encode_with))]
 fn quoted_length(units: &[u16]) -> u64
     requires { length units.now ≤ 128 }
     ensures { result ≡ length (flat_map texts.quoted_unit units.now) }

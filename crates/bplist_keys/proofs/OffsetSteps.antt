@@ -1,11 +1,9 @@
--- Steps of the reading of the offset table, and what the places that are kept say of the table.
-use Rattle.std.proofs.Common.{◌≡◌, ℕ, ◌+◌, ◌-◌, ◌^◌, ◌<◌, min, inl, inr, List, length, slice_index, ap, ◌∙◌, subst, arith}
+-- Steps of the reading of the offset table.
+use Rattle.std.proofs.Common.{◌≡◌, ℕ, ◌+◌, ◌-◌, ◌<◌, min, inl, inr, List, length, slice_index, ap, ◌∙◌, subst, arith}
 use Rattle.std.proofs.lemmas.Bool.{cases_lt}
 use Rattle.bplist_objects.specs.declared.frame.Frame.{Frame}
 use Rattle.bplist_objects.specs.Frame.{off}
-use Rattle.bplist_objects.specs.FrameRules.{AreEntriesLow}
 use Rattle.bplist_keys.specs.Offsets.{AreOffsets32}
-use Rattle.bplist_keys.specs.Texts.{AreOffsets}
 
 -- one block more was put into the table
 pub offsets_more : (f : List ℕ) (F : Frame) (from count : ℕ) (old new places : List ℕ) → length places ≡ count
@@ -21,8 +19,3 @@ offsets_more f F from count old new places long before put are below n low = eli
       let in' : k < length places = omega arith in
       subst (λ m. slice_index new m ≡ min (off f F m) 4294967295) is (put k in' ∙ ap (λ p. min p 4294967295) (are k in'))
 ]
-
-module _ (f : List ℕ) (F : Frame) (places : List ℕ) (kept : AreOffsets32 f F F.objects places) where
-  -- a place below the table is kept as it is
-  pub kept_offsets : F.table < 2 ^ 32 → AreEntriesLow f F → AreOffsets f F places
-  kept_offsets fits low n within = let l = low n within in omega (arith, l, kept n within)

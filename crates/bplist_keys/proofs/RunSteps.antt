@@ -11,7 +11,11 @@ use Rattle.bplist_objects.proofs.ScanLaws.{nth_number-behind}
 use Rattle.bplist_objects.proofs.Units.{length-units_at, nth-units_at}
 use Rattle.bplist_keys.specs.declared.runs.Run.{Run}
 use Rattle.bplist_keys.specs.Notes.{Agree}
-use Rattle.bplist_keys.specs.Runs.{IsRun, AreRuns}
+use Rattle.bplist_keys.specs.Runs.{AreRuns}
+
+-- the units of a run are the same as those so many bytes further on
+abbrev pub IsRun : List ℕ → Run → Type 0
+IsRun f run = (k : ℕ) → k < run.units → nth_number f run.from run.size k ≡ nth_number f (run.from + run.apart) run.size k
 
 -- no run
 abbrev pub no_run : Run

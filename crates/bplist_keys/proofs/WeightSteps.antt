@@ -3,13 +3,14 @@ use Rattle.std.proofs.Common.{◌≡◌, ℕ, ◌<◌, max, List, [], slice_inde
 use Rattle.std.specs.Option.{option_map_or}
 use Rattle.bplist_objects.specs.declared.frame.Frame.{Frame}
 use Rattle.bplist_objects.specs.declared.head.Head.{Head}
-use Rattle.bplist_objects.specs.Units.{units_of}
+use Rattle.bplist_objects.specs.Heads.{HasShape}
+use Rattle.bplist_objects.specs.Units.{IsTextKind, units_of}
 use Rattle.bplist_objects.proofs.HeadTies.{shape_announced}
 use Rattle.bplist_keys.specs.declared.weight.Weight.TheVariants.{Fingerprint, Prefix}
-use Rattle.bplist_keys.specs.Texts.{IsTextHead, text_units}
+use Rattle.bplist_keys.specs.Texts.{text_units}
 use Rattle.bplist_keys.specs.Weights.{fingerprint, prefix, Weighs}
 
-module _ (f : List ℕ) (F : Frame) (m : ℕ) (key : Head) (text : IsTextHead f F m key) where
+module _ (f : List ℕ) (F : Frame) (m : ℕ) (key : Head) (text : HasShape f F m key × IsTextKind key.kind) where
   -- the units of a text are those of its head
   pub text_units-head : text_units f F m ≡ units_of f key
   text_units-head = ap (λ found. option_map_or (units_of f) found []) (shape_announced f F m key text.0)

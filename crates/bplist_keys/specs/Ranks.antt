@@ -11,19 +11,15 @@ use Rattle.bplist_keys.specs.Weights.{AreWeighed}
 use Rattle.bplist_keys.specs.WeightOrder.{AreOrdered}
 
 module _ (f : List ℕ) (F : Frame) (named : List Bool) (numbers : List ℕ) where
-  -- exactly the named objects with the head of a text have a number above 0
-  abbrev pub AreGiven : Type 0
-  AreGiven = (m : ℕ) → (0 < slice_index numbers m) ↔ (IsMarked named m × HasTextShape f F m)
-
-  -- besides, two numbers are equal exactly where the units are
+  -- exactly the named objects with the head of a text have a number above 0, and two are equal exactly where the units are
   pub record AreClasses : Type 0 where
-    pub given : AreGiven
+    pub given : (m : ℕ) → (0 < slice_index numbers m) ↔ (IsMarked named m × HasTextShape f F m)
     pub same : (a b : ℕ) → 0 < slice_index numbers a → 0 < slice_index numbers b
         → (slice_index numbers a ≡ slice_index numbers b) ↔ (text_units f F a ≡ text_units f F b)
 
   -- besides, numbers are ordered as the units are
   pub record AreRanks : Type 0 where
-    pub given : AreGiven
+    pub classes : AreClasses
     pub order : (a b : ℕ) → 0 < slice_index numbers a → 0 < slice_index numbers b
         → (slice_index numbers a < slice_index numbers b) ↔ (compare_units (text_units f F a) (text_units f F b) ≡ Less)
 

@@ -3,10 +3,7 @@ use Rattle.std.specs.Prelude.{◌≡◌, ℕ, ◌+◌, ◌<◌, List, All}
 use Rattle.bplist_objects.specs.Scan.{nth_number}
 use Rattle.bplist_keys.specs.declared.runs.Run.{Run}
 
--- the units of a run are the same as those so many bytes further on
-abbrev pub IsRun : List ℕ → Run → Type 0
-IsRun f run = (k : ℕ) → k < run.units → nth_number f run.from run.size k ≡ nth_number f (run.from + run.apart) run.size k
-
--- each slot holds a run of this file
+-- each slot holds a run of this file: its units are the same as those so many bytes further on
 abbrev pub AreRuns : List ℕ → List Run → Type 0
-AreRuns f slots = All (IsRun f) slots
+AreRuns f slots =
+    All (λ run. (k : ℕ) → k < run.units → nth_number f run.from run.size k ≡ nth_number f (run.from + run.apart) run.size k) slots

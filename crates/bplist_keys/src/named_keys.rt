@@ -61,9 +61,8 @@ impl NamedKeys {
         self.marks[m as usize] = true;
     }
 
-    /// Those of the numbers that are objects are named as keys.
+    /// Those of the numbers that have a mark are named as keys.
     pub fn insert_all(&mut self, numbers: &[u64])
-        requires { length self.old.marks.items < 2 ^ 32 }
         ensures all { length self.new.marks.items ≡ length self.old.marks.items }
         ensures keeps { (m : ℕ) → IsMarked self.old.marks.items m → IsMarked self.new.marks.items m }
         ensures named { (k : ℕ) → k < length numbers.now → slice_index numbers.now k < length self.new.marks.items
@@ -74,13 +73,13 @@ impl NamedKeys {
         let objects = self.marks.len() as u64;
         for m in numbers {
             if *m < objects {
-                self.insert(*m as u32);
+                self.marks[*m as usize] = true;
             }
         }
     }
 }
 
-/// Names a block of the keys of a dictionary, from number `from` on. The number of the key after it.
+/// Names a block of the keys of a dictionary, from number `from` on, as far as there are marks. The number of the key after it.
 fn name_block<P: Framed>(
     src: &mut P,
     head: &Head,
@@ -90,16 +89,14 @@ fn name_block<P: Framed>(
     requires head { IsSafeHead (frame_in (P.means src.old)) head.now }
     requires dict { head.now.kind ≡ Dict }
     requires more { from < head.now.count }
-    requires all { length named.old.marks.items ≡ (frame_in (P.means src.old)).objects }
     ensures reads { OnlyReads (is_err result) (P.means src.old) (P.means src.new) }
-    ensures all { length named.new.marks.items ≡ (frame_in (P.means src.old)).objects }
+    ensures all { length named.new.marks.items ≡ length named.old.marks.items }
     ensures next { IfOk result (λ next. (from < next) × (next ≤ head.now.count)) }
     ensures keeps { (m : ℕ) → IsMarked named.old.marks.items m → IsMarked named.new.marks.items m }
     ensures named { HonestlyIn (P.means src.old) (λ f F. IfOk result (λ next. (k : ℕ) → from ≤ k → k < next
-        → ref f F head.now k < F.objects → IsMarked named.new.marks.items (ref f F head.now k))) }
+        → ref f F head.now k < length named.old.marks.items → IsMarked named.new.marks.items (ref f F head.now k))) }
 {
     let count = (head.count - from).min(BLOCK as u64);
-    let _objects = src.frame().objects;
     let mut buffer = [0u64; BLOCK];
     let numbers = &mut buffer[..count as usize];
     read_refs_in(src, head, from, numbers)?;
@@ -107,7 +104,7 @@ fn name_block<P: Framed>(
     Ok(from + count)
 }
 
-/// Names the keys of a dictionary.
+/// Names the keys of a dictionary, as far as there are marks.
 pub fn name_keys<P: Framed>(
     src: &mut P,
     head: &Head,
@@ -115,12 +112,11 @@ pub fn name_keys<P: Framed>(
 ) -> Result<(), ReadFault>
     requires head { IsSafeHead (frame_in (P.means src.old)) head.now }
     requires dict { head.now.kind ≡ Dict }
-    requires all { length named.old.marks.items ≡ (frame_in (P.means src.old)).objects }
     ensures reads { OnlyReads (is_err result) (P.means src.old) (P.means src.new) }
-    ensures all { length named.new.marks.items ≡ (frame_in (P.means src.old)).objects }
+    ensures all { length named.new.marks.items ≡ length named.old.marks.items }
     ensures keeps { (m : ℕ) → IsMarked named.old.marks.items m → IsMarked named.new.marks.items m }
     ensures named { HonestlyIn (P.means src.old) (λ f F. OnOk result ((k : ℕ) → k < head.now.count
-        → ref f F head.now k < F.objects → IsMarked named.new.marks.items (ref f F head.now k))) }
+        → ref f F head.now k < length named.old.marks.items → IsMarked named.new.marks.items (ref f F head.now k))) }
 {
     let mut done = 0u64;
     while done < head.count {

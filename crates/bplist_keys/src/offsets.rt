@@ -8,12 +8,10 @@ ghost use Rattle.bplist_objects.specs.Framed.{frame_in, with_frame, HonestlyIn};
 ghost use Rattle.bplist_objects.specs.Safe.{IsSafe, IsSafeFrame, IsSafeHead};
 ghost use Rattle.bplist_objects.specs.Answers.{Gives, read_failed};
 ghost use Rattle.bplist_objects.specs.Announced.{HasHead};
-ghost use Rattle.bplist_objects.specs.Heads.{HasShape};
 ghost use Rattle.bplist_objects.specs.Rules.{KeepsAll};
 ghost use Rattle.bplist_objects.specs.ObjectRules.{KeepsByObject, IsObjectFault, shape_rules};
 ghost use Rattle.bplist_keys.specs.Failures.{failed_to_read};
 ghost use Rattle.bplist_keys.specs.Offsets.{AreOffsets32};
-ghost use Rattle.bplist_keys.specs.Texts.{AreOffsets};
 
 use crate::failure::Failure;
 use bplist_objects::{Frame, Framed, Head, ObjectFault, ObjectNo, read_offsets, shape_in};
@@ -99,8 +97,6 @@ pub fn object_shape<P: Offsets>(src: &mut P, n: u32) -> Result<Head, ObjectFault
     ensures rules { HonestlyIn (P.means src.old) (λ f F.
         Gives (λ head. HasHead f F n head × KeepsAll (KeepsByObject f F n) shape_rules)
         (IsObjectFault f F n shape_rules) result) }
-    ensures exact { HonestlyIn (P.means src.old) (λ f F.
-        Gives (HasShape f F n) (IsObjectFault f F n shape_rules) result) }
     ensures safe { IfOk result (IsSafeHead (frame_in (P.means src.old))) }
 {
     let place = src.offset(n)?;
@@ -116,7 +112,7 @@ pub struct OffsetTable<'a, S: Source> {
     pub ghost safe: { IsSafeFrame (length (S.means source.now).octets) frame },
     pub ghost all: { length places.now ≡ frame.objects },
     pub ghost framed: { IsTrue (S.means source.now).honest → IsFrame (S.means source.now).octets frame },
-    pub ghost placed: { IsTrue (S.means source.now).honest → AreOffsets (S.means source.now).octets frame places.now },
+    pub ghost placed: { IsTrue (S.means source.now).honest → AreOffsets32 (S.means source.now).octets frame frame.objects places.now },
 }
 
 impl<'a, S: Source> OffsetTable<'a, S> {
@@ -125,7 +121,7 @@ impl<'a, S: Source> OffsetTable<'a, S> {
         requires safe { IsSafeFrame (length (S.means source.old).octets) frame }
         requires all { length places.now ≡ frame.objects }
         requires framed { IsTrue (S.means source.old).honest → IsFrame (S.means source.old).octets frame }
-        requires placed { IsTrue (S.means source.old).honest → AreOffsets (S.means source.old).octets frame places.now }
+        requires placed { IsTrue (S.means source.old).honest → AreOffsets32 (S.means source.old).octets frame frame.objects places.now }
         ensures same_source { result.source.ghost_name ≡ source.entry.ghost_name }
         ensures means { S.means result.source.now ≡ S.means source.old }
         ensures frame { result.frame ≡ frame }

@@ -1,5 +1,5 @@
 -- The first fault of a file is one, and where there is one the file holds no value.
-use Rattle.std.proofs.Common.{◌≡◌, ℕ, inl, inr, List, [], None, sym, ◌∙◌, subst}
+use Rattle.std.proofs.Common.{◌≡◌, ◌⊎◌, ℕ, inl, inr, List, [], None, sym, ◌∙◌, subst}
 use Rattle.bplist_objects.specs.declared.fault.Fault.{Fault}
 use Rattle.bplist_objects.specs.declared.frame.Frame.{Frame}
 use Rattle.bplist_objects.specs.Frame.{IsFrame}
@@ -11,34 +11,38 @@ use Rattle.bplist_cert.specs.Lists.{lists}
 use Rattle.bplist_cert.specs.CheckRules.{key_rules}
 use Rattle.bplist_cert.proofs.AcceptedCertificates.{no_least_fault}
 use Rattle.bplist_cert.proofs.OneFault.{one_least_fault}
-use Rattle.bplist_lint.specs.ReachRules.{KeepReachBelow, IsReachFault, reach_rules}
-use Rattle.bplist_lint.specs.KeyRules.{KeepKeysBelow, IsKeysFault}
-use Rattle.bplist_lint.specs.FileFault.{IsCircle, IsObjectsFault, IsFileFault, IsFileCircle}
+use Rattle.bplist_lint.specs.ReachRules.{IsReachedFault, KeepReached, reach_rules}
+use Rattle.bplist_lint.specs.FileFault.{IsCircle, IsFileFault, IsFileCircle}
 use Rattle.bplist_lint.specs.WellFormed.{IsWellFormed}
-use Rattle.bplist_lint.proofs.KeptRules.{formed_reach, formed_keys}
+use Rattle.bplist_lint.proofs.KeptRules.{kept_each, formed_reach, formed_keys}
 use Rattle.bplist_lint.proofs.OneCircle.{one_circle, circle_not_founded}
 
 -- a file has one frame
 pub one_frame : (f : List ℕ) (F G : Frame) → IsFrame f F → IsFrame f G → F ≡ G
 one_frame f F G a b = a.spelled ∙ sym b.spelled
 
+-- the first fault of the objects, with this frame
+abbrev IsObjectsFault : List ℕ → Frame → Fault → Type 0
+IsObjectsFault f F fault =
+    IsReachedFault f F reach_rules fault ⊎ (KeepReached f F reach_rules F.objects × IsReachedFault f F (key_rules None) fault)
+
 module _ (f : List ℕ) (F : Frame) where
   -- ---- the first fault of the objects is one
-  one_reach_fault : (a b : Fault) → IsReachFault f F a → IsReachFault f F b → a ≡ b
+  one_reach_fault : (a b : Fault) → IsReachedFault f F reach_rules a → IsReachedFault f F reach_rules b → a ≡ b
   one_reach_fault = one_least_fault f F (Reach f F) (lists [] None) reach_rules
 
-  one_keys_fault : (a b : Fault) → IsKeysFault f F a → IsKeysFault f F b → a ≡ b
+  one_keys_fault : (a b : Fault) → IsReachedFault f F (key_rules None) a → IsReachedFault f F (key_rules None) b → a ≡ b
   one_keys_fault = one_least_fault f F (Reach f F) (lists [] None) (key_rules None)
 
   module _ (frame : IsFrame f F) where
     -- where all reached objects keep their rules there is no fault of them
-    reach_kept : (a : Fault) → KeepReachBelow f F F.objects → IsReachFault f F a → ⊥
+    reach_kept : (a : Fault) → KeepReached f F reach_rules F.objects → IsReachedFault f F reach_rules a → ⊥
     reach_kept = no_least_fault f F (Reach f F) (lists [] None) reach_rules F.objects (reach_within f F (numbered frame).top)
 
-    keys_kept : (a : Fault) → KeepKeysBelow f F F.objects → IsKeysFault f F a → ⊥
+    keys_kept : (a : Fault) → KeepReached f F (key_rules None) F.objects → IsReachedFault f F (key_rules None) a → ⊥
     keys_kept = no_least_fault f F (Reach f F) (lists [] None) (key_rules None) F.objects (reach_within f F (numbered frame).top)
 
-    objects_kept : (a : Fault) → KeepReachBelow f F F.objects → KeepKeysBelow f F F.objects → IsObjectsFault f F a → ⊥
+    objects_kept : (a : Fault) → KeepReached f F reach_rules F.objects → KeepReached f F (key_rules None) F.objects → IsObjectsFault f F a → ⊥
     objects_kept a kept keys (inl h) = reach_kept a kept h
     objects_kept a kept keys (inr h) = keys_kept a keys h.1
 
@@ -58,13 +62,14 @@ module _ (f : List ℕ) where
       one_objects_fault f F frame a b h (subst (λ E. IsObjectsFault f E b) (one_frame f G F other frame) k)
 
   pub one_file_circle : (a b : List ℕ) → IsFileCircle f a → IsFileCircle f b → a ≡ b
-  one_file_circle a b (F, frame, (kept, keys, h)) (G, other, (kept', keys', k)) =
+  one_file_circle a b (F, frame, kept, h) (G, other, kept', k) =
       one_circle f F a b h (subst (λ E. IsCircle f E b) (one_frame f G F other frame) k)
 
   pub fault_or_circle : (a : Fault) (circle : List ℕ) → IsFileFault f a → IsFileCircle f circle → ⊥
-  fault_or_circle a circle (inl h) (F, frame, (kept, keys, c)) = no_frame f F a h frame
-  fault_or_circle a circle (inr (F, frame, h)) (G, other, (kept, keys, c)) =
-      objects_kept f G other a kept keys (subst (λ E. IsObjectsFault f E a) (one_frame f F G frame other) h)
+  fault_or_circle a circle (inl h) (F, frame, kept, c) = no_frame f F a h frame
+  fault_or_circle a circle (inr (F, frame, h)) (G, other, kept, c) =
+      let each = kept_each f G G.objects kept in
+      objects_kept f G other a each.0 each.1 (subst (λ E. IsObjectsFault f E a) (one_frame f F G frame other) h)
 
   -- ---- and it is final
   pub fault_not_formed : (F : Frame) (a : Fault) → IsFileFault f a → IsWellFormed f F → ⊥
@@ -73,5 +78,5 @@ module _ (f : List ℕ) where
       objects_kept f F w.frame a (formed_reach f F w) (formed_keys f F w) (subst (λ E. IsObjectsFault f E a) (one_frame f G F frame w.frame) h)
 
   pub circle_not_formed : (F : Frame) (circle : List ℕ) → IsFileCircle f circle → IsWellFormed f F → ⊥
-  circle_not_formed F circle (G, frame, (kept, keys, c)) w =
+  circle_not_formed F circle (G, frame, kept, c) w =
       circle_not_founded f F circle (subst (λ E. IsCircle f E circle) (one_frame f G F frame w.frame) c) w.founded

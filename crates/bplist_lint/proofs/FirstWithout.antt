@@ -2,8 +2,15 @@
 use Rattle.std.proofs.Common.{◌≡◌, ℕ, ◌<◌, ◌≤◌, ◌↔◌, inl, inr, List, length, slice_index, sym, ap, ◌∙◌, subst, arith, Contains}
 use Rattle.std.proofs.lemmas.Bool.{cases_lt}
 use Rattle.std.proofs.lemmas.List.Elements.{Contains-get_or}
+use Rattle.bplist_objects.specs.declared.frame.Frame.{Frame}
+use Rattle.bplist_objects.specs.Heads.{Content, Spells, refs}
+use Rattle.bplist_objects.specs.Reach.{Founded}
 use Rattle.bplist_objects.proofs.ClaimLaws.{one_failure, fails_too}
 use Rattle.bplist_lint.specs.Graph.{IsFirstWithout}
+
+-- m is the first reference of object n that is not founded
+abbrev pub IsFirstUnfounded : List ℕ → Frame → ℕ → ℕ → Type 0
+IsFirstUnfounded f F n m = (c : Content) × Spells f F n c × IsFirstWithout (Founded f F) (refs c) m
 
 -- P holds of the first so many
 abbrev Hold : (ℕ → Type 0) → List ℕ → ℕ → Type 0

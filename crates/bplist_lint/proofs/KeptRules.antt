@@ -1,5 +1,5 @@
 -- A file is well formed exactly where its reached objects keep their rules and its top is founded.
-use Rattle.std.proofs.Common.{◌≡◌, ℕ, ◌≤◌, ◌+◌, inl, inr, List, [], ◌∷◌, None, subst, arith}
+use Rattle.std.proofs.Common.{◌≡◌, ℕ, ◌<◌, ◌≤◌, ◌+◌, ◌++◌, inl, inr, List, [], ◌∷◌, None, subst, arith}
 use Rattle.std.specs.List.{AllByRecursion}
 use Rattle.std.proofs.lemmas.Bool.{cases_lt}
 use Rattle.bplist_objects.specs.declared.rule.Rule.TheVariants as rules
@@ -21,11 +21,10 @@ use Rattle.bplist_objects.proofs.HeadTies.{shape_announced, spells_keeps, keeps_
 use Rattle.bplist_objects.proofs.FrameTies.{numbered}
 use Rattle.bplist_cert.specs.Lists.{lists}
 use Rattle.bplist_cert.specs.Valid.{HasKeys}
-use Rattle.bplist_cert.specs.CheckRules.{KeepsRule}
+use Rattle.bplist_cert.specs.CheckRules.{KeepsRule, key_rules}
 use Rattle.bplist_cert.proofs.CheckSteps.{kept_by_good, good_by_kept}
 use Rattle.bplist_cert.proofs.KeyTies.{HaveKeys, keys_from_rules, rules_from_keys}
-use Rattle.bplist_lint.specs.ReachRules.{KeepReachBelow, reach_rules}
-use Rattle.bplist_lint.specs.KeyRules.{KeepKeysBelow}
+use Rattle.bplist_lint.specs.ReachRules.{KeepReached, reach_rules}
 use Rattle.bplist_lint.specs.WellFormed.{IsWellFormed}
 
 -- the greatest of some numbers is one of them
@@ -44,6 +43,16 @@ greatest_member S n (k ∷ ks) a = go (greatest_member S k ks a.1)
     ]
 
 module _ (f : List ℕ) (F : Frame) where
+  -- the rules of keys are kept besides the others
+  pub kept_both : (n : ℕ) → KeepReached f F reach_rules n → KeepReached f F (key_rules None) n → KeepReached f F (reach_rules ++ key_rules None) n
+  kept_both n kept keys m low r = kept_all_after (KeepsRule f F (Reach f F) (lists [] None) m) reach_rules (key_rules None) (kept m low r) (keys m low r)
+
+  pub kept_each : (n : ℕ) → KeepReached f F (reach_rules ++ key_rules None) n → KeepReached f F reach_rules n × KeepReached f F (key_rules None) n
+  kept_each n all =
+      let parts : (m : ℕ) → m < n → Reach f F m → KeepsAll (KeepsRule f F (Reach f F) (lists [] None) m) reach_rules × KeepsAll (KeepsRule f F (Reach f F) (lists [] None) m) (key_rules None) =
+      λ m low r. kept_all_parts (KeepsRule f F (Reach f F) (lists [] None) m) reach_rules (key_rules None) (all m low r) in
+      (λ m low r. (parts m low r).0, λ m low r. (parts m low r).1)
+
   -- of the rules of a reached object, those of an object by itself, and rule 31
   pub parted_rules : (n : ℕ) → KeepsAll (KeepsRule f F (Reach f F) (lists [] None) n) reach_rules → KeepsAll (KeepsByObject f F n) object_rules × ((IsOverfull f F (Reach f F) n → ⊥) × Unit {0})
   parted_rules n k = kept_all_parts (KeepsRule f F (Reach f F) (lists [] None) n) object_rules (rules.Overfull ∷ []) k
@@ -53,17 +62,17 @@ module _ (f : List ℕ) (F : Frame) where
 
   module _ (frame : IsFrame f F) where
     -- a reached object that keeps rules 14 to 20 spells a content
-    pub kept_spells : KeepReachBelow f F F.objects → (n : ℕ) → Reach f F n → (c : Content) × Spells f F n c
+    pub kept_spells : KeepReached f F reach_rules F.objects → (n : ℕ) → Reach f F n → (c : Content) × Spells f F n c
     kept_spells kept n r = let lt = reach_within f F (numbered frame).top n r in (keeps_iff f F n frame lt).0 (parted_rules n (kept n lt r)).0
 
-    kept_room : KeepReachBelow f F F.objects → HaveRoom f F (Reach f F)
+    kept_room : KeepReached f F reach_rules F.objects → HaveRoom f F (Reach f F)
     kept_room kept [] r d a t = omega (arith, t, (numbered frame).table_early)
     kept_room kept (n ∷ ns) r d a t = elim (cases_lt F.table (r + 8)) [
       | inl l ↦ let g = greatest_member (Reach f F) n ns a in absurd ((parted_rules g.0 (kept g.0 (reach_within f F (numbered frame).top g.0 g.1.member) g.1.member)).1.0 (n ∷ ns, r, d, g.1.high, t, l))
       | inr h ↦ h
     ]
 
-    kept_content : KeepReachBelow f F F.objects → KeepKeysBelow f F F.objects → (n : ℕ) → Reach f F n → (c : Content) × Spells f F n c × HasKeys f F c
+    kept_content : KeepReached f F reach_rules F.objects → KeepReached f F (key_rules None) F.objects → (n : ℕ) → Reach f F n → (c : Content) × Spells f F n c × HasKeys f F c
     kept_content kept keys n r =
         let s = kept_spells kept n r in
         let head = s.1.shape in
@@ -72,19 +81,19 @@ module _ (f : List ℕ) (F : Frame) where
         (s.0, s.1, keys_from_rules f F n head s.1.has s.0 s.1 (good_by_kept f F (Reach f F) [] n None k head there))
 
     -- where all rules are kept and the top is founded, the file is well formed
-    pub kept_formed : KeepReachBelow f F F.objects → KeepKeysBelow f F F.objects → Founded f F F.top.0 → IsWellFormed f F
+    pub kept_formed : KeepReached f F reach_rules F.objects → KeepReached f F (key_rules None) F.objects → Founded f F F.top.0 → IsWellFormed f F
     kept_formed kept keys ends = record { frame = frame; contents = kept_content kept keys; room = kept_room kept; founded = ends }
 
   -- in a well formed file all rules are kept
   module _ (w : IsWellFormed f F) where
-    pub formed_reach : KeepReachBelow f F F.objects
+    pub formed_reach : KeepReached f F reach_rules F.objects
     formed_reach n lt r =
         let s = w.contents n r in
         both_rules n (spells_keeps f F n w.frame lt s.0 s.1) (λ o.
         let room = w.room o.0 o.1 o.2 (all_weaker _ _ (λ m k. k.0) o.0 o.3) o.4 in
         omega (arith, room, o.5))
 
-    pub formed_keys : KeepKeysBelow f F F.objects
+    pub formed_keys : KeepReached f F (key_rules None) F.objects
     formed_keys n lt r = kept_by_good f F (Reach f F) [] n None of_head
       where
         of_head : (head : Head) → HasHead f F n head → head.kind ≡ Dict → HaveKeys f F head

@@ -18,7 +18,7 @@ use Rattle.bplist_objects.specs.Scan.{ref}
 use Rattle.bplist_cert.specs.DictKeys.{KeysAreTexts}
 use Rattle.bplist_cert.specs.KeyRepeats.{KeysAreSound, BreaksKeys}
 use Rattle.bplist_cert.proofs.KeyRepeats as keys
-use Rattle.bplist_lint.specs.ReachRules.{KeepReachBelow}
+use Rattle.bplist_lint.specs.ReachRules.{KeepReached, reach_rules}
 use Rattle.bplist_keys.specs.Classes.{HasNamedKeys, AreClassed, HaveClasses, IsKeyDefect}
 use Rattle.bplist_lint.specs.KeyClasses.{AreSound, IsWrongFault}
 use Rattle.bplist_keys.specs.declared.class_table.KeyDefect.{KeyDefect}
@@ -30,7 +30,7 @@ use Rattle.bplist_cert.proofs.KeyTies.{each_key}
 module _ (f : List ℕ) (F : Frame) where
   -- where exactly the reached objects are marked, and keep the rules
   pub reached_sound : (marks : List Bool) → length marks ≡ F.objects → IsFrame f F → ((m : ℕ) → IsMarked marks m ↔ Reach f F m)
-      → KeepReachBelow f F F.objects → AreSound f F marks
+      → KeepReached f F reach_rules F.objects → AreSound f F marks
   reached_sound marks many framed reached kept = record {
     framed = framed;
     kept = λ m marked. (parted_rules f F m (kept m (subst (λ n. m < n) many (marked_within marks m marked)) ((reached m).0 marked))).0;

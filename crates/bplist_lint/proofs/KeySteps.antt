@@ -17,21 +17,22 @@ use Rattle.bplist_objects.proofs.References.{length-refs}
 use Rattle.bplist_objects.proofs.ReachedObjects.{refs_spelled}
 use Rattle.bplist_cert.specs.KeyRepeats.{HasGoodKeys, BreaksKeys}
 use Rattle.bplist_cert.proofs.CheckSteps.{kept_by_good, first_of_keys}
-use Rattle.bplist_lint.specs.KeyRules.{KeepKeysBelow, IsKeysFault}
+use Rattle.bplist_cert.specs.CheckRules.{key_rules}
+use Rattle.bplist_lint.specs.ReachRules.{IsReachedFault, KeepReached}
 
 module _ (f : List ℕ) (F : Frame) where
   -- the first fault of the keys
-  pub keys_fault : (n : ℕ) (fault : Fault) → Reach f F n → KeepKeysBelow f F n → BreaksKeys f F F.objects None n fault → IsKeysFault f F fault
+  pub keys_fault : (n : ℕ) (fault : Fault) → Reach f F n → KeepReached f F (key_rules None) n → BreaksKeys f F F.objects None n fault → IsReachedFault f F (key_rules None) fault
   keys_fault n fault reached kept h = record { object = n; member = reached; first = first_of_keys f F (Reach f F) [] n None fault h; least = kept }
 
   -- one object more
-  pub keys_more : (n : ℕ) → HasGoodKeys f F None n → KeepKeysBelow f F n → KeepKeysBelow f F (n + 1)
+  pub keys_more : (n : ℕ) → HasGoodKeys f F None n → KeepReached f F (key_rules None) n → KeepReached f F (key_rules None) (n + 1)
   keys_more n good kept m low r = elim (cases_eq m n) [
     | inl e ↦ kept_by_good f F (Reach f F) [] m None (subst (HasGoodKeys f F None) (sym e) good)
     | inr ne ↦ kept m (omega arith) r
   ]
 
-  pub keys_over : (n : ℕ) → (Reach f F n → ⊥) → KeepKeysBelow f F n → KeepKeysBelow f F (n + 1)
+  pub keys_over : (n : ℕ) → (Reach f F n → ⊥) → KeepReached f F (key_rules None) n → KeepReached f F (key_rules None) (n + 1)
   keys_over n unreached kept m low r = elim (cases_eq m n) [
     | inl e ↦ absurd (unreached (rw e at r))
     | inr ne ↦ kept m (omega arith) r

@@ -1,5 +1,5 @@
 -- What the linter's passes come to: a value with its least heights, or the first fault.
-use Rattle.std.proofs.Common.{◌≡◌, ℕ, ◌<◌, ◌≤◌, ◌↔◌, inl, inr, List, length, slice_index, subst, sym, ◌∙◌, arith}
+use Rattle.std.proofs.Common.{◌≡◌, ℕ, ◌<◌, ◌≤◌, ◌↔◌, inl, inr, List, length, slice_index, subst, sym, ◌∙◌, arith, None}
 use Rattle.std.proofs.lemmas.Bool.{cases_lt}
 use Rattle.std.proofs.lemmas.List.{ext_get_or}
 use Rattle.bplist_objects.specs.declared.fault.Fault.{Fault}
@@ -14,8 +14,8 @@ use Rattle.bplist_objects.proofs.Fronts.{one_head}
 use Rattle.bplist_cert.specs.Valid.{IsVouchedBy, IsValid, HasKeys}
 use Rattle.bplist_cert.proofs.VouchedObjects.{reached_vouched}
 use Rattle.bplist_lint.specs.Graph.{AreLeast}
-use Rattle.bplist_lint.specs.ReachRules.{KeepReachBelow}
-use Rattle.bplist_lint.specs.KeyRules.{KeepKeysBelow}
+use Rattle.bplist_cert.specs.CheckRules.{key_rules}
+use Rattle.bplist_lint.specs.ReachRules.{KeepReached, reach_rules}
 use Rattle.bplist_lint.specs.FileFault.{IsFileFault, IsFileCircle}
 use Rattle.bplist_lint.specs.LeastHeights.{StandLeast, AreLeastHeights}
 use Rattle.bplist_lint.specs.WellFormed.{IsWellFormed}
@@ -87,20 +87,20 @@ module _ (f : List ℕ) (F : Frame) where
   circle_not_valid circle heights h valid = circle_not_formed f F circle h (formed_by_valid heights valid)
 
   -- ---- the rules and well formed files
-  pub formed_iff : IsWellFormed f F ↔ (IsFrame f F × KeepReachBelow f F F.objects × KeepKeysBelow f F F.objects × Founded f F F.top.0)
+  pub formed_iff : IsWellFormed f F ↔ (IsFrame f F × KeepReached f F reach_rules F.objects × KeepReached f F (key_rules None) F.objects × Founded f F F.top.0)
   formed_iff = (
     λ w. (w.frame, formed_reach f F w, formed_keys f F w, w.founded),
     λ (frame, reach, keys, ends). kept_formed f F frame reach keys ends,
   )
 
-  module _ (frame : IsFrame f F) (reach : KeepReachBelow f F F.objects) where
+  module _ (frame : IsFrame f F) (reach : KeepReached f F reach_rules F.objects) where
     -- ---- what the walks find
     -- where the top has a least height it is founded
     pub height_founded : (heights : List ℕ) → AreLeast (refs_at f F) F.top.0 heights → 0 < slice_index heights F.top.0 → Founded f F F.top.0
     height_founded heights least has =
         (founded_iff f F (kept_spells f F frame reach) F.top.0 top).0 (Ends-from_least (refs_at f F) F.top.0 (slice_index heights F.top.0) (least.vouched F.top.0 has).1)
 
-    module _ (keys : KeepKeysBelow f F F.objects) where
+    module _ (keys : KeepReached f F (key_rules None) F.objects) where
       -- then the file is well formed, and the heights are the least, and valid
       pub lint_yes : (heights : List ℕ) → length heights ≡ F.objects → AreLeast (refs_at f F) F.top.0 heights → 0 < slice_index heights F.top.0
           → IsWellFormed f F × AreLeastHeights f F heights × IsValid f F heights

@@ -1,5 +1,5 @@
 -- Steps of the making of key lists one behind the other.
-use Rattle.std.proofs.Common.{◌≡◌, ◌≢◌, inl, inr, ℕ, zero, suc, ◌+◌, ◌-◌, ◌*◌, ◌<◌, ◌≤◌, rules, true, false, List, [], ◌++◌, length, take, drop, set, slice_index, Some, None, is_some, unwrap_or, cond, refl, sym, ◌∙◌, ap, subst, arith, lt-ltb}
+use Rattle.std.proofs.Common.{◌≡◌, ◌≢◌, inl, inr, ℕ, zero, suc, ◌+◌, ◌-◌, ◌*◌, ◌<◌, ◌≤◌, rules, true, false, List, [], ◌++◌, length, take, drop, set, slice_index, Option, Some, None, is_some, unwrap_or, nat_lt, cond, refl, sym, ◌∙◌, ap, subst, arith, lt-ltb}
 use Rattle.std.proofs.Math.Seq.{drop-append_seam, take-length}
 use Rattle.std.proofs.lemmas.Bool.{cases_eq}
 use Rattle.std.proofs.lemmas.List.{get_or-set_same, get_or-set_other, length-append, length-drop, drop-append-le, take-append-le}
@@ -25,8 +25,7 @@ use Rattle.bplist_cert.specs.DictKeys.{AreInOrder}
 use Rattle.bplist_lint.specs.KeyLists.{IsListed}
 use Rattle.bplist_cert.proofs.CheckSteps.{good_keeps}
 use Rattle.bplist_cert.proofs.AcceptedCertificates.{accepted, valid_seen, vouched_keys}
-use Rattle.bplist_lint.specs.Linted.{is_vouched}
-use Rattle.bplist_lint.specs.Upgraded.{pairs_of, pairs, pairs_below, Listed, IsUpgraded}
+use Rattle.bplist_lint.specs.Upgraded.{pairs, pairs_below, Listed, IsUpgraded}
 use Rattle.bplist_lint.proofs.RangeSums.{found_next}
 use Rattle.bplist_lint.proofs.TallySteps.{next_is}
 
@@ -42,6 +41,10 @@ part_back : (xs ys : List ℕ) (c : ℕ) → length ys ≡ c → part (xs ++ ys)
 part_back xs ys c is = ap (take c) (drop-append_seam xs ys) ∙ ap (λ k. take k ys) (sym is) ∙ take-length ys
 
 -- ---- pairs by their kind
+-- how many pairs the head of a dictionary announces
+abbrev pub pairs_of : Head → Option ℕ
+pairs_of head = elim head.kind [ kinds.Dict ↦ Some head.count | _ ↦ None ]
+
 -- a head of this kind, with the other parts of another
 abbrev with_kind : Head → Kind → Head
 with_kind head kind = record { kind = kind; count = head.count; body = head.body; «end» = head.«end» }
@@ -76,7 +79,7 @@ module _ (f : List ℕ) (F : Frame) (heights : List ℕ) where
     -- an object that is not vouched for
     pub listed_over : slice_index heights n ≡ 0 → Listed f F heights (n + 1) starts positions
     listed_over none =
-        let off_n : is_vouched heights n ≡ false = rw none refl in
+        let off_n : nat_lt 0 (slice_index heights n) ≡ false = rw none refl in
         subst (λ k. Listed f F heights k starts positions) (next_is n) (record {
           total = let one = rw off_n at (pairs_next n) in omega (arith, one, l.total);
           begins = λ m low. elim (cases_eq m n) [
@@ -94,7 +97,7 @@ module _ (f : List ℕ) (F : Frame) (heights : List ℕ) where
         })
 
     module _ (vouched : IsVouchedBy heights n) (room : n < length starts) (head : Head) (shape : HasShape f F n head) where
-      on_n : is_vouched heights n ≡ true
+      on_n : nat_lt 0 (slice_index heights n) ≡ true
       on_n = lt-ltb 0 (slice_index heights n) (omega (arith, vouched))
 
       -- an object that is vouched for, with its part of the positions

@@ -3,7 +3,7 @@ use Rattle.std.proofs.Common.{ℕ, ◌^◌, ◌<◌, ◌≤◌, List, slice_inde
 use Rattle.bplist_objects.specs.declared.fault.Fault.{Fault}
 use Rattle.bplist_objects.specs.declared.frame.Frame.{Frame}
 use Rattle.bplist_objects.specs.Frame.{off}
-use Rattle.bplist_objects.specs.FrameRules.{AreEntriesLow, IsEntryFault, IsTrailer}
+use Rattle.bplist_objects.proofs.FrameTies.{AreEntriesLow, IsEntryFault, IsTrailer}
 use Rattle.bplist_objects.proofs.ScanLaws.{first_high}
 use Rattle.bplist_keys.specs.Offsets.{AreOffsets32}
 use Rattle.bplist_lint.specs.OffsetRule.{AreBelowTable, IsOffsetFault}

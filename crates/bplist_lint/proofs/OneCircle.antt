@@ -8,8 +8,8 @@ use Rattle.bplist_objects.proofs.Fronts.{one_head}
 use Rattle.bplist_objects.proofs.Lists.{one_number}
 use Rattle.bplist_objects.proofs.ReachedObjects.{founded_refs}
 use Rattle.bplist_lint.specs.Graph.{IsFirstWithout, IsCircleBy}
-use Rattle.bplist_lint.specs.FileFault.{IsFirstUnfounded, IsCircle}
-use Rattle.bplist_lint.proofs.FirstWithout.{first_among, first_off, one_first}
+use Rattle.bplist_lint.specs.FileFault.{IsCircle}
+use Rattle.bplist_lint.proofs.FirstWithout.{IsFirstUnfounded, first_among, first_off, one_first}
 
 -- where each object leads on to one alone
 module _ (next : ℕ → ℕ → Type 0) (one : (n m k : ℕ) → next n m → next n k → m ≡ k) (top : ℕ) where

@@ -1,24 +1,22 @@
 -- What the linter's passes come to, one behind the other.
-use Rattle.std.proofs.Common.{◌≡◌, ℕ, zero, suc, ◌+◌, ◌<◌, ◌≤◌, inl, inr, cond, nat_lt, List, length, take, slice_index, count_by, None, refl, sym, ap, ◌∙◌, arith, lt-ltb}
+use Rattle.std.proofs.Common.{◌≡◌, ℕ, zero, suc, ◌+◌, ◌<◌, ◌≤◌, inl, cond, nat_lt, Bool, List, length, take, slice_index, count_by, map, IsTrue, None, refl, sym, ap, subst, ◌∙◌, arith, lt-ltb}
 use Rattle.std.proofs.Math.Numerals.{add-one}
 use Rattle.std.proofs.Math.Seq.{take-length}
 use Rattle.std.proofs.lemmas.List.Sums.{sum_by_more}
 use Rattle.std.proofs.lemmas.Bool.{ltb-true}
+use Rattle.bplist_octets.specs.Meaning.{Meaning}
 use Rattle.bplist_objects.specs.declared.fault.Fault.{Fault}
-use Rattle.bplist_objects.specs.declared.fault.ObjectFault.{ObjectFault}
-use Rattle.bplist_objects.specs.declared.fault.ObjectFault.TheVariants as object_faults
 use Rattle.bplist_objects.specs.declared.frame.Frame.{Frame}
-use Rattle.bplist_objects.specs.Answers.{GivesFault, Never}
+use Rattle.bplist_objects.specs.Answers.{Never}
 use Rattle.bplist_objects.specs.Frame.{IsFrame}
-use Rattle.bplist_objects.specs.FrameRules.{IsTrailer, IsTrailerFault}
 use Rattle.bplist_objects.specs.File.{FileHolds}
-use Rattle.bplist_objects.proofs.FrameTies.{trailer_fault, entry_fault, low_is_frame}
+use Rattle.bplist_objects.proofs.FrameTies.{IsTrailer, IsTrailerFault, trailer_fault, entry_fault, low_is_frame}
 use Rattle.bplist_objects.specs.Value.{Value}
 use Rattle.bplist_objects.specs.Reach.{Reach}
 use Rattle.bplist_objects.specs.Spelled.{refs_at}
 use Rattle.bplist_cert.specs.declared.refusal.Refusal.{Refusal}
 use Rattle.bplist_cert.specs.declared.refusal.Refusal.TheVariants as cert_refusals
-use Rattle.bplist_cert.specs.Refusals.{GivesRefusal, refusal_of}
+use Rattle.bplist_cert.specs.Refusals.{GivesRefusal}
 use Rattle.bplist_cert.specs.Valid.{IsVouchedBy}
 use Rattle.bplist_cert.proofs.VouchedObjects.{reached_vouched}
 use Rattle.bplist_lint.specs.declared.refusal.LintRefusal.{LintRefusal}
@@ -27,14 +25,15 @@ use Rattle.bplist_lint.specs.declared.answer.Lint.{Lint}
 use Rattle.bplist_lint.specs.declared.walk.Reached.{Reached}
 use Rattle.bplist_lint.specs.Graph.{AreLeast, IsCircleOf}
 use Rattle.bplist_lint.specs.ReachRules.{number_below, references_below, is_marked}
-use Rattle.bplist_lint.specs.FileFault.{IsFileFault, IsFileCircle, IsObjectsFault, IsFramedCircle}
-use Rattle.bplist_lint.specs.Refusals.{lint_refusal_of, Refuses, no_circle}
+use Rattle.bplist_lint.specs.FileFault.{IsFileFault, IsFileCircle}
+use Rattle.bplist_lint.specs.Refusals.{no_circle}
+use Rattle.bplist_lint.specs.Trail.{number}
 use Rattle.bplist_keys.specs.Offsets.{AreOffsets32}
 use Rattle.bplist_lint.specs.OffsetRule.{AreBelowTable, IsOffsetFault}
 use Rattle.bplist_lint.specs.LeastHeights.{AreLeastHeights}
-use Rattle.bplist_lint.specs.Linted.{is_vouched, KeepsRules, IsLintedBy, HasNoHeights}
+use Rattle.bplist_lint.specs.Linted.{KeepsRules, IsLintedBy, HasNoHeights}
 use Rattle.bplist_lint.proofs.HeldValues.{formed_holds, holds_formed}
-use Rattle.bplist_lint.proofs.KeptRules.{kept_spells}
+use Rattle.bplist_lint.proofs.KeptRules.{kept_both, kept_spells}
 use Rattle.bplist_lint.proofs.OffsetSteps.{kept_low, kept_high}
 use Rattle.bplist_lint.proofs.RangeSums.{sum_next}
 use Rattle.bplist_lint.proofs.Walks.{same_mark}
@@ -43,9 +42,14 @@ use Rattle.bplist_lint.proofs.LintAnswers.{formed_by_valid, least_lowest, lint_y
 use Rattle.bplist_lint.proofs.FirstFaults.{fault_not_formed, circle_not_formed}
 
 -- ---- what is said of a fault is said of the refusal
-pub object_means : (P Q : Fault → Type 0) (R : List ℕ → Type 0) (e : ObjectFault) → ((x : Fault) → P x → Q x) → GivesFault P e → Refuses Q R (lint_refusal_of (refusal_of e))
-object_means P Q R (object_faults.Fault fault) same h = same fault h
-object_means P Q R (object_faults.Read _) same h = tt
+-- P holds of the fault or Q of the circle
+abbrev pub Refuses : (Fault → Type 0) → (List ℕ → Type 0) → LintRefusal → Type 0
+Refuses P Q refusal = elim refusal [ refusals.Fault fault ↦ P fault | refusals.Circle circle ↦ Q (map number circle) | _ ↦ Unit {0} ]
+
+-- a refusal of the checker as one of the linter
+abbrev lint_refusal_of : Refusal → LintRefusal
+lint_refusal_of refusal =
+    elim refusal [ cert_refusals.Fault fault ↦ refusals.Fault fault | cert_refusals.Read error ↦ refusals.Read error | cert_refusals.Memory ↦ refusals.Memory ]
 
 pub check_means : (P Q : Fault → Type 0) (R : List ℕ → Type 0) (e : Refusal) → ((x : Fault) → P x → Q x) → GivesRefusal P e → Refuses Q R (lint_refusal_of e)
 check_means P Q R (cert_refusals.Fault fault) same h = same fault h
@@ -58,7 +62,21 @@ refusal_means P Q R T (refusals.Circle circle) faults circles h = circles _ h
 refusal_means P Q R T (refusals.Read _) faults circles h = tt
 refusal_means P Q R T refusals.Memory faults circles h = tt
 
+-- where no rule is broken, what is said of the circle is said of the file, by what the source means
+pub circle_passed : (m n : Meaning) → m ≡ n → (e : LintRefusal) → (IsTrue m.honest → Refuses Never (IsFileCircle m.octets) e)
+    → IsTrue n.honest → Refuses (IsFileFault n.octets) (IsFileCircle n.octets) e
+circle_passed m n same e told = subst (λ (k : Meaning). IsTrue k.honest → Refuses (IsFileFault k.octets) (IsFileCircle k.octets) e) same (λ honest.
+    refusal_means Never (IsFileFault m.octets) (IsFileCircle m.octets) (IsFileCircle m.octets) e (λ fault h. absurd h) (λ circle h. h) (told honest))
+
+pub fault_passed : (m n : Meaning) → m ≡ n → (e : LintRefusal) → (IsTrue m.honest → Refuses (IsFileFault m.octets) (IsFileCircle m.octets) e)
+    → IsTrue n.honest → Refuses (IsFileFault n.octets) (IsFileCircle n.octets) e
+fault_passed m n same e told = subst (λ (k : Meaning). IsTrue k.honest → Refuses (IsFileFault k.octets) (IsFileCircle k.octets) e) same told
+
 -- ---- sums over the same objects
+-- the object has a height
+abbrev is_vouched : List ℕ → ℕ → Bool
+is_vouched heights n = nat_lt 0 (slice_index heights n)
+
 -- the objects with a height among the first ones
 vouched_counted : (heights : List ℕ) (n : ℕ) → n ≤ length heights → number_below (is_vouched heights) n ≡ count_by (nat_lt 0) (take n heights)
 vouched_counted heights zero l = refl
@@ -107,8 +125,10 @@ module _ (f : List ℕ) (F : Frame) where
       }
 
   -- the circle
-  pub circled : IsFrame f F → (reached : Reached) → KeepsRules f F reached → (circle : List ℕ) → IsCircleOf (refs_at f F) F.top.0 circle → IsFramedCircle f F circle
-  circled frame sifted s circle c = (s.walked.tallied.kept, s.keys, (circle_iff f F (kept_spells f F frame s.walked.tallied.kept) circle).0 c)
+  pub circled : IsFrame f F → (reached : Reached) → KeepsRules f F reached → (circle : List ℕ) → IsCircleOf (refs_at f F) F.top.0 circle → IsFileCircle f circle
+  circled frame sifted s circle c =
+      let kept = s.walked.tallied.kept in
+      (F, frame, kept_both f F F.objects kept s.keys, (circle_iff f F (kept_spells f F frame kept) circle).0 c)
 
 -- ---- a fault excludes heights and values
 pub fault_decides : (f : List ℕ) (fault : Fault) → IsFileFault f fault → HasNoHeights f
@@ -133,11 +153,3 @@ module _ (f : List ℕ) (F : Frame) (trailed : IsTrailer f F) (places : List ℕ
 
   pub frame_by_places : AreBelowTable F places → IsFrame f F
   frame_by_places low = low_is_frame f F trailed (kept_low f F places kept trailed low)
-
--- ---- what holds under the frame holds of the file
-module _ (f : List ℕ) (F : Frame) (frame : IsFrame f F) where
-  pub file_fault : (fault : Fault) → IsObjectsFault f F fault → IsFileFault f fault
-  file_fault fault h = inr (F, frame, h)
-
-  pub file_circle : (circle : List ℕ) → IsFramedCircle f F circle → IsFileCircle f circle
-  file_circle circle h = (F, frame, h)

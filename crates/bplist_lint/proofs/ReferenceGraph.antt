@@ -11,9 +11,9 @@ use Rattle.bplist_lint.specs.Graph.{Reaches, Ends, Least, greatest, IsFirstWitho
 use Rattle.bplist_lint.specs.Graph.Reaches.{start, onward}
 use Rattle.bplist_lint.specs.Graph.Ends.{ends}
 use Rattle.bplist_lint.specs.Graph.Least.{above}
-use Rattle.bplist_lint.specs.FileFault.{IsFirstUnfounded, IsCircle}
+use Rattle.bplist_lint.specs.FileFault.{IsCircle}
 use Rattle.bplist_lint.specs.LeastHeights.{StandLeast, AreLeastHeights}
-use Rattle.bplist_lint.proofs.FirstWithout.{first_among, first_too}
+use Rattle.bplist_lint.proofs.FirstWithout.{IsFirstUnfounded, first_among, first_too}
 use Rattle.bplist_lint.proofs.FoundedObjects.{StandsLeast}
 
 -- ---- least heights in a graph

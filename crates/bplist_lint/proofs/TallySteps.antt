@@ -1,5 +1,5 @@
 -- Running tallies of the reached objects.
-use Rattle.std.proofs.Common.{◌≡◌, ℕ, suc, ◌+◌, ◌-◌, ◌<◌, ◌≤◌, inl, inr, Bool, false, cond, List, [], ◌∷◌, length, get_or, refl, sym, ap, subst, arith, Some, None}
+use Rattle.std.proofs.Common.{◌≡◌, ℕ, suc, ◌+◌, ◌-◌, ◌<◌, ◌≤◌, inl, inr, Bool, false, cond, List, [], ◌∷◌, get_or, refl, sym, subst, arith, Some, None}
 use Rattle.std.proofs.lemmas.Bool.{cases_eq}
 use Rattle.bplist_objects.specs.declared.rule.Rule.TheVariants as rules
 use Rattle.bplist_objects.specs.declared.fault.Fault.{Fault}
@@ -19,7 +19,7 @@ use Rattle.bplist_objects.proofs.HeadTies.{head_tie}
 use Rattle.bplist_keys.specs.Marks.{IsMarked}
 use Rattle.bplist_cert.specs.Lists.{lists}
 use Rattle.bplist_cert.specs.CheckRules.{KeepsRule, BreaksRuleAt}
-use Rattle.bplist_lint.specs.ReachRules.{IsReachFault, is_marked, Tallied}
+use Rattle.bplist_lint.specs.ReachRules.{IsReachedFault, reach_rules, is_marked, Tallied}
 use Rattle.bplist_lint.specs.declared.tally.Tally.{Tally}
 use Rattle.bplist_lint.proofs.KeptRules.{both_rules}
 use Rattle.bplist_lint.proofs.RangeSums.{sum_next, references_are, references_next}
@@ -50,7 +50,7 @@ module _ (f : List ℕ) (F : Frame) where
 
   module _ (frame : IsFrame f F) (n : ℕ) (within : n < F.objects) (reached : Reach f F n) (marks : List Bool) (tally : Tally) (t : Tallied f F marks n tally) where
     -- a fault by rules 14 to 20
-    pub object_fault : (fault : Fault) → IsObjectFault f F n object_rules fault → IsReachFault f F fault
+    pub object_fault : (fault : Fault) → IsObjectFault f F n object_rules fault → IsReachedFault f F reach_rules fault
     object_fault fault h = record {
       object = n;
       member = reached;
@@ -66,7 +66,7 @@ module _ (f : List ℕ) (F : Frame) where
       sums_with = sums_more f F (Reach f F) n (head.«end» - off f F n) tally.used reached (shape_extent f F n head is_head.0) t.sums
 
       -- a fault by rule 31
-      pub room_fault : (fault : Fault) → fault.rule ≡ rules.Overfull → fault.object ≡ Some (record { 0 = n }) → fault.place ≡ off f F n → F.table < tally.used + (head.«end» - off f F n) + 8 → IsReachFault f F fault
+      pub room_fault : (fault : Fault) → fault.rule ≡ rules.Overfull → fault.object ≡ Some (record { 0 = n }) → fault.place ≡ off f F n → F.table < tally.used + (head.«end» - off f F n) + 8 → IsReachedFault f F reach_rules fault
       room_fault fault rule object place full = record {
         object = n;
         member = reached;

@@ -2,11 +2,8 @@
 use Rattle.std.proofs.Common.{◌≡◌, ◌≢◌, ℕ, List, length, Some}
 use Rattle.std.proofs.Math.Logic.{∥∥₁_map}
 use Rattle.std.proofs.lemmas.Grind.{not_there}
-use Rattle.bplist_objects.specs.declared.fault.Fault.{Fault}
-use Rattle.bplist_objects.specs.declared.fault.ObjectFault.{ObjectFault}
-use Rattle.bplist_objects.specs.declared.fault.ObjectFault.TheVariants as object_faults
 use Rattle.bplist_objects.specs.declared.frame.Frame.{Frame}
-use Rattle.bplist_objects.specs.Answers.{GivesFault, Never}
+use Rattle.bplist_objects.specs.Answers.{Never}
 use Rattle.bplist_cert.specs.Lists.{Keyed, Lists}
 use Rattle.bplist_cert.specs.Valid.{IsValid}
 use Rattle.bplist_cert.specs.Sorted.{IsAccepted}
@@ -14,14 +11,13 @@ use Rattle.bplist_lint.specs.Upgraded.{Listed, IsUpgraded}
 use Rattle.bplist_lint.proofs.ListSteps.{upgraded}
 use Rattle.bplist_cert.specs.declared.refusal.Refusal.{Refusal}
 use Rattle.bplist_cert.specs.declared.refusal.Refusal.TheVariants as cert_refusals
-use Rattle.bplist_cert.specs.Refusals.{GivesRefusal, refusal_of}
+use Rattle.bplist_cert.specs.Refusals.{GivesRefusal}
 use Rattle.bplist_lint.specs.declared.upgrade_fault.UpgradeFault.{UpgradeFault}
 use Rattle.bplist_lint.specs.declared.upgrade_fault.UpgradeFault.TheVariants as faults
-use Rattle.bplist_lint.specs.UpgradeAnswers.{upgrade_fault_of}
 
-pub object_no_change : (P : Fault → Type 0) (e : ObjectFault) → ((x : Fault) → P x → ⊥) → GivesFault P e → upgrade_fault_of (refusal_of e) ≢ faults.Changed
-object_no_change P (object_faults.Fault fault) never h = absurd (never fault h)
-object_no_change P (object_faults.Read _) never h = λ e. cc
+-- a broken rule means that the file changed
+abbrev upgrade_fault_of : Refusal → UpgradeFault
+upgrade_fault_of refusal = elim refusal [ cert_refusals.Fault _ ↦ faults.Changed | cert_refusals.Read error ↦ faults.Read error | cert_refusals.Memory ↦ faults.Memory ]
 
 pub check_no_change : (e : Refusal) → GivesRefusal Never e → upgrade_fault_of e ≢ faults.Changed
 check_no_change (cert_refusals.Fault fault) h = absurd h

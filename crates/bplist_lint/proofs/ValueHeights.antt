@@ -23,8 +23,8 @@ use Rattle.bplist_lint.specs.Graph.{IsWhole, Reaches, Ends, Least, greatest, Are
 use Rattle.bplist_lint.specs.Graph.Reaches.{onward}
 use Rattle.bplist_lint.specs.Graph.Ends.{ends}
 use Rattle.bplist_lint.specs.Graph.Least.{above}
-use Rattle.bplist_lint.specs.KeyRules.{KeepKeysBelow}
-use Rattle.bplist_lint.specs.ReachRules.{KeepReachBelow}
+use Rattle.bplist_cert.specs.CheckRules.{key_rules}
+use Rattle.bplist_lint.specs.ReachRules.{KeepReached, reach_rules}
 use Rattle.bplist_lint.specs.ReferenceGraph.{key_count, hidden, refs_in, graph_of}
 use Rattle.bplist_lint.specs.HeightWalks.{AreClosed, AreLeastOf}
 use Rattle.bplist_lint.proofs.KeptRules.{kept_spells}
@@ -93,7 +93,7 @@ of_text kinds.Ascii count is = refl
 of_text kinds.Wide count is = refl
 of_text _ count is = absurd is
 
-module _ (f : List ℕ) (F : Frame) (frame : IsFrame f F) (kept : KeepReachBelow f F F.objects) where
+module _ (f : List ℕ) (F : Frame) (frame : IsFrame f F) (kept : KeepReached f F reach_rules F.objects) where
   -- each has all references that it announces, whatever the view
   pub all_whole : (view : View) (n : ℕ) → Reach f F n → IsWhole (graph_of 0 view f F) n
   all_whole view n r = let s = kept_spells f F frame kept n r in all_announced f F n view s.0 s.1
@@ -104,7 +104,7 @@ module _ (f : List ℕ) (F : Frame) (frame : IsFrame f F) (kept : KeepReachBelow
         let r = (marked n).0 m in
         (all_whole view n r, λ i l. (marked _).1 (next r ((refs_iff f F n _).1 (other_among (refs_at f F) (λ k. hidden view (head_found f F k)) n _ (Contains-get_or (refs_in view f F n) i 0 l)))))
 
-    module _ (keys : KeepKeysBelow f F F.objects) where
+    module _ (keys : KeepReached f F (key_rules None) F.objects) where
       abbrev out : ℕ → ℕ
       out n = hidden views.Values (head_found f F n)
 

@@ -25,11 +25,10 @@ use Rattle.bplist_objects.proofs.HeadTies.{keeps_iff, shape_announced}
 use Rattle.bplist_cert.proofs.DecidedObjects.{fault_at}
 use Rattle.bplist_cert.proofs.DecidedKeys.{dict_decided, texts_or_first, differ_or_first}
 use Rattle.bplist_cert.specs.Lists.{lists}
-use Rattle.bplist_cert.specs.CheckRules.{KeepsRule, BreaksRuleAt}
+use Rattle.bplist_cert.specs.CheckRules.{KeepsRule, BreaksRuleAt, key_rules}
 use Rattle.bplist_cert.specs.KeyRepeats.{HasGoodKeys, BreaksKeys}
-use Rattle.bplist_lint.specs.ReachRules.{KeepReachBelow, IsReachFault, reach_rules}
-use Rattle.bplist_lint.specs.KeyRules.{KeepKeysBelow, IsKeysFault}
-use Rattle.bplist_lint.specs.FileFault.{IsCircle, IsObjectsFault, IsFileFault, IsFramedCircle, IsFileCircle}
+use Rattle.bplist_lint.specs.ReachRules.{IsReachedFault, KeepReached, reach_rules}
+use Rattle.bplist_lint.specs.FileFault.{IsCircle, IsFileFault, IsFileCircle}
 use Rattle.bplist_lint.specs.WellFormed.{IsWellFormed}
 use Rattle.bplist_lint.proofs.FiniteGraphs.{reach_decided, founded_or_circle}
 use Rattle.bplist_lint.proofs.HeldValues.{formed_holds}
@@ -37,7 +36,7 @@ use Rattle.bplist_lint.proofs.ReferenceGraph.{reach_iff, founded_iff, circle_iff
 use Rattle.bplist_cert.proofs.CheckSteps.{kept_by_good}
 use Rattle.bplist_cert.proofs.KeyRepeats.{good_at}
 use Rattle.bplist_lint.proofs.KeySteps.{keys_fault}
-use Rattle.bplist_lint.proofs.KeptRules.{both_rules, kept_spells, kept_formed}
+use Rattle.bplist_lint.proofs.KeptRules.{kept_both, both_rules, kept_spells, kept_formed}
 
 module _ (f : List ℕ) (F : Frame) (frame : IsFrame f F) where
   -- ---- the graph of the references is finite
@@ -53,11 +52,11 @@ module _ (f : List ℕ) (F : Frame) (frame : IsFrame f F) where
   -- ---- rules 14 to 20 and 31
   -- the reached objects below n keep these rules and take t bytes, for which there is room
   record IsPassed (n t : ℕ) : Type 0 where
-    kept : KeepReachBelow f F n
+    kept : KeepReached f F reach_rules n
     sums : Sums f F (Reach f F) n t
     room : t + 8 ≤ F.table
 
-  keep_more : (n : ℕ) → KeepReachBelow f F n → (Reach f F n → KeepsAll (KeepsRule f F (Reach f F) (lists [] None) n) reach_rules) → KeepReachBelow f F (suc n)
+  keep_more : (n : ℕ) → KeepReached f F reach_rules n → (Reach f F n → KeepsAll (KeepsRule f F (Reach f F) (lists [] None) n) reach_rules) → KeepReached f F reach_rules (suc n)
   keep_more n below own m lt r = elim (cases_lt m n) [
     | inl l ↦ below m l r
     | inr h ↦
@@ -66,10 +65,10 @@ module _ (f : List ℕ) (F : Frame) (frame : IsFrame f F) where
   ]
 
   module _ (n t : ℕ) (lt : n < F.objects) (p : IsPassed n t) (r : Reach f F n) where
-    own_fault : (fault : Fault) → IsFirstFault (KeepsRule f F (Reach f F) (lists [] None) n) (BreaksRuleAt f F (Reach f F) (lists [] None) n) reach_rules fault → IsReachFault f F fault
+    own_fault : (fault : Fault) → IsFirstFault (KeepsRule f F (Reach f F) (lists [] None) n) (BreaksRuleAt f F (Reach f F) (lists [] None) n) reach_rules fault → IsReachedFault f F reach_rules fault
     own_fault fault first = record { object = n; member = r; first = first; least = p.kept }
 
-    pass_kept : KeepsAll (KeepsByObject f F n) object_rules → ((u : ℕ) × IsPassed (suc n) u) ⊎ ((fault : Fault) × IsReachFault f F fault)
+    pass_kept : KeepsAll (KeepsByObject f F n) object_rules → ((u : ℕ) × IsPassed (suc n) u) ⊎ ((fault : Fault) × IsReachedFault f F reach_rules fault)
     pass_kept kept =
         let s = (keeps_iff f F n frame lt).0 kept in
         let head = s.1.shape in
@@ -93,13 +92,13 @@ module _ (f : List ℕ) (F : Frame) (frame : IsFrame f F) where
           )
         ]
 
-    pass_reached : ((u : ℕ) × IsPassed (suc n) u) ⊎ ((fault : Fault) × IsReachFault f F fault)
+    pass_reached : ((u : ℕ) × IsPassed (suc n) u) ⊎ ((fault : Fault) × IsReachedFault f F reach_rules fault)
     pass_reached = elim (object_kept_or_fault f F n object_rules) [
       | inl kept ↦ pass_kept kept
       | inr broken ↦ inr (broken.0, own_fault broken.0 (first_fault_among (KeepsRule f F (Reach f F) (lists [] None) n) (BreaksRuleAt f F (Reach f F) (lists [] None) n) object_rules (rules.Overfull ∷ []) broken.0 broken.1))
     ]
 
-  pass : (n : ℕ) → n ≤ F.objects → ((t : ℕ) × IsPassed n t) ⊎ ((fault : Fault) × IsReachFault f F fault)
+  pass : (n : ℕ) → n ≤ F.objects → ((t : ℕ) × IsPassed n t) ⊎ ((fault : Fault) × IsReachedFault f F reach_rules fault)
   pass zero l = inl (0, record { kept = λ m lt r. absurd (omega (arith, lt)); sums = sums_none f F (Reach f F); room = omega (arith, (numbered frame).table_early) })
   pass (suc n) l = elim (pass n (omega (arith, l))) [
     | inr fault ↦ inr fault
@@ -139,12 +138,12 @@ module _ (f : List ℕ) (F : Frame) (frame : IsFrame f F) where
       there : HasHead f F n head
       there = shape_announced f F n head s.has
 
-  module _ (reach : KeepReachBelow f F F.objects) where
-    pass_keys : KeepKeysBelow f F F.objects ⊎ ((fault : Fault) × IsKeysFault f F fault)
+  module _ (reach : KeepReached f F reach_rules F.objects) where
+    pass_keys : KeepReached f F (key_rules None) F.objects ⊎ ((fault : Fault) × IsReachedFault f F (key_rules None) fault)
     pass_keys = elim (all_or_first (λ n. Reach f F n → HasGoodKeys f F None n) Broken each F.objects) [
       | inl all ↦ inl (λ n lt r. kept_by_good f F (Reach f F) [] n None (all n lt r))
       | inr first ↦
-          let before : KeepKeysBelow f F first.0 = λ m lt r. kept_by_good f F (Reach f F) [] m None (first.3 m lt r) in
+          let before : KeepReached f F (key_rules None) first.0 = λ m lt r. kept_by_good f F (Reach f F) [] m None (first.3 m lt r) in
           inr (first.2.1.0, keys_fault f F first.0 first.2.1.0 first.2.0 before first.2.1.1)
     ]
       where
@@ -168,14 +167,14 @@ module _ (f : List ℕ) (F : Frame) (frame : IsFrame f F) where
     ]
 
   -- with this frame the file is well formed, or an object or a circle is its first fault
-  pub formed_or_objects : IsWellFormed f F ⊎ (((fault : Fault) × IsObjectsFault f F fault) ⊎ ((circle : List ℕ) × IsFramedCircle f F circle))
+  pub formed_or_objects : IsWellFormed f F ⊎ (((fault : Fault) × IsFileFault f fault) ⊎ ((circle : List ℕ) × IsFileCircle f circle))
   formed_or_objects = elim (pass F.objects (omega arith)) [
-    | inr fault ↦ inr (inl (fault.0, inl fault.1))
+    | inr fault ↦ inr (inl (fault.0, inr (F, frame, inl fault.1)))
     | inl passed ↦ elim (pass_keys passed.1.kept) [
-      | inr fault ↦ inr (inl (fault.0, inr (passed.1.kept, fault.1)))
+      | inr fault ↦ inr (inl (fault.0, inr (F, frame, inr (passed.1.kept, fault.1))))
       | inl keys ↦ elim (ends_or_circle passed.1.kept) [
         | inl is ↦ inl (kept_formed f F frame passed.1.kept keys is)
-        | inr circle ↦ inr (inr (circle.0, (passed.1.kept, keys, circle.1)))
+        | inr circle ↦ inr (inr (circle.0, (F, frame, kept_both f F F.objects passed.1.kept keys, circle.1)))
       ]
     ]
   ]
@@ -186,10 +185,7 @@ formed_or_fault f = elim (frame_kept_or_fault f) [
   | inr fault ↦ inr (inl (fault.0, inl fault.1))
   | inl kept ↦ let F = trailer f in let frame = trailer_is_frame f kept in elim (formed_or_objects f F frame) [
     | inl w ↦ inl (F, w)
-    | inr r ↦ elim r [
-      | inl fault ↦ inr (inl (fault.0, inr (F, frame, fault.1)))
-      | inr circle ↦ inr (inr (circle.0, (F, frame, circle.1)))
-    ]
+    | inr r ↦ inr r
   ]
 ]
 

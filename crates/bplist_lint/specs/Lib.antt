@@ -7,7 +7,6 @@ pub mod Tallies
 pub mod OffsetRule
 pub mod BitSets
 pub mod ReachRules
-pub mod KeyRules
 pub mod ReachWalk
 pub mod KeyClasses
 pub mod FileFault

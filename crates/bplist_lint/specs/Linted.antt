@@ -1,5 +1,5 @@
 -- What the linter says of a file that holds a value. Source: profile.
-use Rattle.std.specs.Prelude.{◌≡◌, ℕ, ◌+◌, ◌≤◌, Bool, nat_lt, List, slice_index, count_by, None}
+use Rattle.std.specs.Prelude.{◌≡◌, ℕ, ◌+◌, ◌≤◌, nat_lt, List, slice_index, count_by, None}
 use Rattle.bplist_objects.specs.declared.frame.Frame.{Frame}
 use Rattle.bplist_objects.specs.declared.head.Head.{Head}
 use Rattle.bplist_objects.specs.declared.kind.Kind.{Kind}
@@ -8,17 +8,13 @@ use Rattle.bplist_objects.specs.Heads.{IsHeadOf}
 use Rattle.bplist_objects.specs.Value.{Value}
 use Rattle.bplist_objects.specs.File.{FileHolds}
 use Rattle.bplist_objects.specs.Reach.{Reach}
+use Rattle.bplist_cert.specs.CheckRules.{key_rules}
 use Rattle.bplist_cert.specs.Valid.{IsValid}
 use Rattle.bplist_lint.specs.declared.answer.Lint.{Lint}
 use Rattle.bplist_lint.specs.declared.walk.Reached.{Reached}
 use Rattle.bplist_lint.specs.LeastHeights.{AreLeastHeights}
-use Rattle.bplist_lint.specs.ReachRules.{references_below}
+use Rattle.bplist_lint.specs.ReachRules.{KeepReached, references_below}
 use Rattle.bplist_lint.specs.ReachWalk.{IsWalked}
-use Rattle.bplist_lint.specs.KeyRules.{KeepKeysBelow}
-
--- the object has a height
-abbrev pub is_vouched : List ℕ → ℕ → Bool
-is_vouched heights n = nat_lt 0 (slice_index heights n)
 
 -- the file holds a value; the certificate has the least valid heights, and the numbers are those of reached objects
 pub record IsLintedBy (f : List ℕ) (F : Frame) (lint : Lint) : Type 0 where
@@ -30,7 +26,7 @@ pub record IsLintedBy (f : List ℕ) (F : Frame) (lint : Lint) : Type 0 where
   pub lowest : (other : List ℕ) → IsValid f F other → (n : ℕ) → Reach f F n → slice_index lint.certificate.heights n ≤ slice_index other n
   pub height : lint.height ≡ slice_index lint.certificate.heights F.top.0
   pub reached : lint.reached ≡ count_by (nat_lt 0) lint.certificate.heights
-  pub references : lint.references ≡ references_below f F (is_vouched lint.certificate.heights) F.objects
+  pub references : lint.references ≡ references_below f F (λ n. nat_lt 0 (slice_index lint.certificate.heights n)) F.objects
   pub few : lint.references + 8 ≤ F.table
 
 -- the same, with the file's frame
@@ -49,4 +45,4 @@ HasNoHeights f = (F : Frame) (heights : List ℕ) → IsValid f F heights → �
 -- the reached objects keep all rules but 23
 pub record KeepsRules (f : List ℕ) (F : Frame) (reached : Reached) : Type 0 where
   pub walked : IsWalked f F reached
-  pub keys : KeepKeysBelow f F F.objects
+  pub keys : KeepReached f F (key_rules None) F.objects

@@ -1,6 +1,6 @@
 -- The names that the clauses of this crate cite, passed on from one place. Declares nothing.
 pub use Rattle.std.specs.Int.{from_bool}
-pub use Rattle.bplist_octets.specs.Meaning.{OnlyReads}
+pub use Rattle.bplist_octets.specs.Meaning.{Honestly, OnlyReads}
 pub use Rattle.bplist_objects.specs.Announced.{HasHead}
 pub use Rattle.bplist_objects.specs.Answers.{Gives, Never, read_failed}
 pub use Rattle.bplist_objects.specs.File.{FileHolds}
@@ -10,7 +10,7 @@ pub use Rattle.bplist_objects.specs.Heads.{Content, HasShape, Spells, content_at
 pub use Rattle.bplist_objects.specs.ObjectRules.{KeepsByObject, object_rules}
 pub use Rattle.bplist_objects.specs.Reach.{Founded, Reach}
 pub use Rattle.bplist_objects.specs.Rules.{IsFirstFault, KeepsAll}
-pub use Rattle.bplist_objects.specs.Safe.{IsSafe, IsSafeHead, ref_count}
+pub use Rattle.bplist_objects.specs.Safe.{IsSafe, IsSafeFrame, IsSafeHead, ref_count}
 pub use Rattle.bplist_objects.specs.Scan.{AreBelow, nth_number, ref}
 pub use Rattle.bplist_objects.specs.Spelled.{refs_at}
 pub use Rattle.bplist_objects.specs.Value.{Value}
@@ -21,29 +21,28 @@ pub use Rattle.bplist_objects.specs.declared.kind.Kind.TheVariants.{Dict}
 pub use Rattle.bplist_keys.specs.Classes.{AreClassed, HasNamedKeys, IsNew, IsStamped, defect_key}
 pub use Rattle.bplist_keys.specs.Failures.{failed_to_read}
 pub use Rattle.bplist_keys.specs.Marks.{IsMarked}
+pub use Rattle.bplist_keys.specs.Offsets.{AreOffsets32}
 pub use Rattle.bplist_keys.specs.Ranks.{AreRanks}
-pub use Rattle.bplist_keys.specs.Texts.{AreOffsets}
+pub use Rattle.bplist_cert.specs.CheckRules.{key_rules}
 pub use Rattle.bplist_cert.specs.KeyRepeats.{BreaksKeys, HasGoodKeys, KeysAreSound}
-pub use Rattle.bplist_cert.specs.Refusals.{Judges, refusal_of, refusal_of_keys, refused_read}
+pub use Rattle.bplist_cert.specs.Refusals.{Judges, refused_read}
 pub use Rattle.bplist_cert.specs.Valid.{IsValid, IsVouchedBy}
-pub use Rattle.bplist_cert.specs.declared.refusal.Refusal.{Refusal}
-pub use Rattle.bplist_lint.specs.FileFault.{IsCircle, IsFileCircle, IsFileFault, IsFramedCircle, IsObjectsFault}
+pub use Rattle.bplist_lint.specs.FileFault.{IsCircle, IsFileCircle, IsFileFault}
 pub use Rattle.bplist_lint.specs.Graph.{AreLeast, AreObjects, AreWhole, Ends, IsCircleOf, IsFirstWithout, IsWhole, Reaches}
 pub use Rattle.bplist_lint.specs.HeightWalks.{AreClosed, AreLeastOf, Finds, IsHeightWalk, Shows, Standing, first_state, state_at}
 pub use Rattle.bplist_lint.specs.KeyClasses.{IsWrongFault}
 pub use Rattle.bplist_lint.specs.KeyLists.{AreAbove, AreRanked, HaveRanks, IsListed, positions_in, ranks_in}
-pub use Rattle.bplist_lint.specs.KeyRules.{IsKeysFault, KeepKeysBelow}
 pub use Rattle.bplist_lint.specs.LeastHeights.{AreLeastHeights, StandLeast}
 pub use Rattle.bplist_lint.specs.Linted.{HasNoHeights, IsLinted, IsLintedBy, IsLintedWithKind, KeepsRules}
 pub use Rattle.bplist_lint.specs.OffsetRule.{AreBelowTable, IsOffsetFault}
-pub use Rattle.bplist_lint.specs.ReachRules.{IsReachFault, KeepReachBelow, Tallied}
+pub use Rattle.bplist_lint.specs.ReachRules.{IsReachedFault, KeepReached, Tallied, reach_rules}
 pub use Rattle.bplist_lint.specs.ReachSearch.{AreFollowed, AreGood, HasMarks, IsReady, Looked, Searching, index_count, place_index}
 pub use Rattle.bplist_lint.specs.ReachWalk.{AreNamed, HasRoomFor, IsSteady, IsSteadyWalk, IsWalked, IsWalking, Noted, of_object, stop_failed}
 pub use Rattle.bplist_lint.specs.ReferenceGraph.{AreChildless, graph_of, hidden}
-pub use Rattle.bplist_lint.specs.Refusals.{Lints, lint_failed, lint_refusal_of, no_circle}
+pub use Rattle.bplist_lint.specs.Refusals.{Lints, lint_failed, no_circle}
 pub use Rattle.bplist_lint.specs.Tallies.{IsRoomy}
 pub use Rattle.bplist_lint.specs.Trail.{AllHave, IsFirstIndex, number, object}
-pub use Rattle.bplist_lint.specs.UpgradeAnswers.{Upgrades, upgrade_failed, upgrade_fault_of}
+pub use Rattle.bplist_lint.specs.UpgradeAnswers.{Upgrades, upgrade_failed}
 pub use Rattle.bplist_lint.specs.Upgraded.{IsUpgraded, Listed}
 pub use Rattle.bplist_lint.specs.WellFormed.{IsWellFormed}
 pub use Rattle.bplist_lint.specs.declared.walk.Stop.TheVariants.{Read}

@@ -1,5 +1,4 @@
--- The rules 14 to 20 and 31 of the objects that the top reaches, which are kept and broken as in the check, and the first fault of them.
--- Source: profile.
+-- The rules of the objects that the top reaches, which are kept and broken as in the check, and the first fault of them. Source: profile.
 use Rattle.std.specs.Prelude.{◌≡◌, ℕ, Bool, false, List, [], ◌∷◌, ◌++◌, slice_index_or, None, sum_by, count_by, filter, filter_map}
 use Rattle.std.specs.List.{range_with_len}
 use Rattle.bplist_objects.specs.declared.rule.Rule.{Rule}
@@ -15,7 +14,7 @@ use Rattle.bplist_cert.specs.Lists.{lists}
 use Rattle.bplist_cert.specs.CheckRules.{KeepBelow, IsLeastFault}
 use Rattle.bplist_lint.specs.declared.tally.Tally.{Tally}
 
--- the rules of a reached object, in order
+-- the rules 14 to 20 and 31 of a reached object, in order; those of its keys come after them
 abbrev pub reach_rules : List Rule
 reach_rules = object_rules ++ rules.Overfull ∷ []
 
@@ -28,13 +27,13 @@ abbrev pub is_marked : List Bool → ℕ → Bool
 is_marked marks n = slice_index_or marks n false
 
 module _ (f : List ℕ) (F : Frame) where
-  -- the reached objects below n keep rules 14 to 20 and 31
-  abbrev pub KeepReachBelow : ℕ → Type 0
-  KeepReachBelow n = KeepBelow f F (Reach f F) (lists [] None) reach_rules n
+  -- the reached objects below n keep these rules
+  abbrev pub KeepReached : List Rule → ℕ → Type 0
+  KeepReached listed n = KeepBelow f F (Reach f F) (lists [] None) listed n
 
   -- the first fault by these rules of the least reached object that has one
-  abbrev pub IsReachFault : Fault → Type 0
-  IsReachFault fault = IsLeastFault f F (Reach f F) (lists [] None) reach_rules fault
+  abbrev pub IsReachedFault : List Rule → Fault → Type 0
+  IsReachedFault listed fault = IsLeastFault f F (Reach f F) (lists [] None) listed fault
 
   -- how many references the heads of the objects below n that satisfy p announce
   abbrev pub references_below : (ℕ → Bool) → ℕ → ℕ
@@ -42,7 +41,7 @@ module _ (f : List ℕ) (F : Frame) where
 
   -- so far the reached objects, which are marked, keep the rules, and this is their tally
   pub record Tallied (marks : List Bool) (n : ℕ) (tally : Tally) : Type 0 where
-    pub kept : KeepReachBelow n
+    pub kept : KeepReached reach_rules n
     pub sums : Sums f F (Reach f F) n tally.used
     pub reached : tally.reached ≡ number_below (is_marked marks) n
     pub references : tally.references ≡ references_below (is_marked marks) n

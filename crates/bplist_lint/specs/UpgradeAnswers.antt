@@ -1,15 +1,7 @@
 -- What an upgrade answers. Source: profile.
 use Rattle.std.specs.Prelude.{◌≢◌, Bool, true, false, Result, Err, MatchResult}
-use Rattle.bplist_cert.specs.declared.refusal.Refusal.{Refusal}
-use Rattle.bplist_cert.specs.declared.refusal.Refusal.TheVariants as cert_refusals
 use Rattle.bplist_lint.specs.declared.upgrade_fault.UpgradeFault.{UpgradeFault}
 use Rattle.bplist_lint.specs.declared.upgrade_fault.UpgradeFault.TheVariants as faults
-
--- a broken rule means that the file changed
-abbrev pub upgrade_fault_of : Refusal → UpgradeFault
-upgrade_fault_of (cert_refusals.Fault _) = faults.Changed
-upgrade_fault_of (cert_refusals.Read error) = faults.Read error
-upgrade_fault_of cert_refusals.Memory = faults.Memory
 
 -- the answer is a failed read
 abbrev pub upgrade_failed : {X : Type 0} → Result X UpgradeFault → Bool

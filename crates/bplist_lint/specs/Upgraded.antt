@@ -1,5 +1,5 @@
 -- The key lists of vouched dictionaries, one behind the other. Source: profile.
-use Rattle.std.specs.Prelude.{◌≡◌, ℕ, ◌<◌, ◌≤◌, cond, List, length, slice_index, Option, Some, None, is_some, map, sum, filter_map}
+use Rattle.std.specs.Prelude.{◌≡◌, ℕ, ◌<◌, ◌≤◌, nat_lt, cond, List, length, slice_index, Option, Some, None, is_some, map, sum, filter_map}
 use Rattle.std.specs.List.{range_with_len}
 use Rattle.std.specs.Option.{option_and_then}
 use Rattle.bplist_objects.specs.declared.frame.Frame.{Frame}
@@ -11,16 +11,12 @@ use Rattle.bplist_cert.specs.Lists.{Keyed, Lists, lists}
 use Rattle.bplist_cert.specs.Valid.{IsVouchedBy}
 use Rattle.bplist_cert.specs.Sorted.{IsAccepted}
 use Rattle.bplist_cert.specs.CheckRules.{HasOrder}
-use Rattle.bplist_lint.specs.Linted.{is_vouched}
-
--- how many pairs the head of a dictionary announces
-abbrev pub pairs_of : Head → Option ℕ
-pairs_of head = elim head.kind [ Dict ↦ Some head.count | _ ↦ None ]
 
 module _ (f : List ℕ) (F : Frame) (heights : List ℕ) where
   -- how many positions the key list of object n has, if it is a vouched dictionary
   abbrev pub pairs : ℕ → Option ℕ
-  pairs n = cond (is_vouched heights n) (option_and_then pairs_of (head_found f F n)) None
+  pairs n = cond (nat_lt 0 (slice_index heights n))
+      (option_and_then (λ head. elim head.kind [ Dict ↦ Some head.count | _ ↦ None ]) (head_found f F n)) None
 
   -- how many positions the key lists of the objects below n have together
   abbrev pub pairs_below : ℕ → ℕ

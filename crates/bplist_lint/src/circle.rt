@@ -1,10 +1,10 @@
 //! The circle that keeps the top from being founded.
 
 ghost use Rattle.std.specs.Prelude.{◌≡◌, ◌<◌, ◌≤◌, IsTrue, drop, map, length, slice_index, Contains, IfOk, IfSome, MatchOption, is_err};
-ghost use Rattle.bplist_lint.specs.Prelude.{OnlyReads, failed_to_read, IsWhole, AreWhole, AreObjects, AreLeast, IsFirstWithout, IsCircleOf, number, object, AllHave, IsFirstIndex};
+ghost use Rattle.bplist_lint.specs.Prelude.{OnlyReads, Judges, Never, refused_read, IsWhole, AreWhole, AreObjects, AreLeast, IsFirstWithout, IsCircleOf, number, object, AllHave, IsFirstIndex};
 
 use crate::references::{BLOCK, References};
-use bplist_keys::Failure;
+use bplist_cert::Refusal;
 use bplist_objects::ObjectNo;
 use bplist_octets::ReadFault;
 use std::alloc::{AllocError, Global};
@@ -89,15 +89,15 @@ pub fn circle<R: References>(
     graph: &mut R,
     heights: &[u32],
     top: u32,
-) -> Result<Vec<ObjectNo>, Failure>
+) -> Result<Vec<ObjectNo>, Refusal>
     requires top { top < (R.graph graph.old).size }
     requires all_heights { length heights.now ≡ (R.graph graph.old).size }
     requires heights { IsTrue (R.means graph.old).honest → AreLeast (R.graph graph.old).refs top heights.now }
     requires circular { slice_index heights.now top ≡ 0 }
     ensures same { R.graph graph.new ≡ R.graph graph.old }
-    ensures reads { OnlyReads (failed_to_read result) (R.means graph.old) (R.means graph.new) }
-    ensures circle { IsTrue (R.means graph.old).honest → AreWhole (R.graph graph.old) top → IfOk result (λ circle.
-        IsCircleOf (R.graph graph.old).refs top (map number circle.items)) }
+    ensures reads { OnlyReads (refused_read result) (R.means graph.old) (R.means graph.new) }
+    ensures circle { IsTrue (R.means graph.old).honest → AreWhole (R.graph graph.old) top
+        → Judges (λ circle. IsCircleOf (R.graph graph.old).refs top (map number circle.items)) Never result }
 {
     let mut met = vec![in alloc; false; heights.len()]?;
     let mut trail = Vec::with_capacity(alloc, heights.len())?;

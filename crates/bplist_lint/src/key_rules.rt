@@ -4,7 +4,7 @@
 //! class, and a key without one is no text.
 
 ghost use Rattle.std.specs.Prelude.{◌≡◌, ◌↔◌, ℕ, ◌<◌, length};
-ghost use Rattle.bplist_lint.specs.Prelude.{OnlyReads, frame_in, HonestlyIn, IsSafeHead, Reach, KeepsAll, KeepsByObject, object_rules, HasHead, Dict, KeysAreSound, HasGoodKeys, BreaksKeys, Judges, refused_read, IsMarked, AreChildless, KeepReachBelow, AreNamed, KeepKeysBelow, IsKeysFault, AreClassed, IsStamped, IsNew, defect_key, IsWrongFault, Head as head_record};
+ghost use Rattle.bplist_lint.specs.Prelude.{OnlyReads, frame_in, HonestlyIn, IsSafeHead, Reach, KeepsAll, KeepsByObject, object_rules, HasHead, Dict, KeysAreSound, HasGoodKeys, BreaksKeys, Judges, refused_read, IsMarked, AreChildless, KeepReached, AreNamed, key_rules, AreClassed, IsStamped, IsNew, defect_key, IsWrongFault, Head as head_record, IsReachedFault, reach_rules};
 
 use bplist_cert::Refusal;
 use bplist_keys::{ClassTable, KeyDefect, NamedKeys, Offsets, classes_of, object_shape};
@@ -71,8 +71,8 @@ pub fn check_keys<P: Offsets>(
     requires all_named { length named.marks.items ≡ (frame_in (P.means src.old)).objects }
     ensures reads { OnlyReads (refused_read result) (P.means src.old) (P.means src.new) }
     ensures exact { HonestlyIn (P.means src.old) (λ f F. ((n : ℕ) → IsMarked marks.now n ↔ Reach f F n)
-        → KeepReachBelow f F F.objects → AreChildless f F childless.now → AreNamed f F named.marks.items
-        → Judges (λ _. KeepKeysBelow f F F.objects) (IsKeysFault f F) result) }
+        → KeepReached f F reach_rules F.objects → AreChildless f F childless.now → AreNamed f F named.marks.items
+        → Judges (λ _. KeepReached f F (key_rules None) F.objects) (IsReachedFault f F (key_rules None)) result) }
 {
     let frame = src.frame();
     if named.count() == 0 {

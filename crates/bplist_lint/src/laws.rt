@@ -2,7 +2,7 @@
 
 ghost use Rattle.bplist_objects.specs.declared.fault.Fault.{Fault as fault};
 ghost use Rattle.std.specs.Prelude.{◌≡◌, ◌↔◌, ◌⊎◌, ℕ, ◌<◌, ◌≤◌, List, length, slice_index};
-ghost use Rattle.bplist_lint.specs.Prelude.{Frame as frame, Value, IsFrame, Content, Spells, FileHolds, Reach, Founded, refs_at, IsValid, Reaches, Ends, AreLeast, IsCircleOf, StandLeast, AreLeastHeights, IsWellFormed, KeepReachBelow, KeepKeysBelow, IsCircle, IsFileFault, IsFileCircle};
+ghost use Rattle.bplist_lint.specs.Prelude.{Frame as frame, Value, IsFrame, Content, Spells, FileHolds, Reach, Founded, refs_at, IsValid, Reaches, Ends, AreLeast, IsCircleOf, StandLeast, AreLeastHeights, IsWellFormed, KeepReached, key_rules, IsCircle, IsFileFault, IsFileCircle, reach_rules};
 
 /// A file has valid heights exactly where it is well formed.
 pub fn valid_iff_well_formed()
@@ -17,7 +17,7 @@ pub fn holds_iff_well_formed()
 /// A file is well formed exactly where its reached objects keep rules 14 to 22 and 31 and its top is founded.
 pub fn well_formed_iff_kept()
     ensures { (f : List ℕ) (F : frame) → IsWellFormed f F
-        ↔ (IsFrame f F × KeepReachBelow f F F.objects × KeepKeysBelow f F F.objects × Founded f F F.top.0) }
+        ↔ (IsFrame f F × KeepReached f F reach_rules F.objects × KeepReached f F (key_rules None) F.objects × Founded f F F.top.0) }
 {}
 
 /// In a well formed file the least heights are valid, there is one list of them, and tables in which each reached object
@@ -65,7 +65,7 @@ pub fn value_or_fault()
 /// Where the reached objects keep rules 14 to 20 and 31, the top is founded or the walk from it along first references
 /// that are not founded comes to a circle, and never both.
 pub fn circle_iff_not_founded()
-    ensures either { (f : List ℕ) (F : frame) → IsFrame f F → KeepReachBelow f F F.objects
+    ensures either { (f : List ℕ) (F : frame) → IsFrame f F → KeepReached f F reach_rules F.objects
         → Founded f F F.top.0 ⊎ ((circle : List ℕ) × IsCircle f F circle) }
     ensures never { (f : List ℕ) (F : frame) (circle : List ℕ) → IsCircle f F circle → Founded f F F.top.0 → ⊥ }
 {}

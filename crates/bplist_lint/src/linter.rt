@@ -1,7 +1,7 @@
 //! The linter.
 
 ghost use Rattle.std.specs.Prelude.{◌≡◌, ◌↔◌, ℕ, ◌<◌, IsTrue, IfOk, IfSome, MatchOption, length, vec_len, ⊤};
-ghost use Rattle.bplist_lint.specs.Prelude.{OnlyReads, frame_in, HonestlyIn, Reach, AreOffsets, refs_at, Value, FileHolds, Never, HasShape, Head as head, failed_to_read, IsMarked, AreLeast, AreChildless, IsReachFault, KeepReachBelow, KeepKeysBelow, HasRoomFor, IsWalked, AreNamed, IsObjectsFault, IsFileFault, IsFileCircle, IsFramedCircle, Lints, lint_failed, no_circle, KeepsRules, IsLintedBy, IsLinted, IsLintedWithKind, HasNoHeights};
+ghost use Rattle.bplist_lint.specs.Prelude.{OnlyReads, frame_in, Honestly, HonestlyIn, IsFrame, IsSafeFrame, Reach, AreOffsets32, Judges, refused_read, refs_at, Value, FileHolds, Never, HasShape, Head as head, IsMarked, AreLeast, AreChildless, IsReachedFault, KeepReached, key_rules, HasRoomFor, IsWalked, AreNamed, IsFileFault, IsFileCircle, Lints, lint_failed, no_circle, KeepsRules, IsLintedBy, IsLinted, IsLintedWithKind, HasNoHeights, reach_rules};
 
 use crate::answer::Lint;
 use crate::circle::circle;
@@ -14,11 +14,9 @@ use crate::reach::{Marked, mark_reached};
 use crate::reach_rules::check_reached;
 use crate::refusal::LintRefusal;
 use crate::walk::{Reached, walk};
-use bplist_cert::Certificate;
-use bplist_keys::{
-    Failure, NamedKeys, OffsetReader, OffsetTable, Offsets, object_shape, offsets_of,
-};
-use bplist_objects::{Fault, Framed, Kind, Rule, trailer_of};
+use bplist_cert::{Certificate, Refusal};
+use bplist_keys::{NamedKeys, OffsetReader, OffsetTable, Offsets, object_shape, offsets_of};
+use bplist_objects::{Fault, Frame, Framed, Kind, Rule, trailer_of};
 use bplist_octets::Source;
 use std::alloc::Global;
 
@@ -30,31 +28,31 @@ fn find_heights<P: Offsets>(
     src: &mut P,
     marks: &[bool],
     childless: &[bool],
-) -> Result<Vec<u32>, Failure>
+) -> Result<Vec<u32>, Refusal>
     requires marks { length marks.now ≡ (frame_in (P.means src.old)).objects }
     requires all_childless { length childless.now ≡ (frame_in (P.means src.old)).objects }
     requires childless { HonestlyIn (P.means src.old) (λ f F. AreChildless f F childless.now) }
-    ensures reads { OnlyReads (failed_to_read result) (P.means src.old) (P.means src.new) }
+    ensures reads { OnlyReads (refused_read result) (P.means src.old) (P.means src.new) }
     ensures all { IfOk result (λ heights. vec_len heights ≡ (frame_in (P.means src.old)).objects) }
-    ensures exact { HonestlyIn (P.means src.old) (λ f F. KeepReachBelow f F F.objects → KeepKeysBelow f F F.objects
+    ensures exact { HonestlyIn (P.means src.old) (λ f F. KeepReached f F reach_rules F.objects → KeepReached f F (key_rules None) F.objects
         → ((n : ℕ) → IsMarked marks.now n ↔ Reach f F n)
-        → IfOk result (λ heights. AreLeast (refs_at f F) F.top.0 heights.items)) }
+        → Judges (λ heights. AreLeast (refs_at f F) F.top.0 heights.items) Never result) }
 {
     let _frame = src.frame();
     let mut objects = Objects::new(src, View::Values);
-    least_heights(alloc, &mut objects, marks, childless)
+    Ok(least_heights(alloc, &mut objects, marks, childless)?)
 }
 
 /// What is known of the reached objects, which keep rules 14 to 20 and 31, and what they name as keys; or their first fault.
 ///
 /// Where the walk meets trouble, passes over the objects in the order of their numbers come to that fault, over an honest
 /// source. As keys all objects are named then.
-fn find_reached<P: Offsets>(alloc: Global, src: &mut P) -> Result<(Reached, NamedKeys), LintRefusal>
-    ensures reads { OnlyReads (lint_failed result) (P.means src.old) (P.means src.new) }
+fn find_reached<P: Offsets>(alloc: Global, src: &mut P) -> Result<(Reached, NamedKeys), Refusal>
+    ensures reads { OnlyReads (refused_read result) (P.means src.old) (P.means src.new) }
     ensures fits { IfOk result (λ known. HasRoomFor (frame_in (P.means src.old)) known.0) }
     ensures all_named { IfOk result (λ known. length known.1.marks.items ≡ (frame_in (P.means src.old)).objects) }
-    ensures exact { HonestlyIn (P.means src.old) (λ f F. Lints
-        (λ known. IsWalked f F known.0 × AreNamed f F known.1.marks.items) (IsReachFault f F) no_circle result) }
+    ensures exact { HonestlyIn (P.means src.old) (λ f F. Judges
+        (λ known. IsWalked f F known.0 × AreNamed f F known.1.marks.items) (IsReachedFault f F reach_rules) result) }
 {
     if let Some(known) = walk(alloc, src)? {
         return Ok(known);
@@ -62,7 +60,7 @@ fn find_reached<P: Offsets>(alloc: Global, src: &mut P) -> Result<(Reached, Name
     let frame = src.frame();
     let len = src.len();
     if frame.table > u32::MAX as u64 {
-        return Err(LintRefusal::Fault(Fault {
+        return Err(Refusal::Fault(Fault {
             rule: Rule::TooLarge,
             object: None,
             place: len,
@@ -90,16 +88,16 @@ fn check_rules_by_table<P: Offsets>(
     alloc: Global,
     src: &mut P,
     places: &[u32],
-) -> Result<(Reached, Option<NamedKeys>), LintRefusal>
+) -> Result<(Reached, Option<NamedKeys>), Refusal>
     requires all { length places.now ≡ (frame_in (P.means src.old)).objects }
-    requires placed { HonestlyIn (P.means src.old) (λ f F. AreOffsets f F places.now) }
-    ensures reads { OnlyReads (lint_failed result) (P.means src.old) (P.means src.new) }
+    requires placed { HonestlyIn (P.means src.old) (λ f F. AreOffsets32 f F F.objects places.now) }
+    ensures reads { OnlyReads (refused_read result) (P.means src.old) (P.means src.new) }
     ensures fits { IfOk result (λ known. HasRoomFor (frame_in (P.means src.old)) known.0) }
     ensures all_named { IfOk result (λ known. IfSome known.1
         (λ named. length named.marks.items ≡ (frame_in (P.means src.old)).objects)) }
-    ensures exact { HonestlyIn (P.means src.old) (λ f F. Lints (λ known. IsWalked f F known.0
-        × MatchOption known.1 (KeepKeysBelow f F F.objects) (λ named. AreNamed f F named.marks.items))
-        (IsObjectsFault f F) no_circle result) }
+    ensures exact { HonestlyIn (P.means src.old) (λ f F. Judges (λ known. IsWalked f F known.0
+        × MatchOption known.1 (KeepReached f F (key_rules None) F.objects) (λ named. AreNamed f F named.marks.items))
+        (IsFileFault f) result) }
 {
     let frame = src.frame();
     let mut table = OffsetTable::new(src, frame, places);
@@ -120,8 +118,7 @@ fn heights_or_circle<P: Offsets>(
     requires fits { HasRoomFor (frame_in (P.means src.old)) reached }
     requires sifted { HonestlyIn (P.means src.old) (λ f F. KeepsRules f F reached) }
     ensures reads { OnlyReads (lint_failed result) (P.means src.old) (P.means src.new) }
-    ensures exact { HonestlyIn (P.means src.old) (λ f F.
-        Lints (IsLintedBy f F) Never (IsFramedCircle f F) result) }
+    ensures exact { HonestlyIn (P.means src.old) (λ f F. Lints (IsLintedBy f F) Never (IsFileCircle f) result) }
 {
     let frame = src.frame();
     let Reached {
@@ -160,11 +157,11 @@ fn lint_reached<P: Offsets>(
     places: Vec<u32>,
 ) -> Result<Lint, LintRefusal>
     requires all { length places.items ≡ (frame_in (P.means src.old)).objects }
-    requires placed { HonestlyIn (P.means src.old) (λ f F. AreOffsets f F places.items) }
+    requires placed { HonestlyIn (P.means src.old) (λ f F. AreOffsets32 f F F.objects places.items) }
     ensures reads { OnlyReads (lint_failed result) (P.means src.old) (P.means src.new) }
-    ensures exact { HonestlyIn (P.means src.old) (λ f F.
-        Lints (IsLintedBy f F) (IsObjectsFault f F) (IsFramedCircle f F) result) }
+    ensures exact { HonestlyIn (P.means src.old) (λ f F. Lints (IsLintedBy f F) (IsFileFault f) (IsFileCircle f) result) }
 {
+    let frame = src.frame();
     let (reached, many) = check_rules_by_table(alloc, src, &places)?;
     if let Some(named) = many {
         drop(places);
@@ -177,29 +174,34 @@ fn lint_reached<P: Offsets>(
         let lint = heights_or_circle(alloc, src, reached)?;
         return Ok(lint);
     }
-    let frame = src.frame();
     let mut table = OffsetTable::new(src, frame, &places);
     let lint = heights_or_circle(alloc, &mut table, reached)?;
     Ok(lint)
 }
 
-/// What the linter says of a file whose frame and places keep rules 1 to 13, and beside a yes the kind of the top.
-fn lint_objects<P: Offsets>(
-    alloc: Global,
-    src: &mut P,
-    places: Vec<u32>,
-) -> Result<(Lint, Kind), LintRefusal>
-    requires all { length places.items ≡ (frame_in (P.means src.old)).objects }
-    requires placed { HonestlyIn (P.means src.old) (λ f F. AreOffsets f F places.items) }
-    ensures reads { OnlyReads (lint_failed result) (P.means src.old) (P.means src.new) }
-    ensures exact { HonestlyIn (P.means src.old) (λ f F.
-        Lints (λ answer. IsLintedBy f F answer.0 × ((x : head) → HasShape f F F.top.0 x → answer.1 ≡ x.kind))
-        (IsObjectsFault f F) (IsFramedCircle f F) result) }
+/// The kind of the top, where it keeps rules 14 to 17.
+fn top_kind<P: Offsets>(src: &mut P) -> Result<Kind, Refusal>
+    ensures reads { OnlyReads (refused_read result) (P.means src.old) (P.means src.new) }
+    ensures exact { HonestlyIn (P.means src.old) (λ f F. (x : head) → HasShape f F F.top.0 x
+        → Judges (λ kind. kind ≡ x.kind) Never result) }
 {
-    let lint = lint_reached(alloc, src, places)?;
     let frame = src.frame();
     let head = object_shape(src, frame.top.0)?;
-    Ok((lint, head.kind))
+    Ok(head.kind)
+}
+
+/// The frame of a file and the places of its objects, or the first broken rule of 1 to 13.
+fn read_places<S: Source>(alloc: Global, src: &mut S) -> Result<(Frame, Vec<u32>), Refusal>
+    ensures reads { OnlyReads (refused_read result) (S.means src.old) (S.means src.new) }
+    ensures safe { IfOk result (λ known. IsSafeFrame (length (S.means src.old).octets) known.0) }
+    ensures all { IfOk result (λ known. length known.1.items ≡ known.0.objects) }
+    ensures exact { Honestly (S.means src.old) (λ f. Judges
+        (λ known. IsFrame f known.0 × AreOffsets32 f known.0 known.0.objects known.1.items) (IsFileFault f) result) }
+{
+    let frame = trailer_of(src)?;
+    let places = offsets_of(alloc, src, &frame)?;
+    check_offsets(&frame, &places, src.len())?;
+    Ok((frame, places))
 }
 
 /// What `lint` says, and beside a yes the kind of the top, which no caller has to read again.
@@ -209,12 +211,11 @@ pub fn lint_with_kind<S: Source>(alloc: Global, src: &mut S) -> Result<(Lint, Ki
         → Lints (λ answer. IsLintedWithKind (S.means src.old).octets answer.0 answer.1)
         (IsFileFault (S.means src.old).octets) (IsFileCircle (S.means src.old).octets) result }
 {
-    let frame = trailer_of(src)?;
-    let places = offsets_of(alloc, src, &frame)?;
-    check_offsets(&frame, &places, src.len())?;
+    let (frame, places) = read_places(alloc, src)?;
     let mut plist = OffsetReader::new(src, frame);
-    let answer = lint_objects(alloc, &mut plist, places)?;
-    Ok(answer)
+    let lint = lint_reached(alloc, &mut plist, places)?;
+    let kind = top_kind(&mut plist)?;
+    Ok((lint, kind))
 }
 
 /// Says whether the file holds a value: the least certificate for it, or the first fault of the file, and then no

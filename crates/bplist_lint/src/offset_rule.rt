@@ -29,6 +29,7 @@ pub fn shape_there<P: Offsets>(src: &mut P, n: u32) -> Result<Option<Head>, Read
     ensures shape { HonestlyIn (P.means src.old) (λ f F. IfOk result (λ found. MatchOption found
         ((h : head) → HasShape f F n h → ⊥) (HasShape f F n))) }
 {
+    let _frame = src.frame();
     match object_shape(src, n) {
         Ok(head) => Ok(Some(head)),
         Err(ObjectFault::Fault(_)) => Ok(None),

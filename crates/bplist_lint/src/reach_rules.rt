@@ -1,7 +1,7 @@
 //! The first fault of the reached objects by rules 14 to 20 and 31.
 
 ghost use Rattle.std.specs.Prelude.{◌≡◌, ℕ, ◌+◌, ◌<◌, ◌↔◌, Bool, IfOk, List, length};
-ghost use Rattle.bplist_lint.specs.Prelude.{OnlyReads, frame_in, HonestlyIn, Reach, Gives, read_failed, IsMarked, IsReachFault, Tallied, IsRoomy};
+ghost use Rattle.bplist_lint.specs.Prelude.{OnlyReads, frame_in, HonestlyIn, Reach, Gives, read_failed, IsMarked, IsReachedFault, Tallied, IsRoomy, reach_rules};
 
 use crate::tally::Tally;
 use bplist_keys::Offsets;
@@ -14,7 +14,7 @@ fn check_reached_object<P: Offsets>(src: &mut P, n: u32, tally: Tally) -> Result
     ensures reads { OnlyReads (read_failed result) (P.means src.old) (P.means src.new) }
     ensures roomy { IfOk result (IsRoomy (frame_in (P.means src.old))) }
     ensures exact { HonestlyIn (P.means src.old) (λ f F. (marks : List Bool) → IsMarked marks n → Reach f F n
-        → Tallied f F marks n tally → Gives (Tallied f F marks (n + 1)) (IsReachFault f F) result) }
+        → Tallied f F marks n tally → Gives (Tallied f F marks (n + 1)) (IsReachedFault f F reach_rules) result) }
 {
     let frame = src.frame();
     let place = src.offset(n)?;
@@ -35,7 +35,7 @@ pub fn check_reached<P: Offsets>(src: &mut P, marks: &[bool]) -> Result<Tally, O
     ensures reads { OnlyReads (read_failed result) (P.means src.old) (P.means src.new) }
     ensures roomy { IfOk result (IsRoomy (frame_in (P.means src.old))) }
     ensures exact { HonestlyIn (P.means src.old) (λ f F. ((n : ℕ) → IsMarked marks.now n ↔ Reach f F n)
-        → Gives (Tallied f F marks.now F.objects) (IsReachFault f F) result) }
+        → Gives (Tallied f F marks.now F.objects) (IsReachedFault f F reach_rules) result) }
 {
     let frame = src.frame();
     let mut tally = Tally::new();

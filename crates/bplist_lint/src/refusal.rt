@@ -1,13 +1,12 @@
 //! Why the linter says no.
 
 ghost use Rattle.std.specs.Prelude.{◌≡◌};
-ghost use Rattle.bplist_lint.specs.Prelude.{ObjectFault as object_fault, Refusal as cert_refusal, lint_refusal_of, refusal_of, refusal_of_keys};
-ghost use Rattle.bplist_lint.specs.declared.refusal.LintRefusal.TheVariants.{Fault as is_fault};
+ghost use Rattle.bplist_cert.specs.declared.refusal.Refusal.TheVariants as cert;
+ghost use Rattle.bplist_lint.specs.declared.refusal.LintRefusal.TheVariants as lint;
 
 use crate::object_nos::ObjectNos;
 use bplist_cert::Refusal;
-use bplist_keys::Failure;
-use bplist_objects::{Fault, ObjectFault};
+use bplist_objects::Fault;
 use bplist_octets::ReadFault;
 
 /// Why the linter gives no certificate.
@@ -23,38 +22,9 @@ pub enum LintRefusal {
     Memory,
 }
 
-impl From<Fault> for LintRefusal {
-    ghost from_gives = { λ fault e. e ≡ is_fault fault };
-
-    fn from(fault: Fault) -> LintRefusal {
-        LintRefusal::Fault(fault)
-    }
-}
-
-impl From<ObjectFault> for LintRefusal {
-    ghost from_gives = { λ fault e. e ≡ lint_refusal_of (refusal_of fault) };
-
-    fn from(fault: ObjectFault) -> LintRefusal {
-        match fault {
-            ObjectFault::Fault(fault) => LintRefusal::Fault(fault),
-            ObjectFault::Read(error) => LintRefusal::Read(error),
-        }
-    }
-}
-
-impl From<Failure> for LintRefusal {
-    ghost from_gives = { λ fault e. e ≡ lint_refusal_of (refusal_of_keys fault) };
-
-    fn from(fault: Failure) -> LintRefusal {
-        match fault {
-            Failure::Read(error) => LintRefusal::Read(error),
-            Failure::Memory => LintRefusal::Memory,
-        }
-    }
-}
-
 impl From<Refusal> for LintRefusal {
-    ghost from_gives = { λ refusal e. e ≡ lint_refusal_of refusal };
+    ghost from_gives = { λ refusal e. e ≡
+        (elim refusal [ cert.Fault fault ↦ lint.Fault fault | cert.Read error ↦ lint.Read error | cert.Memory ↦ lint.Memory ]) };
 
     fn from(refusal: Refusal) -> LintRefusal {
         match refusal {

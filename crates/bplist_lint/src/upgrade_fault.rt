@@ -1,12 +1,12 @@
 //! Why a certificate is not upgraded.
 
 ghost use Rattle.std.specs.Prelude.{◌≡◌};
-ghost use Rattle.bplist_lint.specs.Prelude.{ObjectFault as object_fault, Refusal as cert_refusal, refusal_of, refusal_of_keys, upgrade_fault_of};
-ghost use Rattle.bplist_lint.specs.declared.upgrade_fault.UpgradeFault.TheVariants.{Memory as is_memory};
+ghost use Rattle.bplist_keys.specs.declared.failure.Failure.TheVariants as keys;
+ghost use Rattle.bplist_cert.specs.declared.refusal.Refusal.TheVariants as cert;
+ghost use Rattle.bplist_lint.specs.declared.upgrade_fault.UpgradeFault.TheVariants as faults;
 
 use bplist_cert::Refusal;
 use bplist_keys::Failure;
-use bplist_objects::ObjectFault;
 use bplist_octets::ReadFault;
 use std::alloc::{AllocError, AllocFailed};
 
@@ -21,19 +21,17 @@ pub enum UpgradeFault {
     Memory,
 }
 
-impl From<ObjectFault> for UpgradeFault {
-    ghost from_gives = { λ fault e. e ≡ upgrade_fault_of (refusal_of fault) };
+impl From<ReadFault> for UpgradeFault {
+    ghost from_gives = { λ error e. e ≡ faults.Read error };
 
-    fn from(fault: ObjectFault) -> UpgradeFault {
-        match fault {
-            ObjectFault::Fault(_) => UpgradeFault::Changed,
-            ObjectFault::Read(error) => UpgradeFault::Read(error),
-        }
+    fn from(error: ReadFault) -> UpgradeFault {
+        UpgradeFault::Read(error)
     }
 }
 
 impl From<Refusal> for UpgradeFault {
-    ghost from_gives = { λ refusal e. e ≡ upgrade_fault_of refusal };
+    ghost from_gives = { λ refusal e. e ≡
+        (elim refusal [ cert.Fault _ ↦ faults.Changed | cert.Read error ↦ faults.Read error | cert.Memory ↦ faults.Memory ]) };
 
     fn from(refusal: Refusal) -> UpgradeFault {
         match refusal {
@@ -45,10 +43,10 @@ impl From<Refusal> for UpgradeFault {
 }
 
 impl From<Failure> for UpgradeFault {
-    ghost from_gives = { λ fault e. e ≡ upgrade_fault_of (refusal_of_keys fault) };
+    ghost from_gives = { λ failure e. e ≡ (elim failure [ keys.Read error ↦ faults.Read error | keys.Memory ↦ faults.Memory ]) };
 
-    fn from(fault: Failure) -> UpgradeFault {
-        match fault {
+    fn from(failure: Failure) -> UpgradeFault {
+        match failure {
             Failure::Read(error) => UpgradeFault::Read(error),
             Failure::Memory => UpgradeFault::Memory,
         }
@@ -56,7 +54,7 @@ impl From<Failure> for UpgradeFault {
 }
 
 impl<T: Drop> From<AllocFailed<T>> for UpgradeFault {
-    ghost from_gives = { λ _ e. e ≡ is_memory };
+    ghost from_gives = { λ _ e. e ≡ faults.Memory };
 
     fn from(_refused: AllocFailed<T>) -> UpgradeFault {
         UpgradeFault::Memory
@@ -64,7 +62,7 @@ impl<T: Drop> From<AllocFailed<T>> for UpgradeFault {
 }
 
 impl From<AllocError> for UpgradeFault {
-    ghost from_gives = { λ _ e. e ≡ is_memory };
+    ghost from_gives = { λ _ e. e ≡ faults.Memory };
 
     fn from(_refused: AllocError) -> UpgradeFault {
         UpgradeFault::Memory

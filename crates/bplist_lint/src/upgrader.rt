@@ -4,9 +4,10 @@ ghost use Rattle.std.specs.Prelude.{◌≡◌, ◌+◌, ◌≤◌, ◌<◌, ℕ,
 ghost use Rattle.bplist_lint.specs.Prelude.{OnlyReads, frame_in, HonestlyIn, AreRanks, IsVouchedBy, IsValid, HasNamedKeys, Listed, IsUpgraded, Upgrades, upgrade_failed};
 
 use crate::key_lists::KeySorting;
+use crate::offset_rule::shape_there;
 use crate::upgrade_fault::UpgradeFault;
 use bplist_cert::{Certificate, Checked, KeyLists, vouched_keys};
-use bplist_keys::{OffsetTable, Offsets, object_shape, offsets_of, ranks_of};
+use bplist_keys::{OffsetTable, Offsets, offsets_of, ranks_of};
 use bplist_objects::{Framed, Kind};
 use bplist_octets::Source;
 use std::alloc::Global;
@@ -25,7 +26,9 @@ fn list_object<P: Offsets>(src: &mut P, n: u32, lists: &mut KeySorting) -> Resul
         → Listed f F heights n starts lists.old.positions.items
         → Upgrades (λ start. Listed f F heights (n + 1) (set starts n start) lists.new.positions.items) result) }
 {
-    let head = object_shape(src, n)?;
+    let Some(head) = shape_there(src, n)? else {
+        return Err(UpgradeFault::Changed);
+    };
     match head.kind {
         Kind::Dict => {
             let start = lists.positions.len() as u32;

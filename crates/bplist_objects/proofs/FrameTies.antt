@@ -1,12 +1,14 @@
 -- The frame of a file, and the rules of a file as a whole.
-use Rattle.std.proofs.Common.{◌≡◌, ℕ, ◌+◌, ◌-◌, ◌*◌, ◌<◌, ◌≤◌, List, [], ◌∷◌, length, refl, sym, inl, subst}
+use Rattle.std.proofs.Common.{◌≡◌, ℕ, ◌+◌, ◌-◌, ◌*◌, ◌<◌, ◌≤◌, List, [], ◌∷◌, length, refl, sym, inl, subst, Option, Some}
 use Rattle.bplist_objects.specs.declared.frame.Frame.{Frame}
 use Rattle.bplist_objects.specs.Frame.{trailer, off, Keeps, trailer_rules, frame_rules, IsFrame}
-use Rattle.bplist_objects.specs.Rules.{KeepsAll}
+use Rattle.bplist_objects.specs.Rules.{KeepsAll, IsFirstFault}
 use Rattle.bplist_objects.specs.declared.fault.Fault.{Fault}
+use Rattle.bplist_objects.specs.declared.frame.ObjectNo.{ObjectNo}
+use Rattle.bplist_objects.specs.Scan.{AreBelow, IsFirstNotBelow}
 use Rattle.bplist_objects.specs.declared.rule.Rule.TheVariants.{OffsetHigh}
 use Rattle.bplist_objects.proofs.RuleLaws.{first_fault_after, first_fault_among, kept_all_after}
-use Rattle.bplist_objects.specs.FrameRules.{Breaks, AreEntriesLow, IsEntryFault, IsTrailer, IsTrailerFault, IsFrameFault}
+use Rattle.bplist_objects.specs.FrameRules.{Breaks, IsFrameFault}
 
 -- what rules 1 to 13 say of a frame
 pub record Numbered (f : List ℕ) (F : Frame) : Type 0 where
@@ -43,6 +45,23 @@ pub trailer_is_frame : (f : List ℕ) → KeepsAll (Keeps f) frame_rules → IsF
 trailer_is_frame f kept = record { spelled = refl; kept = kept }
 
 -- ---- the rules before that of the entries, and then that of the entries
+-- what `trailer_of` answers
+abbrev pub IsTrailer : List ℕ → Frame → Type 0
+IsTrailer f F = (F ≡ trailer f) × KeepsAll (Keeps f) trailer_rules
+
+abbrev pub IsTrailerFault : List ℕ → Fault → Type 0
+IsTrailerFault f fault = IsFirstFault (Keeps f) (Breaks f) trailer_rules fault
+
+-- each entry of the offset table is below the table's place
+abbrev pub AreEntriesLow : List ℕ → Frame → Type 0
+AreEntriesLow f F = AreBelow f F.table F.offset_size F.objects F.table
+
+-- the first that is not is this object's, at this place
+abbrev pub IsEntryFault : List ℕ → Frame → Option ObjectNo → ℕ → Type 0
+IsEntryFault f F object place =
+    (n : ℕ) × IsFirstNotBelow f F.table F.offset_size F.objects F.table n × (object ≡ Some (record { 0 = n }))
+    × (place ≡ F.table + n * F.offset_size)
+
 pub trailer_fault : (f : List ℕ) (fault : Fault) → IsTrailerFault f fault → IsFrameFault f fault
 trailer_fault f fault h = first_fault_among (Keeps f) (Breaks f) trailer_rules (OffsetHigh ∷ []) fault h
 

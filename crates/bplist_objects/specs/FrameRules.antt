@@ -6,40 +6,23 @@ use Rattle.bplist_objects.specs.declared.rule.Rule.{Rule}
 use Rattle.bplist_objects.specs.declared.rule.Rule.TheVariants.{Magic, OffsetHigh}
 use Rattle.bplist_objects.specs.declared.fault.Fault.{Fault}
 use Rattle.bplist_objects.specs.declared.frame.ObjectNo.{ObjectNo}
-use Rattle.bplist_objects.specs.declared.frame.Frame.{Frame}
-use Rattle.bplist_objects.specs.Frame.{header, trailer, trailer_rules, frame_rules, Keeps}
-use Rattle.bplist_objects.specs.Rules.{KeepsAll, IsFirstFault}
+use Rattle.bplist_objects.specs.Frame.{header, trailer, frame_rules, Keeps}
+use Rattle.bplist_objects.specs.Rules.{IsFirstFault}
 use Rattle.bplist_objects.specs.Claims.{FailsAt}
-use Rattle.bplist_objects.specs.Scan.{AreBelow, IsFirstNotBelow}
-
--- each entry of the offset table is below the table's place
-abbrev pub AreEntriesLow : List ℕ → Frame → Type 0
-AreEntriesLow f F = AreBelow f F.table F.offset_size F.objects F.table
-
--- rule 13 is broken at this place by this object's entry, the first that is not
-abbrev pub IsEntryFault : List ℕ → Frame → Option ObjectNo → ℕ → Type 0
-IsEntryFault f F object place =
-    (n : ℕ) × IsFirstNotBelow f F.table F.offset_size F.objects F.table n × (object ≡ Some (record { 0 = n }))
-    × (place ≡ F.table + n * F.offset_size)
+use Rattle.bplist_objects.specs.Scan.{IsFirstNotBelow}
 
 -- how many bytes before the file's end each of rules 1 to 12 is broken, but for rule 3, which is at a place of its own
 abbrev pub from_end : List ℕ
 from_end = 0 ∷ 0 ∷ 0 ∷ 24 ∷ 16 ∷ 8 ∷ 8 ∷ 26 ∷ 25 ∷ 32 ∷ 25 ∷ 26 ∷ []
 
--- the file breaks this rule of 1 to 13, for this object and at this place
+-- the file breaks this rule of 1 to 13, for this object and at this place: rule 13 by the first entry that is not below the table
 abbrev pub Breaks : List ℕ → Rule → Option ObjectNo → ℕ → Type 0
 Breaks f Magic object place = FailsAt (λ n. (i : ℕ) → i < n → slice_index f i ≡ slice_index header i) 8 place × (object ≡ None)
-Breaks f OffsetHigh object place = IsEntryFault f (trailer f) object place
+Breaks f OffsetHigh object place =
+    (n : ℕ) × IsFirstNotBelow f (trailer f).table (trailer f).offset_size (trailer f).objects (trailer f).table n
+    × (object ≡ Some (record { 0 = n })) × (place ≡ (trailer f).table + n * (trailer f).offset_size)
 Breaks f rule object place =
     (Keeps f rule → ⊥) × (object ≡ None) × (place + slice_index from_end (tag_of the_type rule) ≡ length f)
-
--- F is the trailer's numbers, and the file keeps rules 1 to 12
-abbrev pub IsTrailer : List ℕ → Frame → Type 0
-IsTrailer f F = (F ≡ trailer f) × KeepsAll (Keeps f) trailer_rules
-
--- the first broken rule of 1 to 12
-abbrev pub IsTrailerFault : List ℕ → Fault → Type 0
-IsTrailerFault f fault = IsFirstFault (Keeps f) (Breaks f) trailer_rules fault
 
 -- the first broken rule of 1 to 13
 abbrev pub IsFrameFault : List ℕ → Fault → Type 0

@@ -8,8 +8,8 @@ pub use Rattle.bplist_objects.specs.Announced.{Announces, HasHead, HasLongCount,
 pub use Rattle.bplist_objects.specs.Answers.{Gives, Never, read_failed}
 pub use Rattle.bplist_objects.specs.CountFaults.{IsLongCountFault}
 pub use Rattle.bplist_objects.specs.File.{FileHolds}
-pub use Rattle.bplist_objects.specs.Frame.{IsFrame, Keeps, frame_rules, number_rules, off, trailer}
-pub use Rattle.bplist_objects.specs.FrameRules.{Breaks, IsFrameFault, IsTrailer, IsTrailerFault}
+pub use Rattle.bplist_objects.specs.Frame.{IsFrame, Keeps, frame_rules, number_rules, off, trailer, trailer_rules}
+pub use Rattle.bplist_objects.specs.FrameRules.{Breaks, IsFrameFault}
 pub use Rattle.bplist_objects.specs.Framed.{HonestlyBy, HonestlyIn, IsFramed, frame_in, with_frame}
 pub use Rattle.bplist_objects.specs.Heads.{Content, HasShape, IsHeadOf, Spells, content_at, refs}
 pub use Rattle.bplist_objects.specs.Holds.{Holds}

@@ -77,10 +77,6 @@ pub fn head_at<S: Source>(
     ensures rules { HonestlyBy (S.means src.old) frame.now (λ f F. place ≡ off f F n.0
         → Gives (λ head. HasHead f F n.0 head × KeepsAll (KeepsByObject f F n.0) object_rules)
         (IsObjectFault f F n.0 object_rules) result) }
-    ensures exact { HonestlyBy (S.means src.old) frame.now (λ f F. place ≡ off f F n.0
-        → Gives (IsHeadOf f F n.0) (IsObjectFault f F n.0 object_rules) result) }
-    ensures spelled { HonestlyBy (S.means src.old) frame.now (λ f F. place ≡ off f F n.0 → (c : Content)
-        → Spells f F n.0 c → Gives (λ head. c ≡ content_at f F head) Never result) }
     ensures safe { IfOk result (IsSafeHead frame.now) }
     ensures behind { IfOk result (λ head. place < head.body) }
 {

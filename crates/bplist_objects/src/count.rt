@@ -13,9 +13,7 @@ use bplist_octets::Source;
 /// A small power of two.
 fn power_of_2(w: u8) -> u8
     requires { w ≤ 4 }
-    ensures value { result ≡ 2 ^ w }
-    ensures low { 1 ≤ result }
-    ensures high { result ≤ 16 }
+    ensures { result ≡ 2 ^ w }
 {
     match w {
         0 => 1,
@@ -27,8 +25,9 @@ fn power_of_2(w: u8) -> u8
 }
 
 /// The count that stands behind the marker at `place`, and the first place after it, where the table is not nearer than
-/// the count says.
-fn count_behind<S: Source>(
+/// the count says, as each of it takes a byte at least.
+#[inline(always)]
+pub(crate) fn long_count<S: Source>(
     src: &mut S,
     table: u64,
     place: u64,
@@ -44,6 +43,14 @@ fn count_behind<S: Source>(
     if table - place <= 1 {
         return Err(broken(Rule::Extent, n, place));
     }
+    // Most have one byte: that and the marker of the count are one read.
+    if table - place >= 3 {
+        let mut octets = [0u8; 2];
+        src.read_at(place + 1, &mut octets)?;
+        if octets[0] == 0x10 {
+            return Ok((octets[1] as u64, place + 3));
+        }
+    }
     let form = octet_in(src, place + 1)?;
     if form < 0x10 || form > 0x14 {
         return Err(broken(Rule::Count, n, place + 1));
@@ -58,32 +65,6 @@ fn count_behind<S: Source>(
         return Err(broken(Rule::Extent, n, place));
     }
     Ok((count as u64, body))
-}
-
-/// The same, where the table is not nearer than the count says either, as each of it takes a byte at least.
-#[inline(always)]
-pub(crate) fn long_count<S: Source>(
-    src: &mut S,
-    table: u64,
-    place: u64,
-    n: ObjectNo,
-) -> Result<(u64, u64), ObjectFault>
-    requires inside { place < table }
-    requires within { table ≤ length (S.means src.old).octets }
-    ensures reads { OnlyReads (read_failed result) (S.means src.old) (S.means src.new) }
-    ensures exact { Honestly (S.means src.old) (λ f. Gives
-        (λ found. HasLongCount f place found.0 found.1) (IsLongCountFault f table place n.0) result) }
-    ensures safe { IfOk result (λ found. (place < found.1) × (found.1 ≤ table)) }
-{
-    // Most have one byte: that and the marker of the count are one read.
-    if table - place >= 3 {
-        let mut octets = [0u8; 2];
-        src.read_at(place + 1, &mut octets)?;
-        if octets[0] == 0x10 {
-            return Ok((octets[1] as u64, place + 3));
-        }
-    }
-    count_behind(src, table, place, n)
 }
 
 /// The count that a marker of this kind holds, where it does not say that the count stands behind it.

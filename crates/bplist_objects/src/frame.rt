@@ -1,7 +1,7 @@
 //! The frame of a file: the five numbers of its trailer.
 
 ghost use Rattle.std.specs.Prelude.{◌≡◌, ℕ, ◌^◌, ◌≤◌, ◌<◌, List, length, IfOk, MatchResult};
-ghost use Rattle.bplist_objects.specs.Prelude.{OnlyReads, Honestly, trailer as spelled, Keeps, IsFrame, number_rules, KeepsAll, IsFirstFault, Breaks, IsTrailer, IsTrailerFault, IsFrameFault, IsSafeFrame, frame_of_trailer, Magic, Frame as frame, Gives, Never, read_failed};
+ghost use Rattle.bplist_objects.specs.Prelude.{OnlyReads, Honestly, trailer as spelled, Keeps, IsFrame, number_rules, trailer_rules, KeepsAll, IsFirstFault, Breaks, IsFrameFault, IsSafeFrame, frame_of_trailer, Magic, Frame as frame, Gives, Never, read_failed};
 
 use crate::fault::{Fault, ObjectFault};
 use crate::numbers::Width;
@@ -131,7 +131,8 @@ fn frame_by(trailer: &Trailer, len: u64) -> Result<Frame, Fault>
 /// 8, its table lies within, and its top is an object.
 pub fn trailer_of<S: Source>(src: &mut S) -> Result<Frame, ObjectFault>
     ensures reads { OnlyReads (read_failed result) (S.means src.old) (S.means src.new) }
-    ensures exact { Honestly (S.means src.old) (λ f. Gives (IsTrailer f) (IsTrailerFault f) result) }
+    ensures exact { Honestly (S.means src.old) (λ f. Gives (λ F. (F ≡ spelled f) × KeepsAll (Keeps f) trailer_rules)
+        (IsFirstFault (Keeps f) (Breaks f) trailer_rules) result) }
     ensures safe { IfOk result (IsSafeFrame (length (S.means src.old).octets)) }
 {
     let len = src.len();

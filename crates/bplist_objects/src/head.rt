@@ -120,10 +120,6 @@ pub fn shape_at<S: Source>(
     ensures rules { HonestlyBy (S.means src.old) frame.now (λ f F. place ≡ off f F n.0
         → Gives (λ head. HasHead f F n.0 head × KeepsAll (KeepsByObject f F n.0) shape_rules)
         (IsObjectFault f F n.0 shape_rules) result) }
-    ensures exact { HonestlyBy (S.means src.old) frame.now (λ f F. place ≡ off f F n.0
-        → Gives (HasShape f F n.0) (IsObjectFault f F n.0 shape_rules) result) }
-    ensures shaped { HonestlyBy (S.means src.old) frame.now (λ f F. place ≡ off f F n.0 → (x : head)
-        → HasShape f F n.0 x → Gives (λ y. y ≡ x) Never result) }
     ensures safe { IfOk result (IsSafeHead frame.now) }
     ensures behind { IfOk result (λ head. place < head.body) }
 {

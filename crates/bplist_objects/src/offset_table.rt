@@ -61,9 +61,7 @@ pub fn read_offsets<S: Source>(
 pub fn high_entry(frame: &Frame, n: ObjectNo, len: u64) -> Fault
     requires safe { IsSafe len frame.now }
     requires within { n.0 < frame.now.objects }
-    ensures rule { result.rule ≡ OffsetHigh }
-    ensures object { result.object ≡ Some n }
-    ensures place { result.place ≡ frame.now.table + n.0 * frame.now.offset_size }
+    ensures { result ≡ record { rule = OffsetHigh; object = Some n; place = frame.now.table + n.0 * frame.now.offset_size } }
 {
     Fault {
         rule: Rule::OffsetHigh,

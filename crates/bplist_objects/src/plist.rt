@@ -1,7 +1,7 @@
 //! What stands in a file, by a source that knows its frame.
 
 ghost use Rattle.std.specs.Prelude.{◌≡◌, ℕ, ◌+◌, ◌*◌, ◌≤◌, ◌<◌, IfOk, OnOk, length, is_err, slice_index};
-ghost use Rattle.bplist_objects.specs.Prelude.{OnlyReads, frame_in, HonestlyIn, off, Gives, read_failed, IsSafeHead, ref_count, nth_number, IsHeadOf, HasShape, HasHead, KeepsAll, KeepsByObject, IsObjectFault, object_rules, shape_rules};
+ghost use Rattle.bplist_objects.specs.Prelude.{OnlyReads, frame_in, HonestlyIn, off, Gives, read_failed, IsSafeHead, ref_count, nth_number, HasShape, HasHead, KeepsAll, KeepsByObject, IsObjectFault, object_rules, shape_rules};
 
 use crate::body::head_at;
 use crate::fault::ObjectFault;
@@ -57,8 +57,6 @@ pub fn head_in<P: Framed>(src: &mut P, n: ObjectNo, place: u64) -> Result<Head, 
     ensures rules { HonestlyIn (P.means src.old) (λ f F. place ≡ off f F n.0
         → Gives (λ head. HasHead f F n.0 head × KeepsAll (KeepsByObject f F n.0) object_rules)
         (IsObjectFault f F n.0 object_rules) result) }
-    ensures exact { HonestlyIn (P.means src.old) (λ f F. place ≡ off f F n.0
-        → Gives (IsHeadOf f F n.0) (IsObjectFault f F n.0 object_rules) result) }
     ensures safe { IfOk result (IsSafeHead (frame_in (P.means src.old))) }
     ensures behind { IfOk result (λ head. place < head.body) }
 {

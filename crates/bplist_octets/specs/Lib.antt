@@ -1,5 +1,5 @@
 pub mod Octets
 pub mod Meaning
 pub mod Slices
-pub mod Sources
+pub mod Fills
 pub mod Windows

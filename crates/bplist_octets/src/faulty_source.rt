@@ -1,9 +1,10 @@
 //! A source for tests: one of its reads fails.
 
-ghost use Rattle.std.specs.Prelude.{◌≡◌, ◌+◌, ◌≤◌, length, IsTrue, OnOk, Some, is_err};
+ghost use Rattle.std.specs.Prelude.{◌≡◌, ◌+◌, ◌≤◌, zero, suc, length, true, [], IsTrue, OnOk, Some, None, is_err};
+ghost use Rattle.std.specs.Option.{option_map_or};
 ghost use Rattle.bplist_octets.specs.Octets.{part};
 ghost use Rattle.bplist_octets.specs.Meaning.{OnlyReads};
-ghost use Rattle.bplist_octets.specs.Sources.{faulty_meaning, faulty_answer, before_next};
+ghost use Rattle.bplist_octets.specs.declared.source.ReadFault.TheVariants.{Device};
 
 use crate::slice::SliceSource;
 use crate::source::{ReadFault, Source};
@@ -18,20 +19,22 @@ pub struct FaultySource<'a> {
     pub before: Option<u64>,
 }
 
-impl Source for FaultySource<'_> {
-    ghost means = { faulty_meaning };
+impl<'a> Source for FaultySource<'a> {
+    // Until the failing read none has failed, and after it one has.
+    ghost means = { λ s. record { octets = s.octets.now; honest = true; failures = option_map_or (λ _. 0) s.before 1; extra = [] } };
 
     fn len(&self) -> u64 {
         self.octets.len() as u64
     }
 
     fn read_at(&mut self, at: u64, into: &mut [u8]) -> Result<(), ReadFault>
-        requires { at + length into.old ≤ length self.old.octets.now }
-        ensures reads { OnlyReads (is_err result) (faulty_meaning self.old) (faulty_meaning self.new) }
-        ensures filled { OnOk result (IsTrue (faulty_meaning self.old).honest
-            → into.new ≡ part (faulty_meaning self.old).octets at (length into.old)) }
-        ensures answer { result ≡ faulty_answer self.old.before }
-        ensures turn { self.new ≡ record self.old { before = before_next self.old.before } }
+        requires { at + length into.old ≤ length (⟦<FaultySource<'a> as Source>⟧.means self.old).octets }
+        ensures reads { OnlyReads (is_err result) (⟦<FaultySource<'a> as Source>⟧.means self.old)
+            (⟦<FaultySource<'a> as Source>⟧.means self.new) }
+        ensures filled { OnOk result (IsTrue (⟦<FaultySource<'a> as Source>⟧.means self.old).honest
+            → into.new ≡ part (⟦<FaultySource<'a> as Source>⟧.means self.old).octets at (length into.old)) }
+        ensures answer { result ≡ (elim self.old.before [ Some zero ↦ Err Device | _ ↦ Ok tt ]) }
+        ensures turn { self.new ≡ record self.old { before = elim self.old.before [ Some (suc n) ↦ Some n | _ ↦ None ] } }
     {
         match self.before {
             Some(0) => {

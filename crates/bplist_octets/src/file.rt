@@ -2,7 +2,7 @@
 
 ghost use Rattle.std.specs.Prelude.{◌≡◌, length, false, [], replicate, IfOk, IfSome, MatchResult};
 ghost use Rattle.std.specs.Io.KnownBytes.{Consumes, Keeps};
-ghost use Rattle.bplist_octets.specs.Sources.{FillFailed};
+ghost use Rattle.bplist_octets.specs.Fills.{FillFailed};
 
 use crate::source::{ReadFault, Source};
 use std::fs::{File, Files};

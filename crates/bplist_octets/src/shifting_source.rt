@@ -1,6 +1,6 @@
 //! A source for tests: its bytes change.
 
-ghost use Rattle.std.specs.Prelude.{◌≡◌, ◌+◌, ◌-◌, ◌≤◌, length, IsTrue, OnOk, is_err};
+ghost use Rattle.std.specs.Prelude.{◌≡◌, ◌+◌, ◌-◌, ◌≤◌, length, IsTrue, OnOk, is_err, nat_lt, if◌then◌else◌};
 ghost use Rattle.bplist_octets.specs.Octets.{part};
 ghost use Rattle.bplist_octets.specs.Meaning.{OnlyReads};
 
@@ -21,24 +21,25 @@ pub struct ShiftingSource<'a> {
     ghost same_length: { length second.now ≡ length first.now },
 }
 
-impl Source for ShiftingSource<'_> {
-    ghost use Rattle.bplist_octets.specs.Sources.{shifting_meaning, shown};
+impl<'a> Source for ShiftingSource<'a> {
+    ghost use Rattle.std.specs.Prelude.{false, []};
 
-    ghost means = { shifting_meaning };
+    ghost means = { λ s. record { octets = s.first.now; honest = false; failures = 0; extra = [] } };
 
     fn len(&self) -> u64 {
         self.first.len() as u64
     }
 
     fn read_at(&mut self, at: u64, into: &mut [u8]) -> Result<(), ReadFault>
-        requires { at + length into.old ≤ length self.old.first.now }
-        ensures reads { OnlyReads (is_err result) (shifting_meaning self.old) (shifting_meaning self.new) }
-        ensures filled { OnOk result (IsTrue (shifting_meaning self.old).honest
-            → into.new ≡ part (shifting_meaning self.old).octets at (length into.old)) }
+        requires { at + length into.old ≤ length (⟦<ShiftingSource<'a> as Source>⟧.means self.old).octets }
+        ensures reads { OnlyReads (is_err result) (⟦<ShiftingSource<'a> as Source>⟧.means self.old)
+            (⟦<ShiftingSource<'a> as Source>⟧.means self.new) }
+        ensures filled { OnOk result (IsTrue (⟦<ShiftingSource<'a> as Source>⟧.means self.old).honest
+            → into.new ≡ part (⟦<ShiftingSource<'a> as Source>⟧.means self.old).octets at (length into.old)) }
         ensures never_fails { result ≡ Ok tt }
         ensures turn { self.new.left ≡ self.old.left - 1 }
         ensures same { (self.new.first.now ≡ self.old.first.now) × (self.new.second.now ≡ self.old.second.now) }
-        ensures shows { into.new ≡ part (shown self.old) at (length into.old) }
+        ensures shows { into.new ≡ part (if nat_lt 0 self.old.left then self.old.first.now else self.old.second.now) at (length into.old) }
     {
         let octets = if self.left > 0 {
             self.left -= 1;

@@ -10,10 +10,10 @@ returns-in_err-bytes-in-At-clause-exact g c =
     λ honest v holds. let found = rw c.in-At.is at (c.in_ok-node.ensures.exact honest v holds) in
     let p = err_from_is_err_and c.from_residual-in_err-bytes-in-At.result c.from_residual-in_err-bytes-in-At.ensures.1 in
     let stops = rw c.in_ok-node.ensures.reads at c.in_err-bytes-in-At.ensures.exact in
-    rw (p.1, p.2) (stops honest found.1.2.0 found.1.0 found.1.2.1)
+    rw (p.1, p.2) (stops honest found.1 found.2.0 found.2.2)
 
 pub returns-in_ok-bytes-in-At-clause-exact : goal.returns-in_ok-bytes-in-At-clause-exact
 returns-in_ok-bytes-in-At-clause-exact g c =
     λ honest v holds. let found = rw c.in-At.is at (c.in_ok-node.ensures.exact honest v holds) in
     let lists = rw c.in_ok-node.ensures.reads at c.in_ok-bytes-in-At.ensures.exact in
-    subst (λ r. (All ≡ said_of (r ∷ [])) × (c.in_ok-bytes-in-At.bytes.items ≡ listed c.args.text.now r)) (sym found.1.1) (refl, lists honest found.1.2.0 found.1.0 found.1.2.1)
+    subst (λ r. (All ≡ said_of (r ∷ [])) × (c.in_ok-bytes-in-At.bytes.items ≡ listed c.args.text.now r)) (sym found.2.1) (refl, lists honest found.1 found.2.0 found.2.2)

@@ -1,7 +1,7 @@
 use Rattle.std.proofs.Common.{◌≡◌, ◌≤◌, ◌-◌, true, take, IsTrue}
 use Rattle.std.specs.List.{list_all}
 use Rattle.bplist_objects.specs.Units.{units_of}
-use Rattle.bplist_cursor.specs.Texts.{is_plain}
+use Rattle.std.specs.Char.{is_ascii_alphanumeric}
 use Rattle.bplist_ascii.proofs.leaves.is_unquoted.Given as goal
 
 -- the file is as it was, and the units so far are plain
@@ -11,7 +11,7 @@ invariant-loop-done g l =
     record {
       same : l.checked ≡ file;
       reached : l.done ≤ l.head.count;
-      so_far : IsTrue file.source.honest → list_all is_plain (take l.done (units_of file.source.octets l.head)) ≡ true;
+      so_far : IsTrue file.source.honest → list_all is_ascii_alphanumeric (take l.done (units_of file.source.octets l.head)) ≡ true;
     }
 
 abbrev pub decreases-loop-done : goal.decreases-loop-done

@@ -4,7 +4,7 @@ use Rattle.std.proofs.lemmas.Result.{err_from_is_err_and}
 use Rattle.std.specs.List.{flat_map}
 use Rattle.bplist_octets.specs.Octets.{part}
 use Rattle.bplist_objects.proofs.Parts.{part-part}
-use Rattle.bplist_cursor.specs.Texts.{hex_digits}
+use Rattle.bplist_ascii.specs.BoundedWrites.{hex_digits}
 use Rattle.bplist_ascii.proofs.WriteSteps.{on_err, read_fails, adds_fit, adds_within, adds_fail, text_more, text_adds, text_under, flat_part, flat_parts}
 use Rattle.bplist_ascii.proofs.leaves.write_data_body.Goals as goal
 

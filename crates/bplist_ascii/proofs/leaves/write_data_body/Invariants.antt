@@ -1,7 +1,7 @@
 use Rattle.std.proofs.Common.{◌≡◌, ◌≤◌, ◌-◌, take, IsTrue}
 use Rattle.std.specs.List.{flat_map}
 use Rattle.bplist_octets.specs.Octets.{part}
-use Rattle.bplist_cursor.specs.Texts.{hex_digits}
+use Rattle.bplist_ascii.specs.BoundedWrites.{hex_digits}
 use Rattle.bplist_ascii.specs.BoundedWrites.{AddsText}
 use Rattle.bplist_ascii.proofs.leaves.write_data_body.Given as goal
 

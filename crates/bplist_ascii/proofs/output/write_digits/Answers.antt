@@ -1,6 +1,6 @@
 use Rattle.std.proofs.Common.{rules, ◌≡◌, ◌<◌, Err, length, drop, subst, slice_index}
 use Rattle.std.specs.List.{flat_map}
-use Rattle.bplist_cursor.specs.Texts.{hex_digits}
+use Rattle.bplist_ascii.specs.BoundedWrites.{hex_digits}
 use Rattle.bplist_ascii.specs.BoundedWrites.{Adds}
 use Rattle.bplist_ascii.proofs.WriteSteps.{adds_more, adds_within, adds_fail, flat_next, flat_at}
 use Rattle.bplist_ascii.proofs.output.write_digits.Goals as goal

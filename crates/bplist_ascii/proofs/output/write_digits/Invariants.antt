@@ -1,6 +1,6 @@
 use Rattle.std.proofs.Common.{take}
 use Rattle.std.specs.List.{flat_map}
-use Rattle.bplist_cursor.specs.Texts.{hex_digits}
+use Rattle.bplist_ascii.specs.BoundedWrites.{hex_digits}
 use Rattle.bplist_ascii.specs.BoundedWrites.{Adds}
 use Rattle.bplist_ascii.proofs.output.write_digits.Given as goal
 

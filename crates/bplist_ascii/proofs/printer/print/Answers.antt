@@ -18,7 +18,7 @@ returns-in_err-flush-clause-exact g c = λ honest vouched v h.
     let sent : c.new-sink.result.sent ≡ 0 = ap (λ (s : Sending). s.sent) c.new-sink.ensures in
     let held : c.new-sink.result.held ≡ [] = ap (λ (s : Sending). s.held) c.new-sink.ensures in
     let p = c.in_ok-print_into.ensures.exact honest vouched v h in
-    rw is (p.0, p.1, p.2, cut_of_flush _ _ _ c.new-sink.result c.print_into.new.sink p.0 _ sent held p.3 c.in_err-flush.ensures.part)
+    rw is (p.0, p.1, p.2, p.3, cut_of_flush _ _ _ c.new-sink.result c.print_into.new.sink p.0 _ sent held p.4 c.in_err-flush.ensures.part)
 
 pub returns-in_err-flush-clause-bounded : goal.returns-in_err-flush-clause-bounded
 returns-in_err-flush-clause-bounded g c =

@@ -4,10 +4,10 @@ use Rattle.std.proofs.lemmas.Result.{err_from_is_err_and}
 use Rattle.bplist_objects.specs.declared.frame.Frame.{Frame}
 use Rattle.bplist_objects.specs.Framed.{frame_in}
 use Rattle.bplist_cert.specs.declared.checker.Look.TheVariants.{Quick}
+use Rattle.bplist_cert.specs.Lists.{Lists}
 use Rattle.bplist_cert.specs.PairFault.{AreCheckedBelow}
 use Rattle.bplist_cert.specs.KeysLooks.{AreSeen}
-use Rattle.bplist_cert.proofs.CheckSteps.{start, never_refused, refused_weaker}
-use Rattle.bplist_cert.specs.Lists.{lists}
+use Rattle.bplist_cert.proofs.CheckSteps.{start, given_weaker}
 use Rattle.bplist_cert.proofs.KeysLooks.{none_seen}
 use Rattle.bplist_cert.proofs.checker.check_all.Goals as goal
 
@@ -17,25 +17,21 @@ loop-done-init g c =
     record {
       same = refl;
       reached = omega arith;
-      found = c.requires.found;
-      keyed = refl;
       keys = λ honest seen. seen;
-      running = λ honest. start m.octets (frame_in m) (lists c.args.walk.heights.now c.args.walk.keys.now) Quick (c.frame-objects.ensures.framed.framed honest);
+      running = λ honest. start m.octets (frame_in m) c.args.walk.certificate.now Quick (c.frame-objects.ensures.framed.framed honest);
     }
-
-pub look-requires-clause-all : goal.look-requires-clause-all
-look-requires-clause-all g c =
-    rw (c.in_ok-used.ensures.reads, c.in_ok-read_offsets_in.ensures.reads, c.loop-done.invariant.same) c.loop-done.invariant.found
 
 pub returns-in_err-look-clause-exact : goal.returns-in_err-look-clause-exact
 returns-in_err-look-clause-exact g c = λ honest seen.
+    let shown = c.deref-heights.ensures.value ∙ ap (λ (x : Lists). x.heights) c.cert.view_is in
+    let keyed = ap (λ (x : Lists). x.keys) c.cert.view_is in
     let v = c.loop-done.invariant in
     let all : length c.read_offsets_in.new.into ≡ c.min-now.result = omega (arith, length-take-le c.min-now.result c.loop-done.buffer (omega arith)) in
     let places = (rw v.same at c.in_ok-read_offsets_in.ensures.offsets) honest in
     let run = ((rw (c.in_ok-read_offsets_in.ensures.reads, v.same) at c.in_ok-used.ensures.exact) honest) places (v.running honest) in
-    let exact = (rw (c.in_ok-used.ensures.reads, c.in_ok-read_offsets_in.ensures.reads, v.same) at c.in_err-look.ensures.exact) honest in
+    let exact = (rw (c.in_ok-used.ensures.reads, c.in_ok-read_offsets_in.ensures.reads, v.same, shown, keyed) at c.in_err-look.ensures.exact) honest in
     let p = err_from_is_err_and c.from_residual-in_err-look.result c.from_residual-in_err-look.ensures.1 in
-    rw (p.1, p.2) (never_refused _ c.in_err-look.field-0.0 (exact places run.kept (v.keys honest seen)))
+    rw (p.1, p.2) (given_weaker _ _ c.in_err-look.field-0.0 (λ x never. absurd never) (exact places run.kept (v.keys honest seen)))
 
 pub returns-in_err-used-clause-exact : goal.returns-in_err-used-clause-exact
 returns-in_err-used-clause-exact g c = λ honest seen.
@@ -43,12 +39,14 @@ returns-in_err-used-clause-exact g c = λ honest seen.
     let v = c.loop-done.invariant in
     let places = (rw v.same at c.in_ok-read_offsets_in.ensures.offsets) honest in
     let fault = ((rw (c.in_ok-read_offsets_in.ensures.reads, v.same) at c.in_err-used.ensures.exact) honest) places (v.running honest) in
-    let none = none_seen m.octets (frame_in m) c.args.walk.heights.now c.loop-done.done c.loop-done.found (v.keys honest seen) in
+    let none = none_seen m.octets (frame_in m) c.args.walk.certificate.now.heights c.args.walk.certificate.now.keys c.loop-done.done c.loop-done.found.named c.loop-done.found.lists (v.keys honest seen) in
     let p = err_from_is_err_and c.from_residual-in_err-used.result c.from_residual-in_err-used.ensures.1 in
-    rw (p.1, p.2) (refused_weaker _ _ c.in_err-used.field-0.0 (λ x h. (h, none)) fault)
+    rw (p.1, p.2) (given_weaker _ _ c.in_err-used.field-0.0 (λ x h. (h, none)) fault)
 
 pub loop-done-preserved : goal.loop-done-preserved
 loop-done-preserved g c =
+    let shown = c.deref-heights.ensures.value ∙ ap (λ (x : Lists). x.heights) c.cert.view_is in
+    let keyed = ap (λ (x : Lists). x.keys) c.cert.view_is in
     let m = g.P.Source.means c.args.src.now in
     let v = c.loop-done.invariant in
     let objects : c.frame-objects.result.objects ≡ (frame_in m).objects = ap (λ (x : Frame). x.objects) c.frame-objects.ensures.frame in
@@ -56,18 +54,16 @@ loop-done-preserved g c =
     record {
       same = c.in_ok-look.ensures.reads ∙ c.in_ok-used.ensures.reads ∙ c.in_ok-read_offsets_in.ensures.reads ∙ v.same;
       reached = omega (arith, objects);
-      found = rw (c.in_ok-used.ensures.reads, c.in_ok-read_offsets_in.ensures.reads, v.same) at c.in_ok-look.ensures.all;
-      keyed = c.in_ok-look.ensures.keys ∙ v.keyed;
       keys = λ honest seen.
           let places = (rw v.same at c.in_ok-read_offsets_in.ensures.offsets) honest in
           let run = ((rw (c.in_ok-read_offsets_in.ensures.reads, v.same) at c.in_ok-used.ensures.exact) honest) places (v.running honest) in
-          let exact = (rw (c.in_ok-used.ensures.reads, c.in_ok-read_offsets_in.ensures.reads, v.same) at c.in_ok-look.ensures.exact) honest in
-          subst (λ k. AreSeen m.octets (frame_in m) c.args.walk.heights.now (c.loop-done.done + k) c.look.new.self) all
+          let exact = (rw (c.in_ok-used.ensures.reads, c.in_ok-read_offsets_in.ensures.reads, v.same, shown, keyed) at c.in_ok-look.ensures.exact) honest in
+          subst (λ k. AreSeen m.octets (frame_in m) c.args.walk.certificate.now (c.loop-done.done + k) c.look.new.self) all
           (exact places run.kept (v.keys honest seen));
       running = λ honest.
           let places = (rw v.same at c.in_ok-read_offsets_in.ensures.offsets) honest in
           let exact = (rw (c.in_ok-read_offsets_in.ensures.reads, v.same) at c.in_ok-used.ensures.exact) honest in
-          subst (λ k. AreCheckedBelow m.octets (frame_in m) (lists c.args.walk.heights.now c.args.walk.keys.now) Quick (c.loop-done.done + k) c.in_ok-used.used) all
+          subst (λ k. AreCheckedBelow m.octets (frame_in m) c.args.walk.certificate.now Quick (c.loop-done.done + k) c.in_ok-used.used) all
           (exact places (v.running honest));
     }
 
@@ -76,6 +72,6 @@ returns-clause-exact g c = λ honest seen.
     let m = g.P.Source.means c.args.src.now in
     let objects : c.frame-objects.result.objects ≡ (frame_in m).objects = ap (λ (x : Frame). x.objects) c.frame-objects.ensures.frame in
     let e : c.loop-done.done ≡ (frame_in m).objects = omega (arith, objects, c.loop-done.invariant.reached, c.loop-done-test.false) in (
-      subst (λ k. AreCheckedBelow m.octets (frame_in m) (lists c.args.walk.heights.now c.args.walk.keys.now) Quick k c.loop-done.used) e (c.loop-done.invariant.running honest),
-      subst (λ k. AreSeen m.octets (frame_in m) c.args.walk.heights.now k c.loop-done.found) e (c.loop-done.invariant.keys honest seen),
+      subst (λ k. AreCheckedBelow m.octets (frame_in m) c.args.walk.certificate.now Quick k c.loop-done.used) e (c.loop-done.invariant.running honest),
+      subst (λ k. AreSeen m.octets (frame_in m) c.args.walk.certificate.now k c.loop-done.found) e (c.loop-done.invariant.keys honest seen),
     )

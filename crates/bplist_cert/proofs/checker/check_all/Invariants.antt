@@ -2,8 +2,7 @@ use Rattle.std.proofs.Common.{◌≡◌, ◌≤◌, ◌-◌}
 use Rattle.bplist_objects.specs.Framed.{frame_in, HonestlyIn}
 use Rattle.bplist_cert.specs.declared.checker.Look.TheVariants.{Quick}
 use Rattle.bplist_cert.specs.PairFault.{AreCheckedBelow}
-use Rattle.bplist_cert.specs.Lists.{lists}
-use Rattle.bplist_cert.specs.KeysLooks.{keys_of, IsLookOf, AreSeen}
+use Rattle.bplist_cert.specs.KeysLooks.{AreSeen}
 use Rattle.bplist_cert.proofs.checker.check_all.Given as goal
 
 -- the source is as it was, and the vouched objects so far keep the rules, and their keys as far as the look says
@@ -13,10 +12,8 @@ invariant-loop-done g l =
     record {
       same : means l.src ≡ means l.fn.src;
       reached : l.done ≤ (frame_in (means l.fn.src)).objects;
-      found : IsLookOf (frame_in (means l.fn.src)).objects l.found;
-      keyed : keys_of l.found ≡ keys_of l.fn.found;
-      keys : HonestlyIn (means l.fn.src) (λ f F. AreSeen f F l.walk.heights.now 0 l.fn.found → AreSeen f F l.walk.heights.now l.done l.found);
-      running : HonestlyIn (means l.fn.src) (λ f F. AreCheckedBelow f F (lists l.walk.heights.now l.walk.keys.now) Quick l.done l.used);
+      keys : HonestlyIn (means l.fn.src) (λ f F. AreSeen f F l.walk.certificate.now 0 l.fn.found → AreSeen f F l.walk.certificate.now l.done l.found);
+      running : HonestlyIn (means l.fn.src) (λ f F. AreCheckedBelow f F l.walk.certificate.now Quick l.done l.used);
     }
 
 abbrev pub decreases-loop-done : goal.decreases-loop-done

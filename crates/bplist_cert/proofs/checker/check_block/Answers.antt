@@ -1,11 +1,11 @@
-use Rattle.std.proofs.Common.{◌≡◌, ◌+◌, ◌∙◌, suc, length, refl, subst, arith}
+use Rattle.std.proofs.Common.{◌≡◌, ◌+◌, ◌∙◌, ap, suc, length, refl, subst, arith}
 use Rattle.std.proofs.lemmas.Result.{err_from_is_err_and}
 use Rattle.bplist_objects.specs.Framed.{frame_in}
 use Rattle.bplist_cert.specs.declared.checker.Look.TheVariants.{Quick}
+use Rattle.bplist_cert.specs.Lists.{Lists}
 use Rattle.bplist_cert.specs.PairFault.{AreCheckedBelow}
-use Rattle.bplist_cert.proofs.CheckSteps.{passed, held_more, fault_met, refused_weaker}
+use Rattle.bplist_cert.proofs.CheckSteps.{passed, held_more, fault_met, given_weaker}
 use Rattle.bplist_cert.specs.Valid.{IsVouchedBy}
-use Rattle.bplist_cert.specs.Lists.{lists}
 use Rattle.bplist_cert.proofs.checker.check_block.Goals.{then-height_at-gt0+in_ok-used, else-height_at-gt0}
 use Rattle.bplist_cert.proofs.checker.check_block.Goals as goal
 
@@ -16,44 +16,47 @@ loop-i-init g c =
       same = refl;
       running = λ honest places run.
           let e : c.args.from ≡ c.args.from + 0 = omega arith in
-          subst (λ k. AreCheckedBelow m.octets (frame_in m) (lists c.args.walk.heights.now c.args.walk.keys.now) Quick k c.args.used) e run;
+          subst (λ k. AreCheckedBelow m.octets (frame_in m) c.args.walk.certificate.now Quick k c.args.used) e run;
     }
 
 pub loop-i-preserved : goal.loop-i-preserved
 loop-i-preserved g c =
+    let shown = c.deref-heights.ensures.value ∙ ap (λ (x : Lists). x.heights) c.cert.view_is in
     let m = g.P.Source.means c.args.src.now in
-    let heights = c.args.walk.heights.now in
-    let keys = c.args.walk.keys.now in
+    let heights = c.args.walk.certificate.now.heights in
+    let keys = c.args.walk.certificate.now.keys in
+    let height = rw shown at c.height_at.ensures in
     let e : suc (c.args.from + c.loop-i.i) ≡ c.args.from + (c.loop-i.i + 1) = omega arith in
     elim c.if-height_at-gt0.branch [
       | then-height_at-gt0+in_ok-used w ↦ rw (w.src-is, w.used-is) record {
         same = w.in_ok-used.ensures.reads ∙ c.loop-i.invariant.same;
         running = λ honest places run.
             let exact = rw c.loop-i.invariant.same at w.in_ok-used.ensures.exact in
-            let v : IsVouchedBy heights (c.args.from + c.loop-i.i) = omega (arith, c.height_at.ensures, w.if-height_at-gt0) in
+            let v : IsVouchedBy heights (c.args.from + c.loop-i.i) = omega (arith, height, w.if-height_at-gt0) in
             let before = c.loop-i.invariant.running honest places run in
-            subst (λ k. AreCheckedBelow m.octets (frame_in m) (lists c.args.walk.heights.now c.args.walk.keys.now) Quick k w.in_ok-used.used) e
+            subst (λ k. AreCheckedBelow m.octets (frame_in m) c.args.walk.certificate.now Quick k w.in_ok-used.used) e
             (held_more m.octets (frame_in m) heights keys (c.args.from + c.loop-i.i) Quick c.loop-i.used before w.in_ok-used.used
             (exact honest (places c.loop-i.i c.loop-i-test.true) v before.sums));
       }
       | else-height_at-gt0 w ↦ rw (w.src-is, w.used-is) record {
         same = c.loop-i.invariant.same;
         running = λ honest places run.
-            subst (λ k. AreCheckedBelow m.octets (frame_in m) (lists c.args.walk.heights.now c.args.walk.keys.now) Quick k c.loop-i.used) e
-            (passed m.octets (frame_in m) heights keys (c.args.from + c.loop-i.i) Quick (omega (arith, c.height_at.ensures, w.if-height_at-gt0)) c.loop-i.used (c.loop-i.invariant.running honest places run));
+            subst (λ k. AreCheckedBelow m.octets (frame_in m) c.args.walk.certificate.now Quick k c.loop-i.used) e
+            (passed m.octets (frame_in m) heights keys (c.args.from + c.loop-i.i) Quick (omega (arith, height, w.if-height_at-gt0)) c.loop-i.used (c.loop-i.invariant.running honest places run));
       }
     ]
 
 pub returns-in_err-used-clause-exact : goal.returns-in_err-used-clause-exact
 returns-in_err-used-clause-exact g c = λ honest places run.
+    let shown = c.deref-heights.ensures.value ∙ ap (λ (x : Lists). x.heights) c.cert.view_is in
     let m = g.P.Source.means c.args.src.now in
-    let heights = c.args.walk.heights.now in
-    let keys = c.args.walk.keys.now in
+    let heights = c.args.walk.certificate.now.heights in
+    let keys = c.args.walk.certificate.now.keys in
     let exact = rw c.loop-i.invariant.same at c.in_err-used.ensures.exact in
-    let v : IsVouchedBy heights (c.args.from + c.loop-i.i) = omega (arith, c.height_at.ensures, c.if-height_at-gt0.true) in
+    let v : IsVouchedBy heights (c.args.from + c.loop-i.i) = omega (arith, rw shown at c.height_at.ensures, c.if-height_at-gt0.true) in
     let before = c.loop-i.invariant.running honest places run in
     let p = err_from_is_err_and c.from_residual.result c.from_residual.ensures.1 in
-    rw (p.1, p.2) (refused_weaker _ _ c.in_err-used.field-0.0
+    rw (p.1, p.2) (given_weaker _ _ c.in_err-used.field-0.0
     (λ fault h. fault_met m.octets (frame_in m) heights keys (c.args.from + c.loop-i.i) v c.args.walk.look c.loop-i.used before fault h)
     (exact honest (places c.loop-i.i c.loop-i-test.true) v before.sums))
 
@@ -61,5 +64,5 @@ pub returns-clause-exact : goal.returns-clause-exact
 returns-clause-exact g c = λ honest places run.
     let m = g.P.Source.means c.args.src.now in
     let e : c.args.from + c.loop-i.i ≡ c.args.from + length c.args.places.now = omega (arith, c.loop-i-test.false, c.loop-i.auto.i-end) in
-    subst (λ k. AreCheckedBelow m.octets (frame_in m) (lists c.args.walk.heights.now c.args.walk.keys.now) Quick k c.loop-i.used) e
+    subst (λ k. AreCheckedBelow m.octets (frame_in m) c.args.walk.certificate.now Quick k c.loop-i.used) e
     (c.loop-i.invariant.running honest places run)

@@ -1,12 +1,7 @@
 use Rattle.bplist_cert.proofs.checker.check_in_passes.Goals as goal
 
-pub check_all-requires-2-clause-found : goal.check_all-requires-2-clause-found
-check_all-requires-2-clause-found g c =
-    let reads = rw c.in-Err-Fault.field-0-is at c.in-Err-Fault.ensures.reads in
-    rw reads (c.forget.ensures.all _ c.in-Err-Fault.ensures.found)
-
 pub returns-clause-exact : goal.returns-clause-exact
 returns-clause-exact g c = λ honest seen.
     let reads = rw c.in-Err-Fault.field-0-is at c.in-Err-Fault.ensures.reads in
     let first = (rw c.in-Err-Fault.field-0-is at c.in-Err-Fault.ensures.exact) honest seen in
-    (rw reads at c.check_all-2.ensures.exact) honest (c.forget.ensures.none _ _ _ 0 first.1)
+    (rw reads at c.check_all-2.ensures.exact) honest (c.forget.ensures _ _ _ 0 first.1)

@@ -1,10 +1,17 @@
 use Rattle.std.proofs.Common.{◌∙◌, arith, refl}
-use Rattle.std.proofs.lemmas.Result.{err_from_is_err_and}
-use Rattle.bplist_cert.proofs.CertificateBytes.{front_is}
+use Rattle.bplist_cert.specs.Versions.{is_keyed}
+use Rattle.bplist_cert.proofs.CertificateBytes.{front_is, header_is, length_refused}
 use Rattle.bplist_cert.proofs.decoding.header_of.Goals as goal
 
-pub returns-in_err-header_in-clause-exact : goal.returns-in_err-header_in-clause-exact
-returns-in_err-header_in-clause-exact g c = λ honest.
+pub returns-then-fits-clause-exact : goal.returns-then-fits-clause-exact
+returns-then-fits-clause-exact g c = λ honest.
     let f = (g.S.Source.means c.args.src.now).octets in
-    let p = err_from_is_err_and c.from_residual-in_err-header_in.result c.from_residual-in_err-header_in.ensures.1 in
-    rw (p.1, p.2) (c.in_err-header_in.ensures.exact f (c.in_ok-read_at.ensures.filled honest ∙ front_is f _ c.min.result refl (omega arith)) c.len-len.ensures)
+    let front = c.in_ok-read_at.ensures.filled honest ∙ front_is f _ c.min.result refl (omega arith) in
+    header_is f c.read_at.new.into _ c.count_in-count.result front c.in-Some.ensures c.count_in-count.ensures
+
+pub returns-else-fits-clause-exact : goal.returns-else-fits-clause-exact
+returns-else-fits-clause-exact g c = λ honest.
+    let f = (g.S.Source.means c.args.src.now).octets in
+    let front = c.in_ok-read_at.ensures.filled honest ∙ front_is f _ c.min.result refl (omega arith) in
+    length_refused f c.read_at.new.into (is_keyed c.in-Some.version) c.count_in-count.result c.len-len.result front c.len-len.ensures c.in-Some.ensures
+    c.count_in-count.ensures c.count_in-count.type_inv (λ fit. grind (arith, c.fits.ensures.1 fit, c.if-fits.false))

@@ -1,4 +1,4 @@
-use Rattle.std.proofs.Common.{◌*◌, ap, ◌∙◌, arith}
+use Rattle.std.proofs.Common.{◌≡◌, ◌+◌, ◌-◌, ◌*◌, ap, ◌∙◌, take, drop, arith}
 use Rattle.bplist_octets.specs.Octets.{num}
 use Rattle.bplist_cert.proofs.NumberBytes.{AreBytes, word-lt, words_all}
 use Rattle.bplist_cert.proofs.decoding.spell_words.Goals as goal
@@ -7,7 +7,8 @@ pub overflow_cast-into : goal.overflow_cast-into
 overflow_cast-into c =
     let low : AreBytes c.args.octets.now = λ k. omega (arith, c.type_inv.octets k) in
     let lt = word-lt c.args.octets.now (4 * c.loop-k.k) low (omega arith) in
-    omega (arith, lt, c.sized.ensures ∙ ap num c.part_of.ensures)
+    let four : 4 * c.loop-k.k + 4 - 4 * c.loop-k.k ≡ 4 = omega arith in
+    omega (arith, lt, c.sized.ensures ∙ ap (λ n. num (take n (drop (4 * c.loop-k.k) c.args.octets.now))) four)
 
 pub returns : goal.returns
 returns c =

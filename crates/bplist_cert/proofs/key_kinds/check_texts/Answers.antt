@@ -10,8 +10,9 @@ returns-in-Some-clause-exact g c = λ honest low.
     let long : length c.read_ahead.new.refs ≡ c.min-now.result = omega (arith, c.min-now.array_long, length-take c.min-now.result c.loop-done.refs) in
     let refs = (rw v.same at c.in_ok-read_ahead.ensures.refs) honest in
     let placed = (rw v.same at c.in_ok-read_ahead.ensures.found) honest in
-    let first = (rw (c.in_ok-read_ahead.ensures.reads, v.same, c.in-Some.is) at c.in_ok-i.ensures.found) honest (v.low honest low) placed in
-    let there = keyless_there m.octets (frame_in m) c.args.dict.now.head c.loop-done.done c.read_ahead.new.refs refs (v.texts honest low) (omega (arith, long, c.min-now.ensures, c.loop-done-test.true)) c.in-Some.i first in
+    let before = v.texts honest low in
+    let first = ((rw (c.in_ok-read_ahead.ensures.reads, v.same, c.in-Some.is) at c.in_ok-i.ensures.exact) honest before.0 placed).1 in
+    let there = keyless_there m.octets (frame_in m) c.args.dict.now.head c.loop-done.done c.read_ahead.new.refs refs before.1 (omega (arith, long, c.min-now.ensures, c.loop-done-test.true)) c.in-Some.i first in
     let fault = rw (c.in_ok-i.ensures.reads, c.in_ok-read_ahead.ensures.reads, v.same) at c.keyless.ensures in
     (fault.0, fault.1, (c.loop-done.done + c.in-Some.i, there, fault.2))
 
@@ -23,10 +24,10 @@ loop-done-preserved g c =
     record {
       same = c.in_ok-i.ensures.reads ∙ c.in_ok-read_ahead.ensures.reads ∙ v.same;
       reached = omega (arith, c.min-now.ensures, c.loop-done-test.true);
-      low = λ honest low. (rw (c.in_ok-read_ahead.ensures.reads, v.same) at c.in_ok-i.ensures.low) honest (v.low honest low);
       texts = λ honest low.
           let refs = (rw v.same at c.in_ok-read_ahead.ensures.refs) honest in
           let placed = (rw v.same at c.in_ok-read_ahead.ensures.found) honest in
-          let all = (rw (c.in_ok-read_ahead.ensures.reads, v.same, c.in_default.is) at c.in_ok-i.ensures.found) honest (v.low honest low) placed in
-          keys_more m.octets (frame_in m) c.args.dict.now.head c.loop-done.done c.read_ahead.new.refs refs (v.texts honest low) c.min-now.result (omega (arith, long)) (λ k lt. all k (omega (arith, long, lt)));
+          let before = v.texts honest low in
+          let all = (rw (c.in_ok-read_ahead.ensures.reads, v.same, c.in_default.is) at c.in_ok-i.ensures.exact) honest before.0 placed in
+          (all.0, keys_more m.octets (frame_in m) c.args.dict.now.head c.loop-done.done c.read_ahead.new.refs refs before.1 c.min-now.result (omega (arith, long)) (λ k lt. all.1 k (omega (arith, long, lt))));
     }

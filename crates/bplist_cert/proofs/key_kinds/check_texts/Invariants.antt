@@ -1,4 +1,4 @@
-use Rattle.std.proofs.Common.{◌≡◌, ◌≤◌, ◌-◌, IsTrue}
+use Rattle.std.proofs.Common.{◌≡◌, ◌≤◌, ◌-◌}
 use Rattle.bplist_objects.specs.Framed.{HonestlyIn}
 use Rattle.bplist_cert.specs.LowBytes.{AreLow}
 use Rattle.bplist_cert.specs.DictKeys.{KeysAreTexts}
@@ -11,8 +11,7 @@ invariant-loop-done g l =
     record {
       same : means l.src ≡ means l.fn.src;
       reached : l.done ≤ l.count;
-      low : IsTrue (means l.fn.src).honest → AreLow (means l.fn.src).octets l.fn.low.slots → AreLow (means l.fn.src).octets l.low.slots;
-      texts : HonestlyIn (means l.fn.src) (λ f F. AreLow f l.fn.low.slots → KeysAreTexts f F l.dict.head l.done);
+      texts : HonestlyIn (means l.fn.src) (λ f F. AreLow f l.fn.low.slots → AreLow f l.low.slots × KeysAreTexts f F l.dict.head l.done);
     }
 
 abbrev pub decreases-loop-done : goal.decreases-loop-done

@@ -1,4 +1,4 @@
-use Rattle.std.proofs.Common.{◌≡◌, length, IsTrue}
+use Rattle.std.proofs.Common.{◌≡◌, length}
 use Rattle.bplist_objects.specs.Framed.{HonestlyIn}
 use Rattle.bplist_cert.specs.LowBytes.{AreLow}
 use Rattle.bplist_cert.specs.KeyOffsets.{AreOffsetsOf, ReferToTexts}
@@ -10,6 +10,5 @@ invariant-loop-i g l =
     let means = g.P.Source.means in
     record {
       same : means l.src ≡ means l.fn.src;
-      low : IsTrue (means l.fn.src).honest → AreLow (means l.fn.src).octets l.fn.low.slots → AreLow (means l.fn.src).octets l.low.slots;
-      texts : HonestlyIn (means l.fn.src) (λ f F. AreLow f l.fn.low.slots → AreOffsetsOf f F l.refs l.offsets (length l.refs) → ReferToTexts f F l.refs l.i);
+      texts : HonestlyIn (means l.fn.src) (λ f F. AreLow f l.fn.low.slots → AreOffsetsOf f F l.refs l.offsets (length l.refs) → AreLow f l.low.slots × ReferToTexts f F l.refs l.i);
     }

@@ -12,8 +12,8 @@ use Rattle.bplist_cert.proofs.LowBytes.{low_kept, wide_kept, text_is_low}
 use Rattle.bplist_cert.proofs.key_kinds.is_text.Goals as goal
 
 pub returns-in-Ascii-clause-exact : goal.returns-in-Ascii-clause-exact
-returns-in-Ascii-clause-exact g c =
-    IfOk-weaker c.covers.result _ _ (λ text h honest low placed.
+returns-in-Ascii-clause-exact g c = λ honest low placed.
+    IfOk-weaker c.covers.result _ _ (λ text h.
     let f = (g.P.Source.means c.args.src.now).octets in
     let F : Frame = frame_in (g.P.Source.means c.args.src.now) in
     let framed = c.frame-frame.ensures.framed.framed honest in
@@ -23,12 +23,14 @@ returns-in-Ascii-clause-exact g c =
     let one : head.count * item_size 1 head.kind ≡ head.count * 1 = ap (λ k. head.count * item_size 1 k) c.in-Ascii.is in
     let by_one : head.count * item_size F.ref_size head.kind ≡ head.count * 1 = ap (λ k. head.count * item_size F.ref_size k) c.in-Ascii.is in
     let room : head.body + head.count ≤ length f = omega (arith, by_one, safe.body, safe.table, c.frame-frame.ensures.framed.safe.safe.room) in
-    let rules = (rw c.frame-frame.ensures.frame at c.in-Ok.ensures.rules) honest framed (placed within) in
-    let exact = h honest low in (
-      λ yes1. (head, text_there f F c.args.m framed within head rules.0 (low_kept f F c.args.m head rules.0 rules.1 c.in-Ascii.is (exact.0 yes1)) (text_kind head.kind (inl c.in-Ascii.is))),
-      λ t. exact.1 (text_is_low f F c.args.m head rules.0 c.in-Ascii.is room t.0 t.1),
+    let rules = (rw c.frame-frame.ensures.frame at c.in-Ok.ensures.rules) honest framed (placed within) in (
+      h.0,
+      (
+        λ yes1. (head, text_there f F c.args.m framed within head rules.0 (low_kept f F c.args.m head rules.0 rules.1 c.in-Ascii.is (h.1.0 yes1)) (text_kind head.kind (inl c.in-Ascii.is))),
+        λ t. h.1.1 (text_is_low f F c.args.m head rules.0 c.in-Ascii.is room t.0 t.1),
+      ),
     ))
-    (rw c.in-Ok.ensures.reads at c.covers.ensures.exact)
+    ((rw c.in-Ok.ensures.reads at c.covers.ensures.exact) honest low)
 
 pub returns-in-Wide-clause-exact : goal.returns-in-Wide-clause-exact
 returns-in-Wide-clause-exact g c = λ honest low placed.
@@ -38,8 +40,11 @@ returns-in-Wide-clause-exact g c = λ honest low placed.
     let within = rw c.frame-frame.ensures.frame at c.if-m-frame.false in
     let head = c.in-Ok.head in
     let rules = (rw c.frame-frame.ensures.frame at c.in-Ok.ensures.rules) honest framed (placed within) in (
-      λ _. (head, text_there f F c.args.m framed within head rules.0 (wide_kept f F c.args.m head rules.0 rules.1 c.in-Wide.is) (text_kind head.kind (inr c.in-Wide.is))),
-      λ _. refl,
+      low,
+      (
+        λ _. (head, text_there f F c.args.m framed within head rules.0 (wide_kept f F c.args.m head rules.0 rules.1 c.in-Wide.is) (text_kind head.kind (inr c.in-Wide.is))),
+        λ _. refl,
+      ),
     )
 
 pub returns-in-Err-Fault-clause-exact : goal.returns-in-Err-Fault-clause-exact
@@ -49,6 +54,9 @@ returns-in-Err-Fault-clause-exact g c = λ honest low placed.
     let framed = c.frame-frame.ensures.framed.framed honest in
     let within = rw c.frame-frame.ensures.frame at c.if-m-frame.false in
     let fault = (rw (c.in-Err-Fault.field-0-is, c.frame-frame.ensures.frame) at c.in-Err-Fault.ensures.rules) honest framed (placed within) in (
-      λ never. absurd (false≢true never),
-      λ t. absurd (no_text f F c.args.m framed within c.in-Err-Fault.field-0-0 (first_fault_among (KeepsByObject f F c.args.m) (BreaksAt f F c.args.m) shape_rules body_rules c.in-Err-Fault.field-0-0 fault) t.0 t.1),
+      low,
+      (
+        λ never. absurd (false≢true never),
+        λ t. absurd (no_text f F c.args.m framed within c.in-Err-Fault.field-0-0 (first_fault_among (KeepsByObject f F c.args.m) (BreaksAt f F c.args.m) shape_rules body_rules c.in-Err-Fault.field-0-0 fault) t.0 t.1),
+      ),
     )

@@ -1,7 +1,7 @@
-use Rattle.std.proofs.Common.{◌≡◌, ℕ, ◌+◌, ◌<◌, length, slice_index}
-use Rattle.bplist_objects.specs.Frame.{off}
+use Rattle.std.proofs.Common.{◌≡◌, ◌+◌, length}
 use Rattle.bplist_objects.specs.Framed.{HonestlyIn}
 use Rattle.bplist_cert.specs.Looks.{KeepBeforeKeysBelow}
+use Rattle.bplist_cert.specs.KeyOffsets.{ArePlaces}
 use Rattle.bplist_cert.specs.KeysLooks.{HaveGoodLists}
 use Rattle.bplist_cert.proofs.key_lists.look_at_lists.Given as goal
 
@@ -11,9 +11,8 @@ invariant-loop-i g l =
     let means = g.P.Source.means in
     record {
       same : means l.src ≡ means l.fn.src;
-      keys : l.look.keys ≡ l.fn.look.keys;
-      lists : HonestlyIn (means l.fn.src) (λ f F. ((k : ℕ) → k < length l.places → slice_index l.places k ≡ off f F (l.from + k))
-          → KeepBeforeKeysBelow f F l.heights (l.from + length l.places)
-          → HaveGoodLists f F l.heights l.from l.fn.look
-          → HaveGoodLists f F l.heights (l.from + l.i) l.look);
+      lists : HonestlyIn (means l.fn.src) (λ f F. ArePlaces f F l.seen.bound l.places
+          → KeepBeforeKeysBelow f F l.seen.heights.now (l.seen.bound + length l.places)
+          → HaveGoodLists f F l.seen.heights.now l.keys l.seen.bound l.fn.look
+          → HaveGoodLists f F l.seen.heights.now l.keys (l.seen.bound + l.i) l.look);
     }

@@ -1,9 +1,8 @@
-use Rattle.std.proofs.Common.{◌≡◌, ℕ, ◌+◌, ◌<◌, length, slice_index}
-use Rattle.bplist_objects.specs.Frame.{off}
-use Rattle.bplist_objects.specs.Framed.{frame_in, HonestlyIn}
-use Rattle.bplist_keys.specs.Classes.{HasNamedKeys}
-use Rattle.bplist_cert.specs.Valid.{IsVouchedBy}
+use Rattle.std.proofs.Common.{◌≡◌, ◌+◌, length}
+use Rattle.bplist_objects.specs.Framed.{HonestlyIn}
 use Rattle.bplist_cert.specs.Looks.{KeepBeforeKeysBelow}
+use Rattle.bplist_cert.specs.KeyOffsets.{ArePlaces}
+use Rattle.bplist_cert.specs.KeyRepeats.{HaveNamedKeys}
 use Rattle.bplist_cert.proofs.key_names.name_block.Given as goal
 
 -- the keys of the vouched dictionaries so far are named
@@ -12,9 +11,9 @@ invariant-loop-i g l =
     let means = g.P.Source.means in
     record {
       same : means l.src ≡ means l.fn.src;
-      all : length l.named.marks.items ≡ (frame_in (means l.fn.src)).objects;
-      named : HonestlyIn (means l.fn.src) (λ f F. ((k : ℕ) → k < length l.places → slice_index l.places k ≡ off f F (l.from + k))
+      all : length l.named.marks.items ≡ length l.fn.named.marks.items;
+      named : HonestlyIn (means l.fn.src) (λ f F. ArePlaces f F l.from l.places
           → KeepBeforeKeysBelow f F l.heights (l.from + length l.places)
-          → ((m : ℕ) → m < l.from → IsVouchedBy l.heights m → HasNamedKeys f F l.fn.named.marks.items m)
-          → (m : ℕ) → m < l.from + l.i → IsVouchedBy l.heights m → HasNamedKeys f F l.named.marks.items m);
+          → HaveNamedKeys f F l.heights l.from l.fn.named.marks.items
+          → HaveNamedKeys f F l.heights (l.from + l.i) l.named.marks.items);
     }

@@ -12,18 +12,18 @@ use Rattle.bplist_cert.proofs.KeyRepeats.{keys_inside}
 use Rattle.bplist_cert.proofs.key_names.name_object.Goals as goal
 
 pub returns-in_err-head-clause-exact : goal.returns-in_err-head-clause-exact
-returns-in_err-head-clause-exact g c = λ honest at kept.
+returns-in_err-head-clause-exact g c = λ honest at kept all.
     let m = g.P.Source.means c.args.src.now in
     let p = err_from_is_err_and c.from_residual.result c.from_residual.ensures.1 in
     let rules = c.in_err-head.ensures.rules honest at in
     rw (p.1, p.2) (given_weaker _ _ c.in_err-head.field-0.0 (λ fault h. absurd (shape_kept m.octets (frame_in m) c.args.n fault kept h)) rules)
 
 pub returns-in_ok-name_keys-in-Dict-clause-exact : goal.returns-in_ok-name_keys-in-Dict-clause-exact
-returns-in_ok-name_keys-in-Dict-clause-exact g c = λ honest at kept head has dict k low.
+returns-in_ok-name_keys-in-Dict-clause-exact g c = λ honest at kept all head has dict k low.
     let f = (g.P.Source.means c.args.src.now).octets in
     let F : Frame = frame_in (g.P.Source.means c.args.src.now) in
     let here = c.in_ok-head.head in
     let has_here = (c.in_ok-head.ensures.rules honest at).0 in
     let named = (rw c.in_ok-head.ensures.reads at c.in_ok-name_keys-in-Dict.ensures.named) honest in
     subst (λ (h : Head). (j : ℕ) → j < h.count → IsMarked c.name_keys.new.named.marks.items (ref f F h j)) (HasHead-unique f F c.args.n here head has_here has)
-    (λ j l. named j l (keys_inside f F c.args.n kept here has_here c.in-Dict.is j l)) k low
+    (λ j l. named j l (rw all (keys_inside f F c.args.n kept here has_here c.in-Dict.is j l))) k low

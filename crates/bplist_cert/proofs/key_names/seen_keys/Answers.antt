@@ -21,13 +21,15 @@ loop-done-preserved g c =
     record {
       same = c.in_ok-name_block.ensures.reads ∙ c.in_ok-read_offsets_in.ensures.reads ∙ v.same;
       reached = omega arith;
-      all = rw (c.in_ok-read_offsets_in.ensures.reads, v.same) at c.in_ok-name_block.ensures.all;
-      named = λ honest seen m low vouched.
+      all = c.in_ok-name_block.ensures.all ∙ v.all;
+      named = λ honest seen.
           let places = (rw v.same at c.in_ok-read_offsets_in.ensures.offsets) honest in
           let exact = (rw (c.in_ok-read_offsets_in.ensures.reads, v.same) at c.in_ok-name_block.ensures.exact) honest places in
-          exact (λ k below is. seen k (omega (arith, below, all)) is) (v.named honest seen) m (omega (arith, low, all)) vouched;
+          let named = exact (λ k below is. seen k (omega (arith, below, all)) is) (v.named honest seen) in
+          (named.0, λ m low vouched. named.1 m (omega (arith, low, all)) vouched);
     }
 
 pub returns-clause-exact : goal.returns-clause-exact
-returns-clause-exact g c = λ honest seen given n low vouched.
-    c.loop-done.invariant.named honest seen n (omega (arith, low, c.loop-done-test.false)) vouched
+returns-clause-exact g c = λ honest seen given.
+    let named = c.loop-done.invariant.named honest seen in
+    (named.0, λ n low vouched. named.1 n (omega (arith, low, c.loop-done-test.false)) vouched)

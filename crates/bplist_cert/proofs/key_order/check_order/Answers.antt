@@ -1,5 +1,4 @@
-use Rattle.std.proofs.Common.{◌≡◌, ◌≤◌, ◌+◌, ◌*◌, length, slice_index, slice_index_or, refl, inr, ap, ap₂, subst, ◌∙◌, arith}
-use Rattle.std.proofs.lemmas.List.{get_or_default}
+use Rattle.std.proofs.Common.{◌≡◌, ◌≤◌, ◌+◌, ◌*◌, length, slice_index, refl, inr, ap, ap₂, subst, ◌∙◌, arith}
 use Rattle.bplist_octets.specs.Octets.{part}
 use Rattle.bplist_objects.specs.declared.frame.Frame.{Frame}
 use Rattle.bplist_objects.specs.Framed.{frame_in}
@@ -15,15 +14,14 @@ returns-in-Some-clause-exact g c = λ honest runs texts.
     let keyed : Keyed = c.args.keys.now in
     let head = c.args.dict.now.head in
     let n = c.args.dict.now.n.0 in
-    let first = (rw c.in-Some.is at c.in_ok-first_unordered.ensures.exact) honest runs texts in
+    let first = ((rw c.in-Some.is at c.in_ok-first_unordered.ensures.exact) honest runs texts).1 in
     let objects : c.frame-count.result.objects ≡ F.objects = ap (λ (x : Frame). x.objects) c.frame-count.ensures.frame in
-    let positions : c.deref.result.now ≡ keyed.positions = c.deref.ensures.value ∙ ap (λ (k : Keyed). k.positions) c.keys.view_is in
-    let start : c.index.result.now ≡ slice_index keyed.starts n =
-    c.index.ensures ∙ ap (λ (k : Keyed). slice_index_or k.starts n c.index.result.now) c.keys.view_is
-    ∙ get_or_default keyed.starts n c.index.result.now 0 (omega (arith, c.requires.starts, c.requires.within)) in
+    let positions : c.deref-2.result.now ≡ keyed.positions = c.deref-2.ensures.value ∙ ap (λ (k : Keyed). k.positions) c.keys.view_is in
+    let start : c.height_at-start.result ≡ slice_index keyed.starts n =
+    c.height_at-start.ensures ∙ ap (λ xs. slice_index xs n) (c.deref.ensures.value ∙ ap (λ (k : Keyed). k.starts) c.keys.view_is) in
     let list : c.part_of-list.result.now ≡ list_of keyed n head.count = c.part_of-list.ensures.part ∙ ap₂ (λ xs p. part xs p head.count) positions start in
     let whole : slice_index keyed.starts n + head.count ≤ length keyed.positions =
-    omega (arith, c.if-start-dict.false, c.len.ensures, c.deref.ensures.len, ap length positions, start) in
-    let place : 16 + 8 * c.frame-count.result.objects + 4 * (c.index.result.now + c.in-Some.j) ≡ 16 + 8 * F.objects + 4 * (slice_index keyed.starts n + c.in-Some.j) =
+    omega (arith, c.if-start-dict.false, c.len.ensures, c.deref-2.ensures.len, ap length positions, start) in
+    let place : 16 + 8 * c.frame-count.result.objects + 4 * (c.height_at-start.result + c.in-Some.j) ≡ 16 + 8 * F.objects + 4 * (slice_index keyed.starts n + c.in-Some.j) =
     omega (arith, objects, start) in
     (refl, refl, inr (whole, (c.in-Some.j, subst (λ xs. FailsAt (AreInOrder f F head xs) head.count c.in-Some.j) list first, place)))

@@ -1,4 +1,4 @@
-use Rattle.std.proofs.Common.{◌≡◌, IsTrue, length, IfSome}
+use Rattle.std.proofs.Common.{◌≡◌, length, IfSome}
 use Rattle.bplist_objects.specs.Framed.{HonestlyIn}
 use Rattle.bplist_keys.specs.Runs.{AreRuns}
 use Rattle.bplist_cert.specs.DictKeys.{KeysAreTexts, AreInOrder}
@@ -12,8 +12,7 @@ invariant-loop-j g l =
     let means = g.P.Source.means in
     record {
       same : means l.src ≡ means l.fn.src;
-      runs : IsTrue (means l.fn.src).honest → AreRuns (means l.fn.src).octets l.fn.runs.slots → AreRuns (means l.fn.src).octets l.runs.slots;
-      ordered : HonestlyIn (means l.fn.src) (λ f F. AreRuns f l.fn.runs.slots → KeysAreTexts f F l.dict.head l.dict.head.count → AreInOrder f F l.dict.head l.list l.j);
+      ordered : HonestlyIn (means l.fn.src) (λ f F. AreRuns f l.fn.runs.slots → KeysAreTexts f F l.dict.head l.dict.head.count → AreRuns f l.runs.slots × AreInOrder f F l.dict.head l.list l.j);
       last : HonestlyIn (means l.fn.src) (λ f F. KeysAreTexts f F l.dict.head l.dict.head.count → IsBefore f F l.dict.head l.list l.j l.before);
       safe : IfSome l.before (IsSafeText (length (means l.fn.src).octets));
     }

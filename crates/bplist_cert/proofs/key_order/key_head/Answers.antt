@@ -4,7 +4,9 @@ use Rattle.bplist_objects.specs.declared.frame.Frame.{Frame}
 use Rattle.bplist_objects.specs.declared.head.Head.{Head}
 use Rattle.bplist_objects.specs.Framed.{frame_in}
 use Rattle.bplist_objects.proofs.Fronts.{one_shape}
-use Rattle.bplist_keys.specs.Texts.{HasTextShape, IsTextHead}
+use Rattle.bplist_objects.specs.Heads.{HasShape}
+use Rattle.bplist_objects.specs.Units.{IsTextKind}
+use Rattle.bplist_keys.specs.Texts.{HasTextShape}
 use Rattle.bplist_cert.specs.DictKeys.{IsText}
 use Rattle.bplist_cert.proofs.key_order.key_head.Goals as goal
 
@@ -17,7 +19,7 @@ returns-then-m-frame-clause-exact g c = λ honest texts.
     omega (arith, value, high, low)
 
 -- a text's shape is its own
-shape_is : (f : List ℕ) (F : Frame) (m : ℕ) (key : Head) → IsText f F m key → (r : Result (Option Head) ReadFault) → IfOk r (λ found. MatchOption found (HasTextShape f F m → ⊥) (IsTextHead f F m))
+shape_is : (f : List ℕ) (F : Frame) (m : ℕ) (key : Head) → IsText f F m key → (r : Result (Option Head) ReadFault) → IfOk r (λ found. MatchOption found (HasTextShape f F m → ⊥) (λ x. HasShape f F m x × IsTextKind x.kind))
     → IfOk r (λ found. MatchOption found ⊥ (IsText f F m))
 shape_is f F m key is (Ok None) h = h (key, (is.is.0, is.kind))
 shape_is f F m key is (Ok (Some found)) h = subst (λ (x : Head). IsText f F m x) (one_shape f F m key found is.is.0 h.0) is

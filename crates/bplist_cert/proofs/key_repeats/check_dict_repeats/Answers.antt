@@ -1,68 +1,74 @@
-use Rattle.std.proofs.Common.{suc, None, refl, inl, inr, ◌∙◌, arith}
+use Rattle.std.proofs.Common.{◌≡◌, suc, None, refl, inl, inr, ap, subst, ◌∙◌, arith}
 use Rattle.std.proofs.lemmas.Result.{err_from_is_err_and}
 use Rattle.bplist_objects.specs.declared.frame.Frame.{Frame}
 use Rattle.bplist_objects.specs.Framed.{frame_in}
+use Rattle.bplist_cert.specs.Looks.{KeepBeforeKeysBelow}
 use Rattle.bplist_cert.proofs.TextObjects.{shape_kept}
 use Rattle.bplist_cert.proofs.CheckSteps.{object_refused}
-use Rattle.bplist_cert.proofs.KeyRepeats.{none_there, keys_inside, good_at, classed_texts, apart_differ, again_twice, texts_classed}
+use Rattle.bplist_cert.proofs.KeyRepeats.{none_there, keys_inside, seen_own, sound_keys, good_at, classed_texts, apart_differ, again_twice, texts_classed}
 use Rattle.bplist_cert.proofs.key_repeats.check_dict_repeats.Goals as goal
 
 pub returns-in_err-head-clause-exact : goal.returns-in_err-head-clause-exact
-returns-in_err-head-clause-exact g c = λ honest kept stamps low keys.
-    let m = g.P.Source.means c.args.src.now in
+returns-in_err-head-clause-exact g c = λ honest low vouched seen classed stamps learnt.
+    let f = (g.P.Source.means c.args.src.now).octets in
+    let F : Frame = frame_in (g.P.Source.means c.args.src.now) in
+    let kept = seen_own f F c.args.seen.now.heights.now c.args.n (seen c.args.n low vouched) in
     let p = err_from_is_err_and c.from_residual.result c.from_residual.ensures.1 in
-    rw (p.1, p.2) (object_refused _ _ c.in_err-head.field-0.0 (λ fault h. absurd (shape_kept m.octets (frame_in m) c.args.n fault kept h)) (c.in_err-head.ensures.rules honest))
+    rw (p.1, p.2) (object_refused _ _ c.in_err-head.field-0.0 (λ fault h. absurd (shape_kept f F c.args.n fault kept h)) (c.in_err-head.ensures.rules honest))
 
-pub returns-then-is_whole-clause-exact : goal.returns-then-is_whole-clause-exact
-returns-then-is_whole-clause-exact g c = λ honest kept stamps low keys.
+pub returns-then-seen-frame-clause-exact : goal.returns-then-seen-frame-clause-exact
+returns-then-seen-frame-clause-exact g c = λ honest low vouched seen classed stamps learnt.
     let f = (g.P.Source.means c.args.src.now).octets in
     let F : Frame = frame_in (g.P.Source.means c.args.src.now) in
     let head = c.in_ok-head.head in
     let has = (c.in_ok-head.ensures.rules honest).0 in
-    let known = keys head has c.in-Dict.is in
+    let heights = c.args.seen.now.heights.now in
+    let known = classed head has c.in-Dict.is in
     let found = none_there _ _ c.in_ok-found.found c.is_none.result c.is_none.ensures c.if-is_none.true ((rw c.in_ok-head.ensures.reads at c.in_ok-found.ensures.exact) honest stamps) in
-    let sound = known.1 (c.is_whole.ensures.0 c.if-is_whole.true ∙ c.requires.all) in
-    let texts = classed_texts f F head _ known.0 (c.frame-frame.ensures.framed.framed honest) sound (keys_inside f F c.args.n kept head has c.in-Dict.is) head.count (omega arith) found.0 in
-    good_at f F None c.args.n head has (λ _. (texts, apart_differ f F head _ known.0 head.count (omega arith) found.1))
+    let whole : c.args.seen.now.bound ≡ F.objects = c.if-seen-frame.true ∙ ap (λ (x : Frame). x.objects) c.frame-frame.ensures.frame in
+    let sound = sound_keys f F heights (subst (KeepBeforeKeysBelow f F heights) whole seen) c.args.n c.requires vouched head has c.in-Dict.is in
+    let inside = keys_inside f F c.args.n (seen_own f F heights c.args.n (seen c.args.n low vouched)) head has c.in-Dict.is in
+    let texts = classed_texts f F head _ known (c.frame-frame.ensures.framed.framed honest) sound inside head.count (omega arith) found.0 in
+    (learnt, good_at f F None c.args.n head has (λ _. (texts, apart_differ f F head _ known head.count (omega arith) found.1)))
 
 pub returns-in_err-check_texts-clause-exact : goal.returns-in_err-check_texts-clause-exact
-returns-in_err-check_texts-clause-exact g c = λ honest kept stamps low keys.
+returns-in_err-check_texts-clause-exact g c = λ honest low vouched seen classed stamps learnt.
     let head = c.in_ok-head.head in
     let has = (c.in_ok-head.ensures.rules honest).0 in
     let p = err_from_is_err_and c.from_residual-in_err-check_texts.result c.from_residual-in_err-check_texts.ensures.1 in
     rw (p.1, p.2) (object_refused _ _ c.in_err-check_texts.field-0.0 (λ fault h. (head, has, (c.in-Dict.is, inl h)))
-    ((rw (c.in_ok-found.ensures.reads, c.in_ok-head.ensures.reads) at c.in_err-check_texts.ensures.exact) honest low))
+    ((rw (c.in_ok-found.ensures.reads, c.in_ok-head.ensures.reads) at c.in_err-check_texts.ensures.exact) honest learnt))
 
 pub returns-in-None-clause-exact : goal.returns-in-None-clause-exact
-returns-in-None-clause-exact g c = λ honest kept stamps low keys.
+returns-in-None-clause-exact g c = λ honest low vouched seen classed stamps learnt.
     let f = (g.P.Source.means c.args.src.now).octets in
     let F : Frame = frame_in (g.P.Source.means c.args.src.now) in
     let head = c.in_ok-head.head in
     let has = (c.in_ok-head.ensures.rules honest).0 in
     let found = (rw (c.in-None.is, c.in_ok-head.ensures.reads) at c.in_ok-found.ensures.exact) honest stamps in
-    let texts = (rw (c.in_ok-found.ensures.reads, c.in_ok-head.ensures.reads) at c.in_ok-check_texts.ensures.exact) honest low in
-    good_at f F None c.args.n head has (λ _. (texts, apart_differ f F head _ (keys head has c.in-Dict.is).0 head.count (omega arith) found.1))
+    let texts = (rw (c.in_ok-found.ensures.reads, c.in_ok-head.ensures.reads) at c.in_ok-check_texts.ensures.exact) honest learnt in
+    (texts.0, good_at f F None c.args.n head has (λ _. (texts.1, apart_differ f F head _ (classed head has c.in-Dict.is) head.count (omega arith) found.1)))
 
 pub returns-in-Some-NotText-clause-exact : goal.returns-in-Some-NotText-clause-exact
-returns-in-Some-NotText-clause-exact g c = λ honest kept stamps low keys.
+returns-in-Some-NotText-clause-exact g c = λ honest low vouched seen classed stamps learnt.
     let f = (g.P.Source.means c.args.src.now).octets in
     let F : Frame = frame_in (g.P.Source.means c.args.src.now) in
     let head = c.in_ok-head.head in
     let has = (c.in_ok-head.ensures.rules honest).0 in
     let which = rw c.in-Some-NotText.is at c.in-Some-NotText.field-0-is in
     let found = (rw (c.in-Some-NotText.is, which, c.in_ok-head.ensures.reads) at c.in_ok-found.ensures.exact) honest stamps in
-    let texts = (rw (c.in_ok-found.ensures.reads, c.in_ok-head.ensures.reads) at c.in_ok-check_texts.ensures.exact) honest low in
-    absurd (found.2 (texts_classed f F head _ (keys head has c.in-Dict.is).0 (suc c.in-Some-NotText.i) (omega (arith, found.0)) (λ k l. texts k (omega (arith, l, found.0)))))
+    let texts = (rw (c.in_ok-found.ensures.reads, c.in_ok-head.ensures.reads) at c.in_ok-check_texts.ensures.exact) honest learnt in
+    absurd (found.2 (texts_classed f F head _ (classed head has c.in-Dict.is) (suc c.in-Some-NotText.i) (omega (arith, found.0)) (λ k l. texts.1 k (omega (arith, l, found.0)))))
 
 pub returns-in-Some-Repeated-clause-exact : goal.returns-in-Some-Repeated-clause-exact
-returns-in-Some-Repeated-clause-exact g c = λ honest kept stamps low keys.
+returns-in-Some-Repeated-clause-exact g c = λ honest low vouched seen classed stamps learnt.
     let f = (g.P.Source.means c.args.src.now).octets in
     let F : Frame = frame_in (g.P.Source.means c.args.src.now) in
     let head = c.in_ok-head.head in
     let has = (c.in_ok-head.ensures.rules honest).0 in
     let which = rw c.in-Some-Repeated.is at c.in-Some-Repeated.field-0-is in
     let found = (rw (c.in-Some-Repeated.is, which, c.in_ok-head.ensures.reads) at c.in_ok-found.ensures.exact) honest stamps in
-    let texts = (rw (c.in_ok-found.ensures.reads, c.in_ok-head.ensures.reads) at c.in_ok-check_texts.ensures.exact) honest low in
-    let twice = again_twice f F head _ (keys head has c.in-Dict.is).0 texts c.in-Some-Repeated.i found.1 in
+    let texts = (rw (c.in_ok-found.ensures.reads, c.in_ok-head.ensures.reads) at c.in_ok-check_texts.ensures.exact) honest learnt in
+    let twice = again_twice f F head _ (classed head has c.in-Dict.is) texts.1 c.in-Some-Repeated.i found.1 in
     let place = rw (c.in_ok-check_texts.ensures.reads, c.in_ok-found.ensures.reads, c.in_ok-head.ensures.reads) at c.ref_place.ensures in
-    (head, has, (c.in-Dict.is, inr (texts, (refl, refl, (c.in-Some-Repeated.i, twice, place)))))
+    (head, has, (c.in-Dict.is, inr (texts.1, (refl, refl, (c.in-Some-Repeated.i, twice, place)))))

@@ -8,7 +8,7 @@ returns-then-keys-eq0-clause-exact g c = λ honest seen given n low vouched.
     let m = g.P.Source.means c.args.src.now in
     let named = c.in_ok-named.named.marks.items in
     let none : count_by (λ marked. marked) named ≡ 0 = omega (arith, c.count-keys.ensures, c.if-keys-eq0.true) in
-    good_unnamed m.octets (frame_in m) named n none (c.in_ok-named.ensures.exact honest seen given n low vouched)
+    good_unnamed m.octets (frame_in m) named n none ((c.in_ok-named.ensures.exact honest seen given).1 n low vouched)
 
 pub returns-then-keys-frame-clause-exact : goal.returns-then-keys-frame-clause-exact
 returns-then-keys-frame-clause-exact g c = λ honest seen given.

@@ -10,5 +10,5 @@ returns-in-At-clause-exact g c = λ honest table v h.
     let checked = c.args.checked.now in
     let query = c.args.query.now in
     let is = subst (IsFound checked checked.frame.top.0 v (steps_in query)) c.in-At.is ((rw c.path_of.ensures at c.in_ok-node.ensures.exact) honest v h) in
-    subst (λ x. GivesCursor (λ told. (told ≡ x) × IfSome c.answer_at.new.measures (AreMeasuresOf checked)) c.answer_at.result) (sym (reply_found v is.1.0 query is.1.1))
-    ((rw c.in_ok-node.ensures.reads at c.answer_at.ensures.exact) honest table is.1.0 is.1.2)
+    subst (λ x. GivesCursor (λ told. (told ≡ x) × IfSome c.answer_at.new.measures (AreMeasuresOf checked)) c.answer_at.result) (sym (reply_found v is.2.0 query is.2.1))
+    ((rw c.in_ok-node.ensures.reads at c.answer_at.ensures.exact) honest table is.2.0 (is.1, is.2.2))

@@ -1,6 +1,6 @@
-use Rattle.std.proofs.Common.{arith, sym, ap, ◌∙◌, subst, Err}
+use Rattle.std.proofs.Common.{arith, slice_index, sym, ap, ◌∙◌, subst, Err}
 use Rattle.std.proofs.lemmas.Result.{err_from_is_err_and}
-use Rattle.bplist_cursor.specs.Leads.{IsTaken}
+use Rattle.bplist_objects.specs.Heads.{refs}
 use Rattle.bplist_cursor.specs.Steps.{IsRefIndex}
 use Rattle.bplist_cursor.proofs.IndexSteps.{same_halvings}
 use Rattle.bplist_cursor.proofs.StepReferences.{content_of_value, not_taken}
@@ -49,7 +49,7 @@ returns-in_ok-reference_in-in-Of-clause-exact g c = λ honest vouched v o.
     let e = c.in_ok-head.ensures.exact honest h.0 h.1 in
     let t = subst (IsRefIndex f F h.0 c.args.units.now) c.in-Of.is ((rw c.in_ok-head.ensures.reads at c.in_ok-why.ensures.exact) honest vouched h.0 h.1 e h.2) in
     let m = (rw (c.in_ok-why.ensures.reads ∙ c.in_ok-head.ensures.reads) at c.in_ok-reference_in-in-Of.ensures.exact) honest c.args.n.0 h.0 h.1 e in
-    (h.0, h.1, subst (IsTaken f F h.0 c.args.units.now) (sym m) t)
+    (h.0, slice_index (refs h.0) c.in-Of.i, h.1, t, sym m)
 
 pub returns-in_ok-reference_in-in-Of-clause-bound : goal.returns-in_ok-reference_in-in-Of-clause-bound
 returns-in_ok-reference_in-in-Of-clause-bound g c = λ honest v o keyed has.

@@ -2,7 +2,8 @@ use Rattle.std.proofs.Common.{arith, rules, length, inl, inr, ◌≤◌, ◌+◌
 use Rattle.std.specs.List.{list_all}
 use Rattle.std.proofs.lemmas.List.{length-take-le}
 use Rattle.bplist_cursor.specs.Nodes.{cap}
-use Rattle.bplist_cursor.specs.Texts.{is_plain, quoted_unit}
+use Rattle.std.specs.Char.{is_ascii_alphanumeric}
+use Rattle.bplist_cursor.specs.Texts.{quoted_unit}
 use Rattle.bplist_octets.specs.Octets.{part}
 use Rattle.bplist_objects.specs.Units.{units_of}
 use Rattle.bplist_objects.specs.Announced.{item_size}
@@ -34,7 +35,7 @@ returns-then-head-gt0-clause-exact g c = λ honest.
     let within : c.args.head.now.body + c.args.head.now.count * item_size 1 c.args.head.now.kind ≤ length f = omega arith in
     let len = length-units_at f c.args.head.now.kind c.args.head.now.count c.args.head.now.body c.requires.kind within in
     let all : c.loop-done.done ≡ c.args.head.now.count = omega arith in
-    plain_length us c.args.head.now.count len (sym c.if-plain.true ∙ c.loop-done.invariant.plain honest ∙ ap (λ n. list_all is_plain (take n us)) all) c.if-head-gt0.true (omega arith)
+    plain_length us c.args.head.now.count len (sym c.if-plain.true ∙ c.loop-done.invariant.plain honest ∙ ap (λ n. list_all is_ascii_alphanumeric (take n us)) all) c.if-head-gt0.true (omega arith)
 
 pub returns-else-plain-clause-exact : goal.returns-else-plain-clause-exact
 returns-else-plain-clause-exact g c = λ honest.
@@ -44,7 +45,7 @@ returns-else-plain-clause-exact g c = λ honest.
     let len = length-units_at f c.args.head.now.kind c.args.head.now.count c.args.head.now.body c.requires.kind within in
     let all : c.loop-done.done ≡ c.args.head.now.count = omega arith in
     let q = c.loop-done.invariant.quoted honest ∙ ap (λ n. cap (2 + length (flat_map quoted_unit (take n us)))) all in
-    let p = c.loop-done.invariant.plain honest ∙ ap (λ n. list_all is_plain (take n us)) all in
+    let p = c.loop-done.invariant.plain honest ∙ ap (λ n. list_all is_ascii_alphanumeric (take n us)) all in
     quoted_text_length us c.args.head.now.count c.loop-done.quoted len
     (elim c.else-plain.branch [
       | else-plain-via-then-plain+else-head-gt0 w ↦ inr (omega (arith, w.if-head-gt0.false))

@@ -2,7 +2,8 @@ use Rattle.std.proofs.Common.{◌-◌, ◌≡◌, ◌≤◌, ◌+◌, length, fl
 use Rattle.std.specs.List.{list_all}
 use Rattle.bplist_objects.specs.Units.{units_of}
 use Rattle.bplist_cursor.specs.Nodes.{cap}
-use Rattle.bplist_cursor.specs.Texts.{is_plain, quoted_unit}
+use Rattle.std.specs.Char.{is_ascii_alphanumeric}
+use Rattle.bplist_cursor.specs.Texts.{quoted_unit}
 use Rattle.bplist_cursor.proofs.text_length.text_length.Given as goal
 
 -- the file is as it was, and the units so far are plain or not, and take so many bytes between quotes
@@ -12,7 +13,7 @@ invariant-loop-done g l =
     record {
       same : l.checked ≡ file;
       reached : l.done ≤ l.head.count;
-      plain : IsTrue file.source.honest → l.plain ≡ list_all is_plain (take l.done (units_of file.source.octets l.fn.head));
+      plain : IsTrue file.source.honest → l.plain ≡ list_all is_ascii_alphanumeric (take l.done (units_of file.source.octets l.fn.head));
       quoted : IsTrue file.source.honest → l.quoted ≡ cap (2 + length (flat_map quoted_unit (take l.done (units_of file.source.octets l.fn.head))));
     }
 

@@ -14,6 +14,5 @@ returns-clause-named g c = λ honest k from high inside.
     let long : length numbers ≡ c.min-count.result = grind (arith, common_steps) in
     let low : i < length numbers = omega arith in
     let here = c.in_ok-read_refs_in.ensures.numbers honest i low ∙ ap (ref m.octets (frame_in m) c.args.head.now) is in
-    let fits = c.insert_all.ensures.all ∙ c.requires.all in
     subst (λ x. IsMarked c.insert_all.new.self.marks.items x) here
-    (c.insert_all.ensures.named i low (subst (λ x. x < length c.insert_all.new.self.marks.items) (sym here) (omega (arith, fits, inside))))
+    (c.insert_all.ensures.named i low (subst (λ x. x < length c.insert_all.new.self.marks.items) (sym here) (omega (arith, c.insert_all.ensures.all, inside))))

@@ -1,5 +1,3 @@
-use Rattle.std.proofs.Common.{ℕ, Vec, Global}
-use Rattle.std.proofs.lemmas.Result.{IfOk-weaker}
 use Rattle.bplist_objects.specs.declared.frame.Frame.{Frame}
 use Rattle.bplist_objects.specs.Framed.{frame_in}
 use Rattle.bplist_lint.specs.declared.object_graph.View.TheVariants as views
@@ -12,5 +10,5 @@ returns-clause-exact g c = λ honest kept keys marked.
     let f = (g.P.Source.means c.args.src.now).octets in
     let F : Frame = frame_in (g.P.Source.means c.args.src.now) in
     let framed = c.frame-frame.ensures.framed.framed honest in
-    let least = (rw (c.new-objects.ensures.means, c.new-objects.ensures.view) at c.least_heights.ensures.exact) honest (all_closed f F framed kept c.args.marks.now marked views.Values) (λ n m. let b = c.requires.childless honest n m in ((marked n).1 b.0, none_in_view f F n views.Values b.1)) in
-    IfOk-weaker _ _ _ (λ (heights : Vec ℕ Global) is. are_least_all f F framed kept c.args.marks.now marked keys heights.items is) least
+    let least = (rw (c.new-objects.ensures.means, c.new-objects.ensures.view) at c.in_ok-least_heights.ensures.exact) honest (all_closed f F framed kept c.args.marks.now marked views.Values) (λ n m. let b = c.requires.childless honest n m in ((marked n).1 b.0, none_in_view f F n views.Values b.1)) in
+    are_least_all f F framed kept c.args.marks.now marked keys _ least

@@ -1,13 +1,34 @@
 use Rattle.std.proofs.Common.{◌≡◌, ◌<◌, length, refl, arith}
 use Rattle.std.proofs.lemmas.Grind.{common_steps}
 use Rattle.std.proofs.lemmas.List.{get_or_read}
+use Rattle.std.proofs.lemmas.Result.{err_from_is_err_and}
 use Rattle.bplist_objects.specs.declared.frame.Frame.{Frame}
+use Rattle.bplist_objects.specs.Answers.{Never}
 use Rattle.bplist_objects.specs.Framed.{frame_in}
+use Rattle.bplist_lint.specs.FileFault.{IsFileCircle}
 use Rattle.bplist_lint.specs.declared.object_graph.View.TheVariants as views
-use Rattle.bplist_lint.proofs.Passes.{linted, circled}
+use Rattle.bplist_lint.proofs.Passes.{check_means, linted, circled}
 use Rattle.bplist_lint.proofs.ReferenceGraph.{reach_iff}
 use Rattle.bplist_lint.proofs.ValueHeights.{all_whole}
 use Rattle.bplist_lint.proofs.linter.heights_or_circle.Goals as goal
+
+pub returns-in_err-heights-clause-exact : goal.returns-in_err-heights-clause-exact
+returns-in_err-heights-clause-exact g c = λ honest.
+    let f = (g.P.Source.means c.args.src.now).octets in
+    let s = c.requires.sifted honest in
+    let told = (rw c.deref.ensures.value at c.in_err-heights.ensures.exact) honest s.walked.tallied.kept s.keys s.walked.marked in
+    let p = err_from_is_err_and c.from_residual.result c.from_residual.ensures.1 in
+    rw (p.1, p.2) (check_means Never _ (IsFileCircle f) c.in_err-heights.field-0.0 (λ fault h. h) told)
+
+pub returns-in_err-circle-clause-exact : goal.returns-in_err-circle-clause-exact
+returns-in_err-circle-clause-exact g c = λ honest.
+    let f = (g.P.Source.means c.args.src.now).octets in
+    let F : Frame = frame_in (g.P.Source.means c.args.src.now) in
+    let framed = c.frame-frame.ensures.framed.framed honest in
+    let s = c.requires.sifted honest in
+    let told = (rw (c.new-objects.ensures.means, c.new-objects.ensures.view, c.in_ok-heights.ensures.reads, c.frame-frame.ensures.frame) at c.in_err-circle.ensures.circle) honest (λ n r. all_whole f F framed s.walked.tallied.kept views.All n ((reach_iff f F n).0 r)) in
+    let p = err_from_is_err_and c.from_residual-in_err-circle.result c.from_residual-in_err-circle.ensures.1 in
+    rw (p.1, p.2) (check_means Never _ (IsFileCircle f) c.in_err-circle.field-0.0 (λ fault h. h) told)
 
 pub returns-then-height-eq0-clause-exact : goal.returns-then-height-eq0-clause-exact
 returns-then-height-eq0-clause-exact g c = λ honest.

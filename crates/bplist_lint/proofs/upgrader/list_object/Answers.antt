@@ -2,30 +2,26 @@ use Rattle.std.proofs.Common.{◌≡◌, length, arith}
 use Rattle.std.proofs.lemmas.Result.{err_from_is_err_and}
 use Rattle.bplist_objects.specs.declared.frame.Frame.{Frame}
 use Rattle.bplist_objects.specs.Framed.{frame_in}
-use Rattle.bplist_objects.proofs.FirstFaults.{no_shape}
+use Rattle.bplist_objects.proofs.HeadTies.{shape_announced}
 use Rattle.bplist_objects.proofs.FrameTies.{numbered}
 use Rattle.bplist_lint.proofs.KeyLists.{have_ranks}
-use Rattle.bplist_cert.proofs.AcceptedCertificates.{vouched_shape, vouched_keys}
+use Rattle.bplist_cert.proofs.AcceptedCertificates.{vouched_keys}
 use Rattle.bplist_lint.proofs.ListSteps.{listed_other, listed_dict, listed_room}
-use Rattle.bplist_lint.proofs.UpgradeSteps.{object_no_change}
 use Rattle.bplist_lint.proofs.upgrader.list_object.Goals as goal
 
-pub returns-in_err-head-clause-exact : goal.returns-in_err-head-clause-exact
-returns-in_err-head-clause-exact g c = λ honest named heights starts ranked given valid v room l.
-    let f = (g.P.Source.means c.args.src.now).octets in
-    let F : Frame = frame_in (g.P.Source.means c.args.src.now) in
-    let p = err_from_is_err_and c.from_residual.result c.from_residual.ensures.1 in
+pub returns-in_default-clause-exact : goal.returns-in_default-clause-exact
+returns-in_default-clause-exact g c = λ honest named heights starts ranked given valid v room l.
     let s = (valid.vouched c.args.n v).spells in
-    rw (p.1, p.2) (object_no_change _ c.in_err-head.field-0.0 (λ fault h. no_shape f F c.args.n fault s.shape h s.has) (c.in_err-head.ensures.rules honest))
+    absurd ((rw c.in_default.is at c.in_ok-head.ensures.shape) honest s.shape s.has)
 
 pub returns-then-head-start-clause-exact : goal.returns-then-head-start-clause-exact
 returns-then-head-start-clause-exact g c = λ honest named heights starts ranked given valid v room l.
     let f = (g.P.Source.means c.args.src.now).octets in
     let F : Frame = frame_in (g.P.Source.means c.args.src.now) in
     let n = c.args.n in
-    let head = c.in_ok-head.head in
-    let has = (c.in_ok-head.ensures.rules honest).0 in
-    let shape = vouched_shape f F heights valid n v head has in
+    let head = c.in-Some.head in
+    let shape = (rw c.in-Some.is at c.in_ok-head.ensures.shape) honest in
+    let has = shape_announced f F n head shape in
     let begin : c.len-start.result ≡ length c.args.lists.now.positions.items = omega (arith, c.args.lists.now.positions.ok.0, c.len-start.ensures) in
     let fits = listed_room f F heights n starts c.args.lists.now.positions.items l v room head shape c.in-Dict.is (numbered valid.frame).ref_size.0 valid.room in
     omega (arith, fits, begin, (numbered valid.frame).table_late, (numbered valid.frame).large, c.if-head-start.true)
@@ -35,8 +31,9 @@ returns-in_err-list-in-Dict-clause-exact g c = λ honest named heights starts ra
     let f = (g.P.Source.means c.args.src.now).octets in
     let F : Frame = frame_in (g.P.Source.means c.args.src.now) in
     let n = c.args.n in
-    let head = c.in_ok-head.head in
-    let has = (c.in_ok-head.ensures.rules honest).0 in
+    let head = c.in-Some.head in
+    let shape = (rw c.in-Some.is at c.in_ok-head.ensures.shape) honest in
+    let has = shape_announced f F n head shape in
     let keys = vouched_keys f F heights valid n v head has c.in-Dict.is in
     let have = have_ranks f F named c.args.lists.now.ranks.table.items ranked n given head has c.in-Dict.is keys.0 keys.1 in
     let p = err_from_is_err_and c.from_residual-in_err-list-in-Dict.result c.from_residual-in_err-list-in-Dict.ensures.1 in
@@ -47,17 +44,17 @@ returns-in_ok-list-in-Dict-clause-exact g c = λ honest named heights starts ran
     let f = (g.P.Source.means c.args.src.now).octets in
     let F : Frame = frame_in (g.P.Source.means c.args.src.now) in
     let n = c.args.n in
-    let head = c.in_ok-head.head in
-    let has = (c.in_ok-head.ensures.rules honest).0 in
+    let head = c.in-Some.head in
+    let shape = (rw c.in-Some.is at c.in_ok-head.ensures.shape) honest in
+    let has = shape_announced f F n head shape in
     let keys = vouched_keys f F heights valid n v head has c.in-Dict.is in
     let have = have_ranks f F named c.args.lists.now.ranks.table.items ranked n given head has c.in-Dict.is keys.0 keys.1 in
-    let shape = vouched_shape f F heights valid n v head has in
     let begin : c.len-start.result ≡ length c.args.lists.now.positions.items = omega (arith, c.args.lists.now.positions.ok.0, c.len-start.ensures) in
     let listed = (rw c.in_ok-head.ensures.reads at c.in_ok-list-in-Dict.ensures.exact) honest have in
     rw begin (listed_dict f F heights n starts c.args.lists.now.positions.items l v room head shape c.in-Dict.is (numbered valid.frame).ref_size.0 c.list.new.self.positions.items listed)
 
-pub returns-in_default : goal.returns-in_default
-returns-in_default g c = record {
+pub returns-in_default-kind : goal.returns-in_default-kind
+returns-in_default-kind g c = record {
   reads = c.in_ok-head.ensures.reads;
   same = cc;
   few = c.requires.few;
@@ -65,8 +62,8 @@ returns-in_default g c = record {
       let f = (g.P.Source.means c.args.src.now).octets in
       let F : Frame = frame_in (g.P.Source.means c.args.src.now) in
       let n = c.args.n in
-      let head = c.in_ok-head.head in
-      let has = (c.in_ok-head.ensures.rules honest).0 in
-      let shape = vouched_shape f F heights valid n v head has in
-      listed_other f F heights n starts c.args.lists.now.positions.items l v room head shape c.in_default.not-Dict;
+      let head = c.in-Some.head in
+      let shape = (rw c.in-Some.is at c.in_ok-head.ensures.shape) honest in
+      let has = shape_announced f F n head shape in
+      listed_other f F heights n starts c.args.lists.now.positions.items l v room head shape c.in_default-kind.not-Dict;
 }

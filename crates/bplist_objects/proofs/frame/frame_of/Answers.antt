@@ -1,9 +1,9 @@
+use Rattle.std.proofs.Common.{refl}
 use Rattle.bplist_objects.proofs.FrameTies.{entry_fault}
 use Rattle.bplist_objects.proofs.frame.frame_of.Goals as goal
 
 pub returns-in-Some-clause-exact : goal.returns-in-Some-clause-exact
 returns-in-Some-clause-exact g c = λ honest.
     let f = (g.S.Source.means c.args.src.now).octets in
-    let entry = c.high_entry.ensures in
     let found = rw (c.in_ok-frame.ensures.reads, c.in-Some.is) at c.in_ok-first_not_below.ensures.found in
-    rw c.into.ensures (entry_fault f c.in_ok-frame.frame c.high_entry.result (c.in_ok-frame.ensures.exact honest) entry.rule (c.in-Some.i, found honest, entry.object, entry.place))
+    rw (c.into.ensures, c.high_entry.ensures) (entry_fault f c.in_ok-frame.frame _ (c.in_ok-frame.ensures.exact honest) refl (c.in-Some.i, found honest, refl, refl))

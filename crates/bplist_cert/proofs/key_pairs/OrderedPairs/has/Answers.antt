@@ -1,5 +1,8 @@
-use Rattle.std.proofs.Common.{arith}
+use Rattle.std.proofs.Common.{◌%◌, arith}
+use Rattle.std.proofs.lemmas.Bool.{eqb-true}
 use Rattle.bplist_cert.proofs.key_pairs.OrderedPairs.has.Goals as goal
 
-pub returns : goal.returns
-returns c = λ f F known good. known.0 c.slot_of.result c.args.a c.args.b c.ranges.b.fits (omega arith) (omega (arith, c.pair_of-pair.ensures))
+pub returns-then-pair-ne0 : goal.returns-then-pair-ne0
+returns-then-pair-ne0 c = λ f F known good.
+    let kept = eqb-true _ _ good in
+    known.0 (c.pair_of-pair.result % 2039) c.args.a c.args.b c.ranges.b.fits (omega (arith, kept)) (omega (arith, kept, c.pair_of-pair.ensures))

@@ -1,8 +1,7 @@
 use Rattle.std.proofs.Common.{◌≤◌, inl, inr, sym, ◌∙◌, arith}
 use Rattle.std.proofs.lemmas.Bool.{cases_lt}
 use Rattle.std.proofs.lemmas.List.Elements.{All-set}
-use Rattle.bplist_keys.specs.Runs.{IsRun}
-use Rattle.bplist_keys.proofs.RunSteps.{agree_runs}
+use Rattle.bplist_keys.proofs.RunSteps.{IsRun, agree_runs}
 use Rattle.bplist_keys.proofs.runs.Runs.add.Goals as goal
 
 pub returns : goal.returns
