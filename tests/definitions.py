@@ -2,10 +2,10 @@
 """definitions.py [--write | --count [CALL..]]
 
 Makes docs/DEFINITIONS.md from the comments of crates/*/specs: each definition that a contract of a public call cites, with the
-line in plain words above it, and the names of those that such a definition cites in turn. With --write the document is written;
-without, it is compared with the one that is there, and the last line printed is `N passed, M failed`, one test for each crate.
-With --count the definitions and their lines are counted, crate by crate: what all public calls lead to, or those named, with types
-as `Checked` for their methods.
+line in plain words above it. With --write the document is written; without, it is compared with the one that is there, and the
+last line printed is `N passed, M failed`, one test for each crate. With --count the definitions and their lines are counted, crate
+by crate: what all public calls lead to, those too that only definitions cite, or those named, with types as `Checked` for their
+methods.
 """
 import pathlib
 import re
@@ -15,9 +15,9 @@ HERE = pathlib.Path(__file__).resolve().parent.parent
 
 HEAD = """# Definitions
 
-Each definition that the contract of a public call cites, with the plain words above it in its file. Behind the file's name stand those
-that only definitions cite; a reader of the promises has to believe these too. Definitions use only what stands above them. The head of
-each file names its source: Apple's published CFBinaryPList.c, a standard, or `profile`, a choice of this project.
+Each definition that the contract of a public call cites, with the plain words above it in its file. The table counts those too that
+only definitions cite, since a reader has to believe them as well. Definitions use only what stands above them. The head of each
+file names its source: Apple's published CFBinaryPList.c, a standard, or `profile`, a choice of this project.
 `tests/definitions.py --write` makes this page, and the gate compares.
 
 | who relies on | has to believe definitions | of lines |
@@ -226,13 +226,11 @@ def reachable(calls, of=()):
 
 
 def section(crate, found, cited):
-    """What the page says of a crate: of each file the definitions that contracts cite, and the names of the others."""
-    out = [f"\n## {crate}\n"]
-    for file in dict.fromkeys(one.file for one in found):
-        held = [one for one in found if one.file == file]
-        others = "".join(f", `{one.name}`" for one in held if one not in cited)
-        lines = "".join(f"- `{one.name}`: {one.comment}\n" for one in held if one in cited)
-        out.append(f"\n[{file}](../crates/{crate}/specs/{file}.antt){others}\n" + ("\n" + lines if lines else ""))
+    """What the page says of a crate: of each file the definitions that contracts cite."""
+    out, held = [f"\n## {crate}\n"], [one for one in found if one in cited]
+    for file in dict.fromkeys(one.file for one in held):
+        lines = "".join(f"- `{one.name}`: {one.comment}\n" for one in held if one.file == file)
+        out.append(f"\n[{file}](../crates/{crate}/specs/{file}.antt)\n\n{lines}")
     return "".join(out)
 
 
