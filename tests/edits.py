@@ -67,7 +67,8 @@ class Edit:
     def place(self, folder):
         """Finds the function in which the first change of a body stands, else the file."""
         for file, old, _ in self.pairs:
-            lines = (folder / file).read_text().split("\n")
+            path = folder / file
+            lines = path.read_text().split("\n") if path.is_file() else []
             at = next((i for i, line in enumerate(lines) if old in line), None)
             if at is None:
                 raise ValueError(f"{self.name}: its old text is not in {file}")

@@ -17,7 +17,7 @@ use Rattle.bplist_cursor.specs.Replies.{face, reply}
 use Rattle.bplint_lines.specs.declared.fault.RunFault.{RunFault}
 use Rattle.bplint_lines.specs.declared.fault.RunFault.TheVariants as faults
 use Rattle.bplint_engine.specs.declared.output.Output.{Output}
-use Rattle.bplint_lines.specs.Answers.{Answer}
+use Rattle.bplint_lines.specs.Answers.{Answer, gives}
 use Rattle.bplint_engine.specs.Output.{Answers, IsRefusal}
 use Rattle.bplint_lines.specs.Faults.{Gives, IsExcused}
 use Rattle.bplint_lines.specs.declared.said.Said.{Said}
@@ -67,7 +67,7 @@ pub queries_say : (Says : Answer → Type 0) (f : List ℕ) (texts : List (List 
     → ∥ Answers (LinesSay found_line Says f texts) made ∥₁
 queries_say Says f texts paths queries F (Ok output) are asked (said, bytes, says) there told = ∥∥₁_map there (λ (v, _, holds, held).
     let t = told_of v paths queries output.said output.bytes.items asked (told v held) in
-    inr (inr (paths, said, bytes, v, are, says, holds, same_gives output.said (said_of (map (look 0 v) paths)) output.bytes.items (flat_map found_line (map (look 0 v) paths)) t.0 t.1)))
+    inr (paths, gives said bytes, are, says, (v, holds, same_gives output.said (said_of (map (look 0 v) paths)) output.bytes.items (flat_map found_line (map (look 0 v) paths)) t.0 t.1)))
 queries_say Says f texts paths queries F (Err fault) are asked sure there told = merely (excused_refused (LinesSay found_line Says f texts) fault told)
 
 -- the same of the lines of `ls`
@@ -77,14 +77,6 @@ pub list_says : (Says : Answer → Type 0) (f text : List ℕ) (steps : List (Li
     → Answers (LinesSay (listed text) Says f (text ∷ [])) made
 list_says Says f text steps F (Ok output) are (said, bytes, says) (v, _, holds, held) told =
     let t = told v held in
-    inr (inr (
-      steps ∷ [],
-      said,
-      bytes,
-      v,
-      are,
-      says,
-      holds,
-      same_gives output.said (said_of (look 0 v steps ∷ [])) output.bytes.items (listed text (look 0 v steps) ++ []) t.0 (t.1 ∙ sym (append-nil (listed text (look 0 v steps)))),
-    ))
+    let same = same_gives output.said (said_of (look 0 v steps ∷ [])) output.bytes.items (listed text (look 0 v steps) ++ []) t.0 (t.1 ∙ sym (append-nil (listed text (look 0 v steps)))) in
+    inr (steps ∷ [], gives said bytes, are, says, (v, holds, same))
 list_says Says f text steps F (Err fault) are sure (v, _, _, held) told = excused_refused (LinesSay (listed text) Says f (text ∷ [])) fault (told v held)

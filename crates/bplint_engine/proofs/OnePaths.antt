@@ -43,15 +43,13 @@ module _ (Says : Answer → Type 0) (f : List ℕ) (texts : List (List ℕ)) (P 
     (one : (a b : Answer) → Says a → Says b → a ≡ b) (same : (paths : List (List (List ℕ))) (v : Value) → FileHolds f v → (a b : Answer) → P paths v a → P paths v b → a ≡ b) where
   pub one_for_paths : (a b : Answer) → ForPaths Says f texts P a → ForPaths Says f texts P b → a ≡ b
   one_for_paths a b (inl (p, h, is)) (inl (q, k, is')) = is ∙ ap (λ place. refuses (faults.Path place)) (one_wrong texts p q h k) ∙ sym is'
-  one_for_paths a b (inl (p, h, is)) (inr (inl (qs, y, are, k, is'))) = absurd (not_wrong texts qs p are h)
-  one_for_paths a b (inl (p, h, is)) (inr (inr (qs, t, ys, w, are, told, holds, k))) = absurd (not_wrong texts qs p are h)
-  one_for_paths a b (inr (inl (ps, x, are, h, is))) (inl (q, k, is')) = absurd (not_wrong texts ps q are k)
-  one_for_paths a b (inr (inr (ps, s, xs, v, are, told, holds, h))) (inl (q, k, is')) = absurd (not_wrong texts ps q are k)
-  one_for_paths a b (inr (inl (ps, x, are, h, is))) (inr (inl (qs, y, are', k, is'))) = is ∙ one (refuses x) (refuses y) h k ∙ sym is'
-  one_for_paths a b (inr (inl (ps, x, are, h, is))) (inr (inr (qs, t, ys, w, are', told, holds, k))) =
-      absurd (cc (one (refuses x) (gives t ys) h told))
-  one_for_paths a b (inr (inr (ps, s, xs, v, are, told, holds, h))) (inr (inl (qs, y, are', k, is'))) =
-      absurd (cc (one (gives s xs) (refuses y) told k))
-  one_for_paths a b (inr (inr (ps, s, xs, v, are, told, holds, h))) (inr (inr (qs, t, ys, w, are', told', holds', k))) =
-      let other = subst (λ rs. P rs v b) (one_paths texts qs ps are' are) (subst (λ x. P qs x b) (one_value_of_file f w v holds' holds) k) in
-      same ps v holds a b h other
+  one_for_paths a b (inl (p, h, is)) (inr (qs, own, are, told, k)) = absurd (not_wrong texts qs p are h)
+  one_for_paths a b (inr (ps, own, are, told, h)) (inl (q, k, is')) = absurd (not_wrong texts ps q are k)
+  one_for_paths a b (inr (ps, refuses x, are, told, is)) (inr (qs, refuses y, are', told', is')) = is ∙ one (refuses x) (refuses y) told told' ∙ sym is'
+  one_for_paths a b (inr (ps, refuses x, are, told, is)) (inr (qs, gives t ys, are', told', k)) =
+      absurd (cc (one (refuses x) (gives t ys) told told'))
+  one_for_paths a b (inr (ps, gives s xs, are, told, h)) (inr (qs, refuses y, are', told', is')) =
+      absurd (cc (one (gives s xs) (refuses y) told told'))
+  one_for_paths a b (inr (ps, gives s xs, are, told, h)) (inr (qs, gives t ys, are', told', k)) =
+      let other = subst (λ rs. P rs h.0 b) (one_paths texts qs ps are' are) (subst (λ x. P qs x b) (one_value_of_file f k.0 h.0 k.1 h.1) k.2) in
+      same ps h.0 h.1 a b h.2 other

@@ -56,7 +56,7 @@ module _ (Says : Answer → Type 0) (f : List ℕ) (texts : List (List ℕ)) (P 
 
   -- the file is refused
   pub file_refused : (paths : List (List (List ℕ))) (fault : RunFault) → AllZip IsPathOf texts paths → IsRefusal Says fault → IsRefusal (ForPaths Says f texts P) fault
-  file_refused paths fault are = refused_as Says (ForPaths Says f texts P) fault (λ x h. inr (inl (paths, x, are, h, refl)))
+  file_refused paths fault are = refused_as Says (ForPaths Says f texts P) fault (λ x h. inr (paths, refuses x, are, h, refl))
 
 -- ---- files that hold a value
 -- Says says yes of a file

@@ -133,7 +133,7 @@ pub print_leaves : (Says : Answer → Type 0) (f : List ℕ) (texts : List (List
     → Leaves (PrintSays limit Says f texts) limit old new result
 print_leaves Says f texts limit steps F old new result are (said, bytes, says) there left = ∥∥₁_map there (λ (v, frame, holds, held).
     said_as (PathSays f F limit steps v) (PrintSays limit Says f texts) limit old new result
-    (λ a h. inr (inr (steps ∷ [], said, bytes, v, are, says, holds, (steps, F, refl, frame, h)))) (left v held))
+    (λ a h. inr (steps ∷ [], gives said bytes, are, says, (v, holds, (steps, F, refl, frame, h)))) (left v held))
 
 -- a line feed was put in, and a flush cut it
 pub line_cut : (old mid new : Option (List ℕ)) (s t : Sending) (r : Result (Unit {0}) WriteFault) → Takes old mid s t (10 ∷ [])

@@ -58,7 +58,7 @@ abbrev pub first_lines : List ℕ → Value → ℕ → List ℕ
 first_lines path w zero = []
 first_lines path w (suc n) = first_lines path w n ++ member_line path w n
 
--- all lines of a found value, of its members or of the leaf, or that of a path that leads nowhere
+-- the lines of a found value's members, or of the leaf, or of a path that leads nowhere
 abbrev pub listed : List ℕ → Result Value (ℕ × Why) → List ℕ
 listed path (Ok (leaf l)) = named_line path (leaf l)
 listed path (Ok (array vs)) = flat_map (λ e. named_line (index_name path e.0) e.1) (enumerate_from 0 (members vs))

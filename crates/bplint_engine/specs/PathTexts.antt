@@ -6,23 +6,19 @@ use Rattle.bplist_objects.specs.Value.{Value}
 use Rattle.bplist_cursor.specs.Path.{IsPathOf, IsNoPath}
 use Rattle.bplint_lines.specs.declared.fault.RunFault.{RunFault}
 use Rattle.bplint_lines.specs.declared.fault.RunFault.TheVariants.{Memory, Path}
-use Rattle.bplint_lines.specs.declared.said.Said.{Said}
 use Rattle.bplint_lines.specs.Answers.{Answer, gives, refuses}
 
 -- the first wrong path text is wrong at this place
 abbrev pub IsWrongAmong : List (List ℕ) → ℕ → Type 0
 IsWrongAmong [] place = ⊥
-IsWrongAmong (text ∷ texts) place =
-    IsNoPath text place ⊎ ((steps : List (List ℕ)) × IsPathOf text steps × IsWrongAmong texts place)
+IsWrongAmong (text ∷ texts) place = IsNoPath text place ⊎ ((steps : List (List ℕ)) × IsPathOf text steps × IsWrongAmong texts place)
 
 -- what is asked for path texts is answered: the first wrong one, else the fault with which Says refuses the file, or where Says
 -- says yes of it, what P says of the paths and the file's value
 abbrev pub ForPaths : (Answer → Type 0) → List ℕ → List (List ℕ) → (List (List (List ℕ)) → Value → Answer → Type 0) → Answer → Type 0
-ForPaths Says f texts P answer =
-    ((place : ℕ) × IsWrongAmong texts place × (answer ≡ refuses (Path place)))
-    ⊎ ((paths : List (List (List ℕ))) × (fault : RunFault) × AllZip IsPathOf texts paths × Says (refuses fault) × (answer ≡ refuses fault))
-    ⊎ ((paths : List (List (List ℕ))) × (said : Said) × (bytes : List ℕ) × (v : Value) × AllZip IsPathOf texts paths
-    × Says (gives said bytes) × FileHolds f v × P paths v answer)
+ForPaths Says f texts P answer = ((place : ℕ) × IsWrongAmong texts place × (answer ≡ refuses (Path place)))
+    ⊎ ((paths : List (List (List ℕ))) × (own : Answer) × AllZip IsPathOf texts paths × Says own
+    × elim own as (λ _. Type 0) [ refuses fault ↦ answer ≡ own | gives said bytes ↦ (v : Value) × FileHolds f v × P paths v answer ])
 
 -- P holds of the place of a wrong path text, nothing is said of refused memory, and no other fault comes
 abbrev pub OnPath : (ℕ → Type 0) → RunFault → Type 0

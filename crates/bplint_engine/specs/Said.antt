@@ -34,7 +34,7 @@ takes_cert verb = elim verb [ Lint ↦ false | Certify ↦ false | _ ↦ true ]
 abbrev pub Spells : (List ℕ → Answer → Type 0) → List ℕ → Answer → Type 0
 Spells P text answer = MatchResult (spelled text) (λ bytes. P bytes answer) (λ _. answer ≡ refuses Hex)
 
--- a command's answer for inputs; with `hex` for the bytes that they spell, of the certificate where it is looked at
+-- a command's answer for inputs; with `hex` for the bytes that they spell, the certificate's if it is looked at
 abbrev pub SaysOver : Bool → Asked → List ℕ → List ℕ → Answer → Type 0
 SaysOver true c file cert answer = Spells (λ f. Spells (Says c f) (if takes_cert c.verb then cert else [])) file answer
 SaysOver false c file cert answer = Says c file cert answer

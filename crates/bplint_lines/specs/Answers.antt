@@ -15,21 +15,21 @@ pub data Answer : Type 0 where
 abbrev pub read_failed : {X : Type 0} → Result X RunFault → Bool
 read_failed answer = elim answer [ Err (faults.Read _) ↦ true | _ ↦ false ]
 
--- nothing went out, or a first part of the answer of at most `most` bytes
-abbrev pub BeginsAnswer : (Answer → Type 0) → ℕ → Option (List ℕ) → Option (List ℕ) → Type 0
-BeginsAnswer Says most old new =
-    AtMost old new most × (Keeps old new ⊎ ((said : Said) × (bytes : List ℕ) × Says (gives said bytes) × SendsSome old new bytes))
+module _ (Says : Answer → Type 0) (most : ℕ) (old new : Option (List ℕ)) where
+  -- nothing went out, or a first part of the answer of at most `most` bytes
+  abbrev pub BeginsAnswer : Type 0
+  BeginsAnswer =
+      AtMost old new most × (Keeps old new ⊎ ((said : Said) × (bytes : List ℕ) × Says (gives said bytes) × SendsSome old new bytes))
 
--- what a run leaves with the writer: all bytes of its answer, a first part after `Write`, at most one after `Read` and
--- `Memory`, and nothing where another fault is the answer
-abbrev pub LeavesBy : (Answer → Type 0) → ℕ → Option (List ℕ) → Option (List ℕ) → Result Said RunFault → Type 0
-LeavesBy Says most old new (Ok said) = (bytes : List ℕ) × Says (gives said bytes) × Appends old new bytes
-LeavesBy Says most old new (Err (faults.Write sent)) =
-    (said : Said) × (bytes : List ℕ) × Says (gives said bytes) × SendsPart old new 0 bytes sent
-LeavesBy Says most old new (Err (faults.Read _)) = BeginsAnswer Says most old new
-LeavesBy Says most old new (Err faults.Memory) = BeginsAnswer Says most old new
-LeavesBy Says most old new (Err fault) = Says (refuses fault) × Keeps old new
+  -- what a run leaves with the writer: all of its answer, a first part after `Write`, at most one after `Read` and `Memory`,
+  -- nothing after another fault
+  abbrev pub LeavesBy : Result Said RunFault → Type 0
+  LeavesBy (Ok said) = (bytes : List ℕ) × Says (gives said bytes) × Appends old new bytes
+  LeavesBy (Err (faults.Write sent)) = (said : Said) × (bytes : List ℕ) × Says (gives said bytes) × SendsPart old new 0 bytes sent
+  LeavesBy (Err (faults.Read _)) = BeginsAnswer
+  LeavesBy (Err faults.Memory) = BeginsAnswer
+  LeavesBy (Err fault) = Says (refuses fault) × Keeps old new
 
--- the same as a bare fact
-abbrev pub Leaves : (Answer → Type 0) → ℕ → Option (List ℕ) → Option (List ℕ) → Result Said RunFault → Type 0
-Leaves Says most old new result = ∥ LeavesBy Says most old new result ∥₁
+  -- the same as a bare fact
+  abbrev pub Leaves : Result Said RunFault → Type 0
+  Leaves result = ∥ LeavesBy result ∥₁

@@ -11,11 +11,10 @@ use Rattle.bplint_lines.specs.declared.fault.RunFault.TheVariants.{Fault as is_f
 
 -- `fault WORD object N place P`, with `none` for N where there is no object
 abbrev pub fault_line : Rule → Option ObjectNo → ℕ → List ℕ
-fault_line rule None p = codes "fault " ++ word_of rule ++ codes " object none place " ++ decimal p
-fault_line rule (Some n) p = codes "fault " ++ word_of rule ++ codes " object " ++ decimal n.0 ++ codes " place " ++ decimal p
+fault_line rule object p = codes "fault " ++ word_of rule ++ codes " object "
+    ++ elim object [ Some n ↦ decimal n.0 | None ↦ codes "none" ] ++ codes " place " ++ decimal p
 
--- what is reported of a fault: its line; and the exit status, 1 what the file or its text is, 2 a wrong path text, 4 refused
--- memory, 3 all else
+-- the line of a fault, and its exit status: 1 of the file or its text, 2 of a path text, 4 of refused memory, 3 of all else
 abbrev pub report_of : RunFault → List ℕ × ℕ
 report_of (is_fault fault) = (fault_line fault.rule fault.object fault.place, elim fault.rule [ PathText ↦ 2 | _ ↦ 1 ])
 report_of (is_circle objects) = (codes "circle" ++ flat_map (λ (n : ObjectNo). codes " " ++ decimal n.0) objects, 1)

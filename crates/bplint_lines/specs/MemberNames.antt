@@ -19,8 +19,8 @@ bracketed i = codes "[" ++ decimal i ++ codes "]"
 abbrev pub index_name : List ℕ → ℕ → List ℕ
 index_name path i = path ++ codes "/" ++ decimal i
 
--- the name of value i: its index if the key is not UTF-16 or not all of it is shown, else its container's path text, `/` and
--- the escaped key
+-- the name of value i: its index if the key is no UTF-16 or not all shown, else its container's path text, `/` and the escaped
+-- key
 abbrev pub key_name : List ℕ → ℕ → List ℕ → List ℕ
 key_name path i key = if list_any is_unshown key || has_unpaired_surrogate key then bracketed i
     else path ++ codes "/" ++ flat_map escaped (encode_utf8_all (utf16_lossy_chars key))

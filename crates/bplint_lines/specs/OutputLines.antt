@@ -13,9 +13,8 @@ use Rattle.bplist_cursor.specs.Texts.{text_of_units, text_of_bytes}
 
 -- the words of the kinds, in the order in which they are declared
 abbrev pub kind_word : Kind → List ℕ
-kind_word kind =
-    let words = "null" ∷ "false" ∷ "true" ∷ "int" ∷ "real" ∷ "date" ∷ "data" ∷ "text" ∷ "text" ∷ "uid"
-    ∷ "array" ∷ "set" ∷ "dict" ∷ [] in codes (get_or words (tag_of kinds kind) "")
+kind_word kind = codes (get_or ("null" ∷ "false" ∷ "true" ∷ "int" ∷ "real" ∷ "date" ∷ "data" ∷ "text" ∷ "text"
+    ∷ "uid" ∷ "array" ∷ "set" ∷ "dict" ∷ []) (tag_of kinds kind) "")
 
 -- the line of `lint`
 abbrev pub lint_line : ℕ → ℕ → Kind → List ℕ

@@ -1,5 +1,5 @@
 -- What is found of an object is one.
-use Rattle.std.proofs.Common.{◌≡◌, ◌⊎◌, ℕ, ◌<◌, ◌≤◌, ◌-◌, List, inl, inr, Bool, true, false, cond, nat_le, refl, sym, ap, ◌∙◌, arith}
+use Rattle.std.proofs.Common.{◌≡◌, ◌⊎◌, ℕ, ◌<◌, ◌≤◌, ◌-◌, List, ◌∷◌, None, inl, inr, Bool, true, false, cond, nat_le, refl, sym, ap, ◌∙◌, subst, arith}
 use Rattle.bplist_objects.specs.declared.fault.Fault.{Fault}
 use Rattle.bplist_objects.specs.declared.frame.Frame.{Frame}
 use Rattle.bplist_objects.specs.declared.head.Head.{Head}
@@ -19,26 +19,23 @@ use Rattle.bplist_objects.specs.Announced.{HasHead}
 use Rattle.bplist_objects.specs.Frame.{IsFrame, off}
 use Rattle.bplist_objects.proofs.KeptOrBroken.{object_kept_or_fault}
 use Rattle.bplist_objects.proofs.HeadTies.{announced_shape, kept_announces}
-use Rattle.bplint_map.specs.Rows.{AreFindings, IsFinding, left_behind, row, shown}
+use Rattle.bplint_map.specs.Rows.{AreFindings, IsFinding, rows}
 use Rattle.bplint_map.specs.Layout.{row_end}
 
 module _ (f : List ℕ) (F : Frame) (n : ℕ) where
   pub one_finding : (a b : Finding) → IsFinding f F n a → IsFinding f F n b → a ≡ b
   one_finding (Whole x) (Whole y) h k = ap Whole (one_shape f F n x y h.0 k.0)
-  one_finding (Whole x) (Wrong y rule) h k = absurd (no_object_fault f F n object_rules k.1.0 h.1 k.1.1)
-  one_finding (Whole x) (Lost rule) h k = absurd (no_shape f F n k.0 x k.1 h.0)
-  one_finding (Wrong x rule) (Whole y) h k = absurd (no_object_fault f F n object_rules h.1.0 k.1 h.1.1)
-  one_finding (Wrong x r) (Wrong y s) h k =
-      let same = one_object_fault f F n object_rules h.1.0 k.1.0 h.1.1 k.1.1 in
-      let rule : r ≡ s = sym h.1.2 ∙ ap (λ fault. fault.rule) same ∙ k.1.2 in
+  one_finding (Whole x) (Wrong y fault) h k = absurd (no_object_fault f F n object_rules fault h.1 k.1)
+  one_finding (Whole x) (Lost fault) h k = absurd (no_shape f F n fault x k h.0)
+  one_finding (Wrong x fault) (Whole y) h k = absurd (no_object_fault f F n object_rules fault k.1 h.1)
+  one_finding (Wrong x a) (Wrong y b) h k =
+      let fault = one_object_fault f F n object_rules a b h.1 k.1 in
       let head = one_shape f F n x y h.0 k.0 in
-      cc
-  one_finding (Wrong x rule) (Lost s) h k = absurd (no_shape f F n k.0 x k.1 h.0)
-  one_finding (Lost rule) (Whole y) h k = absurd (no_shape f F n h.0 y h.1 k.0)
-  one_finding (Lost rule) (Wrong y s) h k = absurd (no_shape f F n h.0 y h.1 k.0)
-  one_finding (Lost r) (Lost s) h k =
-      let same = one_object_fault f F n shape_rules h.0 k.0 h.1 k.1 in
-      ap Lost (sym h.2 ∙ ap (λ fault. fault.rule) same ∙ k.2)
+      λ i. Wrong (head i) (fault i)
+  one_finding (Wrong x fault) (Lost other) h k = absurd (no_shape f F n other x k h.0)
+  one_finding (Lost fault) (Whole y) h k = absurd (no_shape f F n fault y h k.0)
+  one_finding (Lost fault) (Wrong y other) h k = absurd (no_shape f F n fault y h k.0)
+  one_finding (Lost a) (Lost b) h k = ap Lost (one_object_fault f F n shape_rules a b h k)
 
   -- the row of the object at a place
   abbrev found_at : ℕ → Finding → Row
@@ -47,59 +44,85 @@ module _ (f : List ℕ) (F : Frame) (n : ℕ) where
   -- the finding of an object that has a head has that head
   same_end : (head : Head) (found : Finding) → HasShape f F n head → IsFinding f F n found → (place : ℕ) → row_end (found_at place found) ≡ head.end
   same_end head (Whole x) has is place = ap (λ (h : Head). h.end) (one_shape f F n x head is.0 has)
-  same_end head (Wrong x rule) has is place = ap (λ (h : Head). h.end) (one_shape f F n x head is.0 has)
-  same_end head (Lost rule) has is place = absurd (no_shape f F n is.0 head is.1 has)
+  same_end head (Wrong x fault) has is place = ap (λ (h : Head). h.end) (one_shape f F n x head is.0 has)
+  same_end head (Lost fault) has is place = absurd (no_shape f F n fault head is has)
 
-  shown_all : (left place : ℕ) (found : Finding) → row_end (found_at place found) - place ≤ left → shown left place found ≡ found
-  shown_all left place (Whole x) fits = refl
-  shown_all left place (Wrong x rule) fits = let t : nat_le (x.end - place) left ≡ true = grind (arith, nat_tests) in rw t
-  shown_all left place (Lost rule) fits = refl
+  -- what is shown of an object whose body is not looked at
+  abbrev without : Finding → Finding
+  without found = elim found [ Wrong head _ ↦ Whole head | other ↦ other ]
 
-  -- an object whose body is looked at
-  pub looked : (left place : ℕ) (head : Head) (found got : Finding) → HasShape f F n head → IsFinding f F n found → IsFinding f F n got
-      → head.end - place ≤ left → (got ≡ shown left place found) × (left - (head.end - place) ≡ left_behind left (found_at place got))
-  looked left place head found got has is given fits =
-      let e = same_end head found has is place in
-      let d = same_end head got has given place in
-      let t : nat_le (row_end (found_at place got) - place) left ≡ true = grind (arith, nat_tests) in
-      (one_finding got found given is ∙ sym (shown_all left place found (omega (arith, e, fits))), rw (t, d) refl)
+  without_is : (head : Head) (found : Finding) → HasShape f F n head → IsFinding f F n found → without found ≡ Whole head
+  without_is head (Whole x) has is = ap Whole (one_shape f F n x head is.0 has)
+  without_is head (Wrong x fault) has is = ap Whole (one_shape f F n x head is.0 has)
+  without_is head (Lost fault) has is = absurd (no_shape f F n fault head is has)
 
-  shown_none : (left place : ℕ) (head : Head) (found : Finding) → HasShape f F n head → IsFinding f F n found → left < head.end - place → Whole head ≡ shown left place found
-  shown_none left place head (Whole x) has is over = ap Whole (one_shape f F n head x has is.0)
-  shown_none left place head (Wrong x rule) has is over =
-      let same = one_shape f F n head x has is.0 in
-      let t : nat_le (x.end - place) left ≡ false = grind (arith, nat_tests, ap (λ (h : Head). h.end) same) in
-      rw t (ap Whole same)
-  shown_none left place head (Lost rule) has is over = absurd (no_shape f F n is.0 head is.1 has)
+  module _ (findings : ℕ → Finding) (left place : ℕ) (at : place ≡ off f F n) (is : IsFinding f F n (findings n)) (behind : List ℕ) where
+    -- the row of an object that takes so many bytes
+    first_row : (taken : ℕ) → row_end (found_at place (findings n)) - place ≡ taken
+        → rows f F findings left (n ∷ behind) ≡ cond (nat_le taken left) (found_at place (findings n) ∷ rows f F findings (left - taken) behind)
+        (found_at place (without (findings n)) ∷ rows f F findings left behind)
+    first_row taken e =
+        subst (λ t. rows f F findings left (n ∷ behind) ≡ cond (nat_le t left) (found_at place (findings n) ∷ rows f F findings (left - t) behind)
+        (found_at place (without (findings n)) ∷ rows f F findings left behind)) e
+        (subst (λ p. rows f F findings left (n ∷ behind) ≡ cond (nat_le (row_end (found_at p (findings n)) - p) left)
+        (found_at p (findings n) ∷ rows f F findings (left - (row_end (found_at p (findings n)) - p)) behind)
+        (found_at p (without (findings n)) ∷ rows f F findings left behind)) (sym at) refl)
 
-  -- an object whose body is not looked at
-  pub passed : (left place : ℕ) (head : Head) (found : Finding) → HasShape f F n head → IsFinding f F n found
-      → left < head.end - place → (Whole head ≡ shown left place found) × (left ≡ left_behind left (found_at place (Whole head)))
-  passed left place head found has is over =
-      let t : nat_le (head.end - place) left ≡ false = grind (arith, nat_tests) in
-      (shown_none left place head found has is over, rw t refl)
+    -- an object whose body is looked at
+    pub looked : (head : Head) (got : Finding) → HasShape f F n head → IsFinding f F n got → head.end - place ≤ left
+        → rows f F findings left (n ∷ behind) ≡ found_at place got ∷ rows f F findings (left - (head.end - place)) behind
+    looked head got has given fits =
+        let t : nat_le (head.end - place) left ≡ true = grind (arith, nat_tests) in
+        first_row (head.end - place) (ap (λ e. e - place) (same_end head (findings n) has is place))
+        ∙ ap (λ b. cond b (found_at place (findings n) ∷ rows f F findings (left - (head.end - place)) behind) (found_at place (without (findings n)) ∷ rows f F findings left behind)) t
+        ∙ ap (λ x. found_at place x ∷ rows f F findings (left - (head.end - place)) behind) (one_finding (findings n) got is given)
 
-  -- an object without a head
-  pub lost : (left place : ℕ) (fault : Fault) (found : Finding) → IsObjectFault f F n shape_rules fault → IsFinding f F n found
-      → (Lost fault.rule ≡ shown left place found) × (left ≡ left_behind left (found_at place (Lost fault.rule)))
-  lost left place fault found broken is = rw (sym (one_finding (Lost fault.rule) found (fault, broken, refl) is)) (refl, go (nat_le (place - place) left))
+    -- an object whose body is not looked at
+    pub passed : (head : Head) → HasShape f F n head → left < head.end - place
+        → rows f F findings left (n ∷ behind) ≡ found_at place (Whole head) ∷ rows f F findings left behind
+    passed head has over =
+        let t : nat_le (head.end - place) left ≡ false = grind (arith, nat_tests) in
+        first_row (head.end - place) (ap (λ e. e - place) (same_end head (findings n) has is place))
+        ∙ ap (λ b. cond b (found_at place (findings n) ∷ rows f F findings (left - (head.end - place)) behind) (found_at place (without (findings n)) ∷ rows f F findings left behind)) t
+        ∙ ap (λ x. found_at place x ∷ rows f F findings left behind) (without_is head (findings n) has is)
+
+    -- an object without a head
+    pub lost : (fault : Fault) → IsObjectFault f F n shape_rules fault
+        → rows f F findings left (n ∷ behind) ≡ found_at place (Lost fault) ∷ rows f F findings left behind
+    lost fault broken =
+        let same = one_finding (findings n) (Lost fault) is broken in
+        let none : row_end (found_at place (findings n)) - place ≡ 0 = ap (λ x. row_end (found_at place x) - place) same ∙ omega arith in
+        let t : nat_le 0 left ≡ true = grind (arith, nat_tests) in
+        let kept : left - 0 ≡ left = omega arith in
+        first_row 0 none
+        ∙ ap (λ b. cond b (found_at place (findings n) ∷ rows f F findings (left - 0) behind) (found_at place (without (findings n)) ∷ rows f F findings left behind)) t
+        ∙ (λ i. found_at place (same i) ∷ rows f F findings (kept i) behind)
+
+  -- the row of an object with its place, and how many bytes are left behind it
+  pub a_row : (findings : ℕ → Finding) (left : ℕ) (behind : List ℕ) → (found : Finding) × (left' : ℕ)
+      × (rows f F findings left (n ∷ behind) ≡ found_at (off f F n) found ∷ rows f F findings left' behind)
+      × (IsFinding f F n (findings n) → off f F n < row_end (found_at (off f F n) found) → 8 ≤ off f F n)
+  a_row findings left behind =
+      let taken = row_end (found_at (off f F n) (findings n)) - off f F n in
+      go taken (findings n) (nat_le taken left)
     where
-      go : (t : Bool) → left ≡ cond t (left - (place - place)) left
-      go true = omega arith
-      go false = refl
+      go : (taken : ℕ) (own : Finding) (t : Bool) → (found : Finding) × (left' : ℕ)
+          × (cond t (found_at (off f F n) own ∷ rows f F findings (left - taken) behind) (found_at (off f F n) (without own) ∷ rows f F findings left behind)
+          ≡ found_at (off f F n) found ∷ rows f F findings left' behind)
+          × (IsFinding f F n own → off f F n < row_end (found_at (off f F n) found) → 8 ≤ off f F n)
+      go taken (Whole head) true = (Whole head, left - taken, refl, λ is short. is.0.low)
+      go taken (Whole head) false = (Whole head, left, refl, λ is short. is.0.low)
+      go taken (Wrong head fault) true = (Wrong head fault, left - taken, refl, λ is short. is.0.low)
+      go taken (Wrong head fault) false = (Whole head, left, refl, λ is short. is.0.low)
+      go taken (Lost fault) true = (Lost fault, left - taken, refl, λ is short. absurd (omega (arith, short)))
+      go taken (Lost fault) false = (Lost fault, left, refl, λ is short. absurd (omega (arith, short)))
 
 module _ (f : List ℕ) (F : Frame) where
-  pub row_is : (findings : ℕ → Finding) (left n place : ℕ) (found : Finding) → place ≡ off f F n → found ≡ shown left place (findings n)
-      → record { number = n; place = place; finding = found } ≡ row f F findings left n
-  row_is findings left n place found at is =
-      let e : found ≡ shown left (off f F n) (findings n) = is ∙ ap (λ p. shown left p (findings n)) at in
-      cc
-
   module _ (frame : IsFrame f F) where
     -- each object has a finding
     finding_of : (n : ℕ) → n < F.objects → (found : Finding) × IsFinding f F n found
     finding_of n low = elim (object_kept_or_fault f F n shape_rules) [
-      | inr broken ↦ (Lost broken.0.rule, (broken.0, broken.1, refl))
+      | inr broken ↦ (Lost broken.0, broken.1)
       | inl kept ↦ with_head (kept_announces f F n frame low kept) kept
     ]
       where
@@ -108,12 +131,12 @@ module _ (f : List ℕ) (F : Frame) where
             let has = announced_shape f F n frame low head.0 head.1 kept in
             elim (object_kept_or_fault f F n object_rules) [
               | inl all ↦ (Whole head.0, (has, all))
-              | inr broken ↦ (Wrong head.0 broken.0.rule, (has, (broken.0, broken.1, refl)))
+              | inr broken ↦ (Wrong head.0 broken.0, (has, broken.1))
             ]
 
     pick : (n : ℕ) → (n < F.objects) ⊎ (F.objects ≤ n) → Finding
     pick n (inl low) = (finding_of n low).0
-    pick n (inr high) = Lost OffsetLow
+    pick n (inr high) = Lost (record { rule = OffsetLow; object = None; place = 0 })
 
     picked : (n : ℕ) (h : (n < F.objects) ⊎ (F.objects ≤ n)) → n < F.objects → IsFinding f F n (pick n h)
     unfolding pick

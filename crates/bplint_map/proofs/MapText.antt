@@ -1,5 +1,5 @@
 -- The text of a map, and its way to the writer.
-use Rattle.std.proofs.Common.{◌≡◌, inl, inr, ℕ, ◌+◌, ◌*◌, ◌<◌, ◌≤◌, List, [], ◌∷◌, ◌++◌, max, min, length, map, drop, cond, nat_lt, Bool, true, false, refl, sym, ap, ◌∙◌, subst, add-one, append_assoc, append-nil, Option, None, Some, Result, Ok, Err, get_or, arith, codes}
+use Rattle.std.proofs.Common.{◌≡◌, inl, inr, ℕ, ◌+◌, ◌*◌, ◌<◌, ◌≤◌, List, [], ◌∷◌, ◌++◌, max, min, length, map, drop, refl, sym, ap, ◌∙◌, subst, add-one, append_assoc, append-nil, Option, None, Some, Result, Ok, Err, get_or, arith, codes}
 use Rattle.std.proofs.lemmas.Grind.{flat_map-append}
 use Rattle.std.proofs.lemmas.List.{drop_all, get_or-map, length-map}
 use Rattle.std.proofs.Math.Seq.{drop-cons}
@@ -25,7 +25,7 @@ use Rattle.bplint_map.proofs.Findings.{findings_of}
 use Rattle.bplint_map.specs.Layout.{object, region, parts, row_end}
 use Rattle.bplint_map.specs.Lines.{region_line, row_lines, part_line, part_lines}
 use Rattle.bplint_map.specs.Map.{IsVerdict, MapSays, PutsSome, map_text}
-use Rattle.bplint_map.specs.Rows.{AreFindings, IsByPlace, left_behind, placed, row, rows}
+use Rattle.bplint_map.specs.Rows.{AreFindings, IsByPlace, placed, rows}
 
 -- ---- the text
 -- a line behind two texts that were added
@@ -34,6 +34,11 @@ pub behind_two : {E : Type 0} (result : Result (Unit {0}) E) (old one two new a 
 behind_two (Err e) old one two new a b line text first second third is = tt
 behind_two (Ok x) old one two new a b line text first second third is =
     rw (is, third, second, first) (ap (λ l. l ++ line) (append_assoc old a b) ∙ append_assoc old (a ++ b) line)
+
+-- the row of an object stands before the rows of those behind it, with so many bytes left before and after it
+abbrev pub IsRowOf : List ℕ → Frame → ObjectOffset → ℕ → ℕ → Row → Type 0
+IsRowOf f F o left left' found = o ≡ placed f F o.number → (findings : ℕ → Finding) → AreFindings f F findings
+    → (behind : List ℕ) → rows f F findings left (o.number ∷ behind) ≡ found ∷ rows f F findings left' behind
 
 module _ (verdict : Verdict) (table : ℕ) where
   lines_of_row : (reached : ℕ) (first : Row) (others : List Row) → part_lines verdict (parts table reached (first ∷ others))
@@ -48,21 +53,17 @@ module _ (verdict : Verdict) (table : ℕ) where
   module _ (f : List ℕ) (F : Frame) (findings : ℕ → Finding) where
     -- one more row of a list of objects
     pub more_lines : (reached left left' i : ℕ) (order : List ℕ) (objects : List ObjectOffset) (found : Row) (o d : ObjectOffset) → objects ≡ map (placed f F) order
-        → i < length objects → o ≡ get_or objects i d → found ≡ row f F findings left o.number → left' ≡ left_behind left found
+        → i < length objects → o ≡ get_or objects i d → ((behind : List ℕ) → rows f F findings left (o.number ∷ behind) ≡ found ∷ rows f F findings left' behind)
         → part_lines verdict (parts table reached (rows f F findings left (drop i order)))
         ≡ row_lines verdict reached found ++ part_lines verdict (parts table (max reached (row_end found)) (rows f F findings left' (drop (i + 1) order)))
-    more_lines reached left left' i order objects found o d all low at is behind =
+    more_lines reached left left' i order objects found o d all low at is =
         let long : length objects ≡ length order = ap length all ∙ length-map order (placed f F) in
         let n = get_or order i 0 in
         let here : o ≡ placed f F n = at ∙ ap (λ l. get_or l i d) all ∙ get_or-map (placed f F) order i 0 d (omega (arith, low, long)) in
-        let r : found ≡ row f F findings left n = is ∙ ap (λ (p : ObjectOffset). row f F findings left p.number) here in
-        let b : left' ≡ left_behind left (row f F findings left n) = behind ∙ ap (left_behind left) r in
         let e : drop i order ≡ n ∷ drop (i + 1) order = drop-cons order i 0 (omega (arith, low, long)) ∙ ap (λ k. n ∷ drop k order) (sym (add-one i)) in
-        let own = sym r in
-        let rest = sym b in
-        ap (λ k. part_lines verdict (parts table reached (rows f F findings left k))) e
-        ∙ lines_of_row reached (row f F findings left n) (rows f F findings (left_behind left (row f F findings left n)) (drop (i + 1) order))
-        ∙ (λ j. row_lines verdict reached (own j) ++ part_lines verdict (parts table (max reached (row_end (own j))) (rows f F findings (rest j) (drop (i + 1) order))))
+        let number : n ≡ o.number = sym (ap (λ (p : ObjectOffset). p.number) here) in
+        let front = ap (λ k. rows f F findings left k) e ∙ ap (λ m. rows f F findings left (m ∷ drop (i + 1) order)) number ∙ is (drop (i + 1) order) in
+        ap (λ k. part_lines verdict (parts table reached k)) front ∙ lines_of_row reached found (rows f F findings left' (drop (i + 1) order))
 
     pub no_more_lines : (reached left i : ℕ) (order : List ℕ) (objects : List ObjectOffset) → objects ≡ map (placed f F) order → length objects ≤ i
         → part_lines verdict (parts table reached (rows f F findings left (drop i order))) ≡ region_line reached table (codes "gap")
@@ -74,16 +75,14 @@ module _ (verdict : Verdict) (table : ℕ) where
     pub stepped : (are : AreFindings f F findings) (text done : List ℕ) (reached left left' i : ℕ) (order : List ℕ) (objects : List ObjectOffset) (found : Row) (d : ObjectOffset)
         → objects ≡ map (placed f F) order → i < length objects
         → text ≡ done ++ part_lines verdict (parts table reached (rows f F findings left (drop i order)))
-        → (get_or objects i d ≡ placed f F (get_or objects i d).number → (findings : ℕ → Finding) → AreFindings f F findings
-        → (found ≡ row f F findings left (get_or objects i d).number) × (left' ≡ left_behind left found))
+        → IsRowOf f F (get_or objects i d) left left' found
         → text ≡ done ++ (row_lines verdict reached found ++ part_lines verdict (parts table (max reached (row_end found)) (rows f F findings left' (drop (i + 1) order))))
     stepped are text done reached left left' i order objects found d all low so_far reads =
         let long : length objects ≡ length order = ap length all ∙ length-map order (placed f F) in
         let n = get_or order i 0 in
         let here : get_or objects i d ≡ placed f F n = ap (λ l. get_or l i d) all ∙ get_or-map (placed f F) order i 0 d (omega (arith, low, long)) in
         let own : get_or objects i d ≡ placed f F (get_or objects i d).number = here ∙ ap (λ (p : ObjectOffset). placed f F p.number) (sym here) in
-        let r = reads own findings are in
-        so_far ∙ ap (λ l. done ++ l) (more_lines reached left left' i order objects found (get_or objects i d) d all low refl r.0 r.1)
+        so_far ∙ ap (λ l. done ++ l) (more_lines reached left left' i order objects found (get_or objects i d) d all low refl (reads own findings are))
 
 -- the lines before those of the objects
 abbrev pub front_text : List ℕ

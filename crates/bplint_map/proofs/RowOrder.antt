@@ -1,5 +1,5 @@
 -- The rows of a map stand in order.
-use Rattle.std.proofs.Common.{◌≡◌, ℕ, zero, suc, ◌<◌, ◌≤◌, List, [], ◌∷◌, All, false, length, refl, ap, slice_index_or, arith, Ordering, Less, Equal, Greater}
+use Rattle.std.proofs.Common.{◌≡◌, ℕ, zero, suc, ◌<◌, ◌≤◌, List, [], ◌∷◌, All, false, length, refl, sym, ap, ◌∙◌, subst, slice_index_or, arith, Ordering, Less, Equal, Greater}
 use Rattle.std.specs.List.{AllPairs, range_with_len}
 use Rattle.std.specs.List.Sorted.{IsNonDecreasingBy}
 use Rattle.std.specs.Ordering.{is_lt, ordering_then}
@@ -9,10 +9,10 @@ use Rattle.std.proofs.lemmas.List.Sorted.{All-permutation, IsNonDecreasingBy-fro
 use Rattle.bplist_objects.specs.declared.frame.Frame.{Frame}
 use Rattle.bplist_objects.specs.Frame.{off}
 use Rattle.bplint_map.specs.declared.rows.Finding.{Finding}
-use Rattle.bplint_map.specs.declared.rows.Finding.TheVariants.{Whole, Wrong, Lost}
 use Rattle.bplint_map.specs.declared.rows.Row.{Row}
 use Rattle.bplint_map.specs.Layout.{AreInOrder, row_end}
-use Rattle.bplint_map.specs.Rows.{AreFindings, IsByPlace, IsFinding, row, rows, shown}
+use Rattle.bplint_map.specs.Rows.{AreFindings, IsByPlace, rows}
+use Rattle.bplint_map.proofs.Findings.{a_row}
 
 -- what is not less by a first order and then a second is not less by the first
 first_not_less : (a b : Ordering) → is_lt (ordering_then a b) ≡ false → is_lt a ≡ false
@@ -31,27 +31,26 @@ module _ (f : List ℕ) (F : Frame) (findings : ℕ → Finding) where
 
   rows_long : (order : List ℕ) (left : ℕ) → length (rows f F findings left order) ≡ length order
   rows_long [] left = refl
-  rows_long (n ∷ ns) left = ap suc (rows_long ns _)
+  rows_long (n ∷ ns) left = let first = a_row f F n findings left ns in ap length first.2 ∙ ap suc (rows_long ns first.1)
 
   row_place : (order : List ℕ) (left k : ℕ) (d : Row) → k < length order
       → (slice_index_or (rows f F findings left order) k d).place ≡ off f F (slice_index_or order k 0)
   row_place [] left k d l = absurd (omega (arith, l))
-  row_place (n ∷ ns) left zero d l = refl
-  row_place (n ∷ ns) left (suc k) d l = row_place ns _ k d (omega (arith, l))
+  row_place (n ∷ ns) left zero d l = ap (λ (all : List Row). (slice_index_or all 0 d).place) (a_row f F n findings left ns).2
+  row_place (n ∷ ns) left (suc k) d l =
+      let first = a_row f F n findings left ns in
+      ap (λ (all : List Row). (slice_index_or all (suc k) d).place) first.2 ∙ row_place ns first.1 k d (omega (arith, l))
 
-  finding_low : (n left : ℕ) (x : Finding) → IsFinding f F n x
-      → off f F n < row_end (record { number = n; place = off f F n; finding = shown left (off f F n) x }) → 8 ≤ off f F n
-  finding_low n left (Whole head) is short = is.0.low
-  finding_low n left (Wrong head rule) is short = is.0.low
-  finding_low n left (Lost rule) is short = absurd (omega (arith, short))
+  -- an object that takes bytes does so from place 8 on
+  abbrev IsLow : Row → Type 0
+  IsLow r = r.place < row_end r → 8 ≤ r.place
 
-  rows_low : (order : List ℕ) (left : ℕ) → AreFindings f F findings → All (λ n. n < F.objects) order
-      → All (λ (r : Row). r.place < row_end r → 8 ≤ r.place) (rows f F findings left order)
-  rows_low [] left are all = All-nil (λ (r : Row). r.place < row_end r → 8 ≤ r.place)
+  rows_low : (order : List ℕ) (left : ℕ) → AreFindings f F findings → All (λ n. n < F.objects) order → All IsLow (rows f F findings left order)
+  rows_low [] left are all = All-nil IsLow
   rows_low (n ∷ ns) left are all =
-      All-cons (λ (r : Row). r.place < row_end r → 8 ≤ r.place) (row f F findings left n) (rows f F findings _ ns)
-      (finding_low n left (findings n) (are n (all 0 0 (omega arith))))
-      (rows_low ns _ are (λ k d l. all (suc k) d (omega (arith, l))))
+      let first = a_row f F n findings left ns in
+      subst (λ l. All IsLow l) (sym first.2) (All-cons IsLow _ (rows f F findings first.1 ns) (first.3 (are n (all 0 0 (omega arith))))
+      (rows_low ns first.1 are (λ k d l. all (suc k) d (omega (arith, l)))))
 
   pub rows_in_order : (left : ℕ) (order : List ℕ) → AreFindings f F findings → IsByPlace f F order → AreInOrder (rows f F findings left order)
   rows_in_order left order are by =

@@ -11,10 +11,10 @@ pub data Part : Type 0 where
 
 -- where the object of a row ends; one without a head takes no bytes
 abbrev pub row_end : Row → ℕ
-row_end row = elim row.finding [ Whole head ↦ head.end | Wrong head rule ↦ head.end | Lost rule ↦ row.place ]
+row_end row = elim row.finding [ Whole head ↦ head.end | Wrong head fault ↦ head.end | Lost fault ↦ row.place ]
 
--- the parts up to the offset table, where the objects so far reach up to `reached`: a gap, what the next object has in common with
--- those before it, that object, and so on; a gap at the end
+-- the parts up to the offset table, where the objects so far reach up to `reached`: for each object a gap, what it has in common
+-- with those before it, and itself; a gap at the end
 abbrev pub parts : ℕ → ℕ → List Row → List Part
 parts table reached [] = region (codes "gap") reached table ∷ []
 parts table reached (row ∷ rows) = region (codes "gap") reached row.place
@@ -28,6 +28,6 @@ objects_at x rows = count_by (λ row. nat_le row.place x && nat_lt x (row_end ro
 abbrev pub IsRegion : List ℕ → ℕ → Part → Type 0
 IsRegion word x part = elim part [ region own from to ↦ (own ≡ word) × (from ≤ x) × (x < to) | object row ↦ ⊥ ]
 
--- objects take bytes from place 8 on alone, and each row stands at the places of all later ones or before them
+-- objects take bytes from place 8 on alone, and no row stands behind the place of a later one
 abbrev pub AreInOrder : List Row → Type 0
 AreInOrder rows = All (λ (r : Row). r.place < row_end r → 8 ≤ r.place) rows × AllPairs (λ (r s : Row). r.place ≤ s.place) rows

@@ -32,8 +32,8 @@ part_line verdict (region word from to) =
     if nat_lt from to then line_of (decimal from ∷ decimal to ∷ codes "-" ∷ word ∷ codes "-" ∷ codes "-" ∷ []) else []
 part_line verdict (object row) = elim row.finding [
   | Whole head ↦ head_line row head (note verdict row.number)
-  | Wrong head rule ↦ head_line row head (word_of rule)
-  | Lost rule ↦ line_of (decimal row.place ∷ codes "-" ∷ decimal row.number ∷ codes "-" ∷ codes "-" ∷ word_of rule ∷ [])
+  | Wrong head fault ↦ head_line row head (word_of fault.rule)
+  | Lost fault ↦ line_of (decimal row.place ∷ codes "-" ∷ decimal row.number ∷ codes "-" ∷ codes "-" ∷ word_of fault.rule ∷ [])
 ]
 
 -- ---- parts of a map

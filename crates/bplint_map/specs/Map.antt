@@ -34,8 +34,8 @@ map_text f F verdict findings order =
     let back = region (codes "table") F.table end ∷ region (codes "trailer") end (length f) ∷ [] in
     codes "place\tend\tobject\tkind\tcount\theight\n" ++ flat_map (part_line verdict) (front ++ back)
 
--- the answer of `map`, of a file that keeps rules 1 to 13: what `lint` says of it and what is found of each object, in byte
--- order; of any other file the first of these rules that it breaks
+-- `map` answers, of a file that keeps rules 1 to 13, what `lint` says and what is found of each object, in byte order; else the
+-- first of these rules that is broken
 abbrev pub MapSays : List ℕ → Answer → Type 0
 MapSays f (gives said bytes) =
     (F : Frame) × (verdict : Verdict) × (findings : ℕ → Finding) × (order : List ℕ) × IsFrame f F × IsVerdict f verdict

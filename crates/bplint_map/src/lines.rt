@@ -62,13 +62,13 @@ fn add_object(line: &mut String, row: &Row, verdict: &Verdict) -> Result<(), All
             add_note(line, verdict, number)?;
             line.push('\n')
         }
-        Finding::Wrong(head, rule) => {
+        Finding::Wrong(head, fault) => {
             add_head(line, row, head)?;
-            line.push_str(rule_name(*rule))?;
+            line.push_str(rule_name(fault.rule))?;
             line.push('\n')
         }
-        Finding::Lost(rule) => {
-            let word = rule_name(*rule);
+        Finding::Lost(fault) => {
+            let word = rule_name(fault.rule);
             write!(line, "{place}\t-\t{number}\t-\t-\t{word}\n")
         }
     }

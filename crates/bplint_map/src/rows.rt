@@ -1,5 +1,5 @@
 //! What is found of each object by itself.
-ghost use Rattle.std.specs.Prelude.{◌≡◌, ℕ, ◌<◌, IfOk, is_err};
+ghost use Rattle.std.specs.Prelude.{◌≡◌, ℕ, List, ◌∷◌, ◌<◌, IfOk, is_err};
 ghost use Rattle.bplist_octets.specs.Meaning.{OnlyReads};
 ghost use Rattle.bplist_objects.specs.Frame.{off};
 ghost use Rattle.bplist_objects.specs.Framed.{HonestlyIn, frame_in};
@@ -7,10 +7,10 @@ ghost use Rattle.bplist_objects.specs.Heads.{HasShape};
 ghost use Rattle.bplist_objects.specs.ObjectRules.{KeepsByObject, shape_rules};
 ghost use Rattle.bplist_objects.specs.Rules.{KeepsAll};
 ghost use Rattle.bplist_objects.specs.Safe.{IsSafeHead};
-ghost use Rattle.bplint_map.specs.Rows.{AreFindings, IsFinding, left_behind, placed, row};
+ghost use Rattle.bplint_map.specs.Rows.{AreFindings, IsFinding, placed, rows};
 
 use crate::object_order::ObjectOffset;
-use bplist_objects::{Framed, Head, ObjectFault, ObjectNo, Rule, check_body, shape_in};
+use bplist_objects::{Fault, Framed, Head, ObjectFault, ObjectNo, check_body, shape_in};
 use bplist_octets::ReadFault;
 
 /// What rules 14 to 20 say of an object by itself.
@@ -18,10 +18,10 @@ use bplist_octets::ReadFault;
 pub(crate) enum Finding {
     /// It has this head, and no rule is known to be broken.
     Whole(Head),
-    /// It has this head, and its body breaks this rule.
-    Wrong(Head, Rule),
-    /// It breaks this rule of marker and count.
-    Lost(Rule),
+    /// It has this head, and this is the fault of its body.
+    Wrong(Head, Fault),
+    /// This is the fault of its marker or its count.
+    Lost(Fault),
 }
 
 /// An object, and what is found of it.
@@ -44,9 +44,8 @@ pub(crate) fn row_of<P: Framed>(
     requires { object.number < (frame_in (P.means src.old)).objects }
     ensures reads { OnlyReads (is_err result) (P.means src.old) (P.means src.new) }
     ensures exact { HonestlyIn (P.means src.old) (λ f F. object ≡ placed f F object.number
-        → (findings : ℕ → Finding) → AreFindings f F findings → IfOk result (λ found.
-        (found ≡ row f F findings left.old object.number)
-        × (left.new ≡ left_behind left.old found))) }
+        → (findings : ℕ → Finding) → AreFindings f F findings → IfOk result (λ row. (behind : List ℕ)
+        → rows f F findings left.old (object.number ∷ behind) ≡ row ∷ rows f F findings left.new behind)) }
 {
     let n = ObjectNo(object.number);
     let finding = match shape_in(src, n, object.place) {
@@ -59,7 +58,7 @@ pub(crate) fn row_of<P: Framed>(
                 Finding::Whole(head)
             }
         }
-        Err(ObjectFault::Fault(fault)) => Finding::Lost(fault.rule),
+        Err(ObjectFault::Fault(fault)) => Finding::Lost(fault),
         Err(ObjectFault::Read(fault)) => return Err(fault),
     };
     Ok(Row {
@@ -84,7 +83,7 @@ fn finding_of<P: Framed>(
     let frame = src.frame();
     match check_body(src, &frame, ObjectNo(object.number), object.place, &head) {
         Ok(()) => Ok(Finding::Whole(head)),
-        Err(ObjectFault::Fault(fault)) => Ok(Finding::Wrong(head, fault.rule)),
+        Err(ObjectFault::Fault(fault)) => Ok(Finding::Wrong(head, fault)),
         Err(ObjectFault::Read(fault)) => Err(fault),
     }
 }

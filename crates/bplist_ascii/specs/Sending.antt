@@ -7,7 +7,7 @@ pub record Sending : Type 0 where
   pub sent : ℕ
   pub held : List ℕ
 
--- where `before` bytes had gone out, a first part of these went out too, and fewer than all; `sent` in all
+-- behind `before` bytes a first part of these went out, fewer than all; `sent` in all
 abbrev pub SendsPart : Option (List ℕ) → Option (List ℕ) → ℕ → List ℕ → ℕ → Type 0
 SendsPart old new before bytes sent = (n : ℕ) × (n < length bytes) × (sent ≡ before + n) × Appends old new (take n bytes)
 

@@ -19,14 +19,14 @@ use Rattle.bplist_c.specs.Statuses.{number_of}
 abbrev pub why_status : Why → Status
 why_status why = elim why [ NoKey ↦ statuses.NoKey | NoIndex ↦ statuses.NoIndex | NotSteppable ↦ statuses.NotSteppable ]
 
--- where these bytes lead as a path from the top, or where they are wrong as one; or that they are no UTF-8, or refused memory
+-- where these bytes lead as a path from the top, or are wrong as one; or that they are no UTF-8, or refused memory
 abbrev pub FindSays : CheckedFile → List ℕ → Result (Result Found ℕ) Status → Type 0
 FindSays checked bytes (Ok (Ok found)) = IsUtf8 bytes × ((steps : List (List ℕ)) × IsPathOf bytes steps × ((v : Value)
     → Holds checked.source.octets checked.frame checked.frame.top.0 v → IsFound checked checked.frame.top.0 v steps found))
 FindSays checked bytes (Ok (Err wrong)) = IsUtf8 bytes × IsNoPath bytes wrong
 FindSays checked bytes (Err why) = ((¬ IsUtf8 bytes) × (why ≡ statuses.NotUtf8)) ⊎ (why ≡ statuses.Memory)
 
--- the status and the output for what was found; where the status says why nothing was, the output is as it was
+-- the status and the output for what was found; for the reason why nothing was, the output is as it was
 abbrev pub told_found : Result (Result Found ℕ) Status → BplistFound → ℕ × BplistFound
 told_found (Ok (Ok (At node))) old = (0, record { object = node.object.0; step = 0 })
 told_found (Ok (Ok (Missing step why))) old = (number_of (why_status why), record { object = 0; step = step })

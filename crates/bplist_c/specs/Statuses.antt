@@ -14,7 +14,7 @@ number_of status = suc (tag_of the_type status)
 abbrev pub Tells : {X : Type 0} → Result X Status → X → X → ℕ → Type 0
 Tells answer old new status = MatchResult answer (λ x. (status ≡ 0) × (new ≡ x)) (λ why. (status ≡ number_of why) × (new ≡ old))
 
--- the items are put at the front of the buffer, or it is too short, and they are counted; or why there are none, and all is unchanged
+-- the items are counted, and put at the front of the buffer if they fit; or why there are none, and all is unchanged
 abbrev pub Puts : {X : Type 0} → Result (List X) Status → List X → List X → ℕ → ℕ → ℕ → Type 0
 Puts (Ok items) old new was count status = (count ≡ length items)
     × Tells (if nat_le (length items) (length old) then Ok (items ++ drop (length items) old) else Err statuses.Short) old new status

@@ -26,7 +26,7 @@ refused_told (refusals.Circle ns) =
     (statuses.Fault, record NO_VERDICT { rule = 23; has_object = 1; object = slice_index (map number ns) 0; circle = length ns })
 refused_told _ = (statuses.Memory, NO_VERDICT)
 
--- status and verdict show that answer: how many objects, the top's number, kind and height, and what it reaches; or the refusal
+-- status and verdict show that answer: the number of objects, the top with kind and height, what it reaches; or the refusal
 abbrev pub ShowsLint : List ℕ → Result Lint LintRefusal → BplistVerdict → ℕ → Type 0
 ShowsLint f (Ok lint) verdict status = (status ≡ 0) × ((F : Frame) → IsFrame f F → (head : Head) → IsHeadOf f F F.top.0 head
     → let framed = record NO_VERDICT { objects = F.objects; top = F.top.0; top_kind = kind_number head.kind } in

@@ -17,7 +17,7 @@ use Rattle.bplist_objects.specs.Frame.{IsFrame}
 use Rattle.bplist_objects.specs.Heads.{HasShape, dict, refs, content_of, content_at, Spells}
 use Rattle.bplist_objects.specs.Safe.{ref_count}
 use Rattle.bplist_objects.specs.Announced.{HasHead}
-use Rattle.bplist_objects.specs.Rules.{KeepsAll, IsFirstFault}
+use Rattle.bplist_objects.specs.Rules.{KeepsAll, IsFirstFault, OfObject}
 use Rattle.bplist_objects.specs.ObjectRules.{KeepsByObject, object_rules}
 use Rattle.bplist_objects.specs.Extents.{IsOverfull}
 use Rattle.bplist_objects.specs.Units.{compare_units}
@@ -34,7 +34,7 @@ use Rattle.bplist_cert.specs.Valid.{IsVouchedBy, IsVouched, IsValid}
 use Rattle.bplist_cert.specs.Sorted.{IsSorted, IsAccepted}
 use Rattle.bplist_cert.specs.Looks.{KeepBeforeKeysBelow}
 use Rattle.bplist_cert.specs.DictKeys.{KeysAreTexts, KeysDiffer, AreInOrder}
-use Rattle.bplist_cert.specs.CheckRules.{is_of_refs, Asks, KeepsByRefs, BreaksByRefs, KeepsRule, BreaksRule, BreaksRuleAt, KeepBelow, IsLeastFault, KeepsCheck, HasOrder, BreaksOrder, KeepsLast, check_rules, key_rules}
+use Rattle.bplist_cert.specs.CheckRules.{is_of_refs, Asks, KeepsByRefs, BreaksByRefs, KeepsRule, BreaksRule, KeepBelow, IsLeastFault, KeepsCheck, HasOrder, BreaksOrder, KeepsLast, check_rules, key_rules}
 use Rattle.bplist_cert.specs.KeyRepeats.{HasGoodKeys}
 use Rattle.bplist_cert.specs.PairFault.{KeepsPairRules, IsVouchedFault, IsCountFault, IsPairFault}
 use Rattle.bplist_cert.proofs.CheckSteps.{vouched_inside, good_by_kept, good_keeps}
@@ -180,7 +180,7 @@ pub valid_seen : (f : List ℕ) (F : Frame) (heights : List ℕ) → IsValid f F
 valid_seen f F heights valid n lt v =
     let o = valid.vouched n v in
     let lower = lower_at f F heights valid n v in
-    kept_all_after (KeepsRule f F (IsVouchedBy heights) (lists heights None) n) object_rules (rules_after []) (spells_keeps f F n valid.frame lt o.content o.spells)
+    kept_all_after (KeepsRule f F (IsVouchedBy heights) (lists heights None) n) object_rules (rules_after []) (spells_keeps f F n o.content o.spells)
     (not_overfull f F heights valid n v, (λ head has i l. (lower head has i l).0, (λ head has i l. (lower head has i l).1, tt)))
 
 -- a sorted list is in order
@@ -252,13 +252,13 @@ module _ (f : List ℕ) (F : Frame) (S : ℕ → Type 0) (certificate : Lists) w
   broken n rule place k b = by_class (is_of_refs rule) ⊥ (refs_broken f F certificate.heights n rule place) (kept_or_broken f F n rule place) k b
 
   -- a rule that an object keeps is not broken by the object that is named
-  pub rule_or_broken : (n : ℕ) (rule : Rule) (object : Option ObjectNo) (place : ℕ) → KeepsRule f F S certificate n rule → BreaksRuleAt f F S certificate n rule object place → ⊥
+  pub rule_or_broken : (n : ℕ) (rule : Rule) (object : Option ObjectNo) (place : ℕ) → KeepsRule f F S certificate n rule → OfObject n (BreaksRule f F S certificate n) rule object place → ⊥
   rule_or_broken n rule object place k b = broken n rule place k b.1
 
   -- an object that keeps rules has no fault of them
   pub no_rule_fault : (n : ℕ) (listed : List Rule) (fault : Fault) → KeepsAll (KeepsRule f F S certificate n) listed
-      → IsFirstFault (KeepsRule f F S certificate n) (BreaksRuleAt f F S certificate n) listed fault → ⊥
-  no_rule_fault n listed fault = no_first_fault (KeepsRule f F S certificate n) (BreaksRuleAt f F S certificate n) (rule_or_broken n) listed fault
+      → IsFirstFault (KeepsRule f F S certificate n) (OfObject n (BreaksRule f F S certificate n)) listed fault → ⊥
+  no_rule_fault n listed fault = no_first_fault (KeepsRule f F S certificate n) (OfObject n (BreaksRule f F S certificate n)) (rule_or_broken n) listed fault
 
   -- where all objects of S keep rules there is no fault of them
   pub no_least_fault : (listed : List Rule) (bound : ℕ) → ((n : ℕ) → S n → n < bound) → (a : Fault) → KeepBelow f F S certificate listed bound → IsLeastFault f F S certificate listed a → ⊥

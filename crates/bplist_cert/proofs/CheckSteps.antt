@@ -16,7 +16,7 @@ use Rattle.bplist_objects.specs.Safe.{ref_count}
 use Rattle.bplist_objects.specs.Answers.{GivesFault, Never}
 use Rattle.bplist_objects.specs.Announced.{HasHead}
 use Rattle.bplist_objects.specs.FrameRules.{IsFrameFault}
-use Rattle.bplist_objects.specs.Rules.{KeepsAll, IsFirstFault}
+use Rattle.bplist_objects.specs.Rules.{KeepsAll, IsFirstFault, OfObject}
 use Rattle.bplist_objects.specs.ObjectRules.{KeepsByObject, IsObjectFault, object_rules}
 use Rattle.bplist_objects.specs.Extents.{Sums, IsOverfull}
 use Rattle.bplist_objects.proofs.RuleLaws.{first_fault_after, first_fault_among, kept_all_after}
@@ -27,12 +27,12 @@ use Rattle.bplist_objects.proofs.FrameTies.{numbered}
 use Rattle.bplist_cert.specs.declared.heights.Wanted.TheVariants.{Vouched, Below}
 use Rattle.bplist_cert.specs.declared.refusal.Refusal.{Refusal}
 use Rattle.bplist_cert.specs.declared.refusal.Refusal.TheVariants as refusals
-use Rattle.bplist_cert.specs.Lists.{Keyed, Lists, lists, HasStarts, HasCount}
+use Rattle.bplist_cert.specs.Lists.{Keyed, Lists, lists}
 use Rattle.bplist_cert.specs.Valid.{IsVouchedBy}
 use Rattle.bplist_cert.specs.Heights.{AreMet, IsUnmetFault}
 use Rattle.bplist_objects.specs.Claims.{FailsAt}
 use Rattle.bplist_cert.specs.DictKeys.{KeysAreTexts, KeysDiffer, IsKeylessFault}
-use Rattle.bplist_cert.specs.CheckRules.{Asks, KeepsRule, BreaksRuleAt, KeepsCheck, IsCheckFault, check_rules, rules_before_keys, key_rules, KeepsLast}
+use Rattle.bplist_cert.specs.CheckRules.{Asks, KeepsRule, BreaksRule, KeepsCheck, IsCheckFault, check_rules, rules_before_keys, key_rules, KeepsLast}
 use Rattle.bplist_cert.specs.declared.checker.Look.{Look}
 use Rattle.bplist_cert.specs.declared.checker.Look.TheVariants.{Quick, Exact}
 use Rattle.bplist_cert.specs.Looks.{KeepsBeforeKeys, KeepBeforeKeysBelow, IsShown, IsShownFault}
@@ -86,7 +86,7 @@ module _ (f : List ℕ) (F : Frame) (S : ℕ → Type 0) (heights : List ℕ) (n
 
   module _ (fault : Fault) (head : Head) (has : HasHead f F n head) (dict : head.kind ≡ kinds.Dict) where
     -- rule 21 is broken, or kept
-    keyless : (keys : Option Keyed) → IsKeylessFault f F n head fault → (fault.rule ≡ rules.KeyKind) × BreaksRuleAt f F S (lists heights keys) n rules.KeyKind fault.object fault.place
+    keyless : (keys : Option Keyed) → IsKeylessFault f F n head fault → (fault.rule ≡ rules.KeyKind) × OfObject n (BreaksRule f F S (lists heights keys) n) rules.KeyKind fault.object fault.place
     keyless keys (rule, object, (i, first, place)) =
         (rule, (object, (head, i, has, keys_fail head dict (KeysAreTexts f F head) (λ m k few t i l. t i (omega (arith, few, l))) i first, place)))
 
@@ -95,7 +95,7 @@ module _ (f : List ℕ) (F : Frame) (S : ℕ → Type 0) (heights : List ℕ) (n
 
   -- the first rule of keys that is broken
   pub first_of_keys : (keys : Option Keyed) (fault : Fault) → BreaksKeys f F (length heights) keys n fault
-      → IsFirstFault (KeepsRule f F S (lists heights keys) n) (BreaksRuleAt f F S (lists heights keys) n) (key_rules keys) fault
+      → IsFirstFault (KeepsRule f F S (lists heights keys) n) (OfObject n (BreaksRule f F S (lists heights keys) n)) (key_rules keys) fault
   first_of_keys None fault (head, has, (dict, inl h)) = inl (keyless fault head has dict None h)
   first_of_keys None fault (head, has, (dict, inr (texts, (rule, object, (i, first, place))))) =
       let broken = keys_fail head dict (KeysDiffer f F head) (λ m k few d i j lt l. d i j lt (omega (arith, few, l))) i first in
@@ -104,17 +104,12 @@ module _ (f : List ℕ) (F : Frame) (S : ℕ → Type 0) (heights : List ℕ) (n
   first_of_keys (Some keyed) fault (head, has, (dict, inr (texts, (rule, object, broken)))) =
       inr (texted fault head has dict (Some keyed) texts, inl (rule, (object, (head, has, dict, broken))))
 
--- there are as many starts as objects
-pub starts_counted : (heights : List ℕ) (keys : Option Keyed) (count : ℕ) → length heights ≡ count → HasStarts heights keys → HasCount keys count
-starts_counted heights None count e h = tt
-starts_counted heights (Some keyed) count e h = h ∙ e
-
 module _ (f : List ℕ) (F : Frame) (heights : List ℕ) (keys : Option Keyed) (n : ℕ) where
   abbrev Keeps : Rule → Type 0
   Keeps rule = KeepsRule f F (IsVouchedBy heights) (lists heights keys) n rule
 
   abbrev Breaks : Rule → Option ObjectNo → ℕ → Type 0
-  Breaks rule object place = BreaksRuleAt f F (IsVouchedBy heights) (lists heights keys) n rule object place
+  Breaks rule object place = OfObject n (BreaksRule f F (IsVouchedBy heights) (lists heights keys) n) rule object place
 
   abbrev Broken : Fault → Type 0
   Broken fault = IsCheckFault f F (lists heights keys) n fault
@@ -254,7 +249,7 @@ module _ (f : List ℕ) (F : Frame) (heights : List ℕ) (keys : Option Keyed) w
     -- it names its object, which is one
     pub seen_object : (s : IsSeenFault f F (lists heights keys) fault) → fault.object ≡ Some (record { 0 = s.object })
     seen_object s =
-        names_object (KeepsRule f F (IsVouchedBy heights) (lists heights keys) s.object) (BreaksRuleAt f F (IsVouchedBy heights) (lists heights keys) s.object) (Some (record { 0 = s.object })) (λ rule object place b. b.0)
+        names_object (KeepsRule f F (IsVouchedBy heights) (lists heights keys) s.object) (OfObject s.object (BreaksRule f F (IsVouchedBy heights) (lists heights keys) s.object)) (Some (record { 0 = s.object })) (λ rule object place b. b.0)
         (check_rules keys) fault s.first
 
 -- a fault of the file as a whole

@@ -12,7 +12,7 @@ use Rattle.bplist_objects.proofs.Lists.{Either, all_or_first}
 use Rattle.bplist_objects.proofs.KeptOrBroken.{object_kept_or_fault}
 use Rattle.bplist_objects.proofs.HeadTies.{kept_announces}
 use Rattle.bplist_objects.proofs.UnitOrder.{compare_units-cases, compare_units-less, compare_units-not_less}
-use Rattle.bplist_cert.specs.DictKeys.{IsText, IsKey, KeysAreTexts, IsFirstKeyless, KeysDiffer, IsFirstTwice}
+use Rattle.bplist_cert.specs.DictKeys.{IsText, KeysAreTexts, IsFirstKeyless, KeysDiffer, IsFirstTwice}
 use Rattle.bplist_cert.specs.DictKeys.{AreInOrder}
 use Rattle.bplist_objects.specs.Claims.{FailsAt}
 use Rattle.bplist_objects.specs.Scan.{ref}
@@ -70,12 +70,12 @@ module _ (f : List ℕ) (F : Frame) (frame : IsFrame f F) where
     ]
       where
         Text : ℕ → Type 0
-        Text i = (key : Head) × IsKey f F head i key
+        Text i = (key : Head) × IsText f F (ref f F head i) key
 
     -- ---- rule 22
     -- key i is a text with these units
     abbrev HasUnits : List ℕ → ℕ → Type 0
-    HasUnits us i = (a : Head) × IsKey f F head i a × (units_of f a ≡ us)
+    HasUnits us i = (a : Head) × IsText f F (ref f F head i) a × (units_of f a ≡ us)
 
     -- key i has other units, or these
     units_decided : (us : List ℕ) (i : ℕ) → (HasUnits us i → ⊥) ⊎ HasUnits us i
@@ -89,12 +89,12 @@ module _ (f : List ℕ) (F : Frame) (frame : IsFrame f F) where
 
     -- key j has other units than each key before it
     abbrev IsOther : ℕ → Type 0
-    IsOther j = (i : ℕ) → i < j → (a b : Head) → IsKey f F head i a → IsKey f F head j b → units_of f a ≢ units_of f b
+    IsOther j = (i : ℕ) → i < j → (a b : Head) → IsText f F (ref f F head i) a → IsText f F (ref f F head j) b → units_of f a ≢ units_of f b
 
     -- key j has the units of an earlier key, the first such
     abbrev IsAgain : ℕ → Type 0
     IsAgain j =
-        (b : Head) × IsKey f F head j b
+        (b : Head) × IsText f F (ref f F head j) b
         × ((i : ℕ) × (i < j) × HasUnits (units_of f b) i × ((k : ℕ) → k < i → HasUnits (units_of f b) k → ⊥))
 
     other_or_again : (j : ℕ) → IsOther j ⊎ IsAgain j
@@ -122,8 +122,8 @@ module _ (f : List ℕ) (F : Frame) (frame : IsFrame f F) where
       abbrev InOrder : ℕ → Type 0
       InOrder j = IsInOrder f F head list j
 
-      key_at : (i k : ℕ) (a : Head) → suc k ≡ suc i → IsKey f F head (slice_index list k) a → IsKey f F head (slice_index list i) a
-      key_at i k a next is = let e : k ≡ i = omega (arith, next) in subst (λ n. IsKey f F head (slice_index list n) a) e is
+      key_at : (i k : ℕ) (a : Head) → suc k ≡ suc i → IsText f F (ref f F head (slice_index list k)) a → IsText f F (ref f F head (slice_index list i)) a
+      key_at i k a next is = let e : k ≡ i = omega (arith, next) in subst (λ n. IsText f F (ref f F head (slice_index list n)) a) e is
 
       -- number j of the list is a position; its key comes after the one before, or it does not
       after_decided : (j : ℕ) → slice_index list j < head.count → Either (InOrder j)

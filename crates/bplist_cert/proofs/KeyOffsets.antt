@@ -5,7 +5,7 @@ use Rattle.std.proofs.lemmas.List.{get_or-set_same, get_or-set_other}
 use Rattle.bplist_objects.specs.declared.frame.Frame.{Frame}
 use Rattle.bplist_objects.specs.declared.head.Head.{Head}
 use Rattle.bplist_objects.specs.Scan.{ref}
-use Rattle.bplist_cert.specs.DictKeys.{IsText, IsKey, KeysAreTexts, IsFirstKeyless}
+use Rattle.bplist_cert.specs.DictKeys.{IsText, KeysAreTexts, IsFirstKeyless}
 use Rattle.bplist_cert.specs.KeyOffsets.{AreRefs, IsOffsetOf, AreOffsetsOf, ReferToTexts, IsFirstOther}
 
 -- one more place is that of its object
@@ -38,7 +38,7 @@ module _ (f : List ℕ) (F : Frame) (head : Head) (done : ℕ) (refs : List ℕ)
   pub keys_more : (n : ℕ) → n ≤ length refs → ReferToTexts f F refs n → KeysAreTexts f F head (done + n)
   keys_more n few by k lt = go (cases_lt k done)
     where
-      go : (k < done) ⊎ (done ≤ k) → (key : Head) × IsKey f F head k key
+      go : (k < done) ⊎ (done ≤ k) → (key : Head) × IsText f F (ref f F head k) key
       go (inl before) = texts k before
       go (inr from) =
           let behind : done + (k - done) ≡ k = omega (arith, from) in

@@ -64,13 +64,6 @@ module _ (f : List ℕ) (F : Frame) where
     IsLast j None = j ≡ 0
     IsLast j (Some last) = (i : ℕ) × (suc i ≡ j) × (last.object ≡ ref f F head (slice_index list i))
 
-    pub ascend_none : AscendTo 0
-    ascend_none = record {
-      low = λ k l. absurd (omega (arith, l));
-      shapes = λ k l. absurd (omega (arith, l));
-      up = λ k l. absurd (omega (arith, l));
-    }
-
     text_shape : (before : Option ReadKey) (m : ℕ) → Follows f F before m → HasTextShape f F m
     text_shape None m h = h
     text_shape (Some last) m h = h.1

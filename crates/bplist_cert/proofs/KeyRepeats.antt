@@ -22,7 +22,7 @@ use Rattle.bplist_objects.specs.Claims.{FailsAt}
 use Rattle.bplist_objects.proofs.ClaimLaws.{fails_too}
 use Rattle.bplist_keys.proofs.RankLaws.{none_marked}
 use Rattle.bplist_keys.proofs.WeightSteps.{text_units-head}
-use Rattle.bplist_cert.specs.DictKeys.{IsKey, KeysAreTexts, KeysDiffer, IsFirstTwice}
+use Rattle.bplist_cert.specs.DictKeys.{IsText, KeysAreTexts, KeysDiffer, IsFirstTwice}
 use Rattle.bplist_cert.specs.Lists.{Keyed, lists}
 use Rattle.bplist_cert.specs.CheckRules.{KeepsRule, HasOrder, KeepsLast, IsOrderFault}
 use Rattle.bplist_objects.specs.declared.fault.ObjectFault.{ObjectFault}
@@ -113,10 +113,10 @@ module _ (f : List ℕ) (F : Frame) where
       seen_own heights (ref f F head k) (seen (ref f F head k) inside (key_vouched heights n (seen n within vouched) head has dict k low))
 
   module _ (head : Head) (classes : List ℕ) (classed : AreClassed f F classes head) where
-    pub class_at : (k : ℕ) → k < head.count → (key : Head) → IsKey f F head k key → 0 < slice_index classes (ref f F head k)
+    pub class_at : (k : ℕ) → k < head.count → (key : Head) → IsText f F (ref f F head k) key → 0 < slice_index classes (ref f F head k)
     class_at k low key is = classed.all k low (key, (is.is.0, is.kind))
 
-    units_at : (k : ℕ) (key : Head) → IsKey f F head k key → text_units f F (ref f F head k) ≡ units_of f key
+    units_at : (k : ℕ) (key : Head) → IsText f F (ref f F head k) key → text_units f F (ref f F head k) ≡ units_of f key
     units_at k key is = text_units-head f F (ref f F head k) key (is.is.0, is.kind)
 
     pub apart_differ : (count : ℕ) → count ≤ head.count → AreApart (ref f F head) classes count → KeysDiffer f F head count

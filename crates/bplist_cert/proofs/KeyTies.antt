@@ -9,6 +9,7 @@ use Rattle.bplist_objects.specs.Heads.{Content, HasShape, Spells, content_of, co
 use Rattle.bplist_objects.specs.Holds.{AreDistinct}
 use Rattle.bplist_objects.specs.Safe.{ref_count}
 use Rattle.bplist_objects.proofs.References.{each_ref}
+use Rattle.bplist_objects.proofs.ProperLeaves.{refs_below}
 use Rattle.bplist_objects.proofs.HeadTies.{spells_body}
 use Rattle.bplist_objects.specs.Scan.{ref}
 use Rattle.bplist_cert.specs.Valid.{SpellsText, HasKeys}
@@ -51,4 +52,4 @@ module _ (f : List ℕ) (F : Frame) where
         us = subst (λ kind. HasKeys f F (content_of f F kind head.count head.body)) e (subst (HasKeys f F) body k)
 
         low : (k : ℕ) → k < head.count → ref f F head k < F.objects
-        low k lt = each_key (λ m. m < F.objects) head e (subst (λ x. AllByRecursion (λ m. m < F.objects) (refs x)) body s.refs) k lt
+        low k lt = each_key (λ m. m < F.objects) head e (subst (λ x. AllByRecursion (λ m. m < F.objects) (refs x)) body (refs_below f F n c s)) k lt

@@ -1,22 +1,19 @@
 -- Stretches of low bytes that are put together, and texts by them.
-use Rattle.std.proofs.Common.{Option, Some, None, MatchOption, is_some, false, ◌≡◌, ℕ, ◌+◌, ◌*◌, ◌-◌, ◌<◌, ◌≤◌, inl, inr, IsTrue, List, length, set, replicate, sym, ap, ◌∙◌, subst, arith}
+use Rattle.std.proofs.Common.{Option, Some, None, MatchOption, is_some, false, ◌≡◌, ℕ, ◌+◌, ◌*◌, ◌-◌, ◌<◌, ◌≤◌, inl, inr, List, length, set, replicate, sym, ap, ◌∙◌, subst, arith}
 use Rattle.std.proofs.lemmas.Bool.{cases_eq, cases_lt, false≢true}
 use Rattle.std.proofs.lemmas.List.{get_or-set_same, get_or-set_other, get_or-replicate, get_or_past, length-replicate}
 use Rattle.bplist_objects.specs.declared.frame.Frame.{Frame}
 use Rattle.bplist_objects.specs.declared.head.Head.{Head}
 use Rattle.bplist_objects.specs.declared.kind.Kind.TheVariants as kinds
 use Rattle.bplist_objects.specs.Numbers.{num_at}
-use Rattle.bplist_objects.specs.Heads.{is_proper}
-use Rattle.bplist_objects.proofs.ProperLeaves.{ascii_proper}
 use Rattle.bplist_objects.specs.Scan.{AreBelow, IsFirstNotBelow}
 use Rattle.bplist_objects.specs.Safe.{ref_count}
 use Rattle.bplist_objects.specs.Announced.{HasHead}
 use Rattle.bplist_objects.specs.Rules.{KeepsAll}
 use Rattle.bplist_objects.specs.ObjectRules.{KeepsByObject, shape_rules, body_rules, object_rules}
 use Rattle.bplist_objects.proofs.BodyLaws.{HasHead-unique}
-use Rattle.bplist_objects.proofs.Fronts.{one_shape}
 use Rattle.bplist_objects.proofs.RuleLaws.{kept_all_after}
-use Rattle.bplist_objects.proofs.HeadTies.{each_byte, shape_announced}
+use Rattle.bplist_objects.proofs.HeadTies.{shape_announced}
 use Rattle.bplist_cert.specs.DictKeys.{IsText}
 use Rattle.bplist_cert.specs.declared.low_bytes.Stretch.{Stretch}
 use Rattle.bplist_cert.specs.LowBytes.{IsLow, stretch_at, AreLow}
@@ -56,10 +53,6 @@ module _ (f : List ℕ) where
   pub none_high : (from to : ℕ) (found : Option ℕ) → is_some found ≡ false → MatchOption found (AreBelow f from 1 (to - from) 128) (IsFirstNotBelow f from 1 (to - from) 128) → IsLow f from to
   none_high from to None none h = below_low from to h
   none_high from to (Some i) none h = absurd (false≢true (sym none))
-
-  -- a high byte
-  pub not_low : (from to i : ℕ) → IsFirstNotBelow f from 1 (to - from) 128 i → IsLow f from to → ⊥
-  not_low from to i first low = first.2 (λ k l. low (from + k * 1) (omega arith) (omega (arith, l, first.0)))
 
   -- what is known with what was read before it and behind it
   pub low_filled : (known : Stretch) (from to begin end : ℕ) → IsLow f known.from known.to → IsLow f from begin → IsLow f end to → (begin < to → known.from ≤ begin) → (begin < end → end ≤ known.to) → IsLow f from to
@@ -104,17 +97,14 @@ module _ (f : List ℕ) (F : Frame) (m : ℕ) (head : Head) (has : HasHead f F m
   )
 
 -- the bytes of an Ascii text are low
-pub text_low : (f : List ℕ) (F : Frame) (m : ℕ) (key : Head) → IsText f F m key → key.kind ≡ kinds.Ascii → key.body + key.count ≤ length f → IsLow f key.body (key.body + key.count)
-text_low f F m key is ascii room k low high =
-    let s = is.is.1 in
-    let same = one_shape f F m s.shape key s.has is.is.0 in
-    let proper = subst (λ (x : Head). IsTrue (is_proper f x.kind x.count x.body)) same s.proper in
-    let bytes = each_byte (λ b. b < 128) f key.body key.count room (ascii_proper f key.kind key.count key.body ascii proper) in
+pub text_low : (f : List ℕ) (F : Frame) (m : ℕ) (key : Head) → IsText f F m key → key.kind ≡ kinds.Ascii → IsLow f key.body (key.body + key.count)
+text_low f F m key is ascii k low high =
+    let bytes = is.is.1.kept.0 key is.is.0.has ascii in
     let e : key.body + (k - key.body) * 1 ≡ k = omega (arith, low) in
     subst (λ p. num_at f p 1 < 128) e (bytes (k - key.body) (omega (arith, low, high)))
 
-pub text_is_low : (f : List ℕ) (F : Frame) (m : ℕ) (head : Head) → HasHead f F m head → head.kind ≡ kinds.Ascii → head.body + head.count ≤ length f → (key : Head) → IsText f F m key → IsLow f head.body (head.body + head.count)
-text_is_low f F m head has ascii room key is =
+pub text_is_low : (f : List ℕ) (F : Frame) (m : ℕ) (head : Head) → HasHead f F m head → head.kind ≡ kinds.Ascii → (key : Head) → IsText f F m key → IsLow f head.body (head.body + head.count)
+text_is_low f F m head has ascii key is =
     let same : key ≡ head = HasHead-unique f F m key head (shape_announced f F m key is.is.0) has in
     subst (λ (x : Head). IsLow f x.body (x.body + x.count)) same
-    (text_low f F m key is (ap (λ (x : Head). x.kind) same ∙ ascii) (subst (λ (x : Head). x.body + x.count ≤ length f) (sym same) room))
+    (text_low f F m key is (ap (λ (x : Head). x.kind) same ∙ ascii))

@@ -7,7 +7,7 @@ use Rattle.bplist_objects.specs.declared.frame.Frame.{Frame}
 use Rattle.bplist_objects.specs.declared.frame.ObjectNo.{ObjectNo}
 use Rattle.bplist_objects.specs.declared.head.Head.{Head}
 use Rattle.bplist_objects.specs.Safe.{ref_count}
-use Rattle.bplist_objects.specs.Rules.{IsFirstFault}
+use Rattle.bplist_objects.specs.Rules.{IsFirstFault, OfObject}
 use Rattle.bplist_objects.proofs.BodyLaws.{HasHead-unique}
 use Rattle.bplist_objects.proofs.Lists.{one_number}
 use Rattle.bplist_objects.proofs.FirstFaults.{no_frame, one_frame_fault, one_object_place, one_first_fault}
@@ -16,7 +16,7 @@ use Rattle.bplist_objects.proofs.ClaimLaws.{one_failure}
 use Rattle.bplist_cert.specs.Lists.{Keyed, Lists, list_of}
 use Rattle.bplist_cert.specs.Valid.{IsVouchedBy}
 use Rattle.bplist_cert.specs.DictKeys.{AreInOrder}
-use Rattle.bplist_cert.specs.CheckRules.{is_of_refs, Asks, BreaksByRefs, KeepsRule, BreaksRuleAt, IsLeastFault, BreaksOrder, check_rules}
+use Rattle.bplist_cert.specs.CheckRules.{is_of_refs, Asks, BreaksByRefs, KeepsRule, BreaksRule, IsLeastFault, BreaksOrder, check_rules}
 use Rattle.bplist_cert.specs.PairFault.{IsVouchedFault, IsCountFault, IsPairFault}
 use Rattle.bplist_cert.proofs.AcceptedCertificates.{by_class, fewer, rule_or_broken, no_rule_fault}
 
@@ -42,7 +42,7 @@ module _ (f : List ℕ) (F : Frame) (S : ℕ → Type 0) (certificate : Lists) w
       b.4 ∙ ap (λ (x : Head). x.body + b.1 * F.ref_size) same ∙ ap (λ k. other.body + k * F.ref_size) number ∙ sym c.4
 
   -- a rule is broken at one place
-  one_place : (n : ℕ) (rule : Rule) (o o' : Option ObjectNo) (p p' : ℕ) → BreaksRuleAt f F S certificate n rule o p → BreaksRuleAt f F S certificate n rule o' p' → (o ≡ o') × (p ≡ p')
+  one_place : (n : ℕ) (rule : Rule) (o o' : Option ObjectNo) (p p' : ℕ) → OfObject n (BreaksRule f F S certificate n) rule o p → OfObject n (BreaksRule f F S certificate n) rule o' p' → (o ≡ o') × (p ≡ p')
   one_place n rules.Overfull o o' p p' b c = (b.0 ∙ sym c.0, b.1.1 ∙ sym c.1.1)
   one_place n rules.KeyOrder o o' p p' (e, (head, has, kind, b)) (e', (other, has', kind', c)) =
       let same = HasHead-unique f F n head other has has' in
@@ -56,8 +56,8 @@ module _ (f : List ℕ) (F : Frame) (S : ℕ → Type 0) (certificate : Lists) w
       let same = one_number h.object k.object
       (λ l. no_rule_fault f F S certificate h.object listed a (k.least h.object l h.member) h.first)
       (λ l. no_rule_fault f F S certificate k.object listed b (h.least k.object l k.member) k.first) in
-      one_first_fault (KeepsRule f F S certificate k.object) (BreaksRuleAt f F S certificate k.object) (rule_or_broken f F S certificate k.object) (one_place k.object) listed a b
-      (subst (λ n. IsFirstFault (KeepsRule f F S certificate n) (BreaksRuleAt f F S certificate n) listed a) same h.first) k.first
+      one_first_fault (KeepsRule f F S certificate k.object) (OfObject k.object (BreaksRule f F S certificate k.object)) (rule_or_broken f F S certificate k.object) (one_place k.object) listed a b
+      (subst (λ n. IsFirstFault (KeepsRule f F S certificate n) (OfObject n (BreaksRule f F S certificate n)) listed a) same h.first) k.first
 
 module _ (f : List ℕ) (F : Frame) (certificate : Lists) where
   abbrev FaultIn : Fault → Type 0

@@ -17,7 +17,7 @@ use Rattle.bplist_objects.proofs.References.{length-nums_at, nth-nums_at}
 use Rattle.bplist_objects.proofs.UnitOrder.{compare_units-less_less, compare_units-not_less}
 use Rattle.bplist_objects.specs.Scan.{ref}
 use Rattle.bplist_cert.specs.Valid.{SpellsText}
-use Rattle.bplist_cert.specs.DictKeys.{IsText, IsKey, KeysAreTexts, KeysDiffer, AreInOrder}
+use Rattle.bplist_cert.specs.DictKeys.{IsText, KeysAreTexts, KeysDiffer, AreInOrder}
 use Rattle.bplist_cert.proofs.OrderedLists.{text_once}
 use Rattle.bplist_cert.proofs.AllNumbers.{onto}
 
@@ -87,7 +87,7 @@ module _ (f : List ℕ) (F : Frame) (head : Head) where
     have_texts low k l = let t = spelled_text f F (ref f F head k) (slice_index_or us k []) (low k l) (spells_at k l) in (t.0, t.1)
 
     -- the units of a key
-    pub units_at_key : (k : ℕ) (key : Head) → k < head.count → IsKey f F head k key → slice_index_or us k [] ≡ units_of f key
+    pub units_at_key : (k : ℕ) (key : Head) → k < head.count → IsText f F (ref f F head k) key → slice_index_or us k [] ≡ units_of f key
     units_at_key k key l is =
         let t = spelled_text f F (ref f F head k) (slice_index_or us k []) is.within (spells_at k l) in
         t.2 ∙ ap (units_of f) (text_once f F (ref f F head k) t.0 key t.1 is)
@@ -113,35 +113,35 @@ module _ (f : List ℕ) (F : Frame) (head : Head) (list : List ℕ) (texts : Key
   abbrev position : ℕ → ℕ
   position j = slice_index list j
 
-  far : (i n : ℕ) (a b : Head) → suc (i + n) < head.count → IsKey f F head (position i) a → IsKey f F head (position (suc (i + n))) b → compare_units (units_of f a) (units_of f b) ≡ Less
+  far : (i n : ℕ) (a b : Head) → suc (i + n) < head.count → IsText f F (ref f F head (position i)) a → IsText f F (ref f F head (position (suc (i + n)))) b → compare_units (units_of f a) (units_of f b) ≡ Less
   far i zero a b l x y =
       let e : suc (i + 0) ≡ suc i = omega arith in
       (order (suc (i + 0)) l).1 i a b (sym e) x y
   far i (suc n) a b l x y =
       let e : suc (i + suc n) ≡ suc (suc (i + n)) = omega arith in
-      let y' = subst (λ j. IsKey f F head (position j) b) e y in
+      let y' = subst (λ j. IsText f F (ref f F head (position j)) b) e y in
       let between = texts (position (suc (i + n))) ((order (suc (i + n)) (omega (arith, l))).0) in
       let first = far i n a between.0 (omega (arith, l)) x between.1 in
       let second = (order (suc (suc (i + n))) (omega (arith, l))).1 (suc (i + n)) between.0 b refl between.1 y' in
       compare_units-less_less (units_of f a) (units_of f between.0) (units_of f b) first second
 
-  ascends : (i j : ℕ) (a b : Head) → i < j → j < head.count → IsKey f F head (position i) a → IsKey f F head (position j) b → compare_units (units_of f a) (units_of f b) ≡ Less
+  ascends : (i j : ℕ) (a b : Head) → i < j → j < head.count → IsText f F (ref f F head (position i)) a → IsText f F (ref f F head (position j)) b → compare_units (units_of f a) (units_of f b) ≡ Less
   ascends i j a b lt l x y =
       let e : suc (i + (j - suc i)) ≡ j = omega (arith, lt) in
-      far i (j - suc i) a b (omega (arith, e, l)) x (subst (λ k. IsKey f F head (position k) b) (sym e) y)
+      far i (j - suc i) a b (omega (arith, e, l)) x (subst (λ k. IsText f F (ref f F head (position k)) b) (sym e) y)
 
   apart : (i j : ℕ) → i < j → j < head.count → position i ≡ position j → ⊥
   apart i j lt l e =
       let a = texts (position i) ((order i (omega (arith, lt, l))).0) in
-      let up = ascends i j a.0 a.0 lt l a.1 (subst (λ p. IsKey f F head p a.0) e a.1) in
+      let up = ascends i j a.0 a.0 lt l a.1 (subst (λ p. IsText f F (ref f F head p) a.0) e a.1) in
       compare_units-not_less (units_of f a.0) (units_of f a.0) refl up
 
   pub ordered_differ : KeysDiffer f F head head.count
   ordered_differ i j lt l a b x y e =
       let p = onto head.count position (λ k m. (order k m).0) apart i (omega (arith, lt, l)) in
       let q = onto head.count position (λ k m. (order k m).0) apart j l in
-      let x' = subst (λ k. IsKey f F head k a) (sym p.2) x in
-      let y' = subst (λ k. IsKey f F head k b) (sym q.2) y in
+      let x' = subst (λ k. IsText f F (ref f F head k) a) (sym p.2) x in
+      let y' = subst (λ k. IsText f F (ref f F head k) b) (sym q.2) y in
       elim (cases_order p.0 q.0) [
         | inl same ↦ let z : i ≡ j = sym p.2 ∙ ap position same ∙ q.2 in omega (arith, lt, z)
         | inr r ↦ elim r [

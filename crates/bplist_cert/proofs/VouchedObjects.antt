@@ -15,6 +15,7 @@ use Rattle.bplist_objects.proofs.ExtentSums.{room_weaker}
 use Rattle.bplist_objects.proofs.Fronts.{one_head}
 use Rattle.bplist_objects.proofs.ObjectValues.{OneHead, holds_one, one_value_of_file}
 use Rattle.bplist_objects.proofs.References.{length-nums_at}
+use Rattle.bplist_objects.proofs.ProperLeaves.{refs_below}
 use Rattle.bplist_cert.specs.Valid.{IsVouchedBy, IsVouched, IsValid, HasKeys, HoldsOneValue}
 
 module _ (f : List ℕ) (F : Frame) where
@@ -111,7 +112,7 @@ module _ (f : List ℕ) (F : Frame) (heights : List ℕ) (valid : IsValid f F he
 
   -- each reference that is written in a reached object is the number of an object
   pub references_inside : (n m : ℕ) → Reach f F n → Refs f F n m → m < F.objects
-  references_inside n m r e = all_at _ _ m e.1.refs e.2
+  references_inside n m r e = all_at _ _ m (refs_below f F n e.0 e.1) e.2
 
   -- no chain of references leads from a reached object to itself
   pub circle_free : (n : ℕ) → Reach f F n → Chain f F n n → ⊥

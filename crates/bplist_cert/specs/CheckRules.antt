@@ -5,13 +5,12 @@ use Rattle.bplist_objects.specs.declared.rule.Rule.{Rule}
 use Rattle.bplist_objects.specs.declared.rule.Rule.TheVariants.{KeyKind, KeyTwice, ChildNotVouched, HeightNotLess, Overfull, KeyOrder}
 use Rattle.bplist_objects.specs.declared.fault.Fault.{Fault}
 use Rattle.bplist_objects.specs.declared.frame.Frame.{Frame}
-use Rattle.bplist_objects.specs.declared.frame.ObjectNo.{ObjectNo}
 use Rattle.bplist_objects.specs.declared.head.Head.{Head}
 use Rattle.bplist_objects.specs.declared.kind.Kind.TheVariants as kinds
 use Rattle.bplist_objects.specs.Frame.{off}
 use Rattle.bplist_objects.specs.Safe.{ref_count}
 use Rattle.bplist_objects.specs.Announced.{HasHead}
-use Rattle.bplist_objects.specs.Rules.{KeepsAll, IsFirstFault}
+use Rattle.bplist_objects.specs.Rules.{KeepsAll, IsFirstFault, OfObject}
 use Rattle.bplist_objects.specs.ObjectRules.{KeepsByObject, BreaksByObject, object_rules}
 use Rattle.bplist_objects.specs.Extents.{IsOverfull}
 use Rattle.bplist_objects.specs.Claims.{FailsAt}
@@ -84,10 +83,6 @@ module _ (f : List ℕ) (F : Frame) (S : ℕ → Type 0) (certificate : Lists) w
   BreaksRule n rule place =
       cond (is_of_refs rule) (BreaksByRefs f F certificate.heights n rule place) (BreaksByObject f F n rule place)
 
-  -- the same, if this is the object named
-  abbrev pub BreaksRuleAt : ℕ → Rule → Option ObjectNo → ℕ → Type 0
-  BreaksRuleAt n rule object place = (object ≡ Some (record { 0 = n })) × BreaksRule n rule place
-
   -- the objects of S below n keep these rules
   abbrev pub KeepBelow : List Rule → ℕ → Type 0
   KeepBelow listed n = (m : ℕ) → m < n → S m → KeepsAll (KeepsRule m) listed
@@ -96,7 +91,7 @@ module _ (f : List ℕ) (F : Frame) (S : ℕ → Type 0) (certificate : Lists) w
   pub record IsLeastFault (listed : List Rule) (fault : Fault) : Type 0 where
     pub object : ℕ
     pub member : S object
-    pub first : IsFirstFault (KeepsRule object) (BreaksRuleAt object) listed fault
+    pub first : IsFirstFault (KeepsRule object) (OfObject object (BreaksRule object)) listed fault
     pub least : KeepBelow listed object
 
 module _ (f : List ℕ) (F : Frame) (certificate : Lists) where
@@ -108,7 +103,7 @@ module _ (f : List ℕ) (F : Frame) (certificate : Lists) where
   abbrev pub IsCheckFault : ℕ → Fault → Type 0
   IsCheckFault n fault =
       let S = IsVouchedBy certificate.heights in
-      IsFirstFault (KeepsRule f F S certificate n) (BreaksRuleAt f F S certificate n) (check_rules certificate.keys) fault
+      IsFirstFault (KeepsRule f F S certificate n) (OfObject n (BreaksRule f F S certificate n)) (check_rules certificate.keys) fault
 
 -- the fault of the key list of dictionary n
 abbrev pub IsOrderFault : List ℕ → Frame → ℕ → Keyed → ℕ → Head → Fault → Type 0

@@ -1,5 +1,5 @@
 -- The bytes of a certificate. Source: profile.
-use Rattle.std.specs.Prelude.{◌≡◌, ◌≢◌, ◌⊎◌, ℕ, ◌+◌, ◌*◌, ◌%◌, ◌≤◌, Bool, true, false, List, [], ◌++◌, length, take, codes, Option, None, is_some, ⊤}
+use Rattle.std.specs.Prelude.{◌≡◌, ◌≢◌, ◌⊎◌, ℕ, ◌+◌, ◌*◌, ◌%◌, ◌≤◌, Bool, true, false, List, [], ◌++◌, length, take, codes, None, is_some, ⊤}
 use Rattle.std.specs.List.{flat_map}
 use Rattle.std.specs.Int.{bytes_high_first}
 use Rattle.std.specs.Option.{option_map_or}
@@ -29,8 +29,8 @@ abbrev pub Fits : Bool → ℕ → ℕ → Type 0
 Fits false count len = len ≡ 16 + 4 * count
 Fits true count len = (16 + 8 * count ≤ len) × (len % 4 ≡ 0)
 
--- the first broken rule of 24 and 25: there is no magic, at place 0, or another number of bytes than fits the number of heights, which
--- stands behind the magic, and that number of bytes is the place
+-- the first broken rule of 24 and 25: no magic, at place 0; or a number of bytes that does not fit the number of heights behind
+-- the magic, at that place
 abbrev pub IsOctetsFault : List ℕ → Fault → Type 0
 IsOctetsFault octets fault =
     (((keyed : Bool) → take 8 octets ≢ magic keyed) × (fault ≡ record { rule = rules.CertMagic; object = None; place = 0 }))

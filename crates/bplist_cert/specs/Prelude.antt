@@ -33,14 +33,14 @@ pub use Rattle.bplist_keys.specs.Runs.{AreRuns}
 pub use Rattle.bplist_keys.specs.Texts.{HasTextShape}
 pub use Rattle.bplist_cert.specs.CheckRules.{HasOrder, IsOrderFault}
 pub use Rattle.bplist_cert.specs.CheckedFile.{CheckedFile, IsChecked, meaning_of}
-pub use Rattle.bplist_cert.specs.DictKeys.{AreInOrder, ComesAfter, IsKey, IsKeylessFault, IsText, KeysAreTexts, KeysDiffer}
+pub use Rattle.bplist_cert.specs.DictKeys.{AreInOrder, ComesAfter, IsKeylessFault, IsText, KeysAreTexts, KeysDiffer}
 pub use Rattle.bplist_cert.specs.Encoding.{Fits, IsCertRefusal, IsOctetsFault, magic, octets_of, words}
 pub use Rattle.bplist_cert.specs.Heights.{AreMet, AreMetBy, IsFirstUnmetBy, IsUnmetFault, Meets, rule_of}
 pub use Rattle.bplist_cert.specs.KeyOffsets.{AreOffsetsOf, ArePlaces, AreRefs, IsFirstOther, IsOffsetOf, ReferToTexts}
 pub use Rattle.bplist_cert.specs.KeyPairs.{AreFewKeys, AreKnown, Ascends, Follows, HaveTextShapes, IsReadKey, IsSafeKey, IsSafeText}
 pub use Rattle.bplist_cert.specs.KeyRepeats.{BreaksKeys, HasGoodKeys, HaveGoodKeys, HaveNamedKeys, IsFirstKeysFault}
 pub use Rattle.bplist_cert.specs.KeysLooks.{AreLearnt, AreSeen, HaveGoodLists, IsListed}
-pub use Rattle.bplist_cert.specs.Lists.{AreWords, HasCount, HasStarts, IsCertificate, IsWhole, Lists, list_of, lists}
+pub use Rattle.bplist_cert.specs.Lists.{AreWords, HasStarts, IsCertificate, IsWhole, Lists, list_of, lists}
 pub use Rattle.bplist_cert.specs.Looks.{IsShownFault, KeepBeforeKeysBelow}
 pub use Rattle.bplist_cert.specs.LowBytes.{AreLow, IsLow}
 pub use Rattle.bplist_cert.specs.PairFault.{AreCheckedBelow, IsCheckedObject, IsPairFault, IsSeenFault, IsVouchedFault, IsWalkFault, KeepsPairRules}

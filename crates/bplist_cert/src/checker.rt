@@ -83,7 +83,6 @@ fn check_object<P: Framed>(
 {
     let frame = src.frame();
     let cert = walk.certificate;
-    let heights: &[u32] = &cert.heights;
     match walk.look {
         Look::Quick => match visit_in(src, n, place)? {
             Visit::Done(end) => Ok(check_extent(src, n, place, end, used)?),
@@ -92,6 +91,7 @@ fn check_object<P: Framed>(
                 if refs_of(&head) == 0 {
                     check_body(src, &frame, n, place, &head)?;
                 } else {
+                    let heights: &[u32] = &cert.heights;
                     let own = height_at(heights, n.0 as u64);
                     check_refs(src, heights, n, &head, Wanted::VouchedBelow(own))?;
                 }
@@ -101,6 +101,7 @@ fn check_object<P: Framed>(
         Look::Exact => {
             let head = head_in(src, n, place)?;
             let now = check_extent(src, n, place, head.end, used)?;
+            let heights: &[u32] = &cert.heights;
             check_refs(src, heights, n, &head, Wanted::Vouched)?;
             let own = height_at(heights, n.0 as u64);
             check_refs(src, heights, n, &head, Wanted::Below(own))?;

@@ -246,17 +246,18 @@ fn check_dict_order<P: Offsets>(
     check_order(src, keys, &dict, &mut look.pairs.runs)
 }
 
-/// Whether object `n` is vouched for and may have keys, or a key list without keys that starts behind all positions. An object of
-/// height 1 has no references.
-fn may_be_wrong(heights: &[u32], keys: &KeyLists, n: u32) -> bool
+/// Whether object `n` is vouched for and may have keys, or a key list without keys that starts behind all of so many positions. An
+/// object of height 1 has no references.
+fn may_be_wrong(heights: &[u32], starts: &[u32], positions: usize, n: u32) -> bool
     ensures vouched { IsTrue result → IsVouchedBy heights.now n }
-    ensures none { result ≡ false → IsVouchedBy heights.now n → (slice_index heights.now n ≤ 1) × IsWhole keys.now n 0 }
+    ensures none { result ≡ false → IsVouchedBy heights.now n
+        → (slice_index heights.now n ≤ 1) × (slice_index starts.now n ≤ positions) }
 {
     let height = height_at(heights, n as u64);
     if height != 1 {
         return height > 1;
     }
-    height_at(&keys.starts, n as u64) as usize > keys.positions.len()
+    height_at(starts, n as u64) as usize > positions
 }
 
 /// Whether object `n`, which stands at `place`, has its keys in order in its key list, where it is a dictionary. Not inlined,
@@ -306,9 +307,12 @@ pub(crate) fn look_at_lists<P: Offsets>(
         return Ok(());
     }
     let _frame = src.frame();
+    let heights = seen.heights;
+    let starts: &[u32] = &keys.starts;
+    let positions = keys.positions.len();
     for (i, place) in places.iter().enumerate() {
         let n = seen.bound + i as u32;
-        if !may_be_wrong(seen.heights, keys, n) {
+        if !may_be_wrong(heights, starts, positions, n) {
             continue;
         }
         if !is_listed(src, keys, n, *place, &mut look.pairs)? {
@@ -338,7 +342,7 @@ pub(crate) fn check_key_orders<P: Offsets>(
         return Ok(());
     }
     for n in 0..seen.bound {
-        if may_be_wrong(seen.heights, keys, n) {
+        if may_be_wrong(seen.heights, &keys.starts, keys.positions.len(), n) {
             check_dict_order(src, seen, keys, n, look)?;
         }
     }

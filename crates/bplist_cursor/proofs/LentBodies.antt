@@ -1,7 +1,6 @@
 -- Bodies of bytes of an object that a checked file vouches for.
-use Rattle.std.proofs.Common.{◌≡◌, ◌⊎◌, inl, inr, ◌<◌, ℕ, List, false, IsTrue, Result, Ok, Err, refl, subst, sym}
+use Rattle.std.proofs.Common.{◌≡◌, ◌⊎◌, inl, inr, ℕ, List, false, IsTrue, Result, Ok, Err, refl, subst}
 use Rattle.std.proofs.Props.{props}
-use Rattle.std.specs.List.{AllByRecursion}
 use Rattle.std.proofs.Math.Logic.{∥∥₁_elim}
 use Rattle.bplist_octets.specs.Octets.{part}
 use Rattle.bplist_objects.specs.declared.fault.ObjectFault.{ObjectFault}
@@ -11,7 +10,9 @@ use Rattle.bplist_objects.specs.declared.head.Head.{Head}
 use Rattle.bplist_objects.specs.declared.kind.Kind.{Kind}
 use Rattle.bplist_objects.specs.declared.kind.Kind.TheVariants as kinds
 use Rattle.bplist_objects.specs.Answers.{Gives, Never, read_failed}
-use Rattle.bplist_objects.specs.Heads.{HasShape, Spells, is_proper, content_of, content_at, refs}
+use Rattle.bplist_objects.specs.Heads.{HasShape}
+use Rattle.bplist_objects.specs.Rules.{KeepsAll}
+use Rattle.bplist_objects.specs.ObjectRules.{KeepsByObject, body_rules}
 use Rattle.bplist_objects.proofs.Fronts.{one_shape}
 use Rattle.bplist_cert.specs.CheckedFile.{CheckedFile, IsChecked}
 use Rattle.bplist_cert.specs.Valid.{IsVouchedBy}
@@ -27,11 +28,6 @@ no_error P (Ok x) read given none = none x refl
 no_error P (Err (errors.Fault x)) read given none = given
 no_error P (Err (errors.Read x)) read given none = cc read
 
-module _ (f : List ℕ) (F : Frame) where
-  no_refs : (kind : Kind) (count body : ℕ) → IsByteKind kind → AllByRecursion (λ m. m < F.objects) (refs (content_of f F kind count body))
-  no_refs kind count body (inl e) = subst (λ k. AllByRecursion (λ m. m < F.objects) (refs (content_of f F k count body))) (sym e) tt
-  no_refs kind count body (inr e) = subst (λ k. AllByRecursion (λ m. m < F.objects) (refs (content_of f F k count body))) (sym e) tt
-
 module _ (checked : CheckedFile) (known : IsChecked checked) (honest : IsTrue checked.source.honest) (n : ℕ) (vouched : IsVouchedBy checked.certificate.heights n) where
   -- the head of such a body is all that is needed of the object
   pub spells_bytes : (head : Head) → HasShape checked.source.octets checked.frame n head → IsByteKind head.kind → (bytes : List ℕ)
@@ -39,11 +35,8 @@ module _ (checked : CheckedFile) (known : IsChecked checked) (honest : IsTrue ch
   spells_bytes head has is bytes body =
       let f = checked.source.octets in
       let F = checked.frame in
-      let proper : IsTrue (is_proper f head.kind head.count head.body) = ∥∥₁_elim (known.accepted honest) (hlevel props) (λ a.
-      let spells = (a.valid.vouched n vouched).spells in
-      subst (λ (h : Head). IsTrue (is_proper f h.kind h.count h.body)) (one_shape f F n spells.shape head spells.has has) spells.proper) in
-      let spells : Spells f F n (content_at f F head) = record { shape = head; has = has; proper = proper; means = refl; refs = no_refs f F head.kind head.count head.body is } in
-      (head, (has, spells), is, body)
+      let kept : KeepsAll (KeepsByObject f F n) body_rules = ∥∥₁_elim (known.accepted honest) (hlevel props) (λ a. (a.valid.vouched n vouched).spells.kept) in
+      (head, (has, record { shape = head; has = has; kept = kept; means = refl }), is, body)
 
 -- an object with another head has no such body
 pub other_head : (f : List ℕ) (F : Frame) (n : ℕ) (head : Head) → HasShape f F n head → (head.kind ≡ kinds.Bytes → ⊥) → (head.kind ≡ kinds.Ascii → ⊥)

@@ -5,6 +5,7 @@ use Rattle.bplist_objects.specs.declared.frame.Frame.{Frame}
 use Rattle.bplist_objects.specs.Value.{text, Value, leaf, array, set, dict, Pairs, no_pairs, pair}
 use Rattle.bplist_objects.specs.Heads.{Content, Spells, refs}
 use Rattle.bplist_objects.specs.Holds.{Holds, HoldPairs}
+use Rattle.bplist_objects.proofs.ProperLeaves.{refs_below}
 use Rattle.bplist_objects.proofs.Fronts.{one_head}
 use Rattle.bplist_objects.proofs.Lists.{all_at}
 use Rattle.bplist_cursor.specs.declared.found.Why.{Why}
@@ -33,7 +34,7 @@ module _ (f : List ℕ) (F : Frame) where
   content_of_value (leaf l) n h = (Content.leaf l, h, tt)
   content_of_value (array vs) n h = (Content.array h.0, h.1, tt)
   content_of_value (set vs) n h = (Content.set h.0, h.1, tt)
-  content_of_value (dict ps) n h = (Content.dict h.0 h.1, h.2, λ i l. (all_at (λ m. m < F.objects) (h.0 ++ h.1) (slice_index h.0 i) h.2.refs (Contains-append_left h.0 h.1 (slice_index h.0 i) (Contains-get_or h.0 i 0 l)), text_at ps h.0 h.1 i h.3 l))
+  content_of_value (dict ps) n h = (Content.dict h.0 h.1, h.2, λ i l. (all_at (λ m. m < F.objects) (h.0 ++ h.1) (slice_index h.0 i) (refs_below f F n (Content.dict h.0 h.1) h.2) (Contains-append_left h.0 h.1 (slice_index h.0 i) (Contains-get_or h.0 i 0 l)), text_at ps h.0 h.1 i h.3 l))
 
   -- where no reference is taken the step can't be taken
   pub not_taken : (v : Value) (n : ℕ) (s : List ℕ) (c : Content) → Holds f F n v → Spells f F n c → ((m : ℕ) → IsTaken f F c s m → ⊥) → stepped v s ≡ Err (why_of c)
@@ -63,4 +64,4 @@ module _ (f : List ℕ) (F : Frame) where
       subst (λ x. Contains (refs x) m) (sym is) (Contains-append_right h.0 h.1 m (subst (Contains h.1) u.3 (Contains-get_or h.1 u.0 0 (omega (arith, e, u.1)))))
 
   pub taken_below : (v : Value) (n : ℕ) (s : List ℕ) (m : ℕ) → Holds f F n v → (c : Content) → Spells f F n c → IsTaken f F c s m → m < F.objects
-  taken_below v n s m h c sp t = all_at (λ m. m < F.objects) (refs c) m sp.refs (taken_there v n s m h c sp t)
+  taken_below v n s m h c sp t = all_at (λ m. m < F.objects) (refs c) m (refs_below f F n c sp) (taken_there v n s m h c sp t)

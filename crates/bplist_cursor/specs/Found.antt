@@ -19,7 +19,8 @@ units_of steps = map (λ step. step.items) steps
 abbrev pub IsHeld : CheckedFile → ℕ → Value → Type 0
 IsHeld checked n v = IsVouchedBy checked.certificate.heights n × Holds checked.source.octets checked.frame n v
 
--- the node is vouched for and holds what the steps from object n, which holds v, lead to, or the first step that can't be taken is named
+-- the node is vouched for and holds what the steps lead to from object n, which holds v, or the first step that can't be taken is
+-- named
 abbrev pub IsFound : CheckedFile → ℕ → Value → List (List ℕ) → Found → Type 0
 IsFound checked n v steps (At node) =
     LeadTo checked.source.octets checked.frame n steps node.object.0 × IsVouchedBy checked.certificate.heights node.object.0

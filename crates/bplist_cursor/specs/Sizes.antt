@@ -63,7 +63,7 @@ module _ (f : List ℕ) (F : Frame) where
   abbrev pub IsSized : Table → ℕ → Type 0
   IsSized sizes n = (v : Value) → Holds f F n v → size_in sizes n ≡ Some (size_of v)
 
-  -- the table has nodes and form of the value of each vouched object, and no others
+  -- the table has nodes and form of each vouched object's value, and no others
   pub record AreMeasures (heights : List ℕ) (sizes : Table) : Type 0 where
     pub nodes : (n : ℕ) (v : Value) → IsVouchedBy heights n → Holds f F n v → nodes_in sizes n ≡ Some (cap (nodes v))
     pub form : (n : ℕ) (v : Value) → IsVouchedBy heights n → Holds f F n v → form_in sizes n ≡ Some (form_of v)

@@ -16,7 +16,7 @@ quoted_unit u =
 abbrev pub quoted : List ℕ → List ℕ
 quoted units = 0x22 ∷ (flat_map quoted_unit units ++ 0x22 ∷ [])
 
--- the old-style text of these units: themselves if all are letters and digits of ASCII, else quoted; the empty text is quoted
+-- the old-style text of these units: themselves if there are only letters and digits of ASCII, else quoted, also the empty text
 abbrev pub text_of_units : List ℕ → List ℕ
 text_of_units [] = 0x22 ∷ 0x22 ∷ []
 text_of_units us = if list_all is_ascii_alphanumeric us then us else 0x22 ∷ (flat_map quoted_unit us ++ 0x22 ∷ [])

@@ -36,7 +36,7 @@ IsKeyLookup classes n m seen lookups.First seen' =
 IsKeyLookup classes n m seen lookups.Repeated seen' =
     (0 < slice_index classes m) × (slice_index seen (slice_index classes m - 1) ≡ n + 1) × (seen' ≡ seen)
 
--- for each class the dictionary that it was seen in last is the same, or it is n now
+-- each class was last seen in the dictionary that it was, or in n
 abbrev pub IsStamped : ℕ → List ℕ → List ℕ → Type 0
 IsStamped n seen seen' = (x : ℕ) → (slice_index seen' x ≡ n + 1) ⊎ (slice_index seen' x ≡ slice_index seen x)
 
@@ -60,7 +60,7 @@ module _ (key : ℕ → ℕ) (classes : List ℕ) where
     pub only : (x : ℕ) → slice_index seen x ≡ n + 1 → (i : ℕ) × (i < count) × (slice_index classes (key i) ≡ x + 1)
     pub first : MatchOption again (AreApart count) (FailsAt AreApart count)
 
-  -- what is wrong with so many keys first: one has no class, or all have one and one has that of an earlier key
+  -- what is wrong first with so many keys: one has no class, or else one has that of an earlier key
   abbrev pub IsKeyDefect : ℕ → KeyDefect → Type 0
   IsKeyDefect count (defects.NotText i) = FailsAt HaveClasses count i
   IsKeyDefect count (defects.Repeated j) = HaveClasses count × FailsAt AreApart count j

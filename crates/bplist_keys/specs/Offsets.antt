@@ -3,7 +3,7 @@ use Rattle.std.specs.Prelude.{◌≡◌, ℕ, ◌+◌, ◌<◌, min, List, slice
 use Rattle.bplist_objects.specs.declared.frame.Frame.{Frame}
 use Rattle.bplist_objects.specs.Frame.{off}
 
--- the first so many of these are the places of the objects; one that needs more than 32 bits is kept as their greatest number
+-- the first so many of these are the places of the objects, at most the greatest number of 32 bits
 abbrev pub AreOffsets32 : List ℕ → Frame → ℕ → List ℕ → Type 0
 AreOffsets32 f F count places = (n : ℕ) → n < count → slice_index places n ≡ min (off f F n) 4294967295
 

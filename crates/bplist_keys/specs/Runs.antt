@@ -3,7 +3,7 @@ use Rattle.std.specs.Prelude.{◌≡◌, ℕ, ◌+◌, ◌<◌, List, All}
 use Rattle.bplist_objects.specs.Scan.{nth_number}
 use Rattle.bplist_keys.specs.declared.runs.Run.{Run}
 
--- each slot holds a run of this file: its units are the same as those so many bytes further on
+-- each slot holds a run of this file: units that are the same as those so many bytes further on
 abbrev pub AreRuns : List ℕ → List Run → Type 0
 AreRuns f slots =
     All (λ run. (k : ℕ) → k < run.units → nth_number f run.from run.size k ≡ nth_number f (run.from + run.apart) run.size k) slots

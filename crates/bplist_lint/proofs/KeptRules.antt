@@ -89,7 +89,7 @@ module _ (f : List ℕ) (F : Frame) where
     pub formed_reach : KeepReached f F reach_rules F.objects
     formed_reach n lt r =
         let s = w.contents n r in
-        both_rules n (spells_keeps f F n w.frame lt s.0 s.1) (λ o.
+        both_rules n (spells_keeps f F n s.0 s.1) (λ o.
         let room = w.room o.0 o.1 o.2 (all_weaker _ _ (λ m k. k.0) o.0 o.3) o.4 in
         omega (arith, room, o.5))
 

@@ -6,6 +6,7 @@ use Rattle.bplist_objects.specs.declared.frame.Frame.{Frame}
 use Rattle.bplist_objects.specs.Heads.{Content, Spells, refs}
 use Rattle.bplist_objects.specs.Reach.{Reach, top, next}
 use Rattle.bplist_objects.proofs.Fronts.{one_head}
+use Rattle.bplist_objects.proofs.ProperLeaves.{refs_below}
 use Rattle.bplist_objects.proofs.ExtentSums.{room_weaker}
 use Rattle.bplist_objects.proofs.Lists.{all_at, all_weaker, all_from}
 use Rattle.bplist_objects.proofs.FrameTies.{numbered}
@@ -176,7 +177,7 @@ module _ (f : List ℕ) (F : Frame) where
       by m v (inr ne) = extends H K t keeps m (let e = get_or-set_other H n m g 0 ne in omega arith)
 
   sound_tabled : (n : ℕ) → n < F.objects → Reach f F n → Sound f F n → Tabled n
-  sound_tabled n lt q (sound h s u each) = go (all_tabled (refs h) (all_from Tabled (refs h) (λ m c. sound_tabled m (all_at _ (refs h) m s.refs c) (next q (h, s, c)) (each m c))))
+  sound_tabled n lt q (sound h s u each) = go (all_tabled (refs h) (all_from Tabled (refs h) (λ m c. sound_tabled m (all_at _ (refs h) m (refs_below f F n h s) c) (next q (h, s, c)) (each m c))))
     where
       go : (H : List ℕ) × Table H × AllByRecursion (λ m. 1 ≤ slice_index H m) (refs h) → Tabled n
       go r = by (cases_lt 0 (slice_index r.0 n))

@@ -1,6 +1,5 @@
 -- What an object's references are, by what was read of it.
-use Rattle.std.proofs.Common.{◌≡◌, ℕ, ◌<◌, ◌+◌, ◌-◌, min, IsTrue, List, [], drop, length, slice_index, Option, Some, None, inl, inr, refl, sym, ap, ◌∙◌, subst, arith}
-use Rattle.std.specs.List.{AllByRecursion}
+use Rattle.std.proofs.Common.{◌≡◌, ℕ, ◌<◌, ◌+◌, ◌-◌, min, IsTrue, List, [], drop, length, slice_index, Option, Some, None, inl, inr, refl, sym, ap, ◌∙◌, arith}
 use Rattle.std.proofs.lemmas.Bool.{cases_lt}
 use Rattle.std.proofs.lemmas.List.{nil_from_length, length-drop, get_or-drop, drop_all}
 use Rattle.std.specs.Option.{option_map_or}
@@ -8,15 +7,16 @@ use Rattle.bplist_objects.specs.declared.frame.Frame.{Frame}
 use Rattle.bplist_objects.specs.declared.head.Head.{Head}
 use Rattle.bplist_objects.specs.declared.kind.Kind.{Kind}
 use Rattle.bplist_objects.specs.declared.kind.Kind.TheVariants as kinds
-use Rattle.bplist_objects.specs.Heads.{Content, HasShape, is_proper, Spells, content_at, refs}
+use Rattle.bplist_objects.specs.Heads.{Content, HasShape, Spells, content_at, refs}
 use Rattle.bplist_objects.specs.Safe.{ref_count}
 use Rattle.bplist_objects.specs.Announced.{head_found}
-use Rattle.bplist_objects.specs.Spelled.{spelled_at, refs_at}
+use Rattle.bplist_objects.specs.Spelled.{is_proper, spelled_at, refs_at}
 use Rattle.bplist_objects.proofs.Fronts.{one_shape}
 use Rattle.bplist_objects.proofs.SpelledContents.{spells_iff}
 use Rattle.bplist_objects.proofs.References.{length-refs}
 use Rattle.bplist_objects.specs.Scan.{AreBelow, nth_number}
-use Rattle.bplist_objects.proofs.References.{nth-refs, each_ref, all_refs}
+use Rattle.bplist_objects.proofs.References.{nth-refs, all_refs}
+use Rattle.bplist_objects.proofs.ProperLeaves.{body_kept}
 use Rattle.bplist_objects.proofs.ReachedObjects.{refs_spelled}
 use Rattle.bplist_objects.proofs.HeadTies.{shape_announced, spells_body}
 use Rattle.bplist_lint.specs.declared.object_graph.View.{View}
@@ -68,7 +68,7 @@ module _ (f : List ℕ) (F : Frame) (n : ℕ) where
       record {
         count = ap length is ∙ length-refs f F h.kind h.count h.body;
         each = λ k l. ap (λ xs. slice_index xs k) is ∙ nth-refs f F h.kind h.count h.body k l;
-        low = each_ref f F (λ m. m < F.objects) h.kind h.count h.body (subst (λ x. AllByRecursion (λ m. m < F.objects) (refs x)) body s.refs);
+        low = s.kept.1.1.0 h has.has;
       }
 
   pub as_shape : (h : Head) → HasShape f F n h → (i : ℕ) → i < length (refs_at f F n) → IsAs h
@@ -133,9 +133,8 @@ module _ (f : List ℕ) (F : Frame) (n : ℕ) where
         let s : Spells f F n (content_at f F h) = record {
           shape = h;
           has = has;
-          proper = proper_container h.kind h.count h.body some;
+          kept = body_kept f F n h has.has (proper_container h.kind h.count h.body some) (all_refs f F (λ m. m < F.objects) h.kind h.count h.body below);
           means = refl;
-          refs = all_refs f F (λ m. m < F.objects) h.kind h.count h.body below;
         } in
         refs_spelled f F n (content_at f F h) s
     | inr none ↦

@@ -9,7 +9,7 @@ use Rattle.bplist_objects.specs.Frame.{off, IsFrame}
 use Rattle.bplist_objects.specs.Heads.{IsHeadOf}
 use Rattle.bplist_objects.specs.Announced.{HasHead}
 use Rattle.bplist_objects.specs.Safe.{ref_count}
-use Rattle.bplist_objects.specs.Rules.{KeepsAll}
+use Rattle.bplist_objects.specs.Rules.{KeepsAll, OfObject}
 use Rattle.bplist_objects.specs.ObjectRules.{KeepsByObject, object_rules, IsObjectFault}
 use Rattle.bplist_objects.specs.Reach.{Reach}
 use Rattle.bplist_objects.specs.Extents.{Sums}
@@ -18,7 +18,7 @@ use Rattle.bplist_objects.proofs.RuleLaws.{first_fault_after, first_fault_among}
 use Rattle.bplist_objects.proofs.HeadTies.{head_tie}
 use Rattle.bplist_keys.specs.Marks.{IsMarked}
 use Rattle.bplist_cert.specs.Lists.{lists}
-use Rattle.bplist_cert.specs.CheckRules.{KeepsRule, BreaksRuleAt}
+use Rattle.bplist_cert.specs.CheckRules.{KeepsRule, BreaksRule}
 use Rattle.bplist_lint.specs.ReachRules.{IsReachedFault, reach_rules, is_marked, Tallied}
 use Rattle.bplist_lint.specs.declared.tally.Tally.{Tally}
 use Rattle.bplist_lint.proofs.KeptRules.{both_rules}
@@ -54,7 +54,7 @@ module _ (f : List ℕ) (F : Frame) where
     object_fault fault h = record {
       object = n;
       member = reached;
-      first = first_fault_among (KeepsRule f F (Reach f F) (lists [] None) n) (BreaksRuleAt f F (Reach f F) (lists [] None) n) object_rules (rules.Overfull ∷ []) fault h;
+      first = first_fault_among (KeepsRule f F (Reach f F) (lists [] None) n) (OfObject n (BreaksRule f F (Reach f F) (lists [] None) n)) object_rules (rules.Overfull ∷ []) fault h;
       least = t.kept;
     }
 
@@ -70,7 +70,7 @@ module _ (f : List ℕ) (F : Frame) where
       room_fault fault rule object place full = record {
         object = n;
         member = reached;
-        first = first_fault_after (KeepsRule f F (Reach f F) (lists [] None) n) (BreaksRuleAt f F (Reach f F) (lists [] None) n) object_rules (rules.Overfull ∷ []) fault kept (inl (rule, (object, (overfull f F (Reach f F) n _ sums_with full, place))));
+        first = first_fault_after (KeepsRule f F (Reach f F) (lists [] None) n) (OfObject n (BreaksRule f F (Reach f F) (lists [] None) n)) object_rules (rules.Overfull ∷ []) fault kept (inl (rule, (object, (overfull f F (Reach f F) n _ sums_with full, place))));
         least = t.kept;
       }
 

@@ -10,7 +10,7 @@ use Rattle.bplist_objects.specs.Heads.{Content, Spells}
 use Rattle.bplist_objects.specs.Value.{Value}
 use Rattle.bplist_objects.specs.File.{FileHolds}
 use Rattle.bplist_objects.specs.Announced.{HasHead}
-use Rattle.bplist_objects.specs.Rules.{KeepsAll, IsFirstFault}
+use Rattle.bplist_objects.specs.Rules.{KeepsAll, IsFirstFault, OfObject}
 use Rattle.bplist_objects.specs.ObjectRules.{KeepsByObject, object_rules}
 use Rattle.bplist_objects.specs.Reach.{Reach, top, Founded}
 use Rattle.bplist_objects.specs.Extents.{Sums}
@@ -25,7 +25,7 @@ use Rattle.bplist_objects.proofs.HeadTies.{keeps_iff, shape_announced}
 use Rattle.bplist_cert.proofs.DecidedObjects.{fault_at}
 use Rattle.bplist_cert.proofs.DecidedKeys.{dict_decided, texts_or_first, differ_or_first}
 use Rattle.bplist_cert.specs.Lists.{lists}
-use Rattle.bplist_cert.specs.CheckRules.{KeepsRule, BreaksRuleAt, key_rules}
+use Rattle.bplist_cert.specs.CheckRules.{KeepsRule, BreaksRule, key_rules}
 use Rattle.bplist_cert.specs.KeyRepeats.{HasGoodKeys, BreaksKeys}
 use Rattle.bplist_lint.specs.ReachRules.{IsReachedFault, KeepReached, reach_rules}
 use Rattle.bplist_lint.specs.FileFault.{IsCircle, IsFileFault, IsFileCircle}
@@ -65,7 +65,7 @@ module _ (f : List ℕ) (F : Frame) (frame : IsFrame f F) where
   ]
 
   module _ (n t : ℕ) (lt : n < F.objects) (p : IsPassed n t) (r : Reach f F n) where
-    own_fault : (fault : Fault) → IsFirstFault (KeepsRule f F (Reach f F) (lists [] None) n) (BreaksRuleAt f F (Reach f F) (lists [] None) n) reach_rules fault → IsReachedFault f F reach_rules fault
+    own_fault : (fault : Fault) → IsFirstFault (KeepsRule f F (Reach f F) (lists [] None) n) (OfObject n (BreaksRule f F (Reach f F) (lists [] None) n)) reach_rules fault → IsReachedFault f F reach_rules fault
     own_fault fault first = record { object = n; member = r; first = first; least = p.kept }
 
     pass_kept : KeepsAll (KeepsByObject f F n) object_rules → ((u : ℕ) × IsPassed (suc n) u) ⊎ ((fault : Fault) × IsReachedFault f F reach_rules fault)
@@ -79,7 +79,7 @@ module _ (f : List ℕ) (F : Frame) (frame : IsFrame f F) where
               let fault = fault_at rules.Overfull n (off f F n) in
               inr (
                 fault,
-                own_fault fault (first_fault_after (KeepsRule f F (Reach f F) (lists [] None) n) (BreaksRuleAt f F (Reach f F) (lists [] None) n) object_rules (rules.Overfull ∷ []) fault kept
+                own_fault fault (first_fault_after (KeepsRule f F (Reach f F) (lists [] None) n) (OfObject n (BreaksRule f F (Reach f F) (lists [] None) n)) object_rules (rules.Overfull ∷ []) fault kept
                     (inl (refl, (refl, (overfull f F (Reach f F) n u sums full, refl))))),
               )
           | inr room ↦ inl (
@@ -95,7 +95,7 @@ module _ (f : List ℕ) (F : Frame) (frame : IsFrame f F) where
     pass_reached : ((u : ℕ) × IsPassed (suc n) u) ⊎ ((fault : Fault) × IsReachedFault f F reach_rules fault)
     pass_reached = elim (object_kept_or_fault f F n object_rules) [
       | inl kept ↦ pass_kept kept
-      | inr broken ↦ inr (broken.0, own_fault broken.0 (first_fault_among (KeepsRule f F (Reach f F) (lists [] None) n) (BreaksRuleAt f F (Reach f F) (lists [] None) n) object_rules (rules.Overfull ∷ []) broken.0 broken.1))
+      | inr broken ↦ inr (broken.0, own_fault broken.0 (first_fault_among (KeepsRule f F (Reach f F) (lists [] None) n) (OfObject n (BreaksRule f F (Reach f F) (lists [] None) n)) object_rules (rules.Overfull ∷ []) broken.0 broken.1))
     ]
 
   pass : (n : ℕ) → n ≤ F.objects → ((t : ℕ) × IsPassed n t) ⊎ ((fault : Fault) × IsReachedFault f F reach_rules fault)

@@ -14,7 +14,7 @@ use Rattle.bplist_cert.specs.Lists.{lists}
 use Rattle.bplist_cert.specs.CheckRules.{KeepBelow, IsLeastFault}
 use Rattle.bplist_lint.specs.declared.tally.Tally.{Tally}
 
--- the rules 14 to 20 and 31 of a reached object, in order; those of its keys come after them
+-- the rules of a reached object before those of keys, in order: 14 to 20 and 31
 abbrev pub reach_rules : List Rule
 reach_rules = object_rules ++ rules.Overfull ∷ []
 

@@ -9,7 +9,7 @@ use Rattle.bplist_lint.specs.Trail.{number}
 abbrev pub lint_failed : {X : Type 0} → Result X LintRefusal → Bool
 lint_failed answer = elim answer [ Err (refusals.Read _) ↦ true | _ ↦ false ]
 
--- P holds of the answer, Q of the fault, or R of the circle, unless a read failed or memory was refused
+-- P holds of the answer, Q of the fault or R of the circle, unless a read failed or memory was refused
 abbrev pub Lints : {X : Type 0} → (X → Type 0) → (Fault → Type 0) → (List ℕ → Type 0) → Result X LintRefusal → Type 0
 Lints P Q R answer = MatchResult answer P (λ refusal.
     elim refusal [ refusals.Fault fault ↦ Q fault | refusals.Circle circle ↦ R (map number circle) | _ ↦ Unit {0} ])

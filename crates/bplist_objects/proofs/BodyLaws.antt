@@ -8,11 +8,11 @@ use Rattle.bplist_objects.specs.declared.frame.Frame.{Frame}
 use Rattle.bplist_objects.specs.declared.head.Head.{Head}
 use Rattle.bplist_objects.specs.declared.kind.Kind.{Kind}
 use Rattle.bplist_objects.specs.declared.kind.Kind.TheVariants as kinds
-use Rattle.bplist_objects.specs.Rules.{KeepsAll}
+use Rattle.bplist_objects.specs.Rules.{KeepsAll, OfObject}
 use Rattle.bplist_objects.specs.Answers.{GivesFault}
 use Rattle.bplist_objects.specs.Safe.{IsSafe, IsSafeHead, ref_count}
 use Rattle.bplist_objects.specs.Announced.{HasHead, item_size}
-use Rattle.bplist_objects.specs.ObjectRules.{KeepsByObject, BreaksAt, IsObjectFault, shape_rules, body_rules, object_rules}
+use Rattle.bplist_objects.specs.ObjectRules.{KeepsByObject, BreaksByObject, IsObjectFault, shape_rules, body_rules, object_rules}
 use Rattle.bplist_objects.proofs.RuleLaws.{first_fault_after}
 use Rattle.bplist_objects.proofs.ScanLaws.{block_within}
 
@@ -42,4 +42,4 @@ module _ (f : List ℕ) (F : Frame) (n : ℕ) where
   pub object_fault_after : (e : ObjectFault) → KeepsAll (KeepsByObject f F n) shape_rules → GivesFault (IsObjectFault f F n body_rules) e → GivesFault (IsObjectFault f F n object_rules) e
   object_fault_after (errors.Read _) kept h = tt
   object_fault_after (errors.Fault fault) kept h =
-      first_fault_after (KeepsByObject f F n) (BreaksAt f F n) shape_rules body_rules fault kept h
+      first_fault_after (KeepsByObject f F n) (OfObject n (BreaksByObject f F n)) shape_rules body_rules fault kept h

@@ -5,8 +5,8 @@ use Rattle.bplist_objects.specs.declared.rule.Rule.TheVariants as rules
 use Rattle.bplist_objects.specs.declared.fault.Fault.{Fault}
 use Rattle.bplist_objects.specs.declared.frame.Frame.{Frame}
 use Rattle.bplist_objects.specs.declared.frame.ObjectNo.{ObjectNo}
-use Rattle.bplist_objects.specs.Rules.{KeepsAll, IsFirstFault}
-use Rattle.bplist_objects.specs.ObjectRules.{KeepsByObject, BreaksByObject, BreaksAt, IsObjectFault}
+use Rattle.bplist_objects.specs.Rules.{KeepsAll, IsFirstFault, OfObject}
+use Rattle.bplist_objects.specs.ObjectRules.{KeepsByObject, BreaksByObject, IsObjectFault}
 
 -- a rule that is kept is not broken
 pub kept_or_broken : (f : List ℕ) (F : Frame) (n : ℕ) (rule : Rule) (place : ℕ) → KeepsByObject f F n rule → BreaksByObject f F n rule place → ⊥
@@ -25,4 +25,4 @@ no_first_fault keeps breaks never (rule ∷ rules) fault kept (inr h) = no_first
 -- an object that keeps rules breaks none of them
 pub no_object_fault : (f : List ℕ) (F : Frame) (n : ℕ) (rules : List Rule) (fault : Fault) → KeepsAll (KeepsByObject f F n) rules → IsObjectFault f F n rules fault → ⊥
 no_object_fault f F n rules fault kept h =
-    no_first_fault (KeepsByObject f F n) (BreaksAt f F n) (λ rule object place k b. kept_or_broken f F n rule place k b.1) rules fault kept h
+    no_first_fault (KeepsByObject f F n) (OfObject n (BreaksByObject f F n)) (λ rule object place k b. kept_or_broken f F n rule place k b.1) rules fault kept h

@@ -8,11 +8,11 @@ use Rattle.bplist_objects.specs.declared.frame.ObjectNo.{ObjectNo}
 use Rattle.bplist_objects.specs.declared.head.Head.{Head}
 use Rattle.bplist_objects.specs.Frame.{off, trailer, header, Keeps, frame_rules, IsFrame}
 use Rattle.bplist_objects.specs.Heads.{Content, HasShape, Spells}
-use Rattle.bplist_objects.specs.Rules.{IsFirstFault}
+use Rattle.bplist_objects.specs.Rules.{IsFirstFault, OfObject}
 use Rattle.bplist_objects.specs.Scan.{nth_number, IsFirstNotBelow}
 use Rattle.bplist_objects.specs.Safe.{ref_count}
 use Rattle.bplist_objects.specs.FrameRules.{Breaks, IsFrameFault}
-use Rattle.bplist_objects.specs.ObjectRules.{KeepsByObject, BreaksAt, shape_rules, object_rules, IsObjectFault}
+use Rattle.bplist_objects.specs.ObjectRules.{KeepsByObject, BreaksByObject, shape_rules, object_rules, IsObjectFault}
 use Rattle.bplist_objects.proofs.ClaimLaws.{one_first}
 use Rattle.bplist_objects.proofs.Broken.{kept_or_broken, no_first_fault, no_object_fault}
 use Rattle.bplist_objects.proofs.BodyLaws.{HasHead-unique}
@@ -37,7 +37,7 @@ module _ (f : List ℕ) (F : Frame) (n : ℕ) where
 
   -- where a rule of 14 to 20 is broken nothing is spelled
   pub no_content : IsFrame f F → n < F.objects → (fault : Fault) (c : Content) → IsObjectFault f F n object_rules fault → Spells f F n c → ⊥
-  no_content frame lt fault c h s = no_object_fault f F n object_rules fault (spells_keeps f F n frame lt c s) h
+  no_content frame lt fault c h s = no_object_fault f F n object_rules fault (spells_keeps f F n c s) h
 
 -- ---- a first fault is one
 abbrev OnePlace : (Rule → Option ObjectNo → ℕ → Type 0) → Type 0
@@ -79,7 +79,7 @@ module _ (f : List ℕ) (F : Frame) (n : ℕ) where
       let same : i ≡ j = one_first (λ k. nth_number f head.body width k < bound) (count head) i j a c in
       ap (λ (x : Head). x.body + i * width) e ∙ ap (λ k. other.body + k * width) same
 
-  pub one_object_place : OnePlace (BreaksAt f F n)
+  pub one_object_place : OnePlace (OfObject n (BreaksByObject f F n))
   one_object_place rules.NotAscii o o' p p' (e, (head, i, has, kind, first, place)) (e', (other, j, has', kind', first', place')) =
       let same = one_not_below head other 1 (λ x. x.count) 128 i j (HasHead-unique f F n head other has has') first first' in
       (e ∙ sym e', omega (arith, same, place, place'))
@@ -89,4 +89,4 @@ module _ (f : List ℕ) (F : Frame) (n : ℕ) where
   one_object_place _ o o' p p' b c = (b.0 ∙ sym c.0, b.1.1 ∙ sym c.1.1)
 
   pub one_object_fault : (list : List Rule) (a b : Fault) → IsObjectFault f F n list a → IsObjectFault f F n list b → a ≡ b
-  one_object_fault list = one_first_fault (KeepsByObject f F n) (BreaksAt f F n) (λ rule object place k b. kept_or_broken f F n rule place k b.1) one_object_place list
+  one_object_fault list = one_first_fault (KeepsByObject f F n) (OfObject n (BreaksByObject f F n)) (λ rule object place k b. kept_or_broken f F n rule place k b.1) one_object_place list

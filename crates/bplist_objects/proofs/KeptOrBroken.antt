@@ -11,11 +11,11 @@ use Rattle.bplist_objects.specs.declared.kind.Kind.{Kind}
 use Rattle.bplist_objects.specs.declared.kind.Kind.TheVariants as kinds
 use Rattle.bplist_objects.specs.Numbers.{num_at}
 use Rattle.bplist_objects.specs.Frame.{off, trailer, header, Keeps, frame_rules}
-use Rattle.bplist_objects.specs.Rules.{KeepsAll, IsFirstFault}
+use Rattle.bplist_objects.specs.Rules.{KeepsAll, IsFirstFault, OfObject}
 use Rattle.bplist_objects.specs.Scan.{AreBelow, IsFirstNotBelow, nth_number}
 use Rattle.bplist_objects.specs.FrameRules.{Breaks, IsFrameFault}
 use Rattle.bplist_objects.specs.Announced.{HasHead, kind_at, head_found}
-use Rattle.bplist_objects.specs.ObjectRules.{KeepsByObject, BreaksByObject, BreaksAt, IsObjectFault}
+use Rattle.bplist_objects.specs.ObjectRules.{KeepsByObject, BreaksByObject, IsObjectFault}
 use Rattle.bplist_objects.specs.Safe.{ref_count}
 use Rattle.bplist_objects.proofs.Lists.{Either}
 use Rattle.bplist_objects.proofs.ClaimLaws.{all_or_failure}
@@ -188,9 +188,9 @@ module _ (f : List ℕ) (F : Frame) (n : ℕ) where
 
   -- an object keeps rules, or one of them is the first that it breaks
   pub object_kept_or_fault : (list : List Rule) → KeepsAll (KeepsByObject f F n) list ⊎ ((fault : Fault) × IsObjectFault f F n list fault)
-  object_kept_or_fault = kept_or_first_fault (KeepsByObject f F n) (BreaksAt f F n) each
+  object_kept_or_fault = kept_or_first_fault (KeepsByObject f F n) (OfObject n (BreaksByObject f F n)) each
     where
-      each : Decided (KeepsByObject f F n) (BreaksAt f F n)
+      each : Decided (KeepsByObject f F n) (OfObject n (BreaksByObject f F n))
       each rule = elim (object_rule_decided rule) [
         | inl k ↦ inl k
         | inr b ↦ inr (Some (record { 0 = n }), b.0, (refl, b.1))

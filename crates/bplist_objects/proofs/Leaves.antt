@@ -1,16 +1,15 @@
 -- What the body of a leaf means, by the kind of its head: so the calls that read leaves read the value that the definitions
 -- give.
-use Rattle.std.proofs.Common.{◌≡◌, ℕ, ◌≤◌, List, ℤ, IsTrue, refl, arith}
+use Rattle.std.proofs.Common.{◌≡◌, ℕ, ◌≤◌, List, ℤ, refl, arith}
 use Rattle.bplist_octets.specs.Octets.{part}
 use Rattle.bplist_objects.specs.declared.frame.Frame.{Frame}
 use Rattle.bplist_objects.specs.declared.kind.Kind.{Kind}
 use Rattle.bplist_objects.specs.declared.kind.Kind.TheVariants as kinds
 use Rattle.bplist_objects.specs.Numbers.{integer, num_at}
 use Rattle.bplist_objects.specs.Value.{Leaf, int, real, date, bytes, text, uid}
-use Rattle.bplist_objects.specs.Heads.{Content, content_of, is_proper, Spells}
+use Rattle.bplist_objects.specs.Heads.{Content, content_of, Spells}
 use Rattle.bplist_objects.specs.Kinds.{IsLeafKind}
 use Rattle.bplist_objects.specs.Units.{IsTextKind, units_at}
-use Rattle.bplist_objects.proofs.ProperLeaves.{le_decides}
 
 module _ (f : List ℕ) (F : Frame) where
   pub leaf_kind : (kind : Kind) (count body : ℕ) (l : Leaf) → Content.leaf l ≡ content_of f F kind count body → IsLeafKind kind
@@ -56,10 +55,7 @@ module _ (f : List ℕ) (F : Frame) where
   text_content kinds.Wide count body t = refl
   text_content _ count body t = absurd t
 
-  uid_low : (kind : Kind) (count body x : ℕ) → Content.leaf (uid x) ≡ content_of f F kind count body → IsTrue (is_proper f kind count body) → x ≤ 4294967295
-  uid_low kinds.Uid count body x e p = let same : x ≡ num_at f body count = cc e in omega (arith, same, (le_decides (num_at f body count) 4294967295).0 p)
-  uid_low _ count body x e p = cc e
-
   -- a UID that an object spells fits 32 bits, so its low 32 bits are all of it
   pub spelled_uid : (n x : ℕ) → Spells f F n (Content.leaf (uid x)) → x ≤ 4294967295
-  spelled_uid n x s = uid_low s.shape.kind s.shape.count s.shape.body x s.means s.proper
+  spelled_uid n x s =
+      let value = uid_value s.shape.kind s.shape.count s.shape.body x s.means in omega (arith, value.1, s.kept.1.0 s.shape s.has.has value.0)

@@ -1,8 +1,9 @@
 -- Laws of parts of lists of bytes and of powers of 256.
-use Rattle.std.proofs.Common.{◌≡◌, ℕ, zero, suc, ◌+◌, ◌*◌, ◌^◌, ◌<◌, ◌≤◌, List, length, get_or, take, drop, refl, sym, ap, ◌∙◌, arith, drop-cons}
+use Rattle.std.proofs.Common.{◌≡◌, ℕ, zero, suc, ◌+◌, ◌*◌, ◌^◌, ◌<◌, ◌≤◌, inl, inr, List, length, get_or, take, drop, refl, sym, ap, ◌∙◌, arith, drop-cons}
 use Rattle.std.proofs.Common.{get_or-take, get_or-drop}
 use Rattle.std.proofs.Common.{◌-◌}
-use Rattle.std.proofs.lemmas.List.{drop-take, drop-drop, take-take}
+use Rattle.std.proofs.lemmas.Bool.{cases_lt}
+use Rattle.std.proofs.lemmas.List.{drop-take, drop-drop, take-take, drop_all, get_or_past}
 use Rattle.std.proofs.Math.Nat.{pow-suc}
 use Rattle.std.proofs.lemmas.Nat.{pow-add}
 use Rattle.bplist_octets.specs.Octets.{part, num}
@@ -11,6 +12,14 @@ use Rattle.bplist_octets.proofs.Spelled.{num-one}
 -- the number of one byte
 pub num-part_one : (xs : List ℕ) (i : ℕ) → i < length xs → num (part xs i 1) ≡ get_or xs i 0
 num-part_one xs i h = rw (drop-cons xs i 0) (num-one (get_or xs i 0))
+
+-- the same, 0 past the end
+pub num-byte : (xs : List ℕ) (i : ℕ) → num (part xs i 1) ≡ get_or xs i 0
+unfolding num
+num-byte xs i = elim (cases_lt i (length xs)) [
+  | inl l ↦ num-part_one xs i l
+  | inr past ↦ ap (λ l. num (take 1 l)) (drop_all i xs past) ∙ sym (get_or_past xs i 0 past)
+]
 
 -- a power of 256 as a power of 2
 pub pow-256 : (k : ℕ) → 2 ^ (8 * k) ≡ 256 ^ k

@@ -5,6 +5,7 @@ use Rattle.bplist_objects.specs.declared.frame.Frame.{Frame}
 use Rattle.bplist_objects.specs.Heads.{Content, refs, Spells}
 use Rattle.bplist_objects.specs.Reach.{Refs, Reach, top, next, Chain, last, more, Founded, founded}
 use Rattle.bplist_objects.specs.Spelled.{spelled_at, refs_at}
+use Rattle.bplist_objects.proofs.ProperLeaves.{refs_below}
 use Rattle.bplist_objects.proofs.Lists.{all_at, none_in}
 use Rattle.bplist_objects.proofs.Fronts.{one_head}
 use Rattle.bplist_objects.proofs.SpelledContents.{spells_iff}
@@ -31,7 +32,7 @@ module _ (f : List ℕ) (F : Frame) where
   -- ---- what is reached
   -- an object that is referred to is one
   pub refs_within : (n m : ℕ) → Refs f F n m → m < F.objects
-  refs_within n m r = all_at (λ k. k < F.objects) (refs r.0) m r.1.refs r.2
+  refs_within n m r = all_at (λ k. k < F.objects) (refs r.0) m (refs_below f F n r.0 r.1) r.2
 
   pub reach_within : F.top.0 < F.objects → (n : ℕ) → Reach f F n → n < F.objects
   reach_within t n top = t

@@ -108,6 +108,6 @@ module _ (f block : List ℕ) (place done now : ℕ) (e : block ≡ part f (plac
   -- the first high byte of a part is the first of all
   pub high-part : (count i : ℕ) → done + now ≤ count → AreBelow f place 1 done 128 → IsFirstHigh block i → IsFirstNotBelow f place 1 count 128 (done + i)
   high-part count i within before h =
-      let l : i < now = omega (arith, h.within, len) in
+      let l : i < now = omega (arith, h.0, len) in
       first-block f block place 1 done now numbered 128 count i within before
-      (first_high block 0 1 now 128 i l (subst (λ x. 128 ≤ x) (sym (byte_nth block i h.within)) h.high) (below-bytes i (omega (arith, l)) h.before))
+      (first_high block 0 1 now 128 i l (subst (λ x. 128 ≤ x) (sym (byte_nth block i h.0)) h.2) (below-bytes i (omega (arith, l)) h.1))

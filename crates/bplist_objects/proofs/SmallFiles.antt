@@ -14,6 +14,7 @@ use Rattle.bplist_objects.specs.File.{FileHolds}
 use Rattle.bplist_objects.specs.SmallFiles.{small_file}
 use Rattle.bplist_objects.proofs.Lists.{all_weaker}
 use Rattle.bplist_objects.proofs.FrameTies.{Numbered, trailer_is_frame}
+use Rattle.bplist_objects.proofs.ProperLeaves.{body_kept}
 use Rattle.bplist_objects.proofs.ExtentSums.{most_none, most_more, shape_extent}
 use Rattle.bplist_objects.proofs.ReachedObjects.{reach_within}
 
@@ -68,9 +69,8 @@ unfolding num head_found kind_at
 true_0 = record {
   shape = record { kind = kinds.True; count = 0; body = 9; «end» = 9 };
   has = record { low = omega arith; has = refl; within = omega arith; inside = omega arith };
-  proper = refl;
+  kept = body_kept row_true (trailer row_true) 0 _ refl refl tt;
   means = refl;
-  refs = tt;
 }
 
 true_most : AtMost row_true (trailer row_true) (λ m. Reach row_true (trailer row_true) m × (m < 1)) 1
@@ -120,9 +120,8 @@ unfolding num head_found kind_at
 array_0 = record {
   shape = record { kind = kinds.Array; count = 2; body = 9; «end» = 11 };
   has = record { low = omega arith; has = refl; within = omega arith; inside = omega arith };
-  proper = refl;
+  kept = body_kept row_array (trailer row_array) 0 _ refl refl (omega arith, (omega arith, tt));
   means = refl;
-  refs = (omega arith, (omega arith, tt));
 }
 
 array_1 : Spells row_array (trailer row_array) 1 (Content.leaf (boolean true))
@@ -130,9 +129,8 @@ unfolding num head_found kind_at
 array_1 = record {
   shape = record { kind = kinds.True; count = 0; body = 12; «end» = 12 };
   has = record { low = omega arith; has = refl; within = omega arith; inside = omega arith };
-  proper = refl;
+  kept = body_kept row_array (trailer row_array) 1 _ refl refl tt;
   means = refl;
-  refs = tt;
 }
 
 array_most : AtMost row_array (trailer row_array) (λ m. Reach row_array (trailer row_array) m × (m < 2)) 4
@@ -184,9 +182,8 @@ unfolding num head_found kind_at
 dict_0 = record {
   shape = record { kind = kinds.Dict; count = 1; body = 9; «end» = 11 };
   has = record { low = omega arith; has = refl; within = omega arith; inside = omega arith };
-  proper = refl;
+  kept = body_kept row_dict (trailer row_dict) 0 _ refl refl (omega arith, (omega arith, tt));
   means = refl;
-  refs = (omega arith, (omega arith, tt));
 }
 
 dict_1 : Spells row_dict (trailer row_dict) 1 (Content.leaf (text (97 ∷ [])))
@@ -194,9 +191,8 @@ unfolding num head_found kind_at
 dict_1 = record {
   shape = record { kind = kinds.Ascii; count = 1; body = 12; «end» = 13 };
   has = record { low = omega arith; has = refl; within = omega arith; inside = omega arith };
-  proper = refl;
+  kept = body_kept row_dict (trailer row_dict) 1 _ refl refl tt;
   means = refl;
-  refs = tt;
 }
 
 dict_2 : Spells row_dict (trailer row_dict) 2 (Content.leaf (boolean true))
@@ -204,9 +200,8 @@ unfolding num head_found kind_at
 dict_2 = record {
   shape = record { kind = kinds.True; count = 0; body = 14; «end» = 14 };
   has = record { low = omega arith; has = refl; within = omega arith; inside = omega arith };
-  proper = refl;
+  kept = body_kept row_dict (trailer row_dict) 2 _ refl refl tt;
   means = refl;
-  refs = tt;
 }
 
 dict_most : AtMost row_dict (trailer row_dict) (λ m. Reach row_dict (trailer row_dict) m × (m < 3)) 6

@@ -7,11 +7,11 @@ use Rattle.std.proofs.lemmas.Bool.Decides.{Decides-and}
 use Rattle.bplist_objects.specs.declared.frame.Frame.{Frame}
 use Rattle.bplist_objects.specs.declared.head.Head.{Head}
 use Rattle.bplist_objects.specs.Frame.{off}
-use Rattle.bplist_objects.specs.Heads.{Content, refs, content_at, is_proper, Spells}
+use Rattle.bplist_objects.specs.Heads.{Content, refs, content_at, Spells}
 use Rattle.bplist_objects.specs.Announced.{HasHead, head_found}
-use Rattle.bplist_objects.specs.Spelled.{is_spelled, spelled_at}
+use Rattle.bplist_objects.specs.Spelled.{is_proper, is_spelled, spelled_at}
 use Rattle.bplist_objects.proofs.HeadLaws.{if_some}
-use Rattle.bplist_objects.proofs.ProperLeaves.{le_decides, low_decides}
+use Rattle.bplist_objects.proofs.ProperLeaves.{le_decides, low_decides, body_kept, kept_proper, refs_below}
 
 module _ (f : List ℕ) (F : Frame) (n : ℕ) where
   abbrev o : ℕ
@@ -36,9 +36,8 @@ module _ (f : List ℕ) (F : Frame) (n : ℕ) where
       record {
         shape = head;
         has = record { low = s.0; has = h; within = s.1.0; inside = s.1.1.0 };
-        proper = s.1.1.1.0;
+        kept = body_kept f F n head h s.1.1.1.0 s.1.1.1.1;
         means = refl;
-        refs = s.1.1.1.1;
       }
 
   abbrev content_found : Option Head → Option Content
@@ -52,7 +51,7 @@ module _ (f : List ℕ) (F : Frame) (n : ℕ) where
       to : Spells f F n c → spelled_at f F n ≡ Some c
       to s =
           let head = s.shape in
-          let rules : IsSpelled head = (s.has.low, (s.has.within, (s.has.inside, (s.proper, subst (λ x. AllByRecursion (λ m. m < F.objects) (refs x)) s.means s.refs)))) in
+          let rules : IsSpelled head = (s.has.low, (s.has.within, (s.has.inside, (kept_proper f F n head s.has.has s.kept, subst (λ x. AllByRecursion (λ m. m < F.objects) (refs x)) s.means (refs_below f F n c s))))) in
           ap content_found s.has.has ∙ ap (λ t. if t then Some (content_at f F head) else None) ((spelled_decides head).1 rules) ∙ ap Some (sym s.means)
 
       from : (found : Option Head) → head_found f F n ≡ found → content_found found ≡ Some c → Spells f F n c

@@ -15,7 +15,7 @@ use Rattle.bplist_objects.specs.Scan.{IsFirstNotBelow}
 abbrev pub from_end : List ℕ
 from_end = 0 ∷ 0 ∷ 0 ∷ 24 ∷ 16 ∷ 8 ∷ 8 ∷ 26 ∷ 25 ∷ 32 ∷ 25 ∷ 26 ∷ []
 
--- the file breaks this rule of 1 to 13, for this object and at this place: rule 13 by the first entry that is not below the table
+-- the file breaks this rule of 1 to 13, for this object and at this place; rule 13 by the first such entry
 abbrev pub Breaks : List ℕ → Rule → Option ObjectNo → ℕ → Type 0
 Breaks f Magic object place = FailsAt (λ n. (i : ℕ) → i < n → slice_index f i ≡ slice_index header i) 8 place × (object ≡ None)
 Breaks f OffsetHigh object place =

@@ -1,7 +1,6 @@
 -- What an object spells: what stands in the body of the head that its marker and count announce. Source: the format comment of
 -- CFBinaryPList.c.
-use Rattle.std.specs.Prelude.{◌≡◌, ℕ, ◌+◌, ◌*◌, ◌<◌, ◌≤◌, List, [], ◌++◌, length, Bool, true, false, nat_lt, nat_le, IsTrue}
-use Rattle.std.specs.List.{AllByRecursion, list_all}
+use Rattle.std.specs.Prelude.{◌≡◌, ℕ, ◌+◌, ◌*◌, ◌≤◌, List, [], ◌++◌, length, true, false}
 use Rattle.bplist_octets.specs.Octets.{part}
 use Rattle.bplist_objects.specs.declared.frame.Frame.{Frame}
 use Rattle.bplist_objects.specs.declared.kind.Kind.{Kind}
@@ -10,6 +9,8 @@ use Rattle.bplist_objects.specs.declared.head.Head.{Head}
 use Rattle.bplist_objects.specs.Numbers.{integer, num_at, nums_at}
 use Rattle.bplist_objects.specs.Frame.{off}
 use Rattle.bplist_objects.specs.Announced.{HasHead}
+use Rattle.bplist_objects.specs.Rules.{KeepsAll}
+use Rattle.bplist_objects.specs.ObjectRules.{KeepsByObject, body_rules}
 use Rattle.bplist_objects.specs.Value.{Leaf, null, boolean, int, real, date, bytes, text, uid}
 
 -- what an object spells: a leaf, or a container with the numbers of its references
@@ -22,12 +23,6 @@ pub data Content : Type 0 where
 -- the references in written order; of a dictionary keys first, then values
 abbrev pub refs : Content → List ℕ
 refs content = elim content [ leaf l ↦ [] | array ms ↦ ms | set ms ↦ ms | dict ks ms ↦ ks ++ ms ]
-
--- rules 18 and 19: Ascii bytes are below 128, a UID is not too large
-abbrev pub is_proper : List ℕ → Kind → ℕ → ℕ → Bool
-is_proper f kinds.Ascii count body = list_all (λ b. nat_lt b 128) (part f body count)
-is_proper f kinds.Uid count body = nat_le (num_at f body count) 4294967295
-is_proper f _ count body = true
 
 module _ (f : List ℕ) (F : Frame) where
   -- object n has this head between place 8 and the table: rules 14 to 17
@@ -57,13 +52,12 @@ module _ (f : List ℕ) (F : Frame) where
   abbrev pub content_at : Head → Content
   content_at head = content_of head.kind head.count head.body
 
-  -- object n spells this content: rules 14 to 20
+  -- object n spells this content: it keeps rules 14 to 20, and its body means this
   pub record Spells (n : ℕ) (content : Content) : Type 0 where
     pub shape : Head
     pub has : HasShape n shape
-    pub proper : IsTrue (is_proper f shape.kind shape.count shape.body)
+    pub kept : KeepsAll (KeepsByObject f F n) body_rules
     pub means : content ≡ content_at shape
-    pub refs : AllByRecursion (λ m. m < F.objects) (refs content)
 
   -- object n has this head and spells what its body means
   abbrev pub IsHeadOf : ℕ → Head → Type 0

@@ -1,16 +1,15 @@
 -- The rules 14 to 20 of an object by itself: how each is kept, and how it is broken and where. Source: the format comment of
 -- CFBinaryPList.c; all words, places and the order are profile.
-use Rattle.std.specs.Prelude.{◌≡◌, ℕ, ◌+◌, ◌*◌, ◌<◌, ◌≤◌, List, [], ◌∷◌, ◌++◌, slice_index, Option, Some, IsSome}
+use Rattle.std.specs.Prelude.{◌≡◌, ℕ, ◌+◌, ◌*◌, ◌<◌, ◌≤◌, List, [], ◌∷◌, ◌++◌, slice_index, IsSome}
 use Rattle.bplist_objects.specs.declared.rule.Rule.{Rule}
 use Rattle.bplist_objects.specs.declared.rule.Rule.TheVariants.{OffsetLow, Marker, Count, Extent, NotAscii, UidLarge, RefHigh}
 use Rattle.bplist_objects.specs.declared.fault.Fault.{Fault}
-use Rattle.bplist_objects.specs.declared.frame.ObjectNo.{ObjectNo}
 use Rattle.bplist_objects.specs.declared.frame.Frame.{Frame}
 use Rattle.bplist_objects.specs.declared.kind.Kind.TheVariants as kinds
 use Rattle.bplist_objects.specs.declared.head.Head.{Head}
 use Rattle.bplist_objects.specs.Numbers.{num_at}
 use Rattle.bplist_objects.specs.Frame.{off}
-use Rattle.bplist_objects.specs.Rules.{IsFirstFault}
+use Rattle.bplist_objects.specs.Rules.{IsFirstFault, OfObject}
 use Rattle.bplist_objects.specs.Scan.{AreBelow, IsFirstNotBelow}
 use Rattle.bplist_objects.specs.Safe.{ref_count}
 use Rattle.bplist_objects.specs.Announced.{kind_at, head_found, HasHead}
@@ -55,10 +54,6 @@ BreaksByObject f F n RefHigh place =
     × IsFirstNotBelow f head.body F.ref_size (ref_count head.kind head.count) F.objects i × (place ≡ head.body + i * F.ref_size)
 BreaksByObject f F n rule place = (KeepsByObject f F n rule → ⊥) × (place ≡ off f F n)
 
--- the same, if this is the object named
-abbrev pub BreaksAt : List ℕ → Frame → ℕ → Rule → Option ObjectNo → ℕ → Type 0
-BreaksAt f F n rule object place = (object ≡ Some (record { 0 = n })) × BreaksByObject f F n rule place
-
 -- the first of these rules that object n breaks
 abbrev pub IsObjectFault : List ℕ → Frame → ℕ → List Rule → Fault → Type 0
-IsObjectFault f F n rules fault = IsFirstFault (KeepsByObject f F n) (BreaksAt f F n) rules fault
+IsObjectFault f F n rules fault = IsFirstFault (KeepsByObject f F n) (OfObject n (BreaksByObject f F n)) rules fault

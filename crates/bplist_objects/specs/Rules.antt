@@ -1,5 +1,5 @@
 -- The first broken rule of a list of rules. Source: profile.
-use Rattle.std.specs.Prelude.{◌≡◌, ◌⊎◌, ℕ, List, [], ◌∷◌, Option}
+use Rattle.std.specs.Prelude.{◌≡◌, ◌⊎◌, ℕ, List, [], ◌∷◌, Option, Some}
 use Rattle.std.specs.List.{AllByRecursion}
 use Rattle.bplist_objects.specs.declared.rule.Rule.{Rule}
 use Rattle.bplist_objects.specs.declared.fault.Fault.{Fault}
@@ -15,3 +15,7 @@ IsFirstFault keeps breaks [] fault = ⊥
 IsFirstFault keeps breaks (rule ∷ rules) fault =
     ((fault.rule ≡ rule) × breaks rule fault.object fault.place)
     ⊎ (keeps rule × IsFirstFault keeps breaks rules fault)
+
+-- the object named is n, and it breaks the rule at this place
+abbrev pub OfObject : ℕ → (Rule → ℕ → Type 0) → Rule → Option ObjectNo → ℕ → Type 0
+OfObject n breaks rule object place = (object ≡ Some (record { 0 = n })) × breaks rule place

@@ -1,13 +1,23 @@
 -- What an object spells as a function of the file, for contracts inside crates that walk along references. Source: as in Heads, which
 -- the lemmas `spells_iff` and `refs_iff` tie it to.
-use Rattle.std.specs.Prelude.{ℕ, Bool, ◌&&◌, nat_lt, nat_le, if◌then◌else◌, List, [], length, Option, Some, None}
+use Rattle.std.specs.Prelude.{ℕ, Bool, true, ◌&&◌, nat_lt, nat_le, if◌then◌else◌, List, [], length, Option, Some, None}
 use Rattle.std.specs.List.{list_all}
 use Rattle.std.specs.Option.{option_and_then, option_map_or}
+use Rattle.bplist_octets.specs.Octets.{part}
 use Rattle.bplist_objects.specs.declared.frame.Frame.{Frame}
+use Rattle.bplist_objects.specs.declared.kind.Kind.{Kind}
+use Rattle.bplist_objects.specs.declared.kind.Kind.TheVariants as kinds
 use Rattle.bplist_objects.specs.declared.head.Head.{Head}
+use Rattle.bplist_objects.specs.Numbers.{num_at}
 use Rattle.bplist_objects.specs.Frame.{off}
-use Rattle.bplist_objects.specs.Heads.{Content, refs, content_at, is_proper}
+use Rattle.bplist_objects.specs.Heads.{Content, refs, content_at}
 use Rattle.bplist_objects.specs.Announced.{head_found}
+
+-- rules 18 and 19: Ascii bytes are below 128, a UID is not too large
+abbrev pub is_proper : List ℕ → Kind → ℕ → ℕ → Bool
+is_proper f kinds.Ascii count body = list_all (λ b. nat_lt b 128) (part f body count)
+is_proper f kinds.Uid count body = nat_le (num_at f body count) 4294967295
+is_proper f _ count body = true
 
 module _ (f : List ℕ) (F : Frame) where
   -- the object of an announced head keeps rules 14 to 20

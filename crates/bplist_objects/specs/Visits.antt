@@ -31,7 +31,8 @@ size_of_kind marker kind =
 abbrev pub size_said : ℕ → Option ℕ
 size_said marker = option_and_then (size_of_kind marker) (kind_at marker)
 
--- a visit of object n finds this: its end, where it keeps all rules of objects by themselves and has no references; or its head, where a rule looks into its body or its count follows the marker
+-- a visit of object n finds its end, where it keeps rules 14 to 20 and has no references; or its head, where a rule looks into
+-- its body or its count follows the marker
 abbrev pub IsVisited : List ℕ → Frame → ℕ → Visit → Type 0
 IsVisited f F n (visits.Done last) =
     (head : Head) × HasHead f F n head × (head.«end» ≡ last) × (ref_count head.kind head.count ≡ 0)

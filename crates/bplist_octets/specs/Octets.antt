@@ -16,7 +16,5 @@ abbrev pub AreLow : List ℕ → Type 0
 AreLow octets = (k : ℕ) → k < length octets → slice_index octets k < 128
 
 -- the first byte of 128 or more is here
-pub record IsFirstHigh (octets : List ℕ) (place : ℕ) : Type 0 where
-  pub within : place < length octets
-  pub high : 128 ≤ slice_index octets place
-  pub before : (k : ℕ) → k < place → slice_index octets k < 128
+abbrev pub IsFirstHigh : List ℕ → ℕ → Type 0
+IsFirstHigh octets place = (place < length octets) × ((k : ℕ) → k < place → slice_index octets k < 128) × (128 ≤ slice_index octets place)

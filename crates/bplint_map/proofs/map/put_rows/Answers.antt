@@ -1,13 +1,13 @@
-use Rattle.std.proofs.Common.{◌≡◌, ◌∙◌, ◌+◌, ◌++◌, ap, append_assoc, arith, codes, drop, max, refl, sym}
+use Rattle.std.proofs.Common.{◌≡◌, ◌∙◌, ◌+◌, ◌++◌, ap, append_assoc, arith, codes, drop, get_or, max, refl, subst, sym}
 use Rattle.std.proofs.lemmas.Result.{err_from_is_err_and}
-use Rattle.bplist_objects.specs.Framed.{frame_in}
+use Rattle.bplist_objects.specs.Framed.{HonestlyIn, frame_in}
 use Rattle.bplist_objects.specs.declared.frame.Frame.{Frame}
 use Rattle.bplist_ascii.proofs.SinkSteps.{some_of_takes, takes_more}
 use Rattle.bplint_lines.specs.declared.fault.RunFault.TheVariants as faults
 use Rattle.bplint_map.specs.Layout.{parts, row_end}
 use Rattle.bplint_map.specs.Lines.{region_line, row_lines, part_lines}
 use Rattle.bplint_map.specs.Rows.{rows}
-use Rattle.bplint_map.proofs.MapText.{no_more_lines, some_of_more, stepped, then_some}
+use Rattle.bplint_map.proofs.MapText.{IsRowOf, no_more_lines, some_of_more, stepped, then_some}
 use Rattle.bplint_map.proofs.map.put_rows.Goals as goal
 
 pub returns-in_err-row-clause-exact : goal.returns-in_err-row-clause-exact
@@ -27,13 +27,14 @@ returns-in_err-put-clause-exact g c = λ honest order all findings are.
     let p = err_from_is_err_and c.from_residual-in_err-put.result c.from_residual-in_err-put.ensures.1 in
     let w = c.loop-object.invariant.written honest order all findings are in
     let means = g.P.Source.means c.args.src.now in
-    let reads = rw c.loop-object.invariant.same at c.in_ok-row.ensures.exact in
+    let object = get_or c.deref-object-items.result.now c.loop-object.object-index (record { place = 0; number = 0 }) in
+    let reads = subst (λ m. HonestlyIn m (λ f F. IsRowOf f F object c.loop-object.left c.row_of.new.left c.in_ok-row.row)) c.loop-object.invariant.same c.in_ok-row.ensures.exact in
     let verdict = c.args.map.now.verdict in
     let lines = row_lines verdict c.loop-object.reached c.in_ok-row.row in
     let rest = part_lines verdict (parts (frame_in (g.P.Source.means c.args.src.now)).table (max c.loop-object.reached (row_end c.in_ok-row.row))
     (rows means.octets (frame_in (g.P.Source.means c.args.src.now)) findings c.row_of.new.left (drop (c.loop-object.object-index + 1) order))) in
     let line : c.as_bytes.result.now ≡ lines = c.as_bytes.ensures.value ∙ c.in_ok-add_row.ensures ∙ ap (λ l. l ++ lines) c.clear.ensures.bytes in
-    let text = stepped verdict (frame_in (g.P.Source.means c.args.src.now)).table means.octets (frame_in (g.P.Source.means c.args.src.now)) findings are _ w.0 c.loop-object.reached c.loop-object.left _ c.loop-object.object-index order
+    let text = stepped verdict (frame_in (g.P.Source.means c.args.src.now)).table means.octets (frame_in (g.P.Source.means c.args.src.now)) findings are _ w.0 c.loop-object.reached c.loop-object.left c.row_of.new.left c.loop-object.object-index order
     c.deref-object-items.result.now c.in_ok-row.row (record { place = 0; number = 0 }) (c.deref-object-items.ensures.value ∙ all) (omega arith) w.2 (reads honest) in
     let part = rw line at c.in_err-put.ensures.part in
     rw (p.1, p.2) (then_some _ _ _ _ _ _ w.0 (lines ++ rest) (faults.Write _) w.1
@@ -45,12 +46,13 @@ loop-object-preserved g c = record {
   written = λ honest order all findings are.
       let w = c.loop-object.invariant.written honest order all findings are in
       let means = g.P.Source.means c.args.src.now in
-      let reads = rw c.loop-object.invariant.same at c.in_ok-row.ensures.exact in
+      let object = get_or c.deref-object-items.result.now c.loop-object.object-index (record { place = 0; number = 0 }) in
+      let reads = subst (λ m. HonestlyIn m (λ f F. IsRowOf f F object c.loop-object.left c.row_of.new.left c.in_ok-row.row)) c.loop-object.invariant.same c.in_ok-row.ensures.exact in
       let verdict = c.args.map.now.verdict in
       let lines = row_lines verdict c.loop-object.reached c.in_ok-row.row in
       let line : c.as_bytes.result.now ≡ lines =
       c.as_bytes.ensures.value ∙ c.in_ok-add_row.ensures ∙ ap (λ l. l ++ lines) c.clear.ensures.bytes in
-      let text = stepped verdict (frame_in (g.P.Source.means c.args.src.now)).table means.octets (frame_in (g.P.Source.means c.args.src.now)) findings are _ w.0 c.loop-object.reached c.loop-object.left _ c.loop-object.object-index order
+      let text = stepped verdict (frame_in (g.P.Source.means c.args.src.now)).table means.octets (frame_in (g.P.Source.means c.args.src.now)) findings are _ w.0 c.loop-object.reached c.loop-object.left c.row_of.new.left c.loop-object.object-index order
       c.deref-object-items.result.now c.in_ok-row.row (record { place = 0; number = 0 }) (c.deref-object-items.ensures.value ∙ all) (omega arith) w.2 (reads honest) in
       let taken = rw line at c.in_ok-put.ensures.taken in
       (w.0 ++ lines, takes_more w.1 taken, rw (c.max-reached.ensures, c.end_of.ensures) (text ∙ sym (append_assoc w.0 lines _)));

@@ -1,4 +1,3 @@
-use Rattle.std.proofs.Common.{refl}
 use Rattle.bplist_objects.specs.Framed.{frame_in}
 use Rattle.bplist_objects.specs.ObjectRules.{KeepsByObject, body_rules, shape_rules}
 use Rattle.bplist_objects.specs.declared.fault.ObjectFault.TheVariants as errors
@@ -18,4 +17,4 @@ returns-in-Err-Fault-clause-exact g c = λ honest at has kept.
     let f = (g.P.Source.means c.args.src.now).octets in
     let F = frame_in (g.P.Source.means c.args.src.now) in
     let body = (rw (c.frame-frame.ensures.frame, c.in-Err-Fault.field-0-is) at c.in-Err-Fault.ensures.exact) honest at has.has in
-    (has, (c.in-Err-Fault.fault, object_fault_after f F c.args.object.number (errors.Fault c.in-Err-Fault.fault) kept body, refl))
+    (has, object_fault_after f F c.args.object.number (errors.Fault c.in-Err-Fault.fault) kept body)

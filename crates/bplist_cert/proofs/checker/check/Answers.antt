@@ -2,6 +2,7 @@ use Rattle.std.proofs.Common.{List, ℕ, sym, subst}
 use Rattle.std.proofs.lemmas.Grind.{merely}
 use Rattle.bplist_objects.specs.declared.frame.Frame.{Frame}
 use Rattle.bplist_objects.specs.Answers.{Never}
+use Rattle.bplist_objects.proofs.ProperLeaves.{refs_below}
 use Rattle.bplist_cert.specs.declared.refusal.Refusal.{Refusal}
 use Rattle.bplist_cert.specs.declared.refusal.Refusal.TheVariants as refusals
 use Rattle.bplist_cert.specs.Lists.{Lists}
@@ -34,7 +35,8 @@ returns-in-Ok-clause-one_value g c = λ honest.
 pub returns-in-Ok-clause-references : goal.returns-in-Ok-clause-references
 returns-in-Ok-clause-references g c = λ honest.
     let a = accepted (g.S.Source.means c.args.src).octets c.in-Ok.frame c.args.cert (c.in-Ok.ensures.exact honest) in
-    rw c.new.ensures.frame (λ n r. let s = reached_spells (g.S.Source.means c.args.src).octets c.in-Ok.frame c.args.cert.heights a.valid n r in merely (s.0, s.1, s.1.refs))
+    let f = (g.S.Source.means c.args.src).octets in
+    rw c.new.ensures.frame (λ n r. let s = reached_spells f c.in-Ok.frame c.args.cert.heights a.valid n r in merely (s.0, s.1, refs_below f c.in-Ok.frame n s.0 s.1))
 
 pub returns-in-Ok-clause-no_circle : goal.returns-in-Ok-clause-no_circle
 returns-in-Ok-clause-no_circle g c = λ honest.

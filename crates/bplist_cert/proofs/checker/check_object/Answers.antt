@@ -31,7 +31,7 @@ returns-in_err-now-in-Exact-clause-exact g c = λ honest place vouched sums.
 
 pub returns-in_err-check_refs-in-Exact-clause-exact : goal.returns-in_err-check_refs-in-Exact-clause-exact
 returns-in_err-check_refs-in-Exact-clause-exact g c = λ honest place vouched sums.
-    let shown = c.deref-heights.ensures.value ∙ ap (λ (x : Lists). x.heights) c.cert.view_is in
+    let shown = c.deref-heights-in-Exact.ensures.value ∙ ap (λ (x : Lists). x.heights) c.cert.view_is in
     let m = g.P.Source.means c.args.src.now in
     let F : Frame = frame_in m in
     let p = err_from_is_err_and c.from_residual-in_err-check_refs-in-Exact.result c.from_residual-in_err-check_refs-in-Exact.ensures.1 in
@@ -44,7 +44,7 @@ returns-in_err-check_refs-in-Exact-clause-exact g c = λ honest place vouched su
 
 pub returns-in_err-check_refs-in-Exact-2-clause-exact : goal.returns-in_err-check_refs-in-Exact-2-clause-exact
 returns-in_err-check_refs-in-Exact-2-clause-exact g c = λ honest place vouched sums.
-    let shown = c.deref-heights.ensures.value ∙ ap (λ (x : Lists). x.heights) c.cert.view_is in
+    let shown = c.deref-heights-in-Exact.ensures.value ∙ ap (λ (x : Lists). x.heights) c.cert.view_is in
     let m = g.P.Source.means c.args.src.now in
     let F : Frame = frame_in m in
     let p = err_from_is_err_and c.from_residual-in_err-check_refs-in-Exact-2.result c.from_residual-in_err-check_refs-in-Exact-2.ensures.1 in
@@ -100,7 +100,7 @@ returns-in_ok-check_refs-in-Body-clause-exact g c = λ honest place vouched sums
 
 pub returns-in_ok-check_refs-in-Exact-2-clause-exact : goal.returns-in_ok-check_refs-in-Exact-2-clause-exact
 returns-in_ok-check_refs-in-Exact-2-clause-exact g c = λ honest place vouched sums.
-    let shown = c.deref-heights.ensures.value ∙ ap (λ (x : Lists). x.heights) c.cert.view_is in
+    let shown = c.deref-heights-in-Exact.ensures.value ∙ ap (λ (x : Lists). x.heights) c.cert.view_is in
     let m = g.P.Source.means c.args.src.now in
     let F : Frame = frame_in m in
     let rules = c.in_ok-head-in-Exact.ensures.rules honest place in

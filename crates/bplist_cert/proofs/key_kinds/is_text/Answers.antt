@@ -1,10 +1,10 @@
-use Rattle.std.proofs.Common.{◌≡◌, ◌+◌, ◌*◌, ◌≤◌, length, inl, inr, arith, ap, refl}
+use Rattle.std.proofs.Common.{inl, inr, refl}
 use Rattle.std.proofs.lemmas.Bool.{false≢true}
 use Rattle.std.proofs.lemmas.Result.{IfOk-weaker}
 use Rattle.bplist_objects.specs.declared.frame.Frame.{Frame}
+use Rattle.bplist_objects.specs.Rules.{OfObject}
 use Rattle.bplist_objects.specs.Framed.{frame_in}
-use Rattle.bplist_objects.specs.Announced.{item_size}
-use Rattle.bplist_objects.specs.ObjectRules.{KeepsByObject, BreaksAt, shape_rules, body_rules}
+use Rattle.bplist_objects.specs.ObjectRules.{KeepsByObject, BreaksByObject, shape_rules, body_rules}
 use Rattle.bplist_objects.proofs.RuleLaws.{first_fault_among}
 use Rattle.bplist_objects.proofs.Units.{text_kind}
 use Rattle.bplist_cert.proofs.TextObjects.{text_there, no_text}
@@ -19,15 +19,11 @@ returns-in-Ascii-clause-exact g c = λ honest low placed.
     let framed = c.frame-frame.ensures.framed.framed honest in
     let within = rw c.frame-frame.ensures.frame at c.if-m-frame.false in
     let head = c.in-Ok.head in
-    let safe = rw c.frame-frame.ensures.frame at c.in-Ok.ensures.safe in
-    let one : head.count * item_size 1 head.kind ≡ head.count * 1 = ap (λ k. head.count * item_size 1 k) c.in-Ascii.is in
-    let by_one : head.count * item_size F.ref_size head.kind ≡ head.count * 1 = ap (λ k. head.count * item_size F.ref_size k) c.in-Ascii.is in
-    let room : head.body + head.count ≤ length f = omega (arith, by_one, safe.body, safe.table, c.frame-frame.ensures.framed.safe.safe.room) in
     let rules = (rw c.frame-frame.ensures.frame at c.in-Ok.ensures.rules) honest framed (placed within) in (
       h.0,
       (
         λ yes1. (head, text_there f F c.args.m framed within head rules.0 (low_kept f F c.args.m head rules.0 rules.1 c.in-Ascii.is (h.1.0 yes1)) (text_kind head.kind (inl c.in-Ascii.is))),
-        λ t. h.1.1 (text_is_low f F c.args.m head rules.0 c.in-Ascii.is room t.0 t.1),
+        λ t. h.1.1 (text_is_low f F c.args.m head rules.0 c.in-Ascii.is t.0 t.1),
       ),
     ))
     ((rw c.in-Ok.ensures.reads at c.covers.ensures.exact) honest low)
@@ -57,6 +53,6 @@ returns-in-Err-Fault-clause-exact g c = λ honest low placed.
       low,
       (
         λ never. absurd (false≢true never),
-        λ t. absurd (no_text f F c.args.m framed within c.in-Err-Fault.field-0-0 (first_fault_among (KeepsByObject f F c.args.m) (BreaksAt f F c.args.m) shape_rules body_rules c.in-Err-Fault.field-0-0 fault) t.0 t.1),
+        λ t. absurd (no_text f F c.args.m framed within c.in-Err-Fault.field-0-0 (first_fault_among (KeepsByObject f F c.args.m) (OfObject c.args.m (BreaksByObject f F c.args.m)) shape_rules body_rules c.in-Err-Fault.field-0-0 fault) t.0 t.1),
       ),
     )

@@ -1,8 +1,9 @@
-use Rattle.std.proofs.Common.{◌≡◌, Some, refl, ap, sym, subst, ◌∙◌, inl, inr, arith}
+use Rattle.std.proofs.Common.{◌≡◌, ◌≤◌, Some, length, refl, ap, sym, subst, ◌∙◌, inl, inr, arith}
 use Rattle.std.proofs.lemmas.Bool.{cases_eq}
 use Rattle.std.proofs.lemmas.Result.{err_from_is_err_and}
 use Rattle.bplist_objects.specs.declared.frame.Frame.{Frame}
 use Rattle.bplist_objects.specs.Framed.{frame_in}
+use Rattle.bplist_cert.specs.Lists.{Keyed}
 use Rattle.bplist_cert.specs.Valid.{IsVouchedBy}
 use Rattle.bplist_cert.specs.Looks.{KeepBeforeKeysBelow}
 use Rattle.bplist_cert.specs.KeyRepeats.{HasGoodKeys, BreaksKeys}
@@ -73,8 +74,10 @@ loop-n-preserved g c =
               λ m low vouched. elim (cases_eq m n) [
                 | inl e ↦
                     let here = subst (IsVouchedBy heights) e vouched in
-                    let none = c.may_be_wrong.ensures.none w.if-may_be_wrong.false here in
-                    subst (HasGoodKeys f F (Some c.args.keys.now)) (sym e) (low_list f F heights n (seen n c.loop-n-test.true here) c.args.keys.now none.0 none.1)
+                    let starts = c.deref.ensures.value ∙ ap (λ (x : Keyed). x.starts) c.keys.view_is in
+                    let positions = ap (λ (x : Keyed). length x.positions) c.keys.view_is in
+                    let none = (rw starts at c.may_be_wrong.ensures.none) w.if-may_be_wrong.false here in
+                    subst (HasGoodKeys f F (Some c.args.keys.now)) (sym e) (low_list f F heights n (seen n c.loop-n-test.true here) c.args.keys.now none.0 (omega (arith, none.1, c.len.ensures, positions)))
                 | inr d ↦ before.1 m (omega (arith, low, d)) vouched
               ],
             );

@@ -1,8 +1,9 @@
-use Rattle.std.proofs.Common.{◌≡◌, ◌+◌, sym, subst, ◌∙◌, length, inl, inr, arith}
+use Rattle.std.proofs.Common.{◌≡◌, ◌+◌, ap, sym, subst, ◌∙◌, length, inl, inr, arith}
 use Rattle.std.proofs.lemmas.Bool.{cases_eq, false≢true}
 use Rattle.std.proofs.lemmas.Result.{err_from_is_err_and}
 use Rattle.bplist_objects.specs.declared.frame.Frame.{Frame}
 use Rattle.bplist_objects.specs.Framed.{frame_in}
+use Rattle.bplist_cert.specs.Lists.{Keyed}
 use Rattle.bplist_cert.specs.Valid.{IsVouchedBy}
 use Rattle.bplist_cert.specs.KeysLooks.{IsListed, HaveGoodLists}
 use Rattle.bplist_cert.proofs.KeyRepeats.{seen_own}
@@ -15,6 +16,8 @@ loop-i-preserved-then-not-may_be_wrong g c =
     let F : Frame = frame_in (g.P.Source.means c.args.src.now) in
     let heights = c.args.seen.now.heights.now in
     let keyed = c.args.keys.now in
+    let starts = c.deref-starts.ensures.value ∙ ap (λ (x : Keyed). x.starts) c.keys.view_is in
+    let positions = ap (λ (x : Keyed). length x.positions) c.keys.view_is in
     let v = c.loop-i.invariant in
     let n = c.args.seen.now.bound + c.loop-i.i in
     record {
@@ -26,8 +29,8 @@ loop-i-preserved-then-not-may_be_wrong g c =
             good = λ good m low vouched. elim (cases_eq m n) [
               | inl e ↦
                   let here = subst (IsVouchedBy heights) e vouched in
-                  let none = c.may_be_wrong.ensures.none c.if-not-may_be_wrong.true here in
-                  subst (IsListed f F keyed) (sym e) (low_listed f F heights n (seen n (omega (arith, c.loop-i-test.true)) here) keyed none.0 none.1)
+                  let none = (rw starts at c.may_be_wrong.ensures.none) c.if-not-may_be_wrong.true here in
+                  subst (IsListed f F keyed) (sym e) (low_listed f F heights n (seen n (omega (arith, c.loop-i-test.true)) here) keyed none.0 (omega (arith, none.1, c.len-positions.ensures, positions)))
               | inr d ↦ before.good good m (omega (arith, low, d)) vouched
             ];
           };
