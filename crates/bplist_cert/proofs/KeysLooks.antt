@@ -1,10 +1,17 @@
 -- What a walk over the vouched objects finds of the keys of dictionaries.
-use Rattle.std.proofs.Common.{ℕ, List, Option, Some, None, arith}
+use Rattle.std.proofs.Common.{◌≡◌, ℕ, ◌+◌, ◌-◌, ◌≤◌, ◌<◌, ◌∙◌, ap, sym, List, length, slice_index, Option, Some, None, arith}
+use Rattle.std.proofs.lemmas.List.{get_or_past}
 use Rattle.bplist_objects.specs.declared.frame.Frame.{Frame}
 use Rattle.bplist_keys.specs.declared.named_keys.NamedKeys.{NamedKeys}
 use Rattle.bplist_cert.specs.declared.key_lists.ListLook.{ListLook}
 use Rattle.bplist_cert.specs.Lists.{Keyed, lists}
 use Rattle.bplist_cert.specs.KeysLooks.{AreLearnt, HaveGoodLists, AreSeen}
+
+-- behind a block of numbers that ends early the list has no more
+pub none_past : (numbers block : List ℕ) (from n m : ℕ) → ((k : ℕ) → k < n → slice_index block k ≡ slice_index numbers (from + k))
+    → from + length block ≤ m → m < from + n → slice_index numbers m ≡ 0
+none_past numbers block from n m at past low =
+    ap (slice_index numbers) (omega (arith, past)) ∙ sym (at (m - from) (omega (arith, past, low))) ∙ get_or_past block (m - from) 0 (omega (arith, past))
 
 -- of no objects nothing is said but what was learnt
 pub none_listed : (f : List ℕ) (F : Frame) (heights : List ℕ) (keyed : Keyed) (look : ListLook) → AreLearnt f F look → HaveGoodLists f F heights keyed 0 look

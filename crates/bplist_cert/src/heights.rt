@@ -1,6 +1,6 @@
 //! The heights of references: rules 28 and 29.
 
-ghost use Rattle.std.specs.Prelude.{◌≡◌, ◌↔◌, length, slice_index, IsTrue, MatchOption};
+ghost use Rattle.std.specs.Prelude.{◌≡◌, ◌↔◌, ℕ, ◌+◌, ◌≤◌, ◌<◌, length, slice_index, IsTrue, MatchOption};
 ghost use Rattle.bplist_cert.specs.Prelude.{OnlyReads, frame_in, HonestlyIn, IsSafeHead, ref_count, Gives, read_failed, Meets, AreMet, AreMetBy, IsFirstUnmetBy, IsUnmetFault, rule_of};
 
 use bplist_objects::{
@@ -53,6 +53,16 @@ pub(crate) fn height_at(heights: &[u32], n: u64) -> u32
     } else {
         0
     }
+}
+
+/// The numbers of at most `n` objects from number `from` on, as far as the list has them: a loop over these tests no bounds.
+pub(crate) fn block_of(numbers: &[u32], from: u32, n: usize) -> &[u32]
+    ensures few { length result.now ≤ n }
+    ensures at { (k : ℕ) → k < n → slice_index result.now k ≡ slice_index numbers.now (from + k) }
+{
+    let start = numbers.len().min(from as usize);
+    let many = n.min(numbers.len() - start);
+    &numbers[start..start + many]
 }
 
 /// The first of these references whose height is not as it is wanted.

@@ -4,7 +4,7 @@ ghost use Rattle.std.specs.Prelude.{◌≡◌, ◌+◌, ◌≤◌, ◌<◌, ℕ,
 ghost use Rattle.bplist_cert.specs.Prelude.{OnlyReads, Gives, Never, read_failed, off, ArePlaces, Frame as frame, frame_in, HonestlyIn, KeepsAll, KeepsByObject, object_rules, IsSafeHead, Head as head, Dict, ref, HasShape, IsTextKind, HasTextShape, lists, IsWhole, list_of, HasOrder, AreInOrder, HasGoodKeys, HaveGoodKeys, BreaksKeys, IsFirstKeysFault, AreFewKeys, AreKnown, HaveTextShapes, Follows, IsReadKey, IsSafeKey, IsSafeText, KeepBeforeKeysBelow, IsListed, HaveGoodLists, AreLearnt, IsVouchedBy};
 
 use crate::certificate::KeyLists;
-use crate::heights::height_at;
+use crate::heights::{block_of, height_at};
 use crate::key_kinds::{Dictionary, check_texts};
 use crate::key_order::{check_order, comes_after, part_of};
 use crate::key_pairs::OrderedPairs;
@@ -246,18 +246,16 @@ fn check_dict_order<P: Offsets>(
     check_order(src, keys, &dict, &mut look.pairs.runs)
 }
 
-/// Whether object `n` is vouched for and may have keys, or a key list without keys that starts behind all of so many positions. An
+/// Whether an object of this height may have keys, or a key list without keys that starts behind all of so many positions. An
 /// object of height 1 has no references.
-fn may_be_wrong(heights: &[u32], starts: &[u32], positions: usize, n: u32) -> bool
-    ensures vouched { IsTrue result → IsVouchedBy heights.now n }
-    ensures none { result ≡ false → IsVouchedBy heights.now n
-        → (slice_index heights.now n ≤ 1) × (slice_index starts.now n ≤ positions) }
+fn may_be_wrong(height: u32, start: u32, positions: usize) -> bool
+    ensures vouched { IsTrue result → 1 ≤ height }
+    ensures none { result ≡ false → 1 ≤ height → (height ≤ 1) × (start ≤ positions) }
 {
-    let height = height_at(heights, n as u64);
     if height != 1 {
         return height > 1;
     }
-    height_at(starts, n as u64) as usize > positions
+    start as usize > positions
 }
 
 /// Whether object `n`, which stands at `place`, has its keys in order in its key list, where it is a dictionary. Not inlined,
@@ -307,15 +305,14 @@ pub(crate) fn look_at_lists<P: Offsets>(
         return Ok(());
     }
     let _frame = src.frame();
-    let heights = seen.heights;
-    let starts: &[u32] = &keys.starts;
-    let positions = keys.positions.len();
-    for (i, place) in places.iter().enumerate() {
-        let n = seen.bound + i as u32;
-        if !may_be_wrong(heights, starts, positions, n) {
+    let heights = block_of(seen.heights, seen.bound, places.len());
+    let starts = block_of(&keys.starts, seen.bound, places.len());
+    for (i, height) in heights.iter().enumerate() {
+        if !may_be_wrong(*height, height_at(starts, i as u64), keys.positions.len()) {
             continue;
         }
-        if !is_listed(src, keys, n, *place, &mut look.pairs)? {
+        let n = seen.bound + i as u32;
+        if !is_listed(src, keys, n, places[i], &mut look.pairs)? {
             look.good = false;
             return Ok(());
         }
@@ -342,7 +339,12 @@ pub(crate) fn check_key_orders<P: Offsets>(
         return Ok(());
     }
     for n in 0..seen.bound {
-        if may_be_wrong(seen.heights, &keys.starts, keys.positions.len(), n) {
+        let height = height_at(seen.heights, n as u64);
+        if may_be_wrong(
+            height,
+            height_at(&keys.starts, n as u64),
+            keys.positions.len(),
+        ) {
             check_dict_order(src, seen, keys, n, look)?;
         }
     }

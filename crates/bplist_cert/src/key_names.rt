@@ -3,7 +3,7 @@
 ghost use Rattle.std.specs.Prelude.{◌≡◌, ◌+◌, ◌<◌, ◌≤◌, ℕ, IfOk, IfSome, length};
 ghost use Rattle.bplist_cert.specs.Prelude.{OnlyReads, Gives, Never, read_failed, off, frame_in, HonestlyIn, KeepsAll, KeepsByObject, object_rules, HasNamedKeys, HaveNamedKeys, ArePlaces, IsMarked, IsVouchedBy, KeepBeforeKeysBelow, Judges, refused_read};
 
-use crate::heights::height_at;
+use crate::heights::block_of;
 use crate::refusal::Refusal;
 use bplist_keys::{NamedKeys, name_keys};
 use bplist_objects::{Framed, Kind, ObjectFault, ObjectNo, read_offsets_in, shape_in};
@@ -52,10 +52,10 @@ pub(crate) fn name_block<P: Framed>(
         → Gives (λ _. HaveNamedKeys f F heights.now (from + length places.now) named.new.marks.items) Never result) }
 {
     let _frame = src.frame();
-    for (i, place) in places.iter().enumerate() {
-        let n = from + i as u32;
-        if height_at(heights, n as u64) > 1 {
-            name_object(src, n, *place, named)?;
+    let block = block_of(heights, from, places.len());
+    for (i, height) in block.iter().enumerate() {
+        if *height > 1 {
+            name_object(src, from + i as u32, places[i], named)?;
         }
     }
     Ok(())

@@ -1,13 +1,14 @@
-use Rattle.std.proofs.Common.{◌≡◌, ◌+◌, ap, sym, subst, ◌∙◌, length, inl, inr, arith}
-use Rattle.std.proofs.lemmas.Bool.{cases_eq, false≢true}
+use Rattle.std.proofs.Common.{◌≡◌, ◌+◌, ◌≤◌, ◌<◌, ap, sym, subst, ◌∙◌, length, slice_index, inl, inr, arith}
+use Rattle.std.proofs.lemmas.Bool.{cases_eq, cases_lt, false≢true}
 use Rattle.std.proofs.lemmas.Result.{err_from_is_err_and}
 use Rattle.bplist_objects.specs.declared.frame.Frame.{Frame}
 use Rattle.bplist_objects.specs.Framed.{frame_in}
-use Rattle.bplist_cert.specs.Lists.{Keyed}
+use Rattle.bplist_cert.specs.Lists.{Keyed, IsWhole}
 use Rattle.bplist_cert.specs.Valid.{IsVouchedBy}
-use Rattle.bplist_cert.specs.KeysLooks.{IsListed, HaveGoodLists}
+use Rattle.bplist_cert.specs.KeysLooks.{IsListed}
 use Rattle.bplist_cert.proofs.KeyRepeats.{seen_own}
 use Rattle.bplist_cert.proofs.KeyPairs.{low_listed}
+use Rattle.bplist_cert.proofs.KeysLooks.{none_past}
 use Rattle.bplist_cert.proofs.key_lists.look_at_lists.Goals as goal
 
 pub loop-i-preserved-then-not-may_be_wrong : goal.loop-i-preserved-then-not-may_be_wrong
@@ -16,10 +17,13 @@ loop-i-preserved-then-not-may_be_wrong g c =
     let F : Frame = frame_in (g.P.Source.means c.args.src.now) in
     let heights = c.args.seen.now.heights.now in
     let keyed = c.args.keys.now in
-    let starts = c.deref-starts.ensures.value ∙ ap (λ (x : Keyed). x.starts) c.keys.view_is in
-    let positions = ap (λ (x : Keyed). length x.positions) c.keys.view_is in
     let v = c.loop-i.invariant in
     let n = c.args.seen.now.bound + c.loop-i.i in
+    let under : c.loop-i.i < length c.args.places.now = omega (arith, c.loop-i-test.true, c.loop-i.auto.i-end, c.block_of-heights.ensures.few) in
+    let height = c.block_of-heights.ensures.at c.loop-i.i under in
+    let starts = c.deref.ensures.value ∙ ap (λ (x : Keyed). x.starts) c.keys.view_is in
+    let start = c.height_at.ensures ∙ c.block_of-starts.ensures.at c.loop-i.i under ∙ ap (λ xs. slice_index xs n) starts in
+    let positions = ap (λ (x : Keyed). length x.positions) c.keys.view_is in
     record {
       same = v.same;
       lists = λ honest places seen lists.
@@ -29,8 +33,10 @@ loop-i-preserved-then-not-may_be_wrong g c =
             good = λ good m low vouched. elim (cases_eq m n) [
               | inl e ↦
                   let here = subst (IsVouchedBy heights) e vouched in
-                  let none = (rw starts at c.may_be_wrong.ensures.none) c.if-not-may_be_wrong.true here in
-                  subst (IsListed f F keyed) (sym e) (low_listed f F heights n (seen n (omega (arith, c.loop-i-test.true)) here) keyed none.0 (omega (arith, none.1, c.len-positions.ensures, positions)))
+                  let none = c.may_be_wrong.ensures.none c.if-not-may_be_wrong.true (omega (arith, height, here)) in
+                  let low_height : slice_index heights n ≤ 1 = omega (arith, height, none.0) in
+                  let whole : IsWhole keyed n 0 = omega (arith, start, none.1, c.len.ensures, positions) in
+                  subst (IsListed f F keyed) (sym e) (low_listed f F heights n (seen n (omega (arith, under)) here) keyed low_height whole)
               | inr d ↦ before.good good m (omega (arith, low, d)) vouched
             ];
           };
@@ -41,18 +47,20 @@ returns-in_err-is_listed-clause-exact g c = λ honest places seen lists.
     let heights = c.args.seen.now.heights.now in
     let v = c.loop-i.invariant in
     let n = c.args.seen.now.bound + c.loop-i.i in
-    let here : IsVouchedBy heights n = c.may_be_wrong.ensures.vouched c.if-not-may_be_wrong.false in
+    let under : c.loop-i.i < length c.args.places.now = omega (arith, c.loop-i-test.true, c.loop-i.auto.i-end, c.block_of-heights.ensures.few) in
+    let here : IsVouchedBy heights n = omega (arith, c.block_of-heights.ensures.at c.loop-i.i under, c.may_be_wrong.ensures.vouched c.if-not-may_be_wrong.false) in
     let p = err_from_is_err_and c.from_residual.result c.from_residual.ensures.1 in
-    rw (p.1, p.2) ((rw v.same at c.in_err-is_listed.ensures.exact) honest (v.lists honest places seen lists).learnt.0 (places c.loop-i.i c.loop-i-test.true) (seen_own _ _ heights n (seen n (omega (arith, c.loop-i-test.true)) here)))
+    rw (p.1, p.2) ((rw v.same at c.in_err-is_listed.ensures.exact) honest (v.lists honest places seen lists).learnt.0 (places c.loop-i.i under) (seen_own _ _ heights n (seen n (omega (arith, under)) here)))
 
 pub returns-then-not-branch-clause-exact : goal.returns-then-not-branch-clause-exact
 returns-then-not-branch-clause-exact g c = λ honest places seen lists.
     let heights = c.args.seen.now.heights.now in
     let v = c.loop-i.invariant in
     let n = c.args.seen.now.bound + c.loop-i.i in
-    let here : IsVouchedBy heights n = c.may_be_wrong.ensures.vouched c.if-not-may_be_wrong.false in
+    let under : c.loop-i.i < length c.args.places.now = omega (arith, c.loop-i-test.true, c.loop-i.auto.i-end, c.block_of-heights.ensures.few) in
+    let here : IsVouchedBy heights n = omega (arith, c.block_of-heights.ensures.at c.loop-i.i under, c.may_be_wrong.ensures.vouched c.if-not-may_be_wrong.false) in
     let before = v.lists honest places seen lists in
-    let found = (rw v.same at c.in_ok-is_listed.ensures.exact) honest before.learnt.0 (places c.loop-i.i c.loop-i-test.true) (seen_own _ _ heights n (seen n (omega (arith, c.loop-i-test.true)) here)) in
+    let found = (rw v.same at c.in_ok-is_listed.ensures.exact) honest before.learnt.0 (places c.loop-i.i under) (seen_own _ _ heights n (seen n (omega (arith, under)) here)) in
     record { learnt = (found.0, before.learnt.1); good = λ never. absurd (false≢true never) }
 
 pub loop-i-preserved : goal.loop-i-preserved
@@ -62,12 +70,13 @@ loop-i-preserved g c =
     let heights = c.args.seen.now.heights.now in
     let v = c.loop-i.invariant in
     let n = c.args.seen.now.bound + c.loop-i.i in
-    let here : IsVouchedBy heights n = c.may_be_wrong.ensures.vouched c.if-not-may_be_wrong.false in
+    let under : c.loop-i.i < length c.args.places.now = omega (arith, c.loop-i-test.true, c.loop-i.auto.i-end, c.block_of-heights.ensures.few) in
+    let here : IsVouchedBy heights n = omega (arith, c.block_of-heights.ensures.at c.loop-i.i under, c.may_be_wrong.ensures.vouched c.if-not-may_be_wrong.false) in
     record {
       same = c.in_ok-is_listed.ensures.reads ∙ v.same;
       lists = λ honest places seen lists.
           let before = v.lists honest places seen lists in
-          let found = (rw v.same at c.in_ok-is_listed.ensures.exact) honest before.learnt.0 (places c.loop-i.i c.loop-i-test.true) (seen_own _ _ heights n (seen n (omega (arith, c.loop-i-test.true)) here)) in
+          let found = (rw v.same at c.in_ok-is_listed.ensures.exact) honest before.learnt.0 (places c.loop-i.i under) (seen_own _ _ heights n (seen n (omega (arith, under)) here)) in
           record {
             learnt = (found.0, before.learnt.1);
             good = λ good m low vouched. elim (cases_eq m n) [
@@ -79,7 +88,15 @@ loop-i-preserved g c =
 
 pub returns-clause-exact : goal.returns-clause-exact
 returns-clause-exact g c = λ honest places seen lists.
-    let f = (g.P.Source.means c.args.src.now).octets in
-    let F : Frame = frame_in (g.P.Source.means c.args.src.now) in
-    let e : c.args.seen.now.bound + c.loop-i.i ≡ c.args.seen.now.bound + length c.args.places.now = omega (arith, c.loop-i-test.false, c.loop-i.auto.i-end) in
-    subst (λ k. HaveGoodLists f F c.args.seen.now.heights.now c.args.keys.now k c.loop-i.look) e (c.loop-i.invariant.lists honest places seen lists)
+    let heights = c.args.seen.now.heights.now in
+    let bound = c.args.seen.now.bound in
+    let so_far = c.loop-i.invariant.lists honest places seen lists in
+    record {
+      learnt = so_far.learnt;
+      good = λ good m low vouched. elim (cases_lt m (bound + c.loop-i.i)) [
+        | inl before ↦ so_far.good good m before vouched
+        | inr past ↦
+            let none = none_past heights c.block_of-heights.result.now bound (length c.args.places.now) m c.block_of-heights.ensures.at (omega (arith, past, c.loop-i-test.false, c.loop-i.auto.i-end)) low in
+            absurd (omega (arith, none, vouched))
+      ];
+    }

@@ -1,21 +1,23 @@
-use Rattle.std.proofs.Common.{◌+◌, sym, subst, ◌∙◌, inl, inr, arith}
-use Rattle.std.proofs.lemmas.Bool.{cases_eq}
+use Rattle.std.proofs.Common.{◌+◌, ◌<◌, sym, subst, ◌∙◌, length, inl, inr, arith}
+use Rattle.std.proofs.lemmas.Bool.{cases_eq, cases_lt}
 use Rattle.std.proofs.lemmas.Result.{err_from_is_err_and}
 use Rattle.bplist_objects.specs.declared.frame.Frame.{Frame}
 use Rattle.bplist_objects.specs.Framed.{frame_in}
 use Rattle.bplist_keys.specs.Classes.{HasNamedKeys}
 use Rattle.bplist_cert.specs.Valid.{IsVouchedBy}
 use Rattle.bplist_cert.proofs.KeyRepeats.{seen_own, named_low}
+use Rattle.bplist_cert.proofs.KeysLooks.{none_past}
 use Rattle.bplist_cert.proofs.key_names.name_block.Goals as goal
-use Rattle.bplist_cert.proofs.key_names.name_block.Goals.{then-height_at-gt1+in_ok-name_object, else-height_at-gt1}
+use Rattle.bplist_cert.proofs.key_names.name_block.Goals.{then-height-gt1+in_ok-name_object, else-height-gt1}
 
 pub returns-in_err-name_object-clause-exact : goal.returns-in_err-name_object-clause-exact
 returns-in_err-name_object-clause-exact g c = λ honest places seen before.
     let i = c.loop-i.i in
     let so_far = c.loop-i.invariant.named honest places seen before in
-    let v : IsVouchedBy c.args.heights.now (c.args.from + i) = omega (arith, c.height_at.ensures, c.if-height_at-gt1.true) in
+    let under : i < length c.args.places.now = omega (arith, c.loop-i-test.true, c.loop-i.auto.i-end, c.block_of-block.ensures.few) in
+    let v : IsVouchedBy c.args.heights.now (c.args.from + i) = omega (arith, c.block_of-block.ensures.at i under, c.if-height-gt1.true) in
     let p = err_from_is_err_and c.from_residual.result c.from_residual.ensures.1 in
-    rw (p.1, p.2) ((rw c.loop-i.invariant.same at c.in_err-name_object.ensures.exact) honest (places i c.loop-i-test.true) (seen_own _ _ c.args.heights.now (c.args.from + i) (seen (c.args.from + i) (omega (arith, c.loop-i-test.true)) v)) so_far.0)
+    rw (p.1, p.2) ((rw c.loop-i.invariant.same at c.in_err-name_object.ensures.exact) honest (places i under) (seen_own _ _ c.args.heights.now (c.args.from + i) (seen (c.args.from + i) (omega (arith, under)) v)) so_far.0)
 
 pub loop-i-preserved : goal.loop-i-preserved
 loop-i-preserved g c =
@@ -24,8 +26,10 @@ loop-i-preserved g c =
     let F : Frame = frame_in (g.P.Source.means c.args.src.now) in
     let heights = c.args.heights.now in
     let n = c.args.from + c.loop-i.i in
-    elim c.if-height_at-gt1.branch [
-      | then-height_at-gt1+in_ok-name_object w ↦ record {
+    let under : c.loop-i.i < length c.args.places.now = omega (arith, c.loop-i-test.true, c.loop-i.auto.i-end, c.block_of-block.ensures.few) in
+    let height = c.block_of-block.ensures.at c.loop-i.i under in
+    elim c.if-height-gt1.branch [
+      | then-height-gt1+in_ok-name_object w ↦ record {
         same = rw w.src-is (w.in_ok-name_object.ensures.reads ∙ v.same);
         all = rw w.named-is (w.in_ok-name_object.ensures.all ∙ v.all);
         named = λ honest places seen before.
@@ -34,12 +38,12 @@ loop-i-preserved g c =
               w.in_ok-name_object.ensures.all ∙ so_far.0,
               λ m low vouched. elim (cases_eq m n) [
                 | inl e ↦ subst (HasNamedKeys f F w.name_object.new.named.marks.items) (sym e)
-                    ((rw v.same at w.in_ok-name_object.ensures.exact) honest (places c.loop-i.i c.loop-i-test.true) (seen_own f F heights n (seen n (omega (arith, c.loop-i-test.true)) (subst (IsVouchedBy heights) e vouched))) so_far.0)
+                    ((rw v.same at w.in_ok-name_object.ensures.exact) honest (places c.loop-i.i under) (seen_own f F heights n (seen n (omega (arith, under)) (subst (IsVouchedBy heights) e vouched))) so_far.0)
                 | inr d ↦ λ head has dict k l. w.in_ok-name_object.ensures.keeps _ (so_far.1 m (omega (arith, low, d)) vouched head has dict k l)
               ],
             );
       }
-      | else-height_at-gt1 w ↦ record {
+      | else-height-gt1 w ↦ record {
         same = rw w.src-is v.same;
         all = rw w.named-is v.all;
         named = λ honest places seen before.
@@ -47,7 +51,7 @@ loop-i-preserved g c =
             rw w.named-is (
               so_far.0,
               λ m low vouched. elim (cases_eq m n) [
-                | inl e ↦ named_low f F heights c.loop-i.named.marks.items m (seen m (omega (arith, e, c.loop-i-test.true)) vouched) (rw e (omega (arith, c.height_at.ensures, w.if-height_at-gt1.false)))
+                | inl e ↦ named_low f F heights c.loop-i.named.marks.items m (seen m (omega (arith, e, under)) vouched) (rw e (omega (arith, height, w.if-height-gt1.false)))
                 | inr d ↦ so_far.1 m (omega (arith, low, d)) vouched
               ],
             );
@@ -56,5 +60,12 @@ loop-i-preserved g c =
 
 pub returns-clause-exact : goal.returns-clause-exact
 returns-clause-exact g c = λ honest places seen before.
-    let so_far = c.loop-i.invariant.named honest places seen before in
-    (so_far.0, λ m low vouched. so_far.1 m (omega (arith, low, c.loop-i-test.false, c.loop-i.auto.i-end)) vouched)
+    let so_far = c.loop-i.invariant.named honest places seen before in (
+      so_far.0,
+      λ m low vouched. elim (cases_lt m (c.args.from + c.loop-i.i)) [
+        | inl before ↦ so_far.1 m before vouched
+        | inr past ↦
+            let none = none_past c.args.heights.now c.block_of-block.result.now c.args.from (length c.args.places.now) m c.block_of-block.ensures.at (omega (arith, past, c.loop-i-test.false, c.loop-i.auto.i-end)) low in
+            absurd (omega (arith, none, vouched))
+      ],
+    )
