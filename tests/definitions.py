@@ -15,10 +15,9 @@ HERE = pathlib.Path(__file__).resolve().parent.parent
 
 HEAD = """# Definitions
 
-Each definition that the contract of a public call cites, with the plain words above it in its file. The table counts those too that
-only definitions cite, since a reader has to believe them as well. Definitions use only what stands above them. The head of each
-file names its source: Apple's published CFBinaryPList.c, a standard, or `profile`, a choice of this project.
-`tests/definitions.py --write` makes this page, and the gate compares.
+Each definition that the contract of a public call cites, with the plain words above it in its file; the table counts those too that
+only definitions cite. The head of each file names its source: Apple's published CFBinaryPList.c, a standard, or `profile`, a choice
+of this project. `tests/definitions.py --write` makes this page, and the gate compares.
 
 | who relies on | has to believe definitions | of lines |
 |---|---|---|
