@@ -1,5 +1,5 @@
 -- One vouched object after the other.
-use Rattle.std.proofs.Common.{◌≡◌, ℕ, suc, ◌<◌, ◌≤◌, ◌+◌, ◌-◌, ◌*◌, min, ◌⊎◌, inl, inr, List, [], ◌∷◌, length, slice_index, Option, Some, None, sym, ap, ◌∙◌, subst, arith}
+use Rattle.std.proofs.Common.{◌≡◌, ℕ, suc, ◌<◌, ◌≤◌, ◌+◌, ◌-◌, ◌*◌, min, ◌⊎◌, inl, inr, List, [], ◌∷◌, length, slice_index, Option, Some, None, sym, ap, subst, arith}
 use Rattle.std.proofs.lemmas.Bool.{cases_lt}
 use Rattle.std.proofs.lemmas.List.{get_or_past}
 use Rattle.bplist_objects.specs.declared.rule.Rule.{Rule}

@@ -5,7 +5,7 @@ ghost use Rattle.bplist_cert.specs.Prelude.{AllByRecursion, OnlyReads, Honestly,
 
 use crate::certificate::Certificate;
 use crate::checked::Checked;
-use crate::heights::{Wanted, check_refs, height_at};
+use crate::heights::{Wanted, check_refs};
 use crate::keys_look::{KeysLook, VouchedPrefix, keys_look};
 use crate::refusal::Refusal;
 use bplist_keys::{OffsetReader, Offsets};
@@ -81,7 +81,7 @@ fn check_object<P: Framed>(
         → Gives (IsCheckedObject f F walk.entry.certificate.now quick n.0)
         (IsShownFault f F walk.entry.certificate.now walk.entry.look n.0) result) }
 {
-    let frame = src.frame();
+    let _frame = src.frame();
     let cert = walk.certificate;
     match walk.look {
         Look::Quick => match visit_in(src, n, place)? {
@@ -89,10 +89,11 @@ fn check_object<P: Framed>(
             Visit::Body(head) => {
                 let now = check_extent(src, n, place, head.end, used)?;
                 if refs_of(&head) == 0 {
+                    let frame = src.frame();
                     check_body(src, &frame, n, place, &head)?;
                 } else {
                     let heights: &[u32] = &cert.heights;
-                    let own = height_at(heights, n.0 as u64);
+                    let own = heights[n.0 as usize];
                     check_refs(src, heights, n, &head, Wanted::VouchedBelow(own))?;
                 }
                 Ok(now)
@@ -103,7 +104,7 @@ fn check_object<P: Framed>(
             let now = check_extent(src, n, place, head.end, used)?;
             let heights: &[u32] = &cert.heights;
             check_refs(src, heights, n, &head, Wanted::Vouched)?;
-            let own = height_at(heights, n.0 as u64);
+            let own = heights[n.0 as usize];
             check_refs(src, heights, n, &head, Wanted::Below(own))?;
             Ok(now)
         }
@@ -132,7 +133,7 @@ fn check_block<P: Framed>(
     let mut used = used;
     for (i, place) in places.iter().enumerate() {
         let n = ObjectNo(from + i as u32);
-        if height_at(heights, n.0 as u64) > 0 {
+        if heights[n.0 as usize] > 0 {
             used = check_object(src, walk, n, *place, used)?;
         }
     }

@@ -301,14 +301,16 @@ pub(crate) fn look_at_lists<P: Offsets>(
         → HaveGoodLists f F seen.now.heights.now keys.now seen.now.bound look.old → Gives (λ _.
         HaveGoodLists f F seen.now.heights.now keys.now (seen.now.bound + length places.now) look.new) Never result) }
 {
+    let heights = block_of(seen.heights, seen.bound, places.len());
+    let starts = block_of(&keys.starts, seen.bound, places.len());
+    // Certificates have a start for each height: to know it here spares the loop a test of bounds.
+    look.good = look.good && starts.len() == heights.len();
     if !look.good {
         return Ok(());
     }
     let _frame = src.frame();
-    let heights = block_of(seen.heights, seen.bound, places.len());
-    let starts = block_of(&keys.starts, seen.bound, places.len());
     for (i, height) in heights.iter().enumerate() {
-        if !may_be_wrong(*height, height_at(starts, i as u64), keys.positions.len()) {
+        if !may_be_wrong(*height, starts[i], keys.positions.len()) {
             continue;
         }
         let n = seen.bound + i as u32;

@@ -1,4 +1,4 @@
-use Rattle.std.proofs.Common.{◌≡◌, ◌+◌, ◌∙◌, ap, suc, length, refl, subst, arith}
+use Rattle.std.proofs.Common.{◌≡◌, ◌+◌, ◌∙◌, ap, suc, length, slice_index, refl, subst, arith}
 use Rattle.std.proofs.lemmas.Result.{err_from_is_err_and}
 use Rattle.bplist_objects.specs.Framed.{frame_in}
 use Rattle.bplist_cert.specs.declared.checker.Look.TheVariants.{Quick}
@@ -6,7 +6,7 @@ use Rattle.bplist_cert.specs.Lists.{Lists}
 use Rattle.bplist_cert.specs.PairFault.{AreCheckedBelow}
 use Rattle.bplist_cert.proofs.CheckSteps.{passed, held_more, fault_met, given_weaker}
 use Rattle.bplist_cert.specs.Valid.{IsVouchedBy}
-use Rattle.bplist_cert.proofs.checker.check_block.Goals.{then-height_at-gt0+in_ok-used, else-height_at-gt0}
+use Rattle.bplist_cert.proofs.checker.check_block.Goals.{then-heights-n-gt0+in_ok-used, else-heights-n-gt0}
 use Rattle.bplist_cert.proofs.checker.check_block.Goals as goal
 
 pub loop-i-init : goal.loop-i-init
@@ -25,24 +25,24 @@ loop-i-preserved g c =
     let m = g.P.Source.means c.args.src.now in
     let heights = c.args.walk.certificate.now.heights in
     let keys = c.args.walk.certificate.now.keys in
-    let height = rw shown at c.height_at.ensures in
+    let height = ap (λ xs. slice_index xs (c.args.from + c.loop-i.i)) shown in
     let e : suc (c.args.from + c.loop-i.i) ≡ c.args.from + (c.loop-i.i + 1) = omega arith in
-    elim c.if-height_at-gt0.branch [
-      | then-height_at-gt0+in_ok-used w ↦ rw (w.src-is, w.used-is) record {
+    elim c.if-heights-n-gt0.branch [
+      | then-heights-n-gt0+in_ok-used w ↦ rw (w.src-is, w.used-is) record {
         same = w.in_ok-used.ensures.reads ∙ c.loop-i.invariant.same;
         running = λ honest places run.
             let exact = rw c.loop-i.invariant.same at w.in_ok-used.ensures.exact in
-            let v : IsVouchedBy heights (c.args.from + c.loop-i.i) = omega (arith, height, w.if-height_at-gt0) in
+            let v : IsVouchedBy heights (c.args.from + c.loop-i.i) = omega (arith, height, w.if-heights-n-gt0) in
             let before = c.loop-i.invariant.running honest places run in
             subst (λ k. AreCheckedBelow m.octets (frame_in m) c.args.walk.certificate.now Quick k w.in_ok-used.used) e
             (held_more m.octets (frame_in m) heights keys (c.args.from + c.loop-i.i) Quick c.loop-i.used before w.in_ok-used.used
             (exact honest (places c.loop-i.i c.loop-i-test.true) v before.sums));
       }
-      | else-height_at-gt0 w ↦ rw (w.src-is, w.used-is) record {
+      | else-heights-n-gt0 w ↦ rw (w.src-is, w.used-is) record {
         same = c.loop-i.invariant.same;
         running = λ honest places run.
             subst (λ k. AreCheckedBelow m.octets (frame_in m) c.args.walk.certificate.now Quick k c.loop-i.used) e
-            (passed m.octets (frame_in m) heights keys (c.args.from + c.loop-i.i) Quick (omega (arith, height, w.if-height_at-gt0)) c.loop-i.used (c.loop-i.invariant.running honest places run));
+            (passed m.octets (frame_in m) heights keys (c.args.from + c.loop-i.i) Quick (omega (arith, height, w.if-heights-n-gt0)) c.loop-i.used (c.loop-i.invariant.running honest places run));
       }
     ]
 
@@ -53,7 +53,7 @@ returns-in_err-used-clause-exact g c = λ honest places run.
     let heights = c.args.walk.certificate.now.heights in
     let keys = c.args.walk.certificate.now.keys in
     let exact = rw c.loop-i.invariant.same at c.in_err-used.ensures.exact in
-    let v : IsVouchedBy heights (c.args.from + c.loop-i.i) = omega (arith, rw shown at c.height_at.ensures, c.if-height_at-gt0.true) in
+    let v : IsVouchedBy heights (c.args.from + c.loop-i.i) = omega (arith, ap (λ xs. slice_index xs (c.args.from + c.loop-i.i)) shown, c.if-heights-n-gt0.true) in
     let before = c.loop-i.invariant.running honest places run in
     let p = err_from_is_err_and c.from_residual.result c.from_residual.ensures.1 in
     rw (p.1, p.2) (given_weaker _ _ c.in_err-used.field-0.0

@@ -52,8 +52,7 @@ returns-in_err-check_refs-in-Exact-2-clause-exact g c = λ honest place vouched 
     let h = rw (place, c.in_ok-head-in-Exact.ensures.reads) at c.in_ok-now-in-Exact.ensures in
     let room = rw h.0 at h.1 in
     let met = (rw (c.in_ok-head-in-Exact.ensures.reads, shown) at c.in_ok-check_refs-in-Exact.ensures.exact) honest in
-    let own = c.height_at-own-in-Exact.ensures in
-    let unmet = (rw (c.in_ok-check_refs-in-Exact.ensures.reads, c.in_ok-head-in-Exact.ensures.reads, own, shown) at c.in_err-check_refs-in-Exact-2.ensures.exact) honest in
+    let unmet = (rw (c.in_ok-check_refs-in-Exact.ensures.reads, c.in_ok-head-in-Exact.ensures.reads, shown) at c.in_err-check_refs-in-Exact-2.ensures.exact) honest in
     rw (p.1, p.2, c.in-Exact.is) (heights_fault m.octets F c.args.walk.certificate.now.heights c.args.walk.certificate.now.keys c.args.n.0 (c.frame-frame.ensures.framed.framed honest) c.requires.within
     c.in_ok-head-in-Exact.head rules.0 rules.1 vouched c.args.used sums room c.in_err-check_refs-in-Exact-2.field-0.0 (given_weaker _ _ c.in_err-check_refs-in-Exact-2.field-0.0 (λ fault h. inr (met, h)) unmet))
 
@@ -77,7 +76,7 @@ returns-in_ok-check_body-in-Body-clause-exact g c = λ honest place vouched sums
     let visited = (rw c.in-Body.is at c.in_ok-end-in-Quick.ensures.exact) honest place in
     let h = rw (place, c.in_ok-end-in-Quick.ensures.reads) at c.in_ok-now-in-Body.ensures in
     let room = rw h.0 at h.1 in
-    let body = (rw (c.in_ok-end-in-Quick.ensures.reads, c.frame-frame.ensures.frame) at c.in_ok-check_body-in-Body.ensures.exact) honest place visited.0 in
+    let body = (rw (c.frame-frame-then-refs_of-eq0.ensures.frame, c.in_ok-end-in-Quick.ensures.reads) at c.in_ok-check_body-in-Body.ensures.exact) honest place visited.0 in
     let kept = kept_all_after (KeepsByObject f F c.args.n.0) shape_rules body_rules visited.1 body in
     let none : ref_count c.in-Body.head.kind c.in-Body.head.count ≡ 0 = omega (arith, c.refs_of.ensures, c.if-refs_of-eq0.true) in
     rw h.0 (seen f F c.args.walk.certificate.now.heights c.args.walk.certificate.now.keys c.args.n.0 (c.frame-frame.ensures.framed.framed honest) c.requires.within
@@ -91,8 +90,7 @@ returns-in_ok-check_refs-in-Body-clause-exact g c = λ honest place vouched sums
     let visited = (rw c.in-Body.is at c.in_ok-end-in-Quick.ensures.exact) honest place in
     let h = rw (place, c.in_ok-end-in-Quick.ensures.reads) at c.in_ok-now-in-Body.ensures in
     let room = rw h.0 at h.1 in
-    let own = c.height_at-own.ensures in
-    let met = (rw (c.in_ok-end-in-Quick.ensures.reads, own, shown) at c.in_ok-check_refs-in-Body.ensures.exact) honest in
+    let met = (rw (c.in_ok-end-in-Quick.ensures.reads, shown) at c.in_ok-check_refs-in-Body.ensures.exact) honest in
     let body = body_kept f F c.args.walk.certificate.now.heights c.args.n.0 c.in-Body.head visited.0 (λ none. c.if-refs_of-eq0.false (c.refs_of.ensures ∙ none)) c.requires.all met in
     let kept = kept_all_after (KeepsByObject f F c.args.n.0) shape_rules body_rules visited.1 body in
     rw h.0 (seen f F c.args.walk.certificate.now.heights c.args.walk.certificate.now.keys c.args.n.0 (c.frame-frame.ensures.framed.framed honest) c.requires.within
@@ -107,7 +105,6 @@ returns-in_ok-check_refs-in-Exact-2-clause-exact g c = λ honest place vouched s
     let h = rw (place, c.in_ok-head-in-Exact.ensures.reads) at c.in_ok-now-in-Exact.ensures in
     let room = rw h.0 at h.1 in
     let met = (rw (c.in_ok-head-in-Exact.ensures.reads, shown) at c.in_ok-check_refs-in-Exact.ensures.exact) honest in
-    let own = c.height_at-own-in-Exact.ensures in
-    let low = (rw (c.in_ok-check_refs-in-Exact.ensures.reads, c.in_ok-head-in-Exact.ensures.reads, own, shown) at c.in_ok-check_refs-in-Exact-2.ensures.exact) honest in
+    let low = (rw (c.in_ok-check_refs-in-Exact.ensures.reads, c.in_ok-head-in-Exact.ensures.reads, shown) at c.in_ok-check_refs-in-Exact-2.ensures.exact) honest in
     rw h.0 (seen m.octets F c.args.walk.certificate.now.heights c.args.walk.certificate.now.keys c.args.n.0 (c.frame-frame.ensures.framed.framed honest) c.requires.within
     c.in_ok-head-in-Exact.head rules.0 rules.1 vouched c.args.used sums room met low)

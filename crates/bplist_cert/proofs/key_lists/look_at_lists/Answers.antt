@@ -1,4 +1,4 @@
-use Rattle.std.proofs.Common.{◌≡◌, ◌+◌, ◌≤◌, ◌<◌, ap, sym, subst, ◌∙◌, length, slice_index, inl, inr, arith}
+use Rattle.std.proofs.Common.{◌+◌, ◌≤◌, ◌<◌, ap, sym, subst, ◌∙◌, length, slice_index, inl, inr, arith}
 use Rattle.std.proofs.lemmas.Bool.{cases_eq, cases_lt, false≢true}
 use Rattle.std.proofs.lemmas.Result.{err_from_is_err_and}
 use Rattle.bplist_objects.specs.declared.frame.Frame.{Frame}
@@ -22,7 +22,7 @@ loop-i-preserved-then-not-may_be_wrong g c =
     let under : c.loop-i.i < length c.args.places.now = omega (arith, c.loop-i-test.true, c.loop-i.auto.i-end, c.block_of-heights.ensures.few) in
     let height = c.block_of-heights.ensures.at c.loop-i.i under in
     let starts = c.deref.ensures.value ∙ ap (λ (x : Keyed). x.starts) c.keys.view_is in
-    let start = c.height_at.ensures ∙ c.block_of-starts.ensures.at c.loop-i.i under ∙ ap (λ xs. slice_index xs n) starts in
+    let start = c.block_of-starts.ensures.at c.loop-i.i under ∙ ap (λ xs. slice_index xs n) starts in
     let positions = ap (λ (x : Keyed). length x.positions) c.keys.view_is in
     record {
       same = v.same;
