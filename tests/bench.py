@@ -1,12 +1,14 @@
 #!/usr/bin/env python3
-"""bench.py PROGRAM [WORD..]
+"""bench.py [--beside OTHER] PROGRAM [WORD..]
 
 Times PROGRAM on large property lists and prints ratios: how many times as long as reading the file once (`cat` to
 nothing), each the best of ten runs, all rows in turn, and the peak memory of a run. Where gcc and libplist's headers are there,
-libplist's parse of the same file is timed beside it. With words, only the files whose name has one of them are timed.
+libplist's parse of the same file is timed beside it. OTHER is a bplint too, as that of an earlier state: then each row ends with
+the ratio to what OTHER takes in the same run. With words, only the files whose name has one of them are timed.
 
 FILE is read through the program's windows; `-` (standard input) is read whole, so that the run is over a slice.
 """
+import argparse
 import dataclasses
 import math
 import os
@@ -92,32 +94,40 @@ def make(name, path):
     pathlib.Path(path).write_bytes(plistlib.dumps(FILES[name](), fmt=plistlib.FMT_BINARY))
 
 
+def time_file(name, folder, program, other, parser):
+    """Times the programs on one of the files, and prints a line for each row."""
+    file, cert, sorted_cert = (os.path.join(folder, part) for part in ("file", "cert", "sorted"))
+    subprocess.run([sys.executable, __file__, "--make", name, file], check=True)
+    subprocess.run([program, "certify", file, cert], check=False)
+    subprocess.run([program, "certify", "--sorted", file, sorted_cert], check=False)
+    keys = [f"key{i:06}" for i in range(100_000)] if name == "100,000 keys" else []
+    once = Row("read once", ["cat", file])
+    timed = list(rows(program, file, sorted_cert, cert, parser, keys))
+    beside = {row.name: row for row in rows(other, file, sorted_cert, cert, None, keys)} if other else {}
+    # All rows in turn, so that a machine that grows slower or faster meanwhile does so for all of them.
+    for _ in range(ROUNDS):
+        for row in [once, *timed, *beside.values()]:
+            row.run()
+    print(f"{name}: {os.path.getsize(file):,} bytes, read once in {once.seconds * 1000:.1f} ms")
+    for row in timed:
+        times = f"{row.seconds / once.seconds:8.1f} x {row.seconds * 1000:9.1f} ms"
+        ratio = f"  {row.seconds / beside[row.name].seconds:.3f} of OTHER" if row.name in beside else ""
+        print(f"  {row.name:28} {times} {row.memory:7.1f} MiB  status {row.status}{ratio}")
+
+
 def main():
-    if len(sys.argv) < 2:
-        sys.exit(__doc__)
-    if sys.argv[1] == "--make":
+    if sys.argv[1:2] == ["--make"]:
         return make(*sys.argv[2:])
-    program, wanted = os.path.abspath(sys.argv[1]), sys.argv[2:]
+    reader = argparse.ArgumentParser(description=__doc__, formatter_class=argparse.RawDescriptionHelpFormatter)
+    reader.add_argument("--beside", metavar="OTHER", type=os.path.abspath)
+    reader.add_argument("program", metavar="PROGRAM", type=os.path.abspath)
+    reader.add_argument("words", metavar="WORD", nargs="*")
+    line = reader.parse_args()
     with tempfile.TemporaryDirectory(prefix="bplint") as folder:
         parser = libplist(folder)
         for name in FILES:
-            if wanted and not any(word in name for word in wanted):
-                continue
-            file, cert, sorted_cert = (os.path.join(folder, part) for part in ("file", "cert", "sorted"))
-            subprocess.run([sys.executable, __file__, "--make", name, file], check=True)
-            subprocess.run([program, "certify", file, cert], check=False)
-            subprocess.run([program, "certify", "--sorted", file, sorted_cert], check=False)
-            keys = [f"key{i:06}" for i in range(100_000)] if name == "100,000 keys" else []
-            once = Row("read once", ["cat", file])
-            timed = list(rows(program, file, sorted_cert, cert, parser, keys))
-            # All rows in turn, so that a machine that grows slower or faster meanwhile does so for all of them.
-            for _ in range(ROUNDS):
-                for row in [once, *timed]:
-                    row.run()
-            print(f"{name}: {os.path.getsize(file):,} bytes, read once in {once.seconds * 1000:.1f} ms")
-            for row in timed:
-                times = f"{row.seconds / once.seconds:8.1f} x {row.seconds * 1000:9.1f} ms"
-                print(f"  {row.name:28} {times} {row.memory:7.1f} MiB  status {row.status}")
+            if not line.words or any(word in name for word in line.words):
+                time_file(name, folder, line.program, line.beside, parser)
 
 
 if __name__ == "__main__":
