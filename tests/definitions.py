@@ -22,7 +22,7 @@ of this project. `tests/definitions.py --write` makes this page, and the gate co
 | who relies on | has to believe definitions | of lines |
 |---|---|---|
 """
-THEOREM = {"check", "answer_all", "Certificate", "Checked", "Source"}
+THEOREM = {"answer_certified", "Certificate", "Source"}
 PROGRAM = {"bplint_lines", "bplint_map", "bplint_engine"}
 
 DECLARED = re.compile(r"( *)(?:abbrev|unfoldable) pub (\S+)|( *)pub (?:record|data) (\S+)")
