@@ -148,9 +148,9 @@ module _ (f : List ℕ) (F : Frame) (n : ℕ) where
   with_head P Q each = elim head_decided [
     | inr none ↦ inl (λ head h. absurd (none (head, h)))
     | inl there ↦ elim (each there.0) [
-        | inl p ↦ inl (λ other k. subst P (HasHead-unique f F n there.0 other there.1 k) p)
-        | inr q ↦ inr (there.0, there.1, q)
-      ]
+      | inl p ↦ inl (λ other k. subst P (HasHead-unique f F n there.0 other there.1 k) p)
+      | inr q ↦ inr (there.0, there.1, q)
+    ]
   ]
 
   of_head : (P : Head → Type 0) → ((head : Head) → Either (P head)) → Either ((head : Head) → HasHead f F n head → P head)
@@ -175,9 +175,9 @@ module _ (f : List ℕ) (F : Frame) (n : ℕ) where
   early_decided = elim head_decided [
     | inr none ↦ inr (λ h. none (h.0, h.1))
     | inl there ↦ elim (is_le there.0.«end» F.table) [
-        | inl l ↦ inl (there.0, there.1, l)
-        | inr late ↦ inr (λ h. late (subst (λ (x : Head). x.«end» ≤ F.table) (HasHead-unique f F n h.0 there.0 h.1 there.1) h.2))
-      ]
+      | inl l ↦ inl (there.0, there.1, l)
+      | inr late ↦ inr (λ h. late (subst (λ (x : Head). x.«end» ≤ F.table) (HasHead-unique f F n h.0 there.0 h.1 there.1) h.2))
+    ]
   ]
 
   object_rule_decided : (rule : Rule) → KeepsByObject f F n rule ⊎ ((place : ℕ) × BreaksByObject f F n rule place)

@@ -1,4 +1,5 @@
--- What the marker and the count at the place of an object announce. Source: the format comment of CFBinaryPList.c.
+-- The front of an object, which is its marker with the count, and the head that the file's bytes announce by it. Source: the format
+-- comment of CFBinaryPList.c.
 use Rattle.std.specs.Prelude.{◌≡◌, ◌⊎◌, ℕ, ◌+◌, ◌*◌, ◌^◌, ◌<◌, ◌≤◌, List, [], ◌∷◌, length}
 use Rattle.bplist_octets.specs.Octets.{part, num}
 use Rattle.bplist_objects.specs.declared.frame.Frame.{Frame}
@@ -7,18 +8,25 @@ use Rattle.bplist_objects.specs.declared.kind.Kind.TheVariants as kinds
 use Rattle.bplist_objects.specs.declared.head.Head.{Head}
 use Rattle.bplist_objects.specs.Frame.{off}
 
--- how many bytes of the body each of the count takes
+-- how many bytes of the body one item of the count takes
 abbrev pub item_size : ℕ → Kind → ℕ
 item_size ref_size kind =
     elim kind [ kinds.Wide ↦ 2 | kinds.Array ↦ ref_size | kinds.Set ↦ ref_size | kinds.Dict ↦ 2 * ref_size | _ ↦ 1 ]
 
--- a marker of this high half with its count: in the low half, or in an integer object behind it, where the low half is 15
-abbrev pub IsCount : ℕ → ℕ → List ℕ → Type 0
-IsCount high count front =
-    ((count < 15) × (front ≡ (16 * high + count) ∷ []))
-    ⊎ ((w : ℕ) × (l : List ℕ) × (w ≤ 4) × (length l ≡ 2 ^ w) × (num l ≡ count) × (front ≡ (16 * high + 15) ∷ (16 + w) ∷ l))
+-- a short count is below 15, and stands in the low half of the marker
+abbrev pub IsShortCount : ℕ → ℕ → List ℕ → Type 0
+IsShortCount high count front = (count < 15) × (front ≡ (16 * high + count) ∷ [])
 
--- the bytes before the body of an object of this kind and count: 00; 08; 09; 1w; 22 and 23; 33; 4n; 5n; 6n; 8n; An; Cn; Dn
+-- a long count stands behind a marker with low half 15, as an integer object of 1, 2, 4, 8 or 16 bytes
+abbrev pub IsLongCount : ℕ → ℕ → List ℕ → Type 0
+IsLongCount high count front =
+    (w : ℕ) × (l : List ℕ) × (w ≤ 4) × (length l ≡ 2 ^ w) × (num l ≡ count) × (front ≡ (16 * high + 15) ∷ (16 + w) ∷ l)
+
+-- the front is a marker with this high half and the count, short or long
+abbrev pub IsCount : ℕ → ℕ → List ℕ → Type 0
+IsCount high count front = IsShortCount high count front ⊎ IsLongCount high count front
+
+-- the front of an object of this kind and count, the bytes before its body: 00; 08; 09; 1w; 22 and 23; 33; 4n; 5n; 6n; 8n; An; Cn; Dn
 abbrev pub IsFront : Kind → ℕ → List ℕ → Type 0
 IsFront kinds.Null count front = (count ≡ 0) × (front ≡ 0 ∷ [])
 IsFront kinds.False count front = (count ≡ 0) × (front ≡ 8 ∷ [])
@@ -34,16 +42,16 @@ IsFront kinds.Array count front = IsCount 10 count front
 IsFront kinds.Set count front = IsCount 12 count front
 IsFront kinds.Dict count front = IsCount 13 count front
 
--- the byte is the marker of a kind
+-- the byte begins some front
 abbrev pub IsMarker : ℕ → Type 0
 IsMarker marker = (kind : Kind) × (count : ℕ) × (rest : List ℕ) × IsFront kind count (marker ∷ rest)
 
--- a marker of this kind may say this count
+-- some front is of this kind and count
 abbrev pub MayCount : Kind → ℕ → Type 0
 MayCount kind count = (front : List ℕ) × IsFront kind count front
 
 module _ (f : List ℕ) (F : Frame) where
-  -- the bytes from the place of object n on announce this head
+  -- the file's bytes from the offset of object n on are a front, and this is the head that it announces
   pub record HasHead (n : ℕ) (head : Head) : Type 0 where
     pub front : List ℕ
     pub announces : IsFront head.kind head.count front

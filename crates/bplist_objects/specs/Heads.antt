@@ -1,4 +1,4 @@
--- What an object spells: what stands in the body of the head that its marker and count announce. Source: the format comment of
+-- What an object spells, which is the meaning of the body behind its front. Source: the format comment of
 -- CFBinaryPList.c.
 use Rattle.std.specs.Prelude.{◌≡◌, ℕ, ◌+◌, ◌*◌, ◌<◌, ◌≤◌, List, [], ◌++◌, All, true, false}
 use Rattle.bplist_octets.specs.Octets.{part}
@@ -49,7 +49,8 @@ module _ (f : List ℕ) (F : Frame) where
   abbrev pub content_at : Head → Content
   content_at head = content_of head.kind head.count head.body
 
-  -- object n spells this content: it has a head, whose body means this, and keeps rules 18 to 20
+  -- object n has a head whose body means this content: ASCII text has bytes below 128, a UID is at most 4294967295, and each
+  -- reference is the number of an object
   pub record Spells (n : ℕ) (content : Content) : Type 0 where
     pub shape : Head
     pub has : HasShape n shape

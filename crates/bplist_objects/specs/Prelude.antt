@@ -4,7 +4,7 @@ pub use Rattle.std.specs.declared.cmp.Ordering.TheVariants.{Less, Equal}
 pub use Rattle.bplist_octets.specs.Meaning.{Honestly, OnlyReads, last_count}
 pub use Rattle.bplist_octets.specs.Octets.{num, part}
 pub use Rattle.bplist_octets.specs.Windows.{borrowed}
-pub use Rattle.bplist_objects.specs.Announced.{HasHead, IsMarker, MayCount, item_size}
+pub use Rattle.bplist_objects.specs.Announced.{HasHead, IsFront, IsMarker, MayCount, item_size}
 pub use Rattle.bplist_objects.specs.Answers.{Gives, Never, read_failed}
 pub use Rattle.bplist_objects.specs.CountFaults.{IsLongCountFault}
 pub use Rattle.bplist_objects.specs.File.{FileHolds}
