@@ -12,10 +12,10 @@ use Rattle.bplist_objects.specs.Markers.{head_found}
 abbrev pub HasTextShape : List ℕ → Frame → ℕ → Type 0
 HasTextShape f F m = (head : Head) × (HasShape f F m head × IsTextKind head.kind)
 
--- object m has such a head, and these are its units
+-- object m has the head of a text, and these are its units
 abbrev pub HasUnits : List ℕ → Frame → ℕ → List ℕ → Type 0
 HasUnits f F m units = (head : Head) × HasShape f F m head × IsTextKind head.kind × (units ≡ units_of f head)
 
--- the units of object m by computation, if it has the head of a text, for contracts inside crates; the law `units_are` ties them
+-- the units of object m, computed for contracts inside crates: those of its head, or none; the lemma `units_are` ties the two
 abbrev pub text_units : List ℕ → Frame → ℕ → List ℕ
 text_units f F m = option_map_or (units_of f) (head_found f F m) []
