@@ -1,5 +1,5 @@
--- The front of an object, which is its marker with the count, and the head that the file's bytes announce by it. Source: the format
--- comment of CFBinaryPList.c.
+-- The front of an object, its marker and count, and the head that the file's bytes announce by it. Source: the format comment
+-- of CFBinaryPList.c.
 use Rattle.std.specs.Prelude.{◌≡◌, ◌⊎◌, ℕ, ◌+◌, ◌*◌, ◌^◌, ◌<◌, ◌≤◌, List, [], ◌∷◌, length}
 use Rattle.bplist_octets.specs.Octets.{part, num}
 use Rattle.bplist_objects.specs.declared.frame.Frame.{Frame}
@@ -26,7 +26,7 @@ IsLongCount high count front =
 abbrev pub IsCount : ℕ → ℕ → List ℕ → Type 0
 IsCount high count front = IsShortCount high count front ⊎ IsLongCount high count front
 
--- the front of an object of this kind and count, the bytes before its body: 00; 08; 09; 1w; 22 and 23; 33; 4n; 5n; 6n; 8n; An; Cn; Dn
+-- the front of an object of this kind and count, which is the bytes before its body
 abbrev pub IsFront : Kind → ℕ → List ℕ → Type 0
 IsFront kinds.Null count front = (count ≡ 0) × (front ≡ 0 ∷ [])
 IsFront kinds.False count front = (count ≡ 0) × (front ≡ 8 ∷ [])

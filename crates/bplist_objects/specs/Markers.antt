@@ -1,5 +1,5 @@
--- The head that marker and count announce, found by a function, and the same by place and index: for contracts and proofs inside
--- crates. Announced says what a head is, and the lemmas `head_is_found` and `found_head` tie the two. Source: as there.
+-- The head that marker and count announce, found by a function, and the same by place and index, for contracts and proofs
+-- inside crates. Announced says what a head is; the lemmas `head_is_found` and `found_head` tie the two. Source: as there.
 use Rattle.std.specs.Prelude.{◌≡◌, ◌⊎◌, ℕ, ◌+◌, ◌-◌, ◌*◌, ◌^◌, ◌<◌, ◌≤◌, Bool, true, false, ◌&&◌, nat_eq, nat_le, if◌then◌else◌, List, [], ◌∷◌, slice_index, Option, Some, None, find}
 use Rattle.std.specs.Option.{option_map, option_and_then}
 use Rattle.bplist_objects.specs.declared.frame.Frame.{Frame}

@@ -31,8 +31,8 @@ pub returns-in_default : goal.returns-in_default
 returns-in_default g c = record {
   reads = c.in_ok-head.ensures.reads;
   exact = λ honest known at kept. (
-      known,
-      λ good head has dict.
-          absurd (of_other_kind (g.P.Source.means c.args.src.now).octets (frame_in (g.P.Source.means c.args.src.now)) c.args.n c.in_ok-head.head (c.in_ok-head.ensures.rules honest at).0 Dict c.in_default.not-Dict head has dict),
-    );
+    known,
+    λ good head has dict.
+        absurd (of_other_kind (g.P.Source.means c.args.src.now).octets (frame_in (g.P.Source.means c.args.src.now)) c.args.n c.in_ok-head.head (c.in_ok-head.ensures.rules honest at).0 Dict c.in_default.not-Dict head has dict),
+  );
 }
