@@ -37,7 +37,7 @@ pub(crate) fn get_output<S: Source>(
     (lines_told(alloc, told), src)
 }
 
-/// The lines of the replies, where there are replies.
+/// The lines of the replies, or why there are none.
 fn lines_told(alloc: Global, told: Result<Vec<Reply>, AnswerFault>) -> Result<Output, RunFault>
     ensures reads { read_failed result ≡ answer_read told }
     ensures exact { MatchResult told

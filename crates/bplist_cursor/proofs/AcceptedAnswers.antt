@@ -3,7 +3,6 @@ use Rattle.std.proofs.Common.{◌≡◌, ℕ, List, map, sym, ◌∙◌, subst}
 use Rattle.bplist_objects.specs.declared.frame.Frame.{Frame}
 use Rattle.bplist_objects.specs.Value.{Value}
 use Rattle.bplist_objects.specs.Holds.{Holds}
-use Rattle.bplist_objects.proofs.ProperLeaves.{refs_below}
 use Rattle.bplist_cert.specs.Valid.{IsValid}
 use Rattle.bplist_cert.specs.declared.refusal.Refusal.{Refusal}
 use Rattle.bplist_cert.specs.declared.refusal.Refusal.TheVariants as refusals
@@ -28,7 +27,7 @@ answered f F heights queries replies valid told =
       value = file.0;
       holds = file.1;
       one = file.2;
-      inside = λ n r. let s = reached_spells f file.1.frame heights here n r in (s.0, s.1, refs_below f file.1.frame n s.0 s.1);
+      inside = λ n r. let s = reached_spells f file.1.frame heights here n r in (s.0, s.1, s.1.refs);
       no_circle = circle_free f file.1.frame heights here;
       answered = told file.0 (subst (λ G. Holds f G G.top.0 file.0) (sym same) file.1.holds);
     }

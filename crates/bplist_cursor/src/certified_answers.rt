@@ -1,4 +1,4 @@
-//! Replies to queries about a file that comes with a certificate.
+//! Replies to queries about a file that comes with a certificate: the theorem of the library.
 
 ghost use Rattle.std.specs.Prelude.{◌≡◌, IfOk, IfErr};
 ghost use Rattle.bplist_cursor.specs.Prelude.{Honestly, OnlyReads, Frame as frame, IsAccepted, IsPairFault, Never, IsAnswered, RefusesBy, answer_read};
@@ -14,10 +14,10 @@ use bplist_objects::Fault;
 use bplist_octets::{ReadFault, Source};
 use std::alloc::Global;
 
-/// Why a file and a certificate give no replies.
+/// Why no replies come for a file and a certificate.
 #[derive(Clone, Copy, Debug, PartialEq, Eq, Drop)]
 pub enum AnswerFault {
-    /// A rule is broken, so the certificate is none of the file.
+    /// File or certificate breaks a rule, so the certificate is not accepted.
     Fault(Fault),
     /// A read of the source failed.
     Read(ReadFault),
@@ -53,14 +53,15 @@ impl From<CursorFault> for AnswerFault {
     }
 }
 
-/// Checks a certificate of unknown origin against a file, and where it is one of the file replies to the queries, one
-/// reply for each, in their order. This is the theorem of the library whole: after replies, whoever made file and
-/// certificate, the file holds exactly one value by the grammar, the references of each object that its top reaches are
-/// numbers of objects and never run in a circle, and the replies are those of the value's tree.
+/// Checks a file and a certificate, whoever made them, and answers queries about the file's value: one reply a query, in the
+/// order of the queries. Source and certificate are handed back in each case; the source was only read, inside the file.
 ///
-/// `Fault` is the first fault of file and certificate, and over an honest source it comes exactly where the certificate
-/// is none of the file, unless a read failed or a growth was refused. `Changed` never comes over an honest source. Source
-/// and certificate are handed back with every answer, and the source was only read, inside the file.
+/// Its contract is the theorem of the library, over an honest source. If replies come, the file holds exactly one value by
+/// the grammar, references from its top stay inside the table and never run in a circle, and the replies are those of the
+/// value's tree (`theorem`); the certificate is accepted then (`yes`), and an accepted one gets replies (`accepted`).
+///
+/// `Fault` names the first fault of file and certificate. `Read` comes if a read of the source failed, and `Memory` if memory
+/// was refused. `Changed` comes only over a source that is not honest.
 pub fn answer_certified<S: Source>(
     alloc: Global,
     src: S,

@@ -17,7 +17,7 @@
 //! | its members and bytes | [`member`], [`bytes_of`] |
 //! | the same by its head, part by part | [`node_head`], [`member_by_head`], [`body_bytes`], [`body_units`] |
 //! | replies to many queries | [`answer`], [`answer_all`], [`Query`], [`Reply`], [`List`] |
-//! | the same of a file and a certificate: the theorem of the library whole | [`answer_certified`], [`AnswerFault`] |
+//! | the same from a file and a certificate, which carries the theorem | [`answer_certified`], [`AnswerFault`] |
 //! | numbers of nodes and lengths of texts | [`measure`], [`Measures`], [`Form`] |
 //! | units that need no quotes | [`is_plain`], [`are_plain`] |
 //!

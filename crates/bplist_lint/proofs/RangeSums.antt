@@ -105,6 +105,6 @@ module _ (f : List ℕ) (F : Frame) where
               s,
               rest,
               ap (λ o. sum_by (λ (head : Head). ref_count head.kind head.count) (cons_option o later)) (head_is_found f F x s.shape s.has.has)
-              ∙ sum_by-cons (λ (head : Head). ref_count head.kind head.count) s.shape later
-              ∙ ap (λ k. k + announced (filter p xs)) (sym count),
+                  ∙ sum_by-cons (λ (head : Head). ref_count head.kind head.count) s.shape later
+                  ∙ ap (λ k. k + announced (filter p xs)) (sym count),
             )

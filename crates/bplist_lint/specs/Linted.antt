@@ -17,7 +17,7 @@ use Rattle.bplist_lint.specs.LeastHeights.{AreLeastHeights}
 use Rattle.bplist_lint.specs.ReachRules.{KeepReached}
 use Rattle.bplist_lint.specs.ReachWalk.{IsWalked}
 
--- these objects have so many references together
+-- these objects have t references together, each those of what it spells
 abbrev pub HaveReferences : List ℕ → Frame → List ℕ → ℕ → Type 0
 HaveReferences f F [] t = t ≡ 0
 HaveReferences f F (n ∷ ns) t = (c : Content) × (r : ℕ) × Spells f F n c × HaveReferences f F ns r × (t ≡ length (refs c) + r)

@@ -14,12 +14,12 @@ use Rattle.bplist_cert.specs.Valid.{IsVouchedBy}
 use Rattle.bplist_cert.specs.Sorted.{IsAccepted}
 use Rattle.bplist_cert.specs.CheckRules.{HasOrder}
 
--- the sum of these numbers of the objects below n
+-- the numbers of the objects below n that have one, added up
 abbrev pub together : (ℕ → Option ℕ) → ℕ → ℕ
 together many n = sum (filter_map many (range_with_len 0 n))
 
 module _ (f : List ℕ) (F : Frame) (heights : List ℕ) where
-  -- how many positions the key list of object n has, if it is a vouched dictionary
+  -- how many positions the key list of object n has, computed: as many as its head counts, if it is a vouched dictionary
   abbrev pub pairs : ℕ → Option ℕ
   pairs n = cond (nat_lt 0 (slice_index heights n))
       (option_and_then (λ head. elim head.kind [ Dict ↦ Some head.count | _ ↦ None ]) (head_found f F n)) None
@@ -39,11 +39,12 @@ module _ (f : List ℕ) (F : Frame) (heights : List ℕ) where
     pub sums : Sums f F (IsVouchedBy heights) n used
     pub few : length positions ≤ used
 
-  -- object n is a vouched dictionary of so many pairs
+  -- object n is vouched for, and spells a dictionary of so many pairs
   abbrev pub HasPairs : ℕ → ℕ → Type 0
   HasPairs n count = IsVouchedBy heights n × ((ks ms : List ℕ) × Spells f F n (dict ks ms) × (length ks ≡ count))
 
-  -- the certificate keeps its heights and gets the key lists of the vouched dictionaries, one after the other
+  -- the certificate keeps its heights and gets the key lists of the vouched dictionaries, one after the other, and each is as
+  -- long as its dictionary has pairs
   pub record IsUpgraded (certificate : Lists) : Type 0 where
     pub keyed : Keyed
     pub is : certificate ≡ lists heights (Some keyed)
