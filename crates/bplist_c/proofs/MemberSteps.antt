@@ -55,7 +55,7 @@ module _ (f : List ℕ) (F : Frame) (n : ℕ) (content : Content) (head : Head) 
       let is = read k number.0 l number.1 ∙ ref_fits number.0 number.2 in
       let there = nth-refs f F head.kind head.count head.body number.0 number.2 in
       let same = node_of_number f F head.kind head.count head.body content means (from + k) number.0 (slice_index objects k) within number.1
-          (is ∙ sym there ∙ ap (λ c. slice_index (refs c) number.0) (sym means)) in
+      (is ∙ sym there ∙ ap (λ c. slice_index (refs c) number.0) (sym means)) in
       slice_get-get_or objects k 0 l ∙ sym (named_object (member_reference content (from + k)) (slice_index objects k) same)
 
   -- behind the last there is none

@@ -12,6 +12,7 @@ pub use Rattle.bplist_objects.specs.declared.frame.Frame.{Frame}
 pub use Rattle.bplist_objects.specs.declared.head.Head.{Head}
 pub use Rattle.bplist_objects.specs.declared.kind.Kind.TheVariants.{Dict}
 pub use Rattle.bplist_objects.specs.declared.rule.Rule.{Rule}
+pub use Rattle.bplist_objects.specs.RuleTexts.{text_of}
 pub use Rattle.bplist_objects.specs.Words.{number_of as number_of_rule, word_of}
 pub use Rattle.bplist_cert.specs.CertifiedFile.{IsVouchingFault}
 pub use Rattle.bplist_cert.specs.CheckedFile.{IsChecked}
