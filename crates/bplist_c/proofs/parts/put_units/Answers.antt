@@ -7,7 +7,7 @@ use Rattle.bplist_c.specs.declared.status.Status.TheVariants as statuses
 use Rattle.bplist_c.proofs.Contents.{is_text, no_text}
 use Rattle.bplist_c.proofs.HeadSteps.{by_content, by_none}
 use Rattle.bplist_c.proofs.UnitSteps.{units_put}
-use Rattle.bplist_c.proofs.object.put_units.Goals as goal
+use Rattle.bplist_c.proofs.parts.put_units.Goals as goal
 
 pub returns-in-Err : goal.returns-in-Err
 returns-in-Err c = (

@@ -1,6 +1,6 @@
 use Rattle.std.proofs.Common.{Err, refl}
 use Rattle.bplist_c.proofs.HandleSource.{on_refused}
-use Rattle.bplist_c.proofs.object.bplist_units.Goals as goal
+use Rattle.bplist_c.proofs.parts.bplist_units.Goals as goal
 
 pub returns-in-Err-clause-exact : goal.returns-in-Err-clause-exact
 returns-in-Err-clause-exact c = (

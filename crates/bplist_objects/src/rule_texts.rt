@@ -1,8 +1,8 @@
 //! What the rules ask, in plain words.
 ghost use Rattle.std.specs.Prelude.{◌≡◌};
-ghost use Rattle.bplint_lines.specs.Explanation.{text_of};
+ghost use Rattle.bplist_objects.specs.RuleTexts.{text_of};
 
-use bplist_objects::{Rule, rule_number};
+use crate::rule::{Rule, rule_number};
 
 /// What each rule asks, as one sentence, and something that breaks it, in the order of the rules' numbers.
 const TEXTS: [(&str, &str); 32] = [
@@ -134,7 +134,7 @@ const TEXTS: [(&str, &str); 32] = [
 ];
 
 /// What the rule asks, as one sentence, and something that breaks it.
-pub(crate) fn texts_of(rule: Rule) -> (&'static str, &'static str)
+pub fn texts_of(rule: Rule) -> (&'static str, &'static str)
     ensures asked { result.0.now ≡ (text_of rule).0 }
     ensures broken { result.1.now ≡ (text_of rule).1 }
 {
