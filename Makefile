@@ -4,7 +4,7 @@
 #                       header and bplist.pc below $(DESTDIR)$(PREFIX)
 #     make uninstall    takes all of it away
 
-VERSION = 0.2.0
+VERSION := $(shell cat VERSION)
 PREFIX ?= /usr/local
 ROOT = $(DESTDIR)$(PREFIX)
 BPLINT = crates/bplint/out/bplint
