@@ -13,13 +13,13 @@ work=$(mktemp -d)
 trap 'rm -rf "$work"' EXIT
 rm -f "$dist"/bplint-*.tar.gz "$dist"/*.deb "$dist/SHA256SUMS"
 
-# The archive: bplist.pc finds its folders from where it lies.
+# The archive. bplist.pc finds its folders from where it lies.
 name=bplint-$version-$(uname -m)-linux
-make -s -o build -o lib install PREFIX="$work/$name" MADE="$work/folders"
-sed -i 's|^prefix=.*|prefix=${pcfiledir}/../..|' "$work/$name/lib/pkgconfig/bplist.pc"
-strip --strip-unneeded "$work/$name/bin/bplint" "$work/$name/lib/libbplist.so.0"
-cp README.md LICENSE CHANGELOG.md SECURITY.md packaging/debian/copyright "$work/$name"
-cp -r examples "$work/$name"
+archive=$work/$name
+make -s -o build -o lib install PREFIX="$archive" MADE="$work/folders"
+sed -i 's|^prefix=.*|prefix=${pcfiledir}/../..|' "$archive/lib/pkgconfig/bplist.pc"
+strip --strip-unneeded "$archive/bin/bplint" "$archive/lib/libbplist.so.0"
+cp -r README.md LICENSE CHANGELOG.md SECURITY.md packaging/debian/copyright examples "$archive"
 tar --create --directory="$work" --sort=name --format=ustar --owner=0 --group=0 --numeric-owner --mode=u=rwX,go=rX \
   --mtime="@$SOURCE_DATE_EPOCH" "$name" | gzip -n9 >"$dist/$name.tar.gz"
 
@@ -29,10 +29,11 @@ cp -r packaging/debian examples "$work/source"
 cd "$work/source"
 {
   printf 'bplint (%s) unstable; urgency=medium\n\n' "$version"
-  sed -n "/^## $version\$/,/^## / { s/^- /  * /p; t; s/^  /    /p }" "$top/CHANGELOG.md"
+  sed -n "/^## $version\$/,/^## / { s/^- /  * /p; t; s/^  /    /p }" "$top/CHANGELOG.md" |
+    fmt -t -w 75 | sed 's/^ *\([^ *]\)/    \1/'
   printf '\n -- %s  %s\n' "$(sed -n 's/^Maintainer: //p' debian/control)" "$(date -uR -d "@$SOURCE_DATE_EPOCH")"
 } >debian/changelog
-TOP=$top debian/rules binary
+TOP=$top ARCHIVE=$archive debian/rules binary
 cp ../*.deb "$dist"
 
 cd "$dist"
