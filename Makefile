@@ -25,6 +25,9 @@ LIBRARY = crates/bplist_c/out
 SONAME = libbplist.so.0
 HEAP = $(dir $(shell rt doc))c/liblibc_c.a
 
+# The Python that builds the wheel and runs its tests: Debian's, which python3-dev gives headers, setuptools and wheel.
+PYTHON = /usr/bin/python3
+
 INSTALL = install
 PREFIX ?= /usr/local
 bindir = $(PREFIX)/bin
@@ -46,7 +49,7 @@ INSTALLED = $(addprefix $(DESTDIR),$(bindir)/bplint $(mandir)/man1/bplint.1 $(ba
 MADE = $(DESTDIR)$(datadir)/bplint/folders
 FOLDERS = $(sort $(patsubst %/,%,$(dir $(INSTALLED) $(MADE))))
 
-.PHONY: build help look lib link-lib wheel dist install uninstall gate test edits bench clean
+.PHONY: build help look lib link-lib wheel test-wheel dist install uninstall gate test edits bench clean
 
 # rt sees by itself what has to be proved and built again.
 build:
@@ -72,6 +75,17 @@ link-lib:
 	$(CC) -shared -o $(LIBRARY)/$(SONAME) $(LIBRARY)/bplist.o -Wl,-soname,$(SONAME) \
 	  -Wl,--version-script=bplist.map -Wl,-z,relro,-z,now -Wl,--no-undefined $(LDFLAGS)
 	cp -f $(LIBRARY)/$(SONAME) $(LIBRARY)/libbplist.so
+
+# From the library as it is built. pip leaves folders in the one that it builds in, so that it gets a copy.
+wheel:
+	mkdir -p $(DIST) && rm -f $(DIST)/bplist-*.whl
+	@umask 022; copy=$$(mktemp -d) && trap 'rm -rf "$$copy"' EXIT && cp -rL python include VERSION "$$copy" && \
+	  BPLIST_LIBRARY=$(abspath $(LIBRARY)) PYTHONDONTWRITEBYTECODE=1 $(PYTHON) -m pip -q --disable-pip-version-check wheel \
+	  --no-index --no-deps --no-build-isolation --no-cache-dir -w $(DIST) "$$copy/python"
+
+# The package's tests, over the wheel in a folder of its own.
+test-wheel: wheel
+	$(PYTHON) -B tests/python_package.py $(DIST)/bplist-*.whl
 
 # What is made depends on the commit and its date alone.
 dist wheel: export SOURCE_DATE_EPOCH ?= $(shell git log -1 --format=%ct)
