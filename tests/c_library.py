@@ -8,7 +8,6 @@ Compiles the programs of C over libbplist.a, all warnings errors, and runs them;
 - tests/c_threads.c calls the library from several threads, under valgrind's helgrind where it is there.
 - The example prints values.
 - The library shows the calls of bplist.h and has no variables that it writes.
-- `make install` puts all in place, so that the example compiles by bplist.pc and runs; `make uninstall` takes all away.
 
 A file counts as a test, and so does each of the others. Without gcc nothing is run. The last line printed is `N passed, M failed`, with
 `, K skipped` where some were.
@@ -32,8 +31,6 @@ STRICT = ["-std=c11", "-Wall", "-Wextra", "-Werror", "-pedantic", "-O2", "-g"]
 BATCH = 60
 SECONDS = 900
 MOST_GROWTHS = 2000
-# Program, manual page, three completions, header, two libraries and a link, bplist.pc.
-INSTALLED = 10
 # An address that the allocator of the kit hands on where malloc gives none. Nothing is written to it.
 UNWRITTEN = "nothing"
 
@@ -178,15 +175,15 @@ class Tests:
     def print_values(self):
         for number, (text, path, expected) in enumerate(PRINTED):
             file = self.file(f"printed{number}", expression(text))
-            self.print_value(self.example, file, path, expected, None)
+            self.print_value(file, path, expected)
         absent = subprocess.run([self.example, self.file("none", b"")], capture_output=True, timeout=SECONDS)
         right = absent.returncode == 1 and b"rule 2 (TooShort), place 0" in absent.stderr
         self.count("print_value of an empty file", "" if right else f"{absent}")
 
-    def print_value(self, example, file, path, expected, environment):
-        ran = subprocess.run([example, file, path], capture_output=True, timeout=SECONDS, env=environment)
+    def print_value(self, file, path, expected):
+        ran = subprocess.run([self.example, file, path], capture_output=True, timeout=SECONDS)
         right = (ran.returncode, ran.stdout, ran.stderr) == (0, expected, b"")
-        self.count(f"{example} {file} {path}", "" if right else f"{ran}")
+        self.count(f"print_value {file} {path}", "" if right else f"{ran}")
 
     def see_symbols(self):
         calls = set(re.findall(r"^\w+ (bplist_\w+)\(", (ROOT / "include/bplist.h").read_text(), re.MULTILINE))
@@ -196,44 +193,6 @@ class Tests:
         self.count("calls of libbplist.a", "" if shown == calls else f"{shown ^ calls}")
         variables = {name for name, kind in symbols(LIBRARY, "--defined-only") if kind in "bBdDcCsSgG"}
         self.count("variables of libbplist.a", ", ".join(variables - {UNWRITTEN}))
-
-    def make(self, *words):
-        # What is built stays as it is: `make install` would ask rt whether it is new.
-        command = ["make", "-s", "-C", ROOT, "-o", "build", "-o", "lib", *words]
-        subprocess.run(command, check=True, stdout=subprocess.DEVNULL)
-
-    def install(self):
-        """Below DESTDIR the files stand as below PREFIX, by which the header, bplist.pc and the program are used."""
-        stage, prefix = self.folder / "stage", self.folder / "prefix"
-        there = [f"DESTDIR={stage}", "PREFIX=/usr"]
-        here = [f"PREFIX={prefix}"]
-        self.make("install", *there)
-        self.make("install", *here)
-        staged, installed = files_below(stage / "usr"), files_below(prefix)
-        self.count("installed below DESTDIR", "" if staged == installed and len(installed) == INSTALLED else f"{staged ^ installed}")
-        self.use(prefix)
-        self.make("uninstall", *there)
-        self.make("uninstall", *here)
-        left = files_below(stage) | files_below(prefix)
-        self.count("uninstalled", ", ".join(sorted(left)))
-
-    def use(self, prefix):
-        """Compiles the example by what is installed, and runs it and the program."""
-        file = self.file("used", expression("top(10 07)"))
-        said = subprocess.run([prefix / "bin/bplint", "lint", file], capture_output=True, check=False).stdout
-        self.count("installed program", "" if said == b"ok reached 1 height 1 top int\n" else f"{said}")
-        if not shutil.which("pkg-config"):
-            self.skip("installed library", "pkg-config is not here")
-            return
-        found = dict(os.environ, PKG_CONFIG_PATH=prefix / "lib/pkgconfig", LD_LIBRARY_PATH=prefix / "lib")
-        asked = subprocess.run(["pkg-config", "--cflags", "--libs", "bplist"], capture_output=True, text=True, env=found, check=True)
-        (self.folder / "dynamic").mkdir()
-        example = built(self.folder / "dynamic", "examples/print_value.c", *asked.stdout.split())
-        self.print_value(example, file, "", b"7\n", found)
-
-
-def files_below(folder):
-    return {str(path.relative_to(folder)) for path in folder.rglob("*") if not path.is_dir()}
 
 
 def main():
@@ -247,7 +206,6 @@ def main():
         tests.run_threads()
         tests.print_values()
         tests.see_symbols()
-        tests.install()
     closing = f"{tests.passed} passed, {tests.failed} failed"
     print(closing + (f", {tests.skipped} skipped" if tests.skipped else ""))
     return 1 if tests.failed else 0
