@@ -18,7 +18,7 @@ INSTALLED = bin/bplint share/man/man1/bplint.1 share/bash-completion/completions
   share/fish/vendor_completions.d/bplint.fish include/bplist.h lib/libbplist.a lib/$(SONAME) lib/libbplist.so \
   lib/pkgconfig/bplist.pc
 
-.PHONY: build lib link-lib test edits bench install uninstall clean
+.PHONY: build lib link-lib test bench install uninstall clean
 
 # rt sees by itself what has to be proved and built again.
 build:
@@ -40,10 +40,6 @@ link-lib:
 
 test:
 	.ci/run
-
-# Every must-fail edit, and what refuses it.
-edits: build lib
-	python3 -B tests/edits.py --all
 
 bench: build lib
 	python3 -B tests/bench.py $(BPLINT)
