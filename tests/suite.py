@@ -154,7 +154,7 @@ def object_reason(rule, octets, number, place):
         "Marker": f"Object {number}, at byte {offset}, begins with {first}, which marks no kind of object",
         "Count": f"Object {number}, at byte {offset}, has a long count, whose marker {second} "
         "is that of no integer of 1 to 16 bytes",
-        "Extent": f"Object {number}, at byte {offset}, begins with {first} and goes on to the offset table at byte {plist.table}",
+        "Extent": f"Object {number}, at byte {offset}, begins with {first} and goes into the table at byte {plist.table}",
         "NotAscii": f"Object {number} is an ASCII string, and its byte at {place} is {named}",
         "UidLarge": f"Object {number}, at byte {offset}, is a UID above 4294967295",
         "RefHigh": f"Object {number} refers at byte {place} to an object that does not exist, of {plist.objects} objects",
