@@ -90,7 +90,8 @@ test-wheel: wheel
 # What is made depends on the commit and its date alone.
 dist wheel: export SOURCE_DATE_EPOCH ?= $(shell git log -1 --format=%ct)
 
-dist: build lib wheel
+dist: build lib
+	$(MAKE) wheel
 	packaging/dist.sh $(DIST)
 
 gate test:

@@ -33,7 +33,7 @@ VERSION = (ROOT / "VERSION").read_text(encoding="utf-8").strip()
 ARCHIVE = f"bplint-{VERSION}-x86_64-linux"
 PACKAGES = ["bplint", "libbplist0", "libbplist-dev"]
 MULTIARCH = "lib/x86_64-linux-gnu"
-TOOLS = ["dh", "fakeroot", "gcc", "lintian", "man", "objdump", "pkg-config"]
+TOOLS = ["dh", "fakeroot", "gcc", "lintian", "man", "objdump", "pkg-config", "rt"]
 STRICT = ["-std=c11", "-Wall", "-Wextra", "-Werror", "-pedantic", "-O2"]
 # Another writer of the same commit.
 ELSEWHERE = {"TZ": "Asia/Tokyo", "LC_ALL": "C.UTF-8"}
@@ -56,9 +56,7 @@ def run(*words, folder=None, **environment):
     ran = subprocess.run(
         [str(word) for word in words], cwd=folder, env=given, stdout=subprocess.PIPE, stderr=subprocess.STDOUT, text=True
     )
-    if ran.returncode != 0:
-        print(ran.stdout)
-        ran.check_returncode()
+    ran.check_returncode()
     return ran.stdout
 
 
@@ -207,8 +205,7 @@ class Tests:
 
     def see(self, unpacked):
         """No file names a folder of the build."""
-        kit = pathlib.Path(shutil.which("rt")).resolve().parent.parent
-        folders = [f"{folder}/".encode() for folder in (ROOT, self.folder, kit)]
+        folders = [f"{folder}/".encode() for folder in (ROOT, self.folder, pathlib.Path(run("rt", "doc").strip()).parent)]
         naming = [path for path in files_below(unpacked) if any(folder in path.read_bytes() for folder in folders)]
         self.count(f"folders of the build below {unpacked.name}", ", ".join(map(str, naming)))
 
@@ -229,12 +226,11 @@ def main():
     program, library = (pathlib.Path(word).resolve() for word in sys.argv[1:])
     with tempfile.TemporaryDirectory() as folder:
         tests = Tests(program, library, pathlib.Path(folder))
-        tests.make_twice()
-        tests.archive()
-        tests.packages()
-        tests.installed()
-        tests.wheel()
-        tests.glibc()
+        for part in tests.make_twice, tests.archive, tests.packages, tests.installed, tests.wheel, tests.glibc:
+            try:
+                part()
+            except subprocess.CalledProcessError as error:
+                tests.count(part.__name__, f"{error}\n{error.stdout}")
     print(f"{tests.passed} passed, {tests.failed} failed")
     return 1 if tests.failed else 0
 
