@@ -1,10 +1,10 @@
 #!/usr/bin/env python3
 """python_memory.py
 
-Makes each call of the Python package again and again, with the first growth of memory refused, then the second, and so on. Each
-call gives what it gives otherwise, or MemoryError; and when all is done as many blocks of memory are taken as before, and as many
-references to what outlives the calls are there. tests/python_package.py runs it with tests/refuse_growth.c in front of malloc,
-and PYTHONMALLOC=malloc_debug, over the installed package. The last line printed is `N passed, M failed`.
+Makes each call of the Python package again and again, with the first growth of memory refused, then the second, and so on.
+Each call returns what it returns otherwise, or raises MemoryError, and leaves no block of memory behind, and no reference to
+what outlives it. tests/python_package.py runs it over the installed package, with tests/refuse_growth.c in front of malloc
+and with PYTHONMALLOC=malloc_debug. The last line printed is `N passed, M failed`.
 """
 import ctypes
 import datetime
@@ -95,7 +95,7 @@ def said(given):
 
 
 def tried(call, number):
-    """What a call gives or raises, with this growth refused, and whether that growth was met. Takes no memory after the call."""
+    """What a call gives or raises with this growth refused, and whether that growth was met."""
     ALLOCATOR.refuse_growth(number)
     try:
         given = call()
@@ -125,7 +125,7 @@ def taken():
 
 
 def left_behind(call, number):
-    """What each call leaves behind: memory, or a reference to what outlives it. Python itself keeps some memory for later."""
+    """What each call leaves behind: memory, or a reference to what outlives it. Python itself keeps some for later."""
     least = [CALLS_AT_ONCE] * (len(HELD) + 1)
     for _ in range(3):
         before = taken()

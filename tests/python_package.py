@@ -1,15 +1,16 @@
 #!/usr/bin/env python3
 """python_package.py WHEEL
 
-Tests the Python package as its wheel has it, and not the source tree: installs it without an index into a new environment of the
-Python that runs this, and runs there
+Tests the Python package as it is in its wheel, and not the source tree: installs the wheel without an index into a new
+environment of the Python that runs this, and runs there
 
 - the tests of python/tests, in Python's development mode;
 - tests/python_memory.py, with each growth of memory refused in turn;
-- the tests of values and edges again, under valgrind where it is there.
+- the tests of values and edges again, under valgrind if it is installed.
 
-The wheel's tag names the newest glibc that a symbol of its module asks for, and the module links nothing but the C library. Without
-gcc or valgrind what needs it is skipped. The last line printed is `N passed, M failed`, with `, K skipped` where some were.
+The wheel's tag names the newest glibc that a symbol of its module asks for, and the module links nothing but the C library.
+What needs gcc or valgrind is skipped without them. The last line printed is `N passed, M failed`, with `, K skipped` if some
+were.
 """
 import os
 import pathlib
@@ -78,8 +79,9 @@ class Wheel:
 
     def run(self, name, *words, **environment):
         """Runs a program in a folder of its own, and adds up what its closing line says."""
-        ran = subprocess.run(words, stdout=subprocess.PIPE, stderr=subprocess.STDOUT, text=True, cwd=self.folder, timeout=SECONDS,
-                             env=dict(os.environ, **environment), check=False)
+        environment = dict(os.environ, **environment)
+        ran = subprocess.run(words, stdout=subprocess.PIPE, stderr=subprocess.STDOUT, text=True, cwd=self.folder,
+                             timeout=SECONDS, env=environment, check=False)
         closing = CLOSING.search(ran.stdout)
         passed, failed = map(int, closing.groups()) if closing else (0, 1)
         if ran.returncode != 0:

@@ -1,5 +1,5 @@
 /* Stands before the C library's allocator and refuses one growth: the one whose number, from 1, is in REFUSED_GROWTH.
-   Where it does, it writes a zero byte to the file descriptor in REFUSED_GROWTH_TOLD. With the number -1 it refuses none, and
+   If it does, it writes a zero byte to the file descriptor in REFUSED_GROWTH_TOLD. With the number -1 it refuses none, and
    writes a zero byte for each. A program may ask it how many blocks are taken, and may set the number itself, counted from
    then on. */
 #include <errno.h>

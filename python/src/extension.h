@@ -3,8 +3,8 @@
    A call of the library is made with the GIL held, and so no other call comes between. Calls that go over the whole file let
    the GIL go; on an open handle they stand between `handle_begin` and `handle_end`, and all others wait for them.
 
-   Each function that returns an object gives its caller a reference, and returns NULL with an exception set. Those that return
-   an int return 0, or -1 with an exception set. */
+   Each function that returns an object gives its caller a reference to it, or returns NULL with an exception set. Those that
+   return an int return 0, or -1 with an exception set. */
 #ifndef EXTENSION_H
 #define EXTENSION_H
 

@@ -69,7 +69,8 @@ PyObject *handle_open(State *state, PyObject *class, PyObject *owner, PyObject *
 
     if (self == NULL)
         return NULL;
-    if (source_of(state, owner, &self->source) < 0 || (certificate != Py_None && source_of(state, certificate, &given) < 0)) {
+    if (source_of(state, owner, &self->source) < 0
+        || (certificate != Py_None && source_of(state, certificate, &given) < 0)) {
         self->source.owner = NULL;
         Py_DECREF(self);
         return NULL;

@@ -85,7 +85,8 @@ static PyObject *text_of(PyObject *object, PyObject *arguments)
         return PyErr_NoMemory();
     thread = handle_begin(self);
     if (thread) {
-        status = bplist_text(&self->handle, self->source.file, self->source.length, number, buffer, (size_t)length, &written);
+        status = bplist_text(&self->handle, self->source.file, self->source.length, number, buffer, (size_t)length,
+                             &written);
         handle_end(self, thread);
         if (expect(status) == 0)
             text = PyUnicode_DecodeASCII(buffer, (Py_ssize_t)written.length, NULL);

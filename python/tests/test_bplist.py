@@ -120,7 +120,8 @@ class Tables(unittest.TestCase):
 
     def test_rules(self):
         """The sentence of a rule is the one of docs/RULES.md."""
-        section = (ROOT / "docs/RULES.md").read_text(encoding="utf-8").split("## The rules in plain words")[1].split("\n## ")[0]
+        rules = (ROOT / "docs/RULES.md").read_text(encoding="utf-8")
+        section = rules.split("## The rules in plain words")[1].split("\n## ")[0]
         cells = [line.strip("| ").split(" | ") for line in section.split("\n") if line[:3].strip("| ").isdigit()]
         self.assertEqual(len(cells), 32)
         for number, word, sentence, *_ in cells:
@@ -304,7 +305,8 @@ class Edges(unittest.TestCase):
 
     def test_sets_are_equal(self):
         """Sets are equal where their members are, in the order of the file; a set equals no array and no list."""
-        sets = [plist_of(top, b"\x09", b"\x08").value for top in (b"\xc2\x01\x02", b"\xc2\x01\x02", b"\xc2\x02\x01", b"\xc1\x01")]
+        tops = [b"\xc2\x01\x02", b"\xc2\x01\x02", b"\xc2\x02\x01", b"\xc1\x01"]
+        sets = [plist_of(top, b"\x09", b"\x08").value for top in tops]
         self.assertEqual(sets[0], sets[1])
         self.assertNotEqual(sets[0], sets[2])
         self.assertNotEqual(sets[0], sets[3])
@@ -407,7 +409,8 @@ class Files(unittest.TestCase):
         """How an interpreter ends that reads a file which is cut short while it is open."""
         with open(self.path, "wb") as file:
             plistlib.dump(list(range(10_000)), file, fmt=plistlib.FMT_BINARY)
-        code = f"import bplist, os\nplist = bplist.open({self.path!r}{words})\nos.truncate({self.path!r}, 0)\nprint(plist.value[9999])"
+        code = f"plist = bplist.open({self.path!r}{words}); os.truncate({self.path!r}, 0); print(plist.value[9999])"
+        code = f"import bplist, os; {code}"
         return subprocess.run([sys.executable, "-c", code], capture_output=True, check=False)
 
     def test_cut_short(self):
@@ -446,13 +449,15 @@ class Files(unittest.TestCase):
     def test_threads(self):
         """Threads that share a property list, one of which closes it: an answer, or Closed."""
         plist = bplist.open(self.path)
+        wanted = (1, 5, {"a": [1, 2]}, plist.certificate)
         strange = []
 
         def read():
             try:
                 for _ in range(300):
-                    if plist.at("/a/0") != 1 or plist.size != 5 or len(plist.certificate) < 8 or plist.plain() != {"a": [1, 2]}:
-                        strange.append("another value")
+                    seen = plist.at("/a/0"), plist.size, plist.plain(), plist.certificate
+                    if seen != wanted:
+                        strange.append(seen)
             except bplist.Closed:
                 pass
 
@@ -594,7 +599,8 @@ class Command(unittest.TestCase):
 
     def test_faults(self):
         """What goes wrong is one line and a status."""
-        rows = [("/none", 1, "missing"), ("/a/2", 1, "missing"), ("/a/0/0", 1, "missing"), ("a", 2, "path text"), ("/\ud800", 2, "surrogate")]
+        rows = [("/none", 1, "missing"), ("/a/2", 1, "missing"), ("/a/0/0", 1, "missing")]
+        rows += [("a", 2, "path text"), ("/\ud800", 2, "surrogate")]
         for path, wanted, words in rows:
             status, said, complained = self.run_command("show", self.path, path)
             self.assertEqual((status, said, complained.count("\n")), (wanted, "", 1))
@@ -623,7 +629,8 @@ class Package(unittest.TestCase):
 
     def test_faults_are_copied(self):
         """An exception can be handed to another process."""
-        for fault in (bplist.Refused(15, 3, 21), bplist.Refused(23, 0, None, (0, 1)), bplist.PathError(2), bplist.TooLarge(5, 4)):
+        refused = [bplist.Refused(15, 3, 21), bplist.Refused(23, 0, None, (0, 1))]
+        for fault in (*refused, bplist.PathError(2), bplist.TooLarge(5, 4)):
             copied = pickle.loads(pickle.dumps(fault))
             self.assertEqual((type(copied), copied.args, str(copied)), (type(fault), fault.args, str(fault)))
 
