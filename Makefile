@@ -97,7 +97,7 @@ dist: build lib
 gate test:
 	.ci/run
 
-edits:
+edits: build lib
 	python3 -B tests/edits.py --all
 
 bench: build lib

@@ -13,7 +13,8 @@ not those of the tree.
 - What is removed leaves no file and no folder.
 - lintian finds no error, and no file names a folder of the build. README.md says the glibc that the symbols ask for.
 
-The last line printed is `N passed, M failed`, with `, 1 skipped` if a tool is missing. The exit status is 1 if one failed.
+If a tool is missing, nothing is tested. The last line printed is `N passed, M failed`, with `, 1 skipped` then. The exit status
+is 1 if one failed.
 """
 import dataclasses
 import filecmp
@@ -27,13 +28,14 @@ import tempfile
 import zipfile
 
 import readme
+from tools import closing, lacks
 
 ROOT = pathlib.Path(__file__).resolve().parent.parent
 VERSION = (ROOT / "VERSION").read_text(encoding="utf-8").strip()
 ARCHIVE = f"bplint-{VERSION}-x86_64-linux"
 PACKAGES = ["bplint", "libbplist0", "libbplist-dev"]
 MULTIARCH = "lib/x86_64-linux-gnu"
-TOOLS = ["dh", "fakeroot", "gcc", "lintian", "man", "objdump", "pkg-config", "rt"]
+TOOLS = ["dh", "fakeroot", "gcc", "lintian", "man", "objdump", "pkg-config"]
 STRICT = ["-std=c11", "-Wall", "-Wextra", "-Werror", "-pedantic", "-O2"]
 # Another writer of the same commit.
 ELSEWHERE = {"TZ": "Asia/Tokyo", "LC_ALL": "C.UTF-8"}
@@ -219,10 +221,10 @@ def main():
     if len(sys.argv) != 3:
         print(__doc__, file=sys.stderr)
         return 2
-    missing = [tool for tool in TOOLS if not shutil.which(tool)]
-    if missing:
-        print(f"skipped the release: {', '.join(missing)} not here\n0 passed, 0 failed, 1 skipped")
-        return 0
+    for tool in TOOLS:
+        if lacks(tool):
+            print(f"skipped, {tool} is not installed: the release\n{closing(0, 0, 1)}")
+            return 0
     program, library = (pathlib.Path(word).resolve() for word in sys.argv[1:])
     with tempfile.TemporaryDirectory() as folder:
         tests = Tests(program, library, pathlib.Path(folder))
@@ -231,7 +233,7 @@ def main():
                 part()
             except subprocess.CalledProcessError as error:
                 tests.count(part.__name__, f"{error}\n{error.stdout}")
-    print(f"{tests.passed} passed, {tests.failed} failed")
+    print(closing(tests.passed, tests.failed, 0))
     return 1 if tests.failed else 0
 
 
