@@ -81,10 +81,9 @@ def copied_tree(folder):
     return folder
 
 
-def glibc_versions(library):
-    """The versions of glibc that the symbols of a program or library ask for."""
-    found = re.findall(r"GLIBC_(\d+)\.(\d+)", run("objdump", "-T", library))
-    return [(int(major), int(minor)) for major, minor in found]
+def newest(pattern, text):
+    """The greatest of the versions that a pattern finds."""
+    return max((tuple(map(int, version.split("."))) for version in re.findall(pattern, text)), default=())
 
 
 class Tests:
@@ -212,9 +211,10 @@ class Tests:
         self.count(f"folders of the build below {unpacked.name}", ", ".join(map(str, naming)))
 
     def glibc(self):
-        says = re.search(r"glibc (\d+\.\d+)", (ROOT / "README.md").read_text(encoding="utf-8"))
-        asked = "{}.{}".format(*max(version for path in self.linked for version in glibc_versions(path)))
-        self.count("glibc", "" if says and says[1] == asked else f"{asked}, and README.md says {says and says[1]}")
+        """The newest glibc that the symbols ask for, and that README.md names."""
+        asked = newest(r"GLIBC_([\d.]+)", "".join(run("objdump", "-T", path) for path in self.linked))
+        says = newest(r"glibc (\d+\.\d+)", (ROOT / "README.md").read_text(encoding="utf-8"))
+        self.count("glibc", "" if says == asked else f"{asked}, and README.md says {says}")
 
 
 def main():
