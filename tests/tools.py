@@ -5,7 +5,11 @@ import sys
 
 # The Debian package of each program that some tests need. `.ci/run` installs those of tests/packages, where it may.
 PACKAGES = {
+    "dh": "debhelper",
+    "fakeroot": "fakeroot",
     "gcc": "gcc",
+    "lintian": "lintian",
+    "man": "man-db",
     "nm": "binutils",
     "objdump": "binutils",
     "pkg-config": "pkg-config",
