@@ -3,7 +3,7 @@
 
 Runs other parsers of binary property lists on all files of tests/vectors and on hostile ones, and compares the tables of
 docs/PARSERS.md with what it finds; with --write it writes them there. Each file is read by a process of its own, with limits
-of processor time and memory. --only runs one parser and compares its column alone. --details writes a line for each run.
+of processor time and memory. --only runs one parser, and looks at its columns alone. --details writes a line for each run.
 
 The last line printed is `N passed, M failed`, with `, K skipped` if a parser is not installed or has another version than
 the page names. The exit status is 1 if one failed.
@@ -32,6 +32,8 @@ PATIENCE = 120
 MEMORY = 2 << 30
 JAVA_MEMORY = 12 << 30
 LARGE_SIZE = 1 << 18
+MOST_READ = 1 << 24
+SHOWN = 400
 JAR = "/usr/share/java/dd-plist.jar"
 NO_MEMORY = re.compile("MemoryError|OutOfMemory|failed to allocate|memory allocation of|bad_alloc|run out of memory")
 EMPTY_XML = re.compile(rb"<plist [^>]*>\s*</plist>")
@@ -150,23 +152,27 @@ def failure(parser, ran):
 
 
 def outcome(parser, case, path):
-    """What the parser does with the file, in a word, and what it says."""
+    """What the parser does with the file, in a word, and the beginning of what it says. Its output goes to a file, since it
+    may be long."""
     command = [*parser.command, str(path)]
     if case.basis == "time" and parser.library:
         command.append("parse")
-    try:
-        ran = subprocess.run(command, capture_output=True, timeout=PATIENCE, check=False, stdin=subprocess.DEVNULL,
-                             preexec_fn=lambda: limited(parser.memory))
-    except subprocess.TimeoutExpired:
-        return "time", ""
+    with tempfile.TemporaryFile() as output:
+        try:
+            ran = subprocess.run(command, stdin=subprocess.DEVNULL, stdout=output, stderr=subprocess.PIPE, timeout=PATIENCE,
+                                 check=False, preexec_fn=lambda: limited(parser.memory))
+        except subprocess.TimeoutExpired:
+            return "time", ""
+        output.seek(0)
+        printed = output.read(MOST_READ)
     if ran.returncode:
-        return failure(parser, ran), ran.stderr.decode("utf-8", "replace").strip()
-    got = ran.stdout.decode("utf-8", "replace").rstrip("\n")
-    if not parser.library and EMPTY_XML.search(ran.stdout):
+        return failure(parser, ran), ran.stderr.decode("utf-8", "replace").strip()[:SHOWN]
+    if not parser.library and EMPTY_XML.search(printed):
         return "refuses", "an XML property list without a value, and status 0"
-    if case.rule or not parser.library or case.basis == "time":
-        return "takes", got
-    return ("takes" if same_value(case.value, got) else "wrong value"), got
+    got = printed.decode("utf-8", "replace").rstrip("\n")
+    if case.rule or not parser.library or case.basis == "time" or same_value(case.value, got):
+        return "takes", got[:SHOWN]
+    return "wrong value", got[:SHOWN]
 
 
 def timed_cases():
@@ -228,15 +234,17 @@ def table(first, rows, counts, columns):
     head = [first, *(["files"] if counts else []), *columns]
     lines = ["| " + " | ".join(head) + " |", "|---|" + "---|" * (len(head) - 1)]
     for row in rows:
-        line = [row, *([str(counts[row])] if counts else []), *(held[row] for held in columns.values())]
+        line = [row, *([str(counts[row])] if counts else []), *(held.get(row, "") for held in columns.values())]
         lines.append("| " + " | ".join(line) + " |")
     return "\n".join(lines)
 
 
-def made_tables(found, unsound, sound):
-    """The page's three tables by name, from each parser's cells."""
+def made_tables(page, found, unsound, sound):
+    """The page's three tables by name, from each parser's cells. A parser that was not run keeps its columns."""
     def columns(name):
-        return {parser: held[name] for parser, held in found.items()}
+        of_page = {parser: written_column(page, name, parser) for parser in versions(page)}
+        return {parser: found[parser][name] if parser in found else column
+                for parser, column in of_page.items() if parser in found or column}
 
     ends = list(next(iter(found.values()))["ends"])
     return {
@@ -261,7 +269,8 @@ def written_column(page, name, parser):
 
 
 def versions(page):
-    return dict(re.findall(r"^\| ([^|]+?) \| ([^|]+?) \|", page.split("## Versions")[1], re.MULTILINE))
+    rows = re.findall(r"^\| ([^|]+?) \| ([^|]+?) \|", page.split("## Versions")[1], re.MULTILINE)
+    return dict(rows[1:])
 
 
 def compare(page, parser, held):
@@ -283,8 +292,8 @@ def files_of(cases, folder):
 
 def details(handle, parser, runs):
     for case, word, said in runs:
-        line = [parser.name, case.name, case.rule or "sound", case.basis, word, short_value(case.value)]
-        handle.write("\t".join([*line, short_value(repr(said))]) + "\n")
+        line = [parser.name, case.name, case.rule or "sound", case.basis, word, short_value(case.value), repr(said)]
+        handle.write("\t".join(line) + "\n")
     handle.flush()
 
 
@@ -298,7 +307,7 @@ def arguments():
 
 
 def write_page(page, found, unsound, sound):
-    for name, text in made_tables(found, unsound, sound).items():
+    for name, text in made_tables(page, found, unsound, sound).items():
         page = between(name).sub(lambda held, text=text: held[1] + text + held[3], page)
     PAGE.write_text(page, encoding="utf-8")
 
@@ -326,7 +335,7 @@ def main():
                 details(given.details, parser, runs)
             yes, no = compare(page, parser.name, found[parser.name])
             passed, failed = passed + yes, failed + no
-    if given.write and not given.only:
+    if given.write and found:
         write_page(page, found, unsound, sound)
     print(f"{passed} passed, {failed} failed" + (f", {skipped} skipped" if skipped else ""))
     return 1 if failed else 0
