@@ -1,28 +1,66 @@
-# bplint: `rt` of the kit proves and builds, python3 runs the tests on what is built.
-#
-#     make install      proves and builds what changed, and puts the program, its manual page and completions, the C library, its
-#                       header and bplist.pc below $(DESTDIR)$(PREFIX)
-#     make uninstall    takes all of it away
+## bplint: `rt` of the kit proves and builds, python3 runs the tests on what is built.
+##
+##   make build          proves and builds the program, crates/bplint/out/bplint; half an hour the first time
+##   make look FILE=F    lints F by the program as it stands, unproved, in a minute and a half
+##   make lib            proves and builds the C library, into crates/bplist_c/out
+##   make wheel          the Python package for pip, with the library in it, into dist/
+##   make dist           archive, Debian packages, wheel and SHA256SUMS, into dist/
+##   make install        program, manual page, completions, C library, header and bplist.pc, below PREFIX
+##   make uninstall      takes all of it away; give it the words that install was given
+##   make gate           every test, as .ci/run; `make test` is the same
+##   make edits          every must-fail edit, also those that the gate leaves out
+##   make bench          times of program and library
+##   make clean          takes away what was built
+##
+## PREFIX is /usr/local. DESTDIR, bindir, libdir, includedir, datadir, mandir, INSTALL, CC, AR, LD and LDFLAGS mean what they
+## usually mean.
 
-VERSION = 0.2.0
-PREFIX ?= /usr/local
-ROOT = $(DESTDIR)$(PREFIX)
+VERSION := $(shell cat VERSION)
 BPLINT = crates/bplint/out/bplint
+DIST = dist
 
-# The C library, in LIBRARY: libbplist.a and libbplist.so (no link, which rt refuses there). The kit has the heap's three functions.
+# The C library, in LIBRARY: libbplist.a and libbplist.so (no link, which rt refuses there). The kit has the heap's three
+# functions.
 LIBRARY = crates/bplist_c/out
 SONAME = libbplist.so.0
 HEAP = $(dir $(shell rt doc))c/liblibc_c.a
 
-INSTALLED = bin/bplint share/man/man1/bplint.1 share/bash-completion/completions/bplint share/zsh/site-functions/_bplint \
-  share/fish/vendor_completions.d/bplint.fish include/bplist.h lib/libbplist.a lib/$(SONAME) lib/libbplist.so \
-  lib/pkgconfig/bplist.pc
+# The Python that builds the wheel and runs its tests: Debian's, which python3-dev gives headers, setuptools and wheel.
+PYTHON = /usr/bin/python3
 
-.PHONY: build lib link-lib test bench install uninstall clean
+INSTALL = install
+PREFIX ?= /usr/local
+bindir = $(PREFIX)/bin
+libdir = $(PREFIX)/lib
+includedir = $(PREFIX)/include
+datadir = $(PREFIX)/share
+mandir = $(datadir)/man
+pkgconfigdir = $(libdir)/pkgconfig
+bashdir = $(datadir)/bash-completion/completions
+zshdir = $(datadir)/zsh/site-functions
+fishdir = $(datadir)/fish/vendor_completions.d
+# A folder as bplist.pc names it.
+below = $(patsubst $(PREFIX)/%,$${prefix}/%,$(1))
+
+INSTALLED = $(addprefix $(DESTDIR),$(bindir)/bplint $(mandir)/man1/bplint.1 $(bashdir)/bplint $(zshdir)/_bplint \
+  $(fishdir)/bplint.fish $(includedir)/bplist.h $(libdir)/libbplist.a $(libdir)/$(SONAME) $(libdir)/libbplist.so \
+  $(pkgconfigdir)/bplist.pc)
+# The folders that `make install` made.
+MADE = $(DESTDIR)$(datadir)/bplint/folders
+FOLDERS = $(sort $(patsubst %/,%,$(dir $(INSTALLED) $(MADE))))
+
+.PHONY: build help look lib link-lib wheel test-wheel dist install uninstall gate test edits bench clean
 
 # rt sees by itself what has to be proved and built again.
 build:
 	cd crates/bplint && rt run -- --version
+
+help:
+	@sed -n 's/^## \{0,1\}//p' $(firstword $(MAKEFILE_LIST))
+
+look:
+	@test -f '$(FILE)' || { echo 'make look FILE=F: F is the file to lint' >&2; exit 2; }
+	cd crates/bplint && rt try --data Info.plist='$(abspath $(FILE))' -- lint Info.plist
 
 lib:
 	cd crates/bplist_c && rt lib
@@ -33,34 +71,61 @@ link-lib:
 	$(LD) -r -o $(LIBRARY)/bplist.o --whole-archive $(LIBRARY)/libbplist_c.a --no-whole-archive $(HEAP)
 	objcopy --wildcard --keep-global-symbol='bplist_*' $(LIBRARY)/bplist.o
 	rm -f $(LIBRARY)/libbplist.a
-	$(AR) rcs $(LIBRARY)/libbplist.a $(LIBRARY)/bplist.o
+	$(AR) rcsD $(LIBRARY)/libbplist.a $(LIBRARY)/bplist.o
 	$(CC) -shared -o $(LIBRARY)/$(SONAME) $(LIBRARY)/bplist.o -Wl,-soname,$(SONAME) \
-	  -Wl,--version-script=bplist.map -Wl,-z,relro,-z,now -Wl,--no-undefined
+	  -Wl,--version-script=bplist.map -Wl,-z,relro,-z,now -Wl,--no-undefined $(LDFLAGS)
 	cp -f $(LIBRARY)/$(SONAME) $(LIBRARY)/libbplist.so
 
-test:
+# From the library as it is built. pip leaves folders in the one that it builds in, so that it gets a copy.
+wheel:
+	mkdir -p $(DIST) && rm -f $(DIST)/bplist-*.whl
+	@umask 022; copy=$$(mktemp -d) && trap 'rm -rf "$$copy"' EXIT && cp -rL python include VERSION "$$copy" && \
+	  BPLIST_LIBRARY=$(abspath $(LIBRARY)) PYTHONDONTWRITEBYTECODE=1 $(PYTHON) -m pip -q --disable-pip-version-check wheel \
+	  --no-index --no-deps --no-build-isolation --no-cache-dir -w $(DIST) "$$copy/python"
+
+# The package's tests, over the wheel in a folder of its own.
+test-wheel: wheel
+	$(PYTHON) -B tests/python_package.py $(DIST)/bplist-*.whl
+
+# What is made depends on the commit and its date alone.
+dist wheel: export SOURCE_DATE_EPOCH ?= $(shell git log -1 --format=%ct)
+
+dist: build lib
+	$(MAKE) wheel
+	packaging/dist.sh $(DIST)
+
+gate test:
 	.ci/run
+
+edits:
+	python3 -B tests/edits.py --all
 
 bench: build lib
 	python3 -B tests/bench.py $(BPLINT)
 	python3 -B tests/bench_library.py $(LIBRARY)
 
 install: build lib
-	install -D -m 755 $(BPLINT) $(ROOT)/bin/bplint
-	install -D -m 644 man/bplint.1 $(ROOT)/share/man/man1/bplint.1
-	install -D -m 644 completions/bplint.bash $(ROOT)/share/bash-completion/completions/bplint
-	install -D -m 644 completions/_bplint $(ROOT)/share/zsh/site-functions/_bplint
-	install -D -m 644 completions/bplint.fish $(ROOT)/share/fish/vendor_completions.d/bplint.fish
-	install -D -m 644 include/bplist.h $(ROOT)/include/bplist.h
-	install -D -m 644 $(LIBRARY)/libbplist.a $(ROOT)/lib/libbplist.a
-	install -D -m 755 $(LIBRARY)/$(SONAME) $(ROOT)/lib/$(SONAME)
-	ln -sf $(SONAME) $(ROOT)/lib/libbplist.so
-	install -d $(ROOT)/lib/pkgconfig
-	sed 's|@PREFIX@|$(PREFIX)|; s|@VERSION@|$(VERSION)|' bplist.pc.in > $(ROOT)/lib/pkgconfig/bplist.pc
-	chmod 644 $(ROOT)/lib/pkgconfig/bplist.pc
+	@made=$$(for folder in $(FOLDERS); do \
+	  while ! test -d $$folder; do echo $$folder; folder=$$(dirname $$folder); done; done | sort -u); \
+	  $(INSTALL) -d $(FOLDERS); for folder in $$made; do echo $$folder; done >> $(MADE)
+	$(INSTALL) -m 755 $(BPLINT) $(DESTDIR)$(bindir)/bplint
+	$(INSTALL) -m 644 man/bplint.1 $(DESTDIR)$(mandir)/man1/bplint.1
+	$(INSTALL) -m 644 completions/bplint.bash $(DESTDIR)$(bashdir)/bplint
+	$(INSTALL) -m 644 completions/_bplint $(DESTDIR)$(zshdir)/_bplint
+	$(INSTALL) -m 644 completions/bplint.fish $(DESTDIR)$(fishdir)/bplint.fish
+	$(INSTALL) -m 644 include/bplist.h $(DESTDIR)$(includedir)/bplist.h
+	$(INSTALL) -m 644 $(LIBRARY)/libbplist.a $(DESTDIR)$(libdir)/libbplist.a
+	$(INSTALL) -m 755 $(LIBRARY)/$(SONAME) $(DESTDIR)$(libdir)/$(SONAME)
+	ln -sf $(SONAME) $(DESTDIR)$(libdir)/libbplist.so
+	sed -e 's|@PREFIX@|$(PREFIX)|; s|@VERSION@|$(VERSION)|' \
+	  -e 's|@LIBDIR@|$(call below,$(libdir))|; s|@INCLUDEDIR@|$(call below,$(includedir))|' \
+	  bplist.pc.in > $(DESTDIR)$(pkgconfigdir)/bplist.pc
+	chmod 644 $(DESTDIR)$(pkgconfigdir)/bplist.pc
 
 uninstall:
-	rm -f $(addprefix $(ROOT)/,$(INSTALLED))
+	rm -f $(INSTALLED)
+	@if test -f $(MADE); then \
+	  made=$$(sort -r $(MADE)); rm $(MADE); for folder in $$made; do rmdir --ignore-fail-on-non-empty $$folder; done; fi
 
 clean:
-	rm -rf crates/*/out
+	rm -rf crates/*/out $(DIST)

@@ -26,10 +26,10 @@
  *   each object and for each pair of a dictionary.
  *
  * WHAT IS ANSWERED
- *   Each call returns a status. BPLIST_OK means that the answer is in the
- *   outputs; with another status an output is left as it was, save where the
- *   call says otherwise. An output need not be set before the call. No call
- *   prints, exits, or keeps a pointer that it was given.
+ *   Each call but bplist_version returns a status. BPLIST_OK means that the
+ *   answer is in the outputs; with another status an output is left as it was,
+ *   save where the call says otherwise. An output need not be set before the
+ *   call. No call prints, exits, or keeps a pointer that it was given.
  *
  * WHAT THE CALLER UPHOLDS
  *   1. No pointer is NULL, and each points to as many elements as the call says,
@@ -45,8 +45,8 @@
  *   4. malloc, realloc and free are those of one allocator. No call is made from
  *      a signal handler, or in a child of fork() of a process with threads.
  *   Everything else may be handed in: any bytes as file, certificate and path, a
- *   closed handle, the number of an object that the file has not, a buffer that is
- *   too short.
+ *   closed handle, an object number that does not exist, a buffer that is too
+ *   short.
  *
  * THREADS
  *   The proofs are of one thread. What a caller upholds who has more:
@@ -70,6 +70,15 @@
 extern "C" {
 #endif
 
+/* The version of this header: 0.3.0. */
+#define BPLIST_VERSION_MAJOR 0
+#define BPLIST_VERSION_MINOR 3
+#define BPLIST_VERSION_PATCH 0
+#define BPLIST_VERSION "0.3.0"
+
+/* The same as one number, by which two versions can be compared: 0x000300. */
+#define BPLIST_VERSION_NUM (BPLIST_VERSION_MAJOR << 16 | BPLIST_VERSION_MINOR << 8 | BPLIST_VERSION_PATCH)
+
 /* What a call returns. */
 typedef uint32_t bplist_status;
 
@@ -87,7 +96,7 @@ enum {
     BPLIST_OPENED = 4,
     /* The file is not the one that was opened. */
     BPLIST_OTHER_FILE = 5,
-    /* The file's value has no part with the number of that object. */
+    /* The file has no object with that number, or its top object does not reach it. */
     BPLIST_NO_OBJECT = 6,
     /* The object is of another kind than the call asks for. */
     BPLIST_OTHER_KIND = 7,
@@ -109,7 +118,9 @@ enum {
        dictionary. */
     BPLIST_NO_TEXT = 15,
     /* There is no rule with that number. */
-    BPLIST_NO_RULE = 16
+    BPLIST_NO_RULE = 16,
+    /* There is no status with that number. */
+    BPLIST_NO_STATUS = 17
 };
 
 /* What an object holds. */
@@ -239,11 +250,28 @@ bplist_status bplist_circle(const uint8_t *file, size_t length, uint32_t *object
                             uint64_t *count);
 
 /*
- * The name of rule 1 to 32, as "Marker": `*count` letters, at most 15, with no 0 behind
- * them, at the first of the `room` bytes at `name`. BPLIST_SHORT: it has `*count`
- * letters, more than `room`, and none was written. BPLIST_NO_RULE.
+ * The name of rule 1 to 32, for example "Marker": `*count` letters, at most 15, with no
+ * 0 behind them, at the first of the `room` bytes at `name`. BPLIST_SHORT: it has
+ * `*count` letters, more than `room`, and none was written. BPLIST_NO_RULE.
  */
 bplist_status bplist_rule_name(uint32_t rule, char *name, size_t room, uint64_t *count);
+
+/*
+ * What rule 1 to 32 asks of a file, as one sentence, for example "The keys of a
+ * dictionary differ.": `*count` bytes of ASCII, at most 200, written as by
+ * bplist_rule_name. BPLIST_SHORT, BPLIST_NO_RULE.
+ */
+bplist_status bplist_rule_text(uint32_t rule, char *text, size_t room, uint64_t *count);
+
+/*
+ * What a status means, as one sentence, for example "The handle is closed.": `*count`
+ * bytes of ASCII, at most 200, written as by bplist_rule_name. BPLIST_SHORT.
+ * BPLIST_NO_STATUS: `status` is not one of BPLIST_OK to BPLIST_NO_STATUS.
+ */
+bplist_status bplist_status_text(bplist_status status, char *text, size_t room, uint64_t *count);
+
+/* The version of the library: BPLIST_VERSION_NUM of the header that it was built with. */
+uint32_t bplist_version(void);
 
 /*
  * Lints a file, and opens it where it holds a value. With `sorted` the handle gets a
@@ -285,8 +313,8 @@ bplist_status bplist_certificate(bplist_handle *handle, uint8_t *buffer, size_t 
 /*
  * In the calls below `handle` is open, and `file` of `length` bytes is the file that
  * it was opened with. Each can return BPLIST_CLOSED or BPLIST_OTHER_FILE, and leaves the
- * handle as it was. BPLIST_NO_OBJECT: the number is above those of the file's objects,
- * or the check had no look at the object, since the top does not reach it.
+ * handle as it was. BPLIST_NO_OBJECT: the file has no object with the number `object`,
+ * or its top object does not reach that object, which therefore was not checked.
  */
 
 /*
@@ -314,7 +342,8 @@ bplist_status bplist_find_key(bplist_handle *handle, const uint8_t *file, size_t
 
 /*
  * Kind, count, place and length of an object's body. The bytes of a real, a date, data
- * and a text stand in the file from `place` on. BPLIST_NO_OBJECT.
+ * and a text stand in the file from `place` on. With bplist_members a tree is walked in
+ * two calls for each object. BPLIST_NO_OBJECT.
  */
 bplist_status bplist_face(bplist_handle *handle, const uint8_t *file, size_t length,
                           uint32_t object, bplist_body *out);
@@ -335,6 +364,26 @@ bplist_status bplist_uid(bplist_handle *handle, const uint8_t *file, size_t leng
  */
 bplist_status bplist_member(bplist_handle *handle, const uint8_t *file, size_t length,
                             uint32_t object, uint64_t i, uint32_t *out);
+
+/*
+ * The objects of the members from number `from` on, in the order of bplist_member: as
+ * many as there are and as fit are written to the first `*count` of the `room` elements
+ * at `objects`. `*count` is 0 if `from` is not below the number of members, and for all
+ * kinds that have none. What `objects` holds behind them is not changed.
+ * BPLIST_NO_OBJECT.
+ */
+bplist_status bplist_members(bplist_handle *handle, const uint8_t *file, size_t length,
+                             uint32_t object, uint64_t from, uint32_t *objects, size_t room,
+                             uint64_t *count);
+
+/*
+ * The bytes of an object's body from its byte `from` on, as they stand in the file: as
+ * many as there are and as fit are written to the first `*count` of the `room` bytes at
+ * `bytes`. `*count` is 0 if `from` is not below the length of the body. BPLIST_NO_OBJECT.
+ */
+bplist_status bplist_read(bplist_handle *handle, const uint8_t *file, size_t length,
+                          uint32_t object, uint64_t from, uint8_t *bytes, size_t room,
+                          uint64_t *count);
 
 /*
  * The units of a text, a BPLIST_ASCII or a BPLIST_WIDE, from unit `from` on: as many as

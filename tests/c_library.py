@@ -3,26 +3,26 @@
 
 Compiles the programs of C over libbplist.a, all warnings errors, and runs them; `make build lib` comes before.
 
-- The walker (tests/c_walker.c) sees every file of the tables and of other writers, under valgrind where it is there, and prints
-  what `bplint lint` says; an error or a leak fails the batch. It is run again on some files with each growth refused in turn.
-- tests/c_threads.c calls the library from several threads, under valgrind's helgrind where it is there.
+- The walker (tests/c_walker.c) sees every file of the tables and of other writers, under valgrind if it is installed, and
+  prints what `bplint lint` says; an error or a leak fails the batch. It is run again on some files with each growth refused
+  in turn.
+- tests/c_threads.c calls the library from several threads, under valgrind's helgrind if it is installed.
 - The example prints values.
 - The library shows the calls of bplist.h and has no variables that it writes.
-- `make install` puts all in place, so that the example compiles by bplist.pc and runs; `make uninstall` takes all away.
 
-A file counts as a test, and so does each of the others. Without gcc nothing is run. The last line printed is `N passed, M failed`, with
-`, K skipped` where some were.
+A file counts as a test, and so does each of the others. Without gcc and nm nothing is run. The last line printed is
+`N passed, M failed`, with `, K skipped` if some were.
 """
 import os
 import pathlib
 import re
-import shutil
 import subprocess
 import sys
 import tempfile
 
 from run_vectors import doubling, expression
 from sample_files import table_files, written_files
+from tools import closing, lacks
 
 ROOT = pathlib.Path(__file__).resolve().parent.parent
 PROGRAM = ROOT / "crates/bplint/out/bplint"
@@ -32,8 +32,6 @@ STRICT = ["-std=c11", "-Wall", "-Wextra", "-Werror", "-pedantic", "-O2", "-g"]
 BATCH = 60
 SECONDS = 900
 MOST_GROWTHS = 2000
-# Program, manual page, three completions, header, two libraries and a link, bplist.pc.
-INSTALLED = 10
 # An address that the allocator of the kit hands on where malloc gives none. Nothing is written to it.
 UNWRITTEN = "nothing"
 
@@ -86,7 +84,7 @@ class Tests:
     def __init__(self, folder):
         self.folder = folder
         self.passed = self.failed = self.skipped = 0
-        self.valgrind = shutil.which("valgrind")
+        self.has_valgrind = not lacks("valgrind")
         static = [f"-I{ROOT / 'include'}", LIBRARY]
         self.walker = built(folder, "tests/c_walker.c", *static)
         self.threads = built(folder, "tests/c_threads.c", *static, "-pthread")
@@ -99,8 +97,8 @@ class Tests:
         else:
             self.passed += 1
 
-    def skip(self, name, why):
-        print(f"skipped {name}: {why}")
+    def skip(self, tests, program):
+        print(f"skipped, {program} is not installed: {tests}")
         self.skipped += 1
 
     def file(self, name, octets):
@@ -110,8 +108,8 @@ class Tests:
 
     def rows(self):
         """Name, path and line of each file that is walked."""
-        if not shutil.which("plistutil"):
-            self.skip("plistutil", "not here; its files are not walked")
+        if lacks("plistutil"):
+            self.skip("walks over its files", "plistutil")
         samples = [*table_files(), *written_files(self.folder)]
         for number, sample in enumerate(samples):
             path = self.file(f"row{number}", sample.octets)
@@ -134,10 +132,10 @@ class Tests:
 
     def walk_all(self):
         tool = []
-        if self.valgrind:
-            tool = [self.valgrind, "-q", "--error-exitcode=99", "--leak-check=full", "--errors-for-leak-kinds=all"]
+        if self.has_valgrind:
+            tool = ["valgrind", "-q", "--error-exitcode=99", "--leak-check=full", "--errors-for-leak-kinds=all"]
         else:
-            self.skip("valgrind", "not here; the walks and the threads are run without it")
+            self.skip("errors and leaks of the walks and the threads", "valgrind")
         rows = list(self.rows())
         for start in range(0, len(rows), BATCH):
             self.walk(tool, rows[start : start + BATCH])
@@ -168,7 +166,7 @@ class Tests:
         return f"more than {MOST_GROWTHS} growths"
 
     def run_threads(self):
-        tool = [self.valgrind, "-q", "--tool=helgrind", "--error-exitcode=99"] if self.valgrind else []
+        tool = ["valgrind", "-q", "--tool=helgrind", "--error-exitcode=99"] if self.has_valgrind else []
         for name, octets in REFUSED.items():
             path = self.file(f"threads-{name}", octets)
             if subprocess.run([self.example, path], capture_output=True, check=False).returncode == 0:
@@ -178,18 +176,18 @@ class Tests:
     def print_values(self):
         for number, (text, path, expected) in enumerate(PRINTED):
             file = self.file(f"printed{number}", expression(text))
-            self.print_value(self.example, file, path, expected, None)
+            self.print_value(file, path, expected)
         absent = subprocess.run([self.example, self.file("none", b"")], capture_output=True, timeout=SECONDS)
         right = absent.returncode == 1 and b"rule 2 (TooShort), place 0" in absent.stderr
         self.count("print_value of an empty file", "" if right else f"{absent}")
 
-    def print_value(self, example, file, path, expected, environment):
-        ran = subprocess.run([example, file, path], capture_output=True, timeout=SECONDS, env=environment)
+    def print_value(self, file, path, expected):
+        ran = subprocess.run([self.example, file, path], capture_output=True, timeout=SECONDS)
         right = (ran.returncode, ran.stdout, ran.stderr) == (0, expected, b"")
-        self.count(f"{example} {file} {path}", "" if right else f"{ran}")
+        self.count(f"print_value {file} {path}", "" if right else f"{ran}")
 
     def see_symbols(self):
-        calls = set(re.findall(r"^bplist_status (bplist_\w+)\(", (ROOT / "include/bplist.h").read_text(), re.MULTILINE))
+        calls = set(re.findall(r"^\w+ (bplist_\w+)\(", (ROOT / "include/bplist.h").read_text(), re.MULTILINE))
         shown = {name for name, kind in symbols(SHARED, "-D", "--defined-only") if kind == "T"}
         self.count("calls of libbplist.so", "" if shown == calls else f"{shown ^ calls}")
         shown = {name for name, _ in symbols(LIBRARY, "-g", "--defined-only")}
@@ -197,49 +195,12 @@ class Tests:
         variables = {name for name, kind in symbols(LIBRARY, "--defined-only") if kind in "bBdDcCsSgG"}
         self.count("variables of libbplist.a", ", ".join(variables - {UNWRITTEN}))
 
-    def make(self, *words):
-        # What is built stays as it is: `make install` would ask rt whether it is new.
-        command = ["make", "-s", "-C", ROOT, "-o", "build", "-o", "lib", *words]
-        subprocess.run(command, check=True, stdout=subprocess.DEVNULL)
-
-    def install(self):
-        """Below DESTDIR the files stand as below PREFIX, by which the header, bplist.pc and the program are used."""
-        stage, prefix = self.folder / "stage", self.folder / "prefix"
-        there = [f"DESTDIR={stage}", "PREFIX=/usr"]
-        here = [f"PREFIX={prefix}"]
-        self.make("install", *there)
-        self.make("install", *here)
-        staged, installed = files_below(stage / "usr"), files_below(prefix)
-        self.count("installed below DESTDIR", "" if staged == installed and len(installed) == INSTALLED else f"{staged ^ installed}")
-        self.use(prefix)
-        self.make("uninstall", *there)
-        self.make("uninstall", *here)
-        left = files_below(stage) | files_below(prefix)
-        self.count("uninstalled", ", ".join(sorted(left)))
-
-    def use(self, prefix):
-        """Compiles the example by what is installed, and runs it and the program."""
-        file = self.file("used", expression("top(10 07)"))
-        said = subprocess.run([prefix / "bin/bplint", "lint", file], capture_output=True, check=False).stdout
-        self.count("installed program", "" if said == b"ok reached 1 height 1 top int\n" else f"{said}")
-        if not shutil.which("pkg-config"):
-            self.skip("installed library", "pkg-config is not here")
-            return
-        found = dict(os.environ, PKG_CONFIG_PATH=prefix / "lib/pkgconfig", LD_LIBRARY_PATH=prefix / "lib")
-        asked = subprocess.run(["pkg-config", "--cflags", "--libs", "bplist"], capture_output=True, text=True, env=found, check=True)
-        (self.folder / "dynamic").mkdir()
-        example = built(self.folder / "dynamic", "examples/print_value.c", *asked.stdout.split())
-        self.print_value(example, file, "", b"7\n", found)
-
-
-def files_below(folder):
-    return {str(path.relative_to(folder)) for path in folder.rglob("*") if not path.is_dir()}
-
 
 def main():
-    if not shutil.which("gcc"):
-        print("skipped the C library: gcc is not here\n0 passed, 0 failed, 1 skipped")
-        return 0
+    for program in ("gcc", "nm"):
+        if lacks(program):
+            print(f"skipped, {program} is not installed: the C library\n{closing(0, 0, 1)}")
+            return 0
     with tempfile.TemporaryDirectory() as folder:
         tests = Tests(pathlib.Path(folder))
         tests.walk_all()
@@ -247,9 +208,7 @@ def main():
         tests.run_threads()
         tests.print_values()
         tests.see_symbols()
-        tests.install()
-    closing = f"{tests.passed} passed, {tests.failed} failed"
-    print(closing + (f", {tests.skipped} skipped" if tests.skipped else ""))
+    print(closing(tests.passed, tests.failed, tests.skipped))
     return 1 if tests.failed else 0
 
 

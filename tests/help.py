@@ -2,7 +2,7 @@
 """help.py PROGRAM
 
 Compares what `--help` of PROGRAM and of its subcommands names with the manual page, the completions and docs/RULES.md: the
-subcommands, the flags of each, the version, and what `explain` says of each rule. The last line printed is
+subcommands, the flags of each, and what `explain` says of each rule. The last line printed is
 `N passed, M failed`. The exit status is 1 where one failed.
 """
 import pathlib
@@ -135,19 +135,12 @@ def compare_rules(tally, program):
         tally.compare(f"words in {name}", True, words in held)
 
 
-def compare_version(tally, program):
-    version = output(program, "--version").split()[-1]
-    newest = re.search(r"^## (\S+)", (ROOT / "CHANGELOG.md").read_text(encoding="utf-8"), re.MULTILINE)[1]
-    tally.compare("version in CHANGELOG.md", version, newest)
-    tally.compare("version in man/bplint.1", True, f"bplint {version}" in manual())
-
-
 def main():
     if len(sys.argv) != 2:
         print(__doc__, file=sys.stderr)
         return 2
     tally = Tally()
-    for compare in (compare_flags, compare_rules, compare_version):
+    for compare in (compare_flags, compare_rules):
         compare(tally, sys.argv[1])
     print(f"{tally.passed} passed, {tally.failed} failed")
     return 1 if tally.failed else 0

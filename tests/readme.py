@@ -60,6 +60,21 @@ def printed(command, folder):
     return ran.stdout.decode().splitlines()
 
 
+def write_files(folder):
+    for name, content in files().items():
+        pathlib.Path(folder, name).write_bytes(content)
+
+
+def answers(program, folder):
+    """Each command of the session, run in a folder, with what README.md says and what PROGRAM prints."""
+    write_files(folder)
+    os.mkdir(f"{folder}/bin")
+    os.symlink(program, f"{folder}/bin/bplint")
+    *_, commands = session(README.read_text())
+    for command, want in commands:
+        yield command, want, printed(command, folder)
+
+
 def is_example(text):
     """Whether the library in use is what the crate of examples has."""
     code = text.split(f"{FENCE}rust\n")[1].split(FENCE)[0]
@@ -72,12 +87,7 @@ def main():
     begin, end, commands = session(text)
     failed, written = 0, []
     with tempfile.TemporaryDirectory() as folder:
-        os.mkdir(f"{folder}/bin")
-        os.symlink(program, f"{folder}/bin/bplint")
-        for name, content in files().items():
-            pathlib.Path(folder, name).write_bytes(content)
-        for command, want in commands:
-            got = printed(command, folder)
+        for command, want, got in answers(program, folder):
             written += [PROMPT + command, *got]
             if got != want:
                 failed += 1

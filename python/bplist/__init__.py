@@ -5,15 +5,18 @@
     with bplist.open("Info.plist") as plist:
         print(plist.value["CFBundleName"], plist.at("/UIRequiredDeviceCapabilities/0"))
 
-`open` and `loads` lint the file: where it holds no value they raise `Refused`, with the first broken rule. Containers are
-read on access: a dictionary is a `collections.abc.Mapping`, an array a `Sequence`, a set is iterable. Leaves are what
-plistlib gives; `bplist.values` says which, and what is given where plistlib has nothing.
+    tree = bplist.to_python("Info.plist")
+
+`open`, `load` and `loads` lint the file: if it holds no value they raise `Refused`, with the first broken rule. Containers
+are read on access: a dictionary is a `collections.abc.Mapping`, an array a `Sequence`, a set is iterable. Leaves are what
+plistlib gives; `bplist.values` says which, and what is given if plistlib has nothing. `to_python` gives the whole tree.
 
 The work is done by the C library libbplist, over a proved core.
 """
+from ._bplist import VERSION as __version__
 from .faults import Closed, Error, OutOfMemory, PathError, Refused, TooLarge
-from .plist import Plist, Verdict, lint, loads, open
-from .values import Array, Date, Dict, Set
+from .plist import Plist, Verdict, lint, lint_bytes, load, loads, open, to_python
+from .values import Array, Date, Dict, Kind, Set
 
 __all__ = [
     "Array",
@@ -21,6 +24,7 @@ __all__ = [
     "Date",
     "Dict",
     "Error",
+    "Kind",
     "OutOfMemory",
     "PathError",
     "Plist",
@@ -28,7 +32,11 @@ __all__ = [
     "Set",
     "TooLarge",
     "Verdict",
+    "__version__",
     "lint",
+    "lint_bytes",
+    "load",
     "loads",
     "open",
+    "to_python",
 ]

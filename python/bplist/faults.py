@@ -1,29 +1,30 @@
 """What can go wrong, as exceptions."""
 from __future__ import annotations
 
-from .rules import RULES
+from ._bplist import rule_name, rule_text
 
 
 class Error(Exception):
-    """Every exception of this package that is about a file or a handle."""
+    """Every exception of this package that is about a file or a property list."""
 
 
 class Refused(Error, ValueError):
     """The file holds no value, or the certificate is not accepted for it.
 
-    rule: the word of the first broken rule, as `Marker`; number: its number, 1 to 32; object: the object that breaks it, or
-    None; place: the place that shows it, a byte's number in the file (rules 24 to 27 and 32: in the certificate), or None
-    for a circle; circle: the objects of the circle of references, each of which refers to the next, or an empty tuple;
-    sentence: what the rule asks.
+    rule: the word of the first broken rule, for example `Marker`; number: its number, 1 to 32; object: the object that
+    breaks it, or None; place: the place that shows it, a byte's number in the file (rules 24 to 27 and 32: in the
+    certificate), or None for a circle; circle: the objects of the circle of references, each of which refers to the next,
+    or an empty tuple; sentence: what the rule asks.
     """
 
-    def __init__(self, number: int, object: int | None, place: int | None, circle: tuple[int, ...] = ()):
+    def __init__(self, number: int, broken_by: int | None, place: int | None, circle: tuple[int, ...] = ()):
+        super().__init__(number, broken_by, place, circle)
         self.number = number
-        self.rule, self.sentence = RULES[number]
-        self.object = object
+        self.rule = rule_name(number)
+        self.sentence = rule_text(number)
+        self.object = broken_by
         self.place = place
         self.circle = circle
-        super().__init__(number, object, place, circle)
 
     def __str__(self) -> str:
         if self.circle:
@@ -36,8 +37,8 @@ class PathError(Error, ValueError):
     """A path text is wrong; place: the byte at which, counted from 0."""
 
     def __init__(self, place: int):
-        self.place = place
         super().__init__(place)
+        self.place = place
 
     def __str__(self) -> str:
         return f"the path text is wrong at its byte {self.place}"
@@ -47,9 +48,9 @@ class TooLarge(Error, ValueError):
     """A tree or a text is larger than the limit; size: how large it is, at most 2^64 - 1."""
 
     def __init__(self, size: int, limit: int):
+        super().__init__(size, limit)
         self.size = size
         self.limit = limit
-        super().__init__(size, limit)
 
     def __str__(self) -> str:
         return f"the size {self.size} is above the limit {self.limit}"

@@ -1,23 +1,44 @@
 """The values of a property list as Python's.
 
 Leaves are what plistlib gives: str, int, float, bytes, bool, datetime.datetime (naive, UTC), plistlib.UID, and None for
-null. Where plistlib has nothing to give: an integer of 128 bits is an int; a text with a lone surrogate is a str that holds
-it; a date beyond datetime's range, or that is no number, is a `Date`.
+null. Three things that plistlib can't give are added: an integer of 128 bits is an int; a text with a lone surrogate is a
+str that holds it; a date beyond datetime's range, or one that is no number, is a `Date`.
 """
 from __future__ import annotations
 
 import collections.abc
 import datetime
+import enum
 import plistlib
-import struct
 import typing
 
-from .native import Kind
+from . import _bplist
 
 if typing.TYPE_CHECKING:
-    from .plist import Plist
+    SequenceBase = collections.abc.Sequence[typing.Any]
+    MappingBase = collections.abc.Mapping[str, typing.Any]
+    IterableBase = collections.abc.Iterable[typing.Any]
+else:
+    # The classes are registered with collections.abc: an `isinstance` that asks for a class of its metaclass is slow.
+    SequenceBase = MappingBase = IterableBase = object
 
-EPOCH = datetime.datetime(2001, 1, 1)
+
+class Kind(enum.IntEnum):
+    """What an object holds."""
+
+    NULL = 1
+    FALSE = 2
+    TRUE = 3
+    INT = 4
+    REAL = 5
+    DATE = 6
+    DATA = 7
+    ASCII = 8
+    WIDE = 9
+    UID = 10
+    ARRAY = 11
+    SET = 12
+    DICT = 13
 
 
 class Date(float):
@@ -34,9 +55,9 @@ def _are_equal(one: Container, other: Container) -> bool:
             if a != b:
                 return False
             continue
-        if a._is(b) or (a._object, b._object) in met:
+        if a._is(b) or (a.object, b.object) in met:
             continue
-        met.add((a._object, b._object))
+        met.add((a.object, b.object))
         if type(a) is not type(b) or len(a) != len(b):
             return False
         if isinstance(a, Dict):
@@ -49,26 +70,20 @@ def _are_equal(one: Container, other: Container) -> bool:
     return True
 
 
-class Container:
-    """A container of a property list, which it keeps open.
+class Container(_bplist.Container):
+    """A container of a property list, which it keeps open. `object` is the number of the object in the file.
 
-    Two containers of one kind are equal where they are one object of one property list, which is seen without reading, or
-    where their members are equal: those of arrays and sets in the order of the file, those of dictionaries by their keys.
-    A dictionary is compared with any mapping too, an array with a list. Containers have no hash.
+    Two containers of one kind are equal if they are one object of one property list, which is seen without reading, or if
+    their members are equal: those of arrays and sets in the order of the file, those of dictionaries by their keys. A
+    dictionary is compared with any mapping too, an array with a list. Containers have no hash.
     """
 
-    __slots__ = ("_plist", "_object", "_count")
-
-    def __init__(self, plist: Plist, object: int, count: int):
-        self._plist = plist
-        self._object = object
-        self._count = count
-
-    def __len__(self) -> int:
-        return self._count
+    __slots__ = ()
 
     def __eq__(self, other: object) -> bool:
         return _are_equal(self, other) if isinstance(other, Container) else self._equals_plain(other)
+
+    __hash__ = None  # type: ignore[assignment]
 
     def _equals_plain(self, other: object) -> bool:
         """Whether a value that is no container of a property list is equal."""
@@ -76,90 +91,83 @@ class Container:
 
     def _is(self, other: Container) -> bool:
         """Whether both are one object of one property list."""
-        return self._plist is other._plist and self._object == other._object
-
-    @property
-    def object(self) -> int:
-        """The number of the object in the file."""
-        return self._object
+        return self._plist is other._plist and self.object == other.object
 
     @property
     def size(self) -> int:
         """How many nodes the tree of this value has, keys of dictionaries among them: at most 2^64 - 1."""
-        return self._plist._nodes(self._object)
+        return self._plist._nodes(self.object)
 
     def plain(self, limit: int = 10_000_000) -> typing.Any:
         """The tree of this value as plistlib would load it (`Plist.plain`)."""
-        return self._plist._plain(self._object, limit)
-
-    def _member(self, i: int) -> typing.Any:
-        return self._plist._value(self._plist._member(self._object, i))
+        return self._plist._plain(self.object, limit)
 
     def __repr__(self) -> str:
-        return f"<{type(self).__name__} of {self._count}, object {self._object}>"
+        return f"<{type(self).__name__} of {len(self)}, object {self.object}>"
 
 
-class Array(Container, collections.abc.Sequence):
+class Array(Container, SequenceBase):
     """An array, whose members are read on access."""
 
     __slots__ = ()
 
     def __getitem__(self, index):
         if isinstance(index, slice):
-            return [self._member(i) for i in range(*index.indices(self._count))]
-        at = index + self._count if index < 0 else index
-        if not 0 <= at < self._count:
+            return [self._member(i) for i in range(*index.indices(len(self)))]
+        at = index + len(self) if index < 0 else index
+        if not 0 <= at < len(self):
             raise IndexError("array index out of range")
         return self._member(at)
 
     def __iter__(self):
-        return map(self._member, range(self._count))
+        return self._members(0, 1)
+
+    __contains__ = collections.abc.Sequence.__contains__
+    __reversed__ = collections.abc.Sequence.__reversed__
+    index = collections.abc.Sequence.index
+    count = collections.abc.Sequence.count
 
     def _equals_plain(self, other: object) -> bool:
         return list(self) == other if isinstance(other, list) else NotImplemented
 
 
-class Set(Container, collections.abc.Iterable):
+class Set(Container, IterableBase):
     """A set, whose members may be containers: they come in the order of the file, and equal ones each time."""
 
     __slots__ = ()
 
     def __iter__(self):
-        return map(self._member, range(self._count))
+        return self._members(0, 1)
 
 
 class Items(collections.abc.ItemsView):
     """The pairs of a dictionary, each read once, with no search for its key."""
 
     def __iter__(self):
-        mapping = self._mapping
-        return ((mapping._member(2 * j), mapping._member(2 * j + 1)) for j in range(len(mapping)))
+        return self._mapping._pairs()
 
 
 class Values(collections.abc.ValuesView):
     """The values of a dictionary, with no search for their keys."""
 
     def __iter__(self):
-        mapping = self._mapping
-        return (mapping._member(2 * j + 1) for j in range(len(mapping)))
+        return self._mapping._members(1, 2)
 
 
-class Dict(Container, collections.abc.Mapping):
+class Dict(Container, MappingBase):
     """A dictionary with keys of str, in the order of the file."""
 
     __slots__ = ()
 
-    def __getitem__(self, key: str) -> typing.Any:
-        found = self._plist._find_key(self._object, key) if isinstance(key, str) else None
-        if found is None:
-            raise KeyError(key)
-        return self._plist._value(found)
-
-    def __contains__(self, key: object) -> bool:
-        return isinstance(key, str) and self._plist._find_key(self._object, key) is not None
+    __getitem__ = _bplist.Container._value_of
+    __contains__ = _bplist.Container._has
+    __reversed__ = None
 
     def __iter__(self):
-        return (self._member(2 * j) for j in range(self._count))
+        return self._members(0, 2)
+
+    get = collections.abc.Mapping.get
+    keys = collections.abc.Mapping.keys
 
     def items(self) -> Items:
         return Items(self)
@@ -171,36 +179,6 @@ class Dict(Container, collections.abc.Mapping):
         return collections.abc.Mapping.__eq__(self, other)
 
 
-CONTAINERS = {Kind.ARRAY: Array, Kind.SET: Set, Kind.DICT: Dict}
-
-
-def date_of(seconds: float) -> datetime.datetime | Date:
-    """The date so many seconds after the first moment of 2001."""
-    try:
-        return EPOCH + datetime.timedelta(seconds=seconds)
-    except (OverflowError, ValueError):
-        return Date(seconds)
-
-
-def leaf_of(kind: Kind, body: bytes) -> typing.Any:
-    """The leaf of a kind whose value stands in its body, or in none."""
-    match kind:
-        case Kind.NULL:
-            return None
-        case Kind.FALSE | Kind.TRUE:
-            return kind is Kind.TRUE
-        case Kind.REAL:
-            return struct.unpack(">f" if len(body) == 4 else ">d", body)[0]
-        case Kind.DATE:
-            return date_of(struct.unpack(">d", body)[0])
-        case Kind.DATA:
-            return body
-        case Kind.ASCII:
-            return body.decode("ascii")
-        case Kind.WIDE:
-            return body.decode("utf-16-be", "surrogatepass")
-    raise AssertionError(f"no leaf: {kind}")
-
-
-def uid_of(number: int) -> plistlib.UID:
-    return plistlib.UID(number)
+collections.abc.Sequence.register(Array)
+collections.abc.Mapping.register(Dict)
+_bplist.bind(Array, Set, Dict, Date, plistlib.UID, datetime.datetime(2001, 1, 1), datetime.timedelta)

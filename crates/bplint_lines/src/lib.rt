@@ -26,7 +26,6 @@ mod member_names;
 mod object_path;
 mod output_lines;
 mod rule_lines;
-mod rule_texts;
 mod said;
 
 pub use explanation::explain;

@@ -25,3 +25,4 @@ pub mod SmallFiles
 pub mod Framed
 pub mod Visits
 pub mod Prelude
+pub mod RuleTexts

@@ -1,0 +1,42 @@
+"""Builds the extension module over the C library libbplist.a, which `make lib` leaves in the folder that BPLIST_LIBRARY names."""
+import os
+import pathlib
+
+from setuptools import Extension, setup
+from wheel.bdist_wheel import bdist_wheel
+
+HERE = pathlib.Path(__file__).resolve().parent
+ROOT = HERE.parent
+LIBRARY = pathlib.Path(os.environ.get("BPLIST_LIBRARY", ROOT / "crates/bplist_c/out"))
+# The oldest Python whose limited API is used, and the newest glibc that a symbol of the module asks for.
+PYTHON = (3, 10)
+GLIBC = "2_14"
+
+
+class Wheel(bdist_wheel):
+    """A wheel that also names the systems on which its module runs by the glibc that they have."""
+
+    def get_tag(self):
+        python, abi, platform = super().get_tag()
+        return python, abi, f"{platform.replace('linux', f'manylinux_{GLIBC}')}.{platform}"
+
+
+setup(
+    version=(ROOT / "VERSION").read_text(encoding="utf-8").strip(),
+    ext_modules=[
+        Extension(
+            "bplist._bplist",
+            sorted(str(path.relative_to(HERE)) for path in HERE.glob("src/*.c")),
+            include_dirs=[os.path.relpath(ROOT / "include", HERE)],
+            depends=["src/extension.h"],
+            define_macros=[("Py_LIMITED_API", f"0x{PYTHON[0]:02x}{PYTHON[1]:02x}0000")],
+            extra_objects=[str(LIBRARY / "libbplist.a")],
+            # With -g0 and -s there is no path in the module, and so it is the same wherever it is built.
+            extra_compile_args=["-std=c11", "-Wall", "-Wextra", "-g0", "-fvisibility=hidden", f"-ffile-prefix-map={HERE}=."],
+            extra_link_args=["-s", "-Wl,--no-undefined-version"],
+            py_limited_api=True,
+        )
+    ],
+    options={"bdist_wheel": {"py_limited_api": f"cp{PYTHON[0]}{PYTHON[1]}"}},
+    cmdclass={"bdist_wheel": Wheel},
+)

@@ -1,0 +1,94 @@
+/* Exceptions. */
+#include "extension.h"
+
+#include <stdarg.h>
+
+int raise_fault(const char *name, const char *arguments, ...)
+{
+    va_list given;
+    PyObject *values, *fault = NULL;
+    PyObject *module = PyImport_ImportModule("bplist.faults");
+    PyObject *class = module ? PyObject_GetAttrString(module, name) : NULL;
+
+    va_start(given, arguments);
+    values = class ? Py_VaBuildValue(arguments, given) : NULL;
+    va_end(given);
+    if (values)
+        fault = PyObject_CallObject(class, values);
+    if (fault)
+        PyErr_SetObject(class, fault);
+    Py_XDECREF(fault);
+    Py_XDECREF(values);
+    Py_XDECREF(class);
+    Py_XDECREF(module);
+    return -1;
+}
+
+/* The numbers as a tuple. */
+static PyObject *tuple_of(const uint32_t *numbers, uint64_t count)
+{
+    PyObject *tuple = PyTuple_New((Py_ssize_t)count);
+
+    for (uint64_t i = 0; tuple && i < count; i++) {
+        PyObject *number = PyLong_FromUnsignedLong(numbers[i]);
+
+        if (number == NULL || PyTuple_SetItem(tuple, (Py_ssize_t)i, number) < 0)
+            Py_CLEAR(tuple);
+    }
+    return tuple;
+}
+
+/* The objects of the circle, of which there are `count`. */
+static PyObject *circle_of(const Source *source, uint64_t count)
+{
+    uint64_t found = 0;
+    bplist_status status;
+    PyThreadState *thread;
+    PyObject *circle = NULL;
+    uint32_t *objects = PyMem_Calloc(count, sizeof *objects);
+
+    if (objects == NULL)
+        return PyErr_NoMemory();
+    thread = PyEval_SaveThread();
+    status = bplist_circle(source->file, source->length, objects, count, &found);
+    PyEval_RestoreThread(thread);
+    if (expect(status) == 0)
+        circle = tuple_of(objects, found);
+    PyMem_Free(objects);
+    return circle;
+}
+
+int raise_refused(const Source *source, const bplist_verdict *verdict)
+{
+    PyObject *circle;
+
+    if (verdict->circle == 0) {
+        if (verdict->has_object)
+            return raise_fault("Refused", "(IIK)", verdict->rule, verdict->object, (unsigned long long)verdict->place);
+        return raise_fault("Refused", "(IOK)", verdict->rule, Py_None, (unsigned long long)verdict->place);
+    }
+    circle = circle_of(source, verdict->circle);
+    if (circle == NULL)
+        return -1;
+    return raise_fault("Refused", "(IION)", verdict->rule, verdict->object, Py_None, circle);
+}
+
+int raise_changed(void)
+{
+    return raise_fault("Error", "(s)", "the file was changed while it was open");
+}
+
+int expect(bplist_status status)
+{
+    switch (status) {
+    case BPLIST_OK:
+        return 0;
+    case BPLIST_MEMORY:
+        return raise_fault("OutOfMemory", "(s)", "the library was refused memory");
+    case BPLIST_CLOSED:
+        return raise_fault("Closed", "(s)", "the property list was closed");
+    default:
+        PyErr_Format(PyExc_SystemError, "status %u", status);
+        return -1;
+    }
+}

@@ -1,0 +1,141 @@
+/* Property lists that are open. */
+#include "extension.h"
+
+void handle_wait(Handle *self)
+{
+    while (self->is_busy) {
+        PyThreadState *thread = PyEval_SaveThread();
+
+        PyThread_acquire_lock(self->lock, WAIT_LOCK);
+        PyThread_release_lock(self->lock);
+        PyEval_RestoreThread(thread);
+    }
+}
+
+int handle_ready(Handle *self)
+{
+    handle_wait(self);
+    return self->source.owner ? 0 : expect(BPLIST_CLOSED);
+}
+
+PyThreadState *handle_begin(Handle *self)
+{
+    if (handle_ready(self) < 0)
+        return NULL;
+    PyThread_acquire_lock(self->lock, WAIT_LOCK);
+    self->is_busy = 1;
+    return PyEval_SaveThread();
+}
+
+void handle_end(Handle *self, PyThreadState *thread)
+{
+    PyEval_RestoreThread(thread);
+    self->is_busy = 0;
+    PyThread_release_lock(self->lock);
+}
+
+static Handle *handle_new(State *state, PyObject *class)
+{
+    Handle *self = instance_of(class);
+
+    if (self == NULL)
+        return NULL;
+    self->state = state;
+    self->lock = PyThread_allocate_lock();
+    if (self->lock == NULL) {
+        Py_DECREF(self);
+        PyErr_NoMemory();
+        return NULL;
+    }
+    return self;
+}
+
+/* Opens the library's handle with the GIL let go: nobody else has this property list. */
+static bplist_status handle_fill(Handle *self, const Source *certificate, int is_sorted, bplist_verdict *verdict)
+{
+    const Source *source = &self->source;
+    bplist_status status;
+    PyThreadState *thread = PyEval_SaveThread();
+
+    if (certificate->owner)
+        status = bplist_open_certified(&self->handle, source->file, source->length, certificate->file, certificate->length,
+                                       is_sorted, verdict);
+    else
+        status = bplist_open(&self->handle, source->file, source->length, is_sorted, verdict);
+    PyEval_RestoreThread(thread);
+    return status;
+}
+
+PyObject *handle_open(State *state, PyObject *class, PyObject *owner, PyObject *certificate, int is_sorted)
+{
+    Source given = {NULL, NULL, 0};
+    bplist_verdict verdict;
+    bplist_status status;
+    Handle *self = handle_new(state, class);
+
+    if (self == NULL)
+        return NULL;
+    if (source_of(state, owner, &self->source) < 0 || (certificate != Py_None && source_of(state, certificate, &given) < 0)) {
+        self->source.owner = NULL;
+        Py_DECREF(self);
+        return NULL;
+    }
+    Py_INCREF(owner);
+    status = handle_fill(self, &given, is_sorted, &verdict);
+    if (status != BPLIST_OK) {
+        if (status == BPLIST_FAULT)
+            raise_refused(&self->source, &verdict);
+        else
+            expect(status);
+        Py_DECREF(self);
+        return NULL;
+    }
+    self->top = verdict.top;
+    self->objects = verdict.objects;
+    return (PyObject *)self;
+}
+
+void handle_close(Handle *self)
+{
+    self->source.file = NULL;
+    self->source.length = 0;
+    bplist_close(&self->handle);
+    Py_CLEAR(self->source.owner);
+}
+
+int handle_face(Handle *self, uint32_t object, bplist_body *out)
+{
+    const Source *source = &self->source;
+
+    if (handle_ready(self) < 0)
+        return -1;
+    if (expect(bplist_face(&self->handle, source->file, source->length, object, out)) < 0)
+        return -1;
+    if (out->length > source->length || out->place > source->length - out->length)
+        return raise_changed();
+    return 0;
+}
+
+Py_ssize_t handle_members(Handle *self, uint32_t object, uint64_t from, uint32_t *objects, size_t room)
+{
+    uint64_t count = 0;
+    bplist_status status;
+
+    if (handle_ready(self) < 0)
+        return -1;
+    status = bplist_members(&self->handle, self->source.file, self->source.length, object, from, objects, room, &count);
+    if (expect(status) < 0)
+        return -1;
+    return count > 0 ? (Py_ssize_t)count : raise_changed();
+}
+
+PyObject *handle_value(Handle *self, uint32_t object)
+{
+    bplist_body body;
+    PyObject *class;
+
+    if (handle_face(self, object, &body) < 0)
+        return NULL;
+    class = class_of(self->state, body.kind);
+    return class ? container_new(class, self, object, body.count) : leaf_of(self, object, &body);
+}

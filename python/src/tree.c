@@ -1,0 +1,154 @@
+/* Trees as plistlib builds them: dict, list and leaves. */
+#include "extension.h"
+
+#include <string.h>
+
+/* How many references are read at once: an even number, since those of pairs come by two. */
+#define BLOCK 256
+
+/* A list or a dict that is made, and whose members are not in it yet. */
+typedef struct Empty {
+    PyObject *value;
+    uint32_t object;
+    uint32_t kind;
+    uint64_t count;
+} Empty;
+
+typedef struct Tree {
+    Handle *handle;
+    /* By the numbers of objects what was built of them, with a reference to each, or NULL. */
+    PyObject **made;
+    /* The stack of containers that are to be filled. What they hold is referred to by `made`. */
+    Empty *empty;
+    size_t height;
+    size_t room;
+} Tree;
+
+static int tree_push(Tree *tree, const Empty *container)
+{
+    if (tree->height == tree->room) {
+        size_t room = tree->room ? 2 * tree->room : 64;
+        Empty *moved = PyMem_Realloc(tree->empty, room * sizeof *moved);
+
+        if (moved == NULL) {
+            PyErr_NoMemory();
+            return -1;
+        }
+        tree->empty = moved;
+        tree->room = room;
+    }
+    tree->empty[tree->height++] = *container;
+    return 0;
+}
+
+/* A container of `body`, to be filled later. */
+static PyObject *tree_empty(Tree *tree, uint32_t object, const bplist_body *body)
+{
+    Empty container = {NULL, object, body->kind, body->count};
+
+    if (body->count > tree->handle->source.length) {
+        raise_changed();
+        return NULL;
+    }
+    container.value = body->kind == BPLIST_DICT ? PyDict_New() : PyList_New((Py_ssize_t)body->count);
+    if (container.value && body->count > 0 && tree_push(tree, &container) < 0)
+        Py_CLEAR(container.value);
+    return container.value;
+}
+
+/* The value of an object. */
+static PyObject *tree_value(Tree *tree, uint32_t object)
+{
+    bplist_body body;
+    PyObject *value;
+
+    if (object >= tree->handle->objects) {
+        raise_changed();
+        return NULL;
+    }
+    value = tree->made[object];
+    if (value == NULL) {
+        if (handle_face(tree->handle, object, &body) < 0)
+            return NULL;
+        value = class_of(tree->handle->state, body.kind) ? tree_empty(tree, object, &body) : leaf_of(tree->handle, object, &body);
+        tree->made[object] = value;
+    }
+    Py_XINCREF(value);
+    return value;
+}
+
+static int fill_pair(Tree *tree, PyObject *dict, const uint32_t *objects)
+{
+    PyObject *key = tree_value(tree, objects[0]);
+    PyObject *value = key ? tree_value(tree, objects[1]) : NULL;
+    int failed = value ? PyDict_SetItem(dict, key, value) : -1;
+
+    Py_XDECREF(key);
+    Py_XDECREF(value);
+    return failed;
+}
+
+/* Puts members into a list or a dict: those whose objects were read, the first of which has number `from`. */
+static int fill_block(Tree *tree, const Empty *container, uint64_t from, const uint32_t *objects, Py_ssize_t read)
+{
+    int is_dict = container->kind == BPLIST_DICT;
+
+    for (Py_ssize_t i = 0; i < read; i += is_dict ? 2 : 1) {
+        if (is_dict) {
+            if (fill_pair(tree, container->value, objects + i) < 0)
+                return -1;
+        } else {
+            PyObject *value = tree_value(tree, objects[i]);
+
+            if (value == NULL || PyList_SetItem(container->value, (Py_ssize_t)from + i, value) < 0)
+                return -1;
+        }
+    }
+    return 0;
+}
+
+static int fill(Tree *tree, const Empty *container)
+{
+    uint64_t end = container->kind == BPLIST_DICT ? 2 * container->count : container->count;
+    uint32_t objects[BLOCK];
+
+    for (uint64_t from = 0; from < end;) {
+        Py_ssize_t read = handle_members(tree->handle, container->object, from, objects, BLOCK);
+
+        if (read < 0)
+            return -1;
+        if ((uint64_t)read > end - from || (container->kind == BPLIST_DICT && read % 2 != 0))
+            return raise_changed();
+        if (fill_block(tree, container, from, objects, read) < 0)
+            return -1;
+        from += (uint64_t)read;
+    }
+    return 0;
+}
+
+/* Gives back what the tree holds but for its values' own references. */
+static void tree_free(Tree *tree)
+{
+    for (uint64_t i = 0; i < tree->handle->objects; i++)
+        Py_XDECREF(tree->made[i]);
+    PyMem_Free(tree->made);
+    PyMem_Free(tree->empty);
+}
+
+PyObject *tree_of(Handle *self, uint32_t object)
+{
+    Tree tree = {self, PyMem_Calloc(self->objects, sizeof(PyObject *)), NULL, 0, 0};
+    PyObject *top;
+
+    if (tree.made == NULL)
+        return PyErr_NoMemory();
+    top = tree_value(&tree, object);
+    while (top && tree.height > 0) {
+        Empty container = tree.empty[--tree.height];
+
+        if (fill(&tree, &container) < 0)
+            Py_CLEAR(top);
+    }
+    tree_free(&tree);
+    return top;
+}

@@ -1,0 +1,239 @@
+#!/usr/bin/env python3
+"""dist.py PROGRAM LIBRARY
+
+Makes a release of PROGRAM and of the C library in the folder LIBRARY, as `make dist` does, and tests the files of the release,
+not those of the tree.
+
+- Made again in another folder, with another umask, time zone and language, each file is the same to the byte.
+- Archive, packages and wheel are put into folders of their own: the archive is unpacked, dpkg installs the packages below a
+  root that has nothing but an entry of libc6, and pip installs the wheel in a venv, without an index. `make install` installs
+  below a folder too.
+- In each the session of README.md gives what README.md says, `man` shows the manual page, and the example compiles by
+  bplist.pc and runs; in the venv the Python code of README.md runs.
+- What is removed leaves no file and no folder.
+- lintian finds no error, and no file names a folder of the build. README.md says the glibc that the symbols ask for.
+
+The last line printed is `N passed, M failed`, with `, 1 skipped` if a tool is missing. The exit status is 1 if one failed.
+"""
+import dataclasses
+import filecmp
+import os
+import pathlib
+import re
+import shutil
+import subprocess
+import sys
+import tempfile
+import zipfile
+
+import readme
+
+ROOT = pathlib.Path(__file__).resolve().parent.parent
+VERSION = (ROOT / "VERSION").read_text(encoding="utf-8").strip()
+ARCHIVE = f"bplint-{VERSION}-x86_64-linux"
+PACKAGES = ["bplint", "libbplist0", "libbplist-dev"]
+MULTIARCH = "lib/x86_64-linux-gnu"
+TOOLS = ["dh", "fakeroot", "gcc", "lintian", "man", "objdump", "pkg-config", "rt"]
+STRICT = ["-std=c11", "-Wall", "-Wextra", "-Werror", "-pedantic", "-O2"]
+# Another writer of the same commit.
+ELSEWHERE = {"TZ": "Asia/Tokyo", "LC_ALL": "C.UTF-8"}
+
+
+@dataclasses.dataclass
+class Installed:
+    """Where the files of a release stand: bin, share and the like below `prefix`, the library in its folder `library`."""
+
+    name: str
+    prefix: pathlib.Path
+    library: str
+    example: pathlib.Path
+    pkg_config: list = dataclasses.field(default_factory=list)
+
+
+def run(*words, folder=None, **environment):
+    """What a command prints. CalledProcessError if its status is not 0."""
+    given = {**os.environ, **{name: str(value) for name, value in environment.items()}}
+    ran = subprocess.run(
+        [str(word) for word in words], cwd=folder, env=given, stdout=subprocess.PIPE, stderr=subprocess.STDOUT, text=True
+    )
+    ran.check_returncode()
+    return ran.stdout
+
+
+def below(folder):
+    """Every file and folder below a folder."""
+    return {str(path.relative_to(folder)) for path in folder.rglob("*")}
+
+
+def files_below(folder):
+    return [path for path in folder.rglob("*") if path.is_file() and not path.is_symlink()]
+
+
+def copied_tree(folder):
+    """What `make dist` reads of this tree, in another folder."""
+    listed = run("git", "ls-files", "-z", "--cached", "--others", "--exclude-standard", folder=ROOT)
+    for name in listed.split("\0"):
+        if name and not name.startswith(("crates/", "tests/")) and (ROOT / name).is_file():
+            (folder / name).parent.mkdir(parents=True, exist_ok=True)
+            shutil.copy(ROOT / name, folder / name)
+    return folder
+
+
+def glibc_versions(library):
+    """The versions of glibc that the symbols of a program or library ask for."""
+    found = re.findall(r"GLIBC_(\d+)\.(\d+)", run("objdump", "-T", library))
+    return [(int(major), int(minor)) for major, minor in found]
+
+
+class Tests:
+    def __init__(self, program, library, folder):
+        self.built = [f"BPLINT={program}", f"LIBRARY={library}"]
+        self.folder = folder
+        self.dist = folder / "dist"
+        self.linked = []  # programs and shared libraries of the release
+        self.passed = self.failed = 0
+
+    def count(self, name, difference):
+        if difference:
+            print(f"FAILED {name}: {difference}")
+            self.failed += 1
+        else:
+            self.passed += 1
+
+    def make(self, tree, *words, **environment):
+        # What is built stays as it is: `make` would ask rt whether it is new.
+        run("make", "-s", "-C", tree, "-o", "build", "-o", "lib", *self.built, *words, **environment)
+
+    def make_twice(self):
+        self.make(ROOT, "dist", f"DIST={self.dist}")
+        again = self.folder / "again"
+        date = run("git", "log", "-1", "--format=%ct", folder=ROOT).strip()
+        usual = os.umask(0o077)
+        tree = copied_tree(self.folder / "tree")
+        self.make(tree, "dist", f"DIST={again}", SOURCE_DATE_EPOCH=date, **ELSEWHERE)
+        os.umask(usual)
+        names = sorted(below(self.dist))
+        wheels = [name for name in names if name.startswith(f"bplist-{VERSION}-") and name.endswith(".whl")]
+        wanted = [f"{ARCHIVE}.tar.gz", "SHA256SUMS", *(f"{name}_{VERSION}_amd64.deb" for name in PACKAGES), *wheels[:1]]
+        self.count("the files of a release", "" if names == sorted(wanted) and wheels else f"{names}")
+        for name in names:
+            same = (again / name).exists() and filecmp.cmp(self.dist / name, again / name, shallow=False)
+            self.count(f"{name} made twice", "" if same else "the two differ")
+        summed = run("sha256sum", "--check", "--strict", "SHA256SUMS", folder=self.dist).count(": OK\n")
+        self.count("SHA256SUMS", "" if summed == len(names) - 1 else f"{summed} sums")
+
+    def archive(self):
+        place = self.folder / "unpacked"
+        place.mkdir()
+        run("tar", "-xzf", self.dist / f"{ARCHIVE}.tar.gz", folder=place)
+        self.count("one folder in the archive", "" if os.listdir(place) == [ARCHIVE] else f"{os.listdir(place)}")
+        top = place / ARCHIVE
+        self.use(Installed("archive", top, "lib", top / "examples/print_value.c"))
+        self.see(place)
+        self.linked += [top / "bin/bplint", top / "lib/libbplist.so.0"]
+
+    def packages(self):
+        root = self.folder / "root"
+        database = root / "var/lib/dpkg"
+        (database / "updates").mkdir(parents=True)
+        (database / "info").mkdir()
+        (database / "status").write_text(run("dpkg-query", "--status", "libc6"), encoding="utf-8")
+        dpkg = ["fakeroot", "dpkg", f"--root={root}", "--path-include=/usr/*"]
+        packages = [self.dist / f"{name}_{VERSION}_amd64.deb" for name in PACKAGES]
+        run(*dpkg, "--install", *packages)
+        example = root / "usr/share/doc/libbplist-dev/examples/print_value.c"
+        self.use(Installed("packages", root / "usr", MULTIARCH, example, [f"--define-variable=prefix={root}/usr"]))
+        run(*dpkg, "--purge", *PACKAGES)
+        left = [name for name in below(root) if not name.startswith("var")]
+        self.count("purged packages", ", ".join(left))
+        lintian = ["lintian", "--fail-on", "error", *(["--allow-root"] if os.geteuid() == 0 else [])]
+        said = subprocess.run([*lintian, *packages], capture_output=True, text=True, check=False)
+        self.count("lintian", "" if said.returncode == 0 else said.stdout + said.stderr)
+
+    def installed(self):
+        """`make install` and `make uninstall`, below a folder that had nothing but bin, and below DESTDIR."""
+        prefix, stage = self.folder / "prefix", self.folder / "stage"
+        (prefix / "bin").mkdir(parents=True)
+        stage.mkdir()
+        self.make(ROOT, "install", f"PREFIX={prefix}")
+        self.use(Installed("make install", prefix, "lib", ROOT / "examples/print_value.c"))
+        words = [f"DESTDIR={stage}", "PREFIX=/usr", "libdir=/usr/lib64", "bindir=/usr/sbin"]
+        self.make(ROOT, "install", *words)
+        moved = ["usr/sbin/bplint", "usr/lib64/libbplist.so.0", "usr/lib64/pkgconfig/bplist.pc"]
+        self.count("make install into other folders", ", ".join(set(moved) - below(stage)))
+        self.make(ROOT, "uninstall", f"PREFIX={prefix}")
+        self.make(ROOT, "uninstall", *words)
+        self.count("make uninstall", ", ".join(below(prefix) - {"bin"} | below(stage)))
+        self.count("make uninstall leaves what was there", "" if (prefix / "bin").is_dir() else "bin is gone")
+
+    def wheel(self):
+        venv = self.folder / "venv"
+        run(sys.executable, "-m", "venv", venv)
+        before = below(venv)
+        for wheel in self.dist.glob("*.whl"):
+            run(venv / "bin/pip", "install", "--no-index", wheel)
+            with zipfile.ZipFile(wheel) as packed:
+                packed.extractall(self.folder / "wheel")
+        self.see(self.folder / "wheel")
+        self.linked += self.folder.glob("wheel/**/*.so")
+        readme.write_files(self.folder)
+        code = (ROOT / "README.md").read_text(encoding="utf-8").split("```python\n")[1].split("```")[0]
+        said = run(venv / "bin/python", "-c", code, folder=self.folder)
+        self.count("Python code of README.md", "" if "Notes" in said else said)
+        run(venv / "bin/pip", "uninstall", "--yes", "bplist")
+        self.count("uninstalled wheel", ", ".join(below(venv) - before))
+
+    def use(self, there):
+        """The program, the manual page and the library, as someone uses them who has installed them."""
+        place = self.folder / "session" / there.name
+        place.mkdir(parents=True)
+        for command, want, got in readme.answers(there.prefix / "bin/bplint", place):
+            self.count(f"{there.name}: {command}", "" if got == want else f"{got} and not {want}")
+        shown = run("man", "bplint", MANPATH=there.prefix / "share/man")
+        self.count(f"{there.name}: man bplint", "" if f"bplint {VERSION}" in shown else shown[:200])
+        library = there.prefix / there.library
+        found = {"PKG_CONFIG_PATH": library / "pkgconfig", "LD_LIBRARY_PATH": library}
+        asked = ["pkg-config", *there.pkg_config]
+        version = run(*asked, "--modversion", "bplist", **found).strip()
+        self.count(f"{there.name}: version in bplist.pc", "" if version == VERSION else version)
+        flags = run(*asked, "--cflags", "--libs", "bplist", **found).split()
+        for kind, words in ("shared", flags), ("static", [flags[0], library / "libbplist.a"]):
+            example = place / kind
+            run("gcc", *STRICT, "-o", example, there.example, *words)
+            said = run(example, "Info.plist", "/WindowSize/width", folder=place, **found)
+            self.count(f"{there.name}: {kind} library", "" if said == "640\n" else said)
+
+    def see(self, unpacked):
+        """No file names a folder of the build."""
+        folders = [f"{folder}/".encode() for folder in (ROOT, self.folder, pathlib.Path(run("rt", "doc").strip()).parent)]
+        naming = [path for path in files_below(unpacked) if any(folder in path.read_bytes() for folder in folders)]
+        self.count(f"folders of the build below {unpacked.name}", ", ".join(map(str, naming)))
+
+    def glibc(self):
+        says = re.search(r"glibc (\d+\.\d+)", (ROOT / "README.md").read_text(encoding="utf-8"))
+        asked = "{}.{}".format(*max(version for path in self.linked for version in glibc_versions(path)))
+        self.count("glibc", "" if says and says[1] == asked else f"{asked}, and README.md says {says and says[1]}")
+
+
+def main():
+    if len(sys.argv) != 3:
+        print(__doc__, file=sys.stderr)
+        return 2
+    missing = [tool for tool in TOOLS if not shutil.which(tool)]
+    if missing:
+        print(f"skipped the release: {', '.join(missing)} not here\n0 passed, 0 failed, 1 skipped")
+        return 0
+    program, library = (pathlib.Path(word).resolve() for word in sys.argv[1:])
+    with tempfile.TemporaryDirectory() as folder:
+        tests = Tests(program, library, pathlib.Path(folder))
+        for part in tests.make_twice, tests.archive, tests.packages, tests.installed, tests.wheel, tests.glibc:
+            try:
+                part()
+            except subprocess.CalledProcessError as error:
+                tests.count(part.__name__, f"{error}\n{error.stdout}")
+    print(f"{tests.passed} passed, {tests.failed} failed")
+    return 1 if tests.failed else 0
+
+
+if __name__ == "__main__":
+    sys.exit(main())
