@@ -5,8 +5,8 @@ Runs other parsers of binary property lists on all files of tests/vectors and on
 docs/PARSERS.md with what it finds; with --write it writes them there. Each file is read by a process of its own, with limits
 of processor time and memory. --only runs one parser, and looks at its columns alone. --details writes a line for each run.
 
-The last line printed is `N passed, M failed`, with `, K skipped` if a parser is not installed or has another version than
-the page names. The exit status is 1 if one failed.
+A cell of a table counts as one test. The last line printed is `N passed, M failed`, with `, K skipped` if a parser is not
+installed, or answers otherwise and has another version than the page names. The exit status is 1 if one failed.
 """
 import argparse
 import collections
@@ -101,7 +101,7 @@ def parsers(folder):
     python = str(READERS / "read_python.py")
     version = told("python3", "-c", "import platform; print(platform.python_version())")
     return [
-        Parser("plistlib", version, (), ("python3", "-B", python, "plistlib")),
+        Parser("plistlib", version, (), ("python3", "-I", "-S", "-B", python, "plistlib")),
         libplist(folder),
         Parser("plistutil", debian("libplist-utils"), (), ("plistutil", "-i"), library=False),
         crate(folder),
@@ -306,7 +306,8 @@ def arguments():
     return parser.parse_args()
 
 
-def write_page(page, found, unsound, sound):
+def write_page(found, unsound, sound):
+    page = PAGE.read_text(encoding="utf-8")
     for name, text in made_tables(page, found, unsound, sound).items():
         page = between(name).sub(lambda held, text=text: held[1] + text + held[3], page)
     PAGE.write_text(page, encoding="utf-8")
@@ -325,8 +326,8 @@ def main():
         for parser in parsers(name):
             if given.only not in ("", parser.name):
                 continue
-            if not parser.version or (parser.version != versions(page).get(parser.name) and not given.write):
-                print(f"{parser.name}: version {parser.version or 'none'}, the page has {versions(page).get(parser.name)}")
+            if not parser.version:
+                print(f"{parser.name} is not installed")
                 skipped += 1
                 continue
             runs = run_all(parser, cases, files, given.jobs)
@@ -334,9 +335,14 @@ def main():
             if given.details:
                 details(given.details, parser, runs)
             yes, no = compare(page, parser.name, found[parser.name])
-            passed, failed = passed + yes, failed + no
+            passed = passed + yes
+            if parser.version == versions(page).get(parser.name):
+                failed += no
+            elif no:
+                print(f"{parser.name} has version {parser.version}, and the page has {versions(page).get(parser.name)}")
+                skipped += no
     if given.write and found:
-        write_page(page, found, unsound, sound)
+        write_page(found, unsound, sound)
     print(f"{passed} passed, {failed} failed" + (f", {skipped} skipped" if skipped else ""))
     return 1 if failed else 0
 
