@@ -22,6 +22,8 @@ import sys
 import tempfile
 
 import families
+from plist_value import Plist
+from run_vectors import number, trailer
 from suite import RULES, Case, all_cases, short_value
 
 HERE = pathlib.Path(__file__).resolve().parent
@@ -128,7 +130,9 @@ def without_dates(value):
 
 
 def same_value(wanted, got):
-    """Whether a reader found the value. A set may be read as an array; a date in seconds; a date that is far away as any."""
+    """Whether a reader found the value. It may read a set as an array, a UID as the dictionary that XML has for it, a date to
+    the second, and a date that is far away as any."""
+    got = re.sub(f"dict\\({b'CF$UID'.hex()}=int (\\d+)\\)", r"uid \1", got)
     if wanted in (got, "large"):
         return True
     (plain, dates), (plain_got, dates_got) = without_dates(wanted), without_dates(got)
@@ -167,18 +171,25 @@ def outcome(parser, case, path):
         printed = output.read(MOST_READ)
     if ran.returncode:
         return failure(parser, ran), ran.stderr.decode("utf-8", "replace").strip()[:SHOWN]
-    if not parser.library and EMPTY_XML.search(printed):
-        return "refuses", "an XML property list without a value, and status 0"
+    if not parser.library and (b"<plist" not in printed or EMPTY_XML.search(printed)):
+        return "refuses", "no value, and status 0"
     got = printed.decode("utf-8", "replace").rstrip("\n")
     if case.rule or not parser.library or case.basis == "time" or same_value(case.value, got):
         return "takes", got[:SHOWN]
     return "wrong value", got[:SHOWN]
 
 
+def with_offsets_of_4(octets):
+    """The same file with 4 bytes an offset, for parsers that take no 3."""
+    plist = Plist(octets)
+    places = b"".join(number(plist.place(n), 4) for n in range(plist.objects))
+    return octets[: plist.table] + places + trailer(4, plist.ref_size, plist.objects, plist.top, plist.table)
+
+
 def timed_cases():
     """The families at a size where more than linear time shows, for time-outs and crashes alone."""
     for family in families.FAMILIES:
-        yield Case(f"hostile.{family.__name__}", family(LARGE_SIZE), "", "time", "", "", "")
+        yield Case(f"hostile.{family.__name__}", with_offsets_of_4(family(LARGE_SIZE)), "", "time", "", "", "")
 
 
 def run_all(parser, cases, folder, jobs):
