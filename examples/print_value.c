@@ -38,19 +38,22 @@ static bool read_file(const char *name, struct file *file)
 static int refuse(const char *name, bplist_status status, const bplist_verdict *verdict)
 {
     char rule[16] = {0};
+    char text[201] = {0};
     uint64_t count;
 
     if (status != BPLIST_FAULT) {
-        fprintf(stderr, "%s: out of memory\n", name);
+        bplist_status_text(status, text, sizeof text - 1, &count);
+        fprintf(stderr, "%s: %s\n", name, text);
         return 4;
     }
-    bplist_rule_name(verdict->rule, rule, sizeof rule, &count);
+    bplist_rule_name(verdict->rule, rule, sizeof rule - 1, &count);
+    bplist_rule_text(verdict->rule, text, sizeof text - 1, &count);
     fprintf(stderr, "%s: breaks rule %" PRIu32 " (%s)", name, verdict->rule, rule);
     if (verdict->has_object)
         fprintf(stderr, " at object %" PRIu32, verdict->object);
     if (verdict->circle == 0)
         fprintf(stderr, ", place %" PRIu64, verdict->place);
-    fputc('\n', stderr);
+    fprintf(stderr, ": %s\n", text);
     return 1;
 }
 

@@ -187,7 +187,7 @@ class Tests:
         self.count(f"print_value {file} {path}", "" if right else f"{ran}")
 
     def see_symbols(self):
-        calls = set(re.findall(r"^bplist_status (bplist_\w+)\(", (ROOT / "include/bplist.h").read_text(), re.MULTILINE))
+        calls = set(re.findall(r"^\w+ (bplist_\w+)\(", (ROOT / "include/bplist.h").read_text(), re.MULTILINE))
         shown = {name for name, kind in symbols(SHARED, "-D", "--defined-only") if kind == "T"}
         self.count("calls of libbplist.so", "" if shown == calls else f"{shown ^ calls}")
         shown = {name for name, _ in symbols(LIBRARY, "-g", "--defined-only")}

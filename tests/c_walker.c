@@ -140,6 +140,58 @@ static void see_text(bplist_handle *handle, struct file file, uint32_t object, c
     HOLDS(count == 0);
 }
 
+/* The bytes of the body, by parts of 16: the first of them and the last. */
+static void see_body(bplist_handle *handle, struct file file, uint32_t object, const bplist_body *body)
+{
+    uint8_t bytes[17];
+    uint64_t count;
+    uint64_t last = body->length < 5 ? 0 : body->length - 5;
+    const uint64_t starts[] = {0, 16, last, body->length, body->length + 1, UINT64_MAX};
+
+    for (size_t i = 0; i < sizeof starts / sizeof *starts; i++) {
+        uint64_t from = starts[i];
+        uint64_t left = from < body->length ? body->length - from : 0;
+
+        memset(bytes, 0xaa, sizeof bytes);
+        HOLDS(bplist_read(handle, file.bytes, file.length, object, from, bytes, 16, &count) == BPLIST_OK);
+        HOLDS(count == (left < 16 ? left : 16) && bytes[count] == 0xaa);
+        HOLDS(count == 0 || memcmp(bytes, file.bytes + body->place + from, count) == 0);
+    }
+    HOLDS(bplist_read(handle, file.bytes, file.length, object, 0, bytes, 0, &count) == BPLIST_OK && count == 0);
+}
+
+/* The members in blocks of `room`, which are those that bplist_member gives one by one. */
+static void see_block(bplist_handle *handle, struct file file, uint32_t object, uint64_t members, uint64_t from,
+                      uint64_t room)
+{
+    uint32_t objects[201];
+    uint32_t member;
+    uint64_t count;
+    uint64_t left = from < members ? members - from : 0;
+
+    memset(objects, 0xaa, sizeof objects);
+    HOLDS(bplist_members(handle, file.bytes, file.length, object, from, objects, room, &count) == BPLIST_OK);
+    HOLDS(count == (left < room ? left : room) && objects[count] == 0xaaaaaaaa);
+    for (uint64_t i = 0; i < count; i++) {
+        HOLDS(bplist_member(handle, file.bytes, file.length, object, from + i, &member) == BPLIST_OK);
+        HOLDS(objects[i] == member);
+    }
+}
+
+static void see_members(bplist_handle *handle, struct file file, uint32_t object, uint64_t members)
+{
+    static const uint64_t rooms[] = {0, 1, 2, 64, 65, 200};
+
+    for (size_t i = 0; i < sizeof rooms / sizeof *rooms; i++) {
+        see_block(handle, file, object, members, 0, rooms[i]);
+        see_block(handle, file, object, members, 1, rooms[i]);
+        see_block(handle, file, object, members, members / 2, rooms[i]);
+        see_block(handle, file, object, members, members < 3 ? 0 : members - 3, rooms[i]);
+        see_block(handle, file, object, members, members, rooms[i]);
+        see_block(handle, file, object, members, UINT64_MAX, rooms[i]);
+    }
+}
+
 /* The integer by the bytes of its body: 1, 2 and 4 have no sign. */
 static void see_int(bplist_handle *handle, struct file file, uint32_t object, const bplist_body *body)
 {
@@ -217,6 +269,8 @@ static void walk(bplist_handle *handle, struct file file, uint32_t object, uint6
     members = body.kind == BPLIST_DICT ? 2 * body.count : body.kind >= BPLIST_ARRAY ? body.count : 0;
     HOLDS(bplist_member(handle, file.bytes, file.length, object, members, &member) == BPLIST_NO_MEMBER);
     HOLDS(bplist_member(handle, file.bytes, file.length, object, UINT64_MAX, &member) == BPLIST_NO_MEMBER);
+    see_members(handle, file, object, members);
+    see_body(handle, file, object, &body);
     if (body.kind == BPLIST_INT)
         see_int(handle, file, object, &body);
     else
@@ -242,6 +296,8 @@ static void see_refusals(bplist_handle *handle, struct file file, const bplist_v
     bplist_sizes sizes;
     bplist_verdict again;
     uint32_t object = 7;
+    uint64_t count = 9;
+    uint8_t byte = 11;
     bplist_status status;
 
     ASK(status, bplist_open(handle, file.bytes, file.length, false, &again));
@@ -249,6 +305,13 @@ static void see_refusals(bplist_handle *handle, struct file file, const bplist_v
     HOLDS(bplist_face(handle, file.bytes, file.length - 1, verdict->top, &body) == BPLIST_OTHER_FILE);
     HOLDS(bplist_face(handle, file.bytes, file.length, UINT32_MAX, &body) == BPLIST_NO_OBJECT);
     HOLDS(bplist_member(handle, file.bytes, file.length, UINT32_MAX, 0, &object) == BPLIST_NO_OBJECT && object == 7);
+    HOLDS(bplist_members(handle, file.bytes, file.length, UINT32_MAX, 0, &object, 1, &count) == BPLIST_NO_OBJECT);
+    HOLDS(bplist_read(handle, file.bytes, file.length, UINT32_MAX, 0, &byte, 1, &count) == BPLIST_NO_OBJECT);
+    status = bplist_members(handle, file.bytes, file.length - 1, verdict->top, 0, &object, 1, &count);
+    HOLDS(status == BPLIST_OTHER_FILE);
+    status = bplist_read(handle, file.bytes, file.length - 1, verdict->top, 0, &byte, 1, &count);
+    HOLDS(status == BPLIST_OTHER_FILE);
+    HOLDS(object == 7 && count == 9 && byte == 11);
     HOLDS(bplist_size(handle, file.bytes, file.length, UINT32_MAX, &sizes) == BPLIST_NO_OBJECT);
     HOLDS(bplist_find_key(handle, file.bytes, file.length, UINT32_MAX, (const uint16_t[]){0}, 1, &object) == BPLIST_NO_OBJECT);
     ASK(status, bplist_find(handle, file.bytes, file.length, "x", 1, &found));
@@ -279,12 +342,15 @@ static void see_closed(bplist_handle *handle, struct file file)
     bplist_body body;
     bplist_found found;
     uint64_t count = 5;
+    uint32_t object;
     uint8_t byte;
 
     HOLDS(handle->length == 0);
     HOLDS(bplist_close(handle) == BPLIST_CLOSED);
     HOLDS(bplist_face(handle, file.bytes, file.length, 0, &body) == BPLIST_CLOSED);
     HOLDS(bplist_find(handle, file.bytes, file.length, "", 0, &found) == BPLIST_CLOSED);
+    HOLDS(bplist_members(handle, file.bytes, file.length, 0, 0, &object, 1, &count) == BPLIST_CLOSED);
+    HOLDS(bplist_read(handle, file.bytes, file.length, 0, 0, &byte, 1, &count) == BPLIST_CLOSED);
     HOLDS(bplist_certificate(handle, &byte, 1, &count) == BPLIST_CLOSED && count == 5);
 }
 
@@ -302,7 +368,7 @@ static void see_certified(bplist_handle *handle, struct file file, bool sorted)
     HOLDS(status == BPLIST_SHORT && count >= 16);
     certificate = taken(count);
     ASK(status, bplist_certificate(handle, certificate, count, &count));
-    HOLDS(status == BPLIST_OK);
+    HOLDS(status == BPLIST_OK && memcmp(certificate, sorted ? "bplcert2" : "bplcert1", 8) == 0);
     ASK(status, bplist_open_certified(&other, file.bytes, file.length, certificate, count, sorted, &verdict));
     HOLDS(status == BPLIST_OK && verdict.reached == 0 && verdict.height >= 1);
     see_file(&other, file, &verdict);
@@ -348,16 +414,52 @@ static void see(const char *name)
     HOLDS(taken_now() == before);
 }
 
+/* Each rule and each status has one sentence. */
+static void see_words(void)
+{
+    char name[16];
+    char text[201] = {0};
+    uint64_t count = 3;
+
+    HOLDS(bplist_rule_name(0, name, sizeof name, &count) == BPLIST_NO_RULE && count == 3);
+    HOLDS(bplist_rule_name(33, name, sizeof name, &count) == BPLIST_NO_RULE);
+    HOLDS(bplist_rule_text(0, text, sizeof text, &count) == BPLIST_NO_RULE);
+    HOLDS(bplist_rule_text(33, text, sizeof text, &count) == BPLIST_NO_RULE);
+    HOLDS(bplist_status_text(18, text, sizeof text, &count) == BPLIST_NO_STATUS);
+    HOLDS(bplist_status_text(UINT32_MAX, text, sizeof text, &count) == BPLIST_NO_STATUS && count == 3);
+    for (uint32_t rule = 1; rule <= 32; rule++) {
+        HOLDS(bplist_rule_text(rule, text, 200, &count) == BPLIST_OK && count >= 2);
+        HOLDS(text[count - 1] == '.');
+    }
+    for (bplist_status status = BPLIST_OK; status <= BPLIST_NO_STATUS; status++) {
+        HOLDS(bplist_status_text(status, text, 200, &count) == BPLIST_OK && count >= 2);
+        HOLDS(text[count - 1] == '.');
+    }
+    HOLDS(bplist_rule_text(22, text, 200, &count) == BPLIST_OK);
+    HOLDS(strncmp(text, "The keys of a dictionary differ.", count) == 0);
+    HOLDS(bplist_status_text(BPLIST_CLOSED, text, 200, &count) == BPLIST_OK);
+    HOLDS(strncmp(text, "The handle is closed.", count) == 0);
+    HOLDS(bplist_status_text(BPLIST_NO_STATUS, text, 5, &count) == BPLIST_SHORT);
+    HOLDS(count == strlen("There is no status with that number.") && strncmp(text, "The handle", 10) == 0);
+}
+
+static void see_version(void)
+{
+    char version[32];
+
+    HOLDS(bplist_version() == BPLIST_VERSION_NUM);
+    snprintf(version, sizeof version, "%d.%d.%d", BPLIST_VERSION_MAJOR, BPLIST_VERSION_MINOR, BPLIST_VERSION_PATCH);
+    HOLDS(strcmp(version, BPLIST_VERSION) == 0);
+}
+
 int main(int argc, char **argv)
 {
     static char buffer[BUFSIZ];
-    char name[16];
-    uint64_t count = 3;
 
     /* So that printing takes no block. */
     setvbuf(stdout, buffer, _IOFBF, sizeof buffer);
-    HOLDS(bplist_rule_name(0, name, sizeof name, &count) == BPLIST_NO_RULE && count == 3);
-    HOLDS(bplist_rule_name(33, name, sizeof name, &count) == BPLIST_NO_RULE);
+    see_words();
+    see_version();
     for (int i = 1; i < argc; i++)
         see(argv[i]);
     /* Memory is refused to a call only where a growth was, which is once. */

@@ -113,7 +113,7 @@ class Array(Container, SequenceBase):
 
     def __getitem__(self, index):
         if isinstance(index, slice):
-            return [self._member(i) for i in range(*index.indices(len(self)))]
+            return list(map(self._member, range(*index.indices(len(self)))))
         at = index + len(self) if index < 0 else index
         if not 0 <= at < len(self):
             raise IndexError("array index out of range")

@@ -88,7 +88,7 @@ static PyObject *date_of(State *state, double seconds)
     return date;
 }
 
-/* The text of UTF-16, the greater byte first. A lone surrogate has a codec's handler called, and so perhaps code of anybody: the
+/* The text of UTF-16, the greater byte first. For a lone surrogate the codec calls its handler, which may be anybody's code: the
    bytes are kept meanwhile. */
 static PyObject *wide_of(PyObject *owner, const char *bytes, Py_ssize_t length)
 {

@@ -98,8 +98,8 @@ static PyObject *bind(PyObject *module, PyObject *arguments)
     PyTypeObject *type = &PyType_Type;
     PyObject *given[HELD];
 
-    if (!PyArg_ParseTuple(arguments, "O!O!O!OOOO", type, &given[ARRAY], type, &given[SET], type, &given[DICT], &given[FAR_DATE],
-                          &given[UID], &given[EPOCH], &given[TIMEDELTA]))
+    if (!PyArg_ParseTuple(arguments, "O!O!O!OOOO", type, &given[ARRAY], type, &given[SET], type, &given[DICT],
+                          &given[FAR_DATE], &given[UID], &given[EPOCH], &given[TIMEDELTA]))
         return NULL;
     for (int i = ARRAY; i <= DICT; i++)
         if (!is_below(given[i], state->held[CONTAINER]))

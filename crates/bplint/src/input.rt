@@ -1,12 +1,12 @@
 //! Inputs: FILE and CERT, each read by place or whole.
-ghost use Rattle.std.specs.Prelude.{◌≡◌, ◌⊎◌, ◌≤◌, ◌<◌, [], IfErr, IfOk, IfSome, MatchResult, codes, false, length, true, vec_len};
+ghost use Rattle.std.specs.Prelude.{◌≡◌, ◌⊎◌, ◌≤◌, ◌<◌, [], IfErr, IfOk, IfSome, MatchOption, MatchResult, None, Ok, codes, length, true, vec_len};
 ghost use Rattle.std.specs.Str.{bytes_eq};
 ghost use Rattle.bplint.specs.Inputs.{IsInputFault, IsNothing, IsReadFault, HasLength, IsReadWhole, IsShort, IsWholeFault, KeepsWhole, OfWhole};
 ghost use Rattle.bplint_engine.specs.Check.{IsDecoded};
-ghost use Rattle.bplint_engine.specs.Said.{takes_cert};
+ghost use Rattle.bplint_engine.specs.Hexadecimal.{spelled};
 
-use crate::args::Run;
-use bplint_engine::Verb;
+use crate::args::Operands;
+use bplint_engine::undo_hex;
 use bplint_lines::RunFault;
 use bplist_cert::{CertRefusal, Certificate, Refusal};
 use bplist_octets::{FileSource, ReadFault, Source};
@@ -67,7 +67,7 @@ pub enum Operand {
 pub struct Inputs {
     /// FILE.
     pub file: Operand,
-    /// CERT, empty where the verb has none.
+    /// CERT, empty where none was named.
     pub cert: Operand,
 }
 
@@ -99,6 +99,14 @@ impl Operand {
         }
     }
 
+    /// The bytes that the input spells as hexadecimal text.
+    fn undo_hex(self, alloc: Global) -> Result<Operand, RunFault>
+        ensures { OfWhole (λ text. IfOk result (OfWhole (λ bytes. spelled text ≡ Ok bytes))) self }
+    {
+        let text = self.into_bytes(alloc)?;
+        Ok(Operand::Whole(undo_hex(alloc, &text)?))
+    }
+
     /// All bytes of the input, by one read where it is read by place.
     pub fn into_bytes(self, alloc: Global) -> Result<Vec<u8>, RunFault>
         ensures whole { OfWhole (λ text. MatchResult result (λ bytes. bytes.items ≡ text) (λ _. ⊥)) self }
@@ -121,8 +129,30 @@ fn read_all(alloc: Global, file: FileSource) -> Result<Vec<u8>, RunFault>
     Ok(bytes)
 }
 
+/// Opens what is named, and undoes hexadecimal text.
+///
+/// FILE is opened before CERT, and both before a text is looked at.
+pub fn open_inputs<R: Files<File = File> + Input>(
+    rt: &R,
+    alloc: Global,
+    operands: &Operands<'_>,
+) -> Result<Inputs, RunFault> {
+    let Operands { file, cert, hex } = *operands;
+    let inputs = Inputs {
+        file: open_operand(rt, alloc, file, hex)?,
+        cert: open_certificate(rt, alloc, cert, hex)?,
+    };
+    if !hex {
+        return Ok(inputs);
+    }
+    Ok(Inputs {
+        file: inputs.file.undo_hex(alloc)?,
+        cert: inputs.cert.undo_hex(alloc)?,
+    })
+}
+
 /// Opens FILE. Standard input, hexadecimal text, and what has no length to be trusted are read whole.
-pub fn open_operand<R: Files<File = File> + Input>(
+fn open_operand<R: Files<File = File> + Input>(
     rt: &R,
     alloc: Global,
     name: &str,
@@ -173,26 +203,25 @@ fn read_file<R: Files<File = File>>(rt: &R, alloc: Global, name: &str) -> Result
     read_whole(alloc, &mut file)
 }
 
-/// Opens CERT, where the verb has one, as [`open_operand`] does: `-` is a file of that name. It may have no more bytes than an
+/// Opens CERT, where one is named, as [`open_operand`] does: `-` is a file of that name. It may have no more bytes than an
 /// input that is read whole.
-pub fn open_certificate<R: Files<File = File>>(
+fn open_certificate<R: Files<File = File>>(
     rt: &R,
     alloc: Global,
-    run: &Run<'_>,
+    name: Option<&str>,
+    hex: bool,
 ) -> Result<Operand, RunFault>
-    ensures none { takes_cert run.now.command.verb ≡ false → MatchResult result IsNothing (λ _. ⊥) }
-    ensures hex { run.now.command.hex ≡ true → IfOk result IsReadWhole }
+    ensures none { name ≡ None → MatchResult result IsNothing (λ _. ⊥) }
+    ensures hex { hex ≡ true → IfOk result IsReadWhole }
     ensures short { IfOk result IsShort }
     ensures faults { IfErr result IsInputFault }
 {
-    match run.command.verb {
-        Verb::Lint | Verb::Certify => Ok(Operand::Whole(Vec::new(alloc))),
-        Verb::Check | Verb::Get | Verb::Print => {
-            let cert = open_file(rt, alloc, run.cert, run.command.hex)?;
-            if cert.len() > WHOLE_LIMIT as u64 {
-                return Err(RunFault::InputTooLong);
-            }
-            Ok(cert)
-        }
+    let Some(name) = name else {
+        return Ok(Operand::Whole(Vec::new(alloc)));
+    };
+    let cert = open_file(rt, alloc, name, hex)?;
+    if cert.len() > WHOLE_LIMIT as u64 {
+        return Err(RunFault::InputTooLong);
     }
+    Ok(cert)
 }

@@ -1,16 +1,12 @@
 -- What is said of a rule under a fault's line. Source: profile.
-use Rattle.std.specs.Prelude.{ℕ, ◌-◌, List, [], ◌++◌, codes, get_or, map, Option, None, Some}
+use Rattle.std.specs.Prelude.{ℕ, List, ◌++◌, codes, Option, None, Some}
 use Rattle.std.specs.Fmt.{decimal}
 use Rattle.bplist_objects.specs.declared.rule.Rule.{Rule}
 use Rattle.bplist_objects.specs.declared.rule.Rule.TheVariants as rules
+use Rattle.bplist_objects.specs.RuleTexts.{text_of}
 use Rattle.bplist_objects.specs.Words.{number_of}
 use Rattle.bplint_lines.specs.declared.fault.RunFault.{RunFault}
 use Rattle.bplint_lines.specs.declared.fault.RunFault.TheVariants.{Circle, Fault, Path}
-use Rattle.bplint_lines.specs.declared.rule_texts.TheConstants.{TEXTS}
-
--- what the rule asks, and something that breaks it: the row of its number in the table of texts
-abbrev pub text_of : Rule → List ℕ × List ℕ
-text_of rule = get_or (map (λ row. (row.0.now, row.1.now)) TEXTS) (number_of rule - 1) ([], [])
 
 -- the rule's line under a fault
 abbrev pub rule_line : Rule → List ℕ

@@ -3,10 +3,10 @@ ghost use Rattle.std.specs.Prelude.{◌≡◌, ◌++◌, IfOk, MatchOption, code
 ghost use Rattle.std.specs.Fmt.{decimal};
 ghost use Rattle.bplist_objects.specs.Words.{number_of, word_of};
 ghost use Rattle.bplist_objects.specs.declared.rule.Rule.{Rule};
-ghost use Rattle.bplint_lines.specs.Explanation.{rule_line, text_of};
+ghost use Rattle.bplist_objects.specs.RuleTexts.{text_of};
+ghost use Rattle.bplint_lines.specs.Explanation.{rule_line};
 
-use crate::rule_texts::texts_of;
-use bplist_objects::{Rule, rule_name, rule_number, rule_of_number};
+use bplist_objects::{Rule, rule_name, rule_number, rule_of_number, texts_of};
 use std::alloc::{AllocError, Global};
 
 /// The rule of a word, as fault lines have it, if there is one.

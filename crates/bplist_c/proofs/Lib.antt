@@ -8,3 +8,4 @@ pub mod Values
 pub mod Handles
 pub mod OpenedHandles
 pub mod UnitSteps
+pub mod MemberSteps

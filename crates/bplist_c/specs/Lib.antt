@@ -1,6 +1,7 @@
 pub mod Lookup
 pub mod Handles
 pub mod Lifecycle
+pub mod Members
 pub mod Objects
 pub mod Sessions
 pub mod Sizes

@@ -1,5 +1,5 @@
 -- What opening a file answers. Source: profile.
-use Rattle.std.specs.Prelude.{◌≡◌, ◌≢◌, ◌⊎◌, ℕ, List, length, slice_index, Bool, IsTrue, IsSome, Some, Result, Ok, Err}
+use Rattle.std.specs.Prelude.{◌≡◌, ◌≢◌, ◌⊎◌, ℕ, List, length, slice_index, Bool, false, IsTrue, IsSome, Some, Result, Ok, Err}
 use denote.Ref.{Bor}
 use Rattle.bplist_octets.specs.Slices.{source_over}
 use Rattle.bplist_objects.specs.declared.frame.Frame.{Frame}
@@ -24,11 +24,12 @@ IsAcceptedFor f certificate = (F : Frame) × IsFrame f F × IsAccepted f F certi
 abbrev pub IsCheckedFor : Bor (List ℕ) → Lists → CheckedFile → Type 0
 IsCheckedFor file certificate checked = (checked.source ≡ source_over file) × (checked.certificate ≡ certificate)
 
--- the handle has a session of these bytes, their length and these heights, with key lists if they are asked for
+-- the handle has a session of these bytes, their length and these heights; the certificate has key lists if they are asked for,
+-- and is this one if it has them already or they are not asked for
 abbrev pub IsOpened : List ℕ → Lists → Bool → BplistHandle → Type 0
 IsOpened f certificate sorted h = (h.length ≡ length f) × ((s : Session) × (h.held.value ≡ Some s) × IsSessionOf f s
     × (s.certificate.heights ≡ certificate.heights) × (IsSome certificate.keys → s.certificate ≡ certificate)
-    × (IsTrue sorted → IsSome s.certificate.keys))
+    × (sorted ≡ false → s.certificate ≡ certificate) × (IsTrue sorted → IsSome s.certificate.keys))
 
 -- what is shown of a file by its certificate: the height of the top, and no counts
 abbrev pub certified : Frame → Lists → Lint

@@ -24,6 +24,10 @@ kind_number kind = suc (tag_of the_type kind)
 abbrev pub body_of : Head → BplistBody
 body_of head = record { kind = kind_number head.kind; count = head.count; place = head.body; length = head.«end» - head.body }
 
+-- the bytes of the body with this head
+abbrev pub bytes_of_body : List ℕ → Head → List ℕ
+bytes_of_body f head = part f head.body (head.«end» - head.body)
+
 -- what is said of an object by what it has, its head or its value; NoObject if it is not vouched for
 pub record OnObject {X Y : Type 0} (checked : CheckedFile) (n : ℕ) (Has : List ℕ → Frame → ℕ → Y → Type 0)
     (Says : Y → Result X Status → Type 0) (answer : Result X Status) : Type 0 where

@@ -4,12 +4,15 @@ pub use Rattle.bplist_octets.specs.Slices.{source_over}
 pub use Rattle.bplist_objects.specs.Frame.{IsFrame}
 pub use Rattle.bplist_objects.specs.Heads.{IsHeadOf, Spells, leaf}
 pub use Rattle.bplist_objects.specs.Holds.{Holds}
-pub use Rattle.bplist_objects.specs.Safe.{IsSafeBody, IsSafeHead}
+pub use Rattle.bplist_objects.specs.Safe.{IsSafeBody, IsSafeHead, ref_count}
+pub use Rattle.bplist_objects.specs.Scan.{nth_number}
 pub use Rattle.bplist_objects.specs.Units.{IsTextKind, units_of}
 pub use Rattle.bplist_objects.specs.Value.{int}
 pub use Rattle.bplist_objects.specs.declared.frame.Frame.{Frame}
 pub use Rattle.bplist_objects.specs.declared.head.Head.{Head}
+pub use Rattle.bplist_objects.specs.declared.kind.Kind.TheVariants.{Dict}
 pub use Rattle.bplist_objects.specs.declared.rule.Rule.{Rule}
+pub use Rattle.bplist_objects.specs.RuleTexts.{text_of}
 pub use Rattle.bplist_objects.specs.Words.{number_of as number_of_rule, word_of}
 pub use Rattle.bplist_cert.specs.CertifiedFile.{IsVouchingFault}
 pub use Rattle.bplist_cert.specs.CheckedFile.{IsChecked}
@@ -28,10 +31,11 @@ pub use Rattle.bplist_cursor.specs.Nodes.{cap, nodes}
 pub use Rattle.bplist_cursor.specs.declared.found.Found.{Found}
 pub use Rattle.bplist_c.specs.Lifecycle.{CertificateSays, IsAcceptedFor, IsCheckedFor, IsOpened, IsPair, certified}
 pub use Rattle.bplist_c.specs.Lookup.{FindSays, step_answer, told_found, why_status}
-pub use Rattle.bplist_c.specs.Objects.{OnObject, body_of, int_answer, kind_number, uid_answer, units_answer}
+pub use Rattle.bplist_c.specs.Members.{AreSpelled, MembersSay}
+pub use Rattle.bplist_c.specs.Objects.{OnObject, body_of, bytes_of_body, int_answer, kind_number, uid_answer, units_answer}
 pub use Rattle.bplist_c.specs.Sessions.{IsFileOf, IsRefused, IsSame, IsSessionOf, OnHandle, checked_of}
 pub use Rattle.bplist_c.specs.Sizes.{sizes_by}
-pub use Rattle.bplist_c.specs.Statuses.{Puts, Tells, items_of, number_of}
+pub use Rattle.bplist_c.specs.Statuses.{Puts, Tells, items_of, number_of, status_texts}
 pub use Rattle.bplist_c.specs.Texts.{IsTextOf, TellsText, printed_as, text_length}
 pub use Rattle.bplist_c.specs.Verdicts.{ShowsLint, circle_answer, refused_told}
 pub use Rattle.bplist_c.specs.declared.object.BplistBody.{BplistBody}
@@ -39,6 +43,6 @@ pub use Rattle.bplist_c.specs.declared.object.BplistInteger.{BplistInteger}
 pub use Rattle.bplist_c.specs.declared.session.Session.{Session}
 pub use Rattle.bplist_c.specs.declared.sizes.BplistSizes.{BplistSizes}
 pub use Rattle.bplist_c.specs.declared.status.Status.{Status}
-pub use Rattle.bplist_c.specs.declared.status.Status.TheVariants.{Closed, Memory, NoMember, NoRule, Opened}
+pub use Rattle.bplist_c.specs.declared.status.Status.TheVariants.{Closed, Memory, NoMember, NoRule, NoStatus, Opened}
 pub use Rattle.bplist_c.specs.declared.text.Text.{Text}
 pub use Rattle.bplist_c.specs.declared.verdict.TheConstants.{NO_VERDICT}

@@ -1,14 +1,19 @@
 -- What C is told of an answer. Source: profile.
-use Rattle.std.specs.Prelude.{◌≡◌, ℕ, suc, nat_le, if◌then◌else◌, List, ◌++◌, length, drop, Result, MatchResult, Ok, Err, Vec}
+use Rattle.std.specs.Prelude.{◌≡◌, ℕ, suc, nat_le, if◌then◌else◌, List, ◌++◌, length, drop, map, Result, MatchResult, Ok, Err, Vec}
 use Rattle.std.specs.Global.{Global}
 use denote.Enum.Declared.{tag_of}
 use Rattle.bplist_c.specs.declared.status.Status.{Status}
 use Rattle.bplist_c.specs.declared.status.Status.TheVariants as statuses
+use Rattle.bplist_c.specs.declared.status.TheConstants.{STATUS_TEXTS}
 use Rattle.bplist_c.specs.contracts.status.Status.{the_type}
 
 -- the number of a status in the header: its place among the statuses, from 1
 abbrev pub number_of : Status → ℕ
 number_of status = suc (tag_of the_type status)
+
+-- the sentences of the statuses, in the order of their numbers from 0
+abbrev pub status_texts : List (List ℕ)
+status_texts = map (λ text. text.now) STATUS_TEXTS
 
 -- status 0 and the answer, or why there is none and an unchanged output
 abbrev pub Tells : {X : Type 0} → Result X Status → X → X → ℕ → Type 0

@@ -12,10 +12,13 @@
 //!
 //! | module | exports |
 //! |---|---|
-//! | `linter` | `bplist_lint`, `bplist_circle`, `bplist_rule_name` |
+//! | `linter` | `bplist_lint`, `bplist_circle` |
+//! | `words` | `bplist_rule_name`, `bplist_rule_text`, `bplist_status_text`, `bplist_version` |
 //! | `lifecycle` | `bplist_open`, `bplist_open_certified`, `bplist_close`, `bplist_certificate` |
 //! | `lookup` | `bplist_find`, `bplist_find_key` |
-//! | `object` | `bplist_face`, `bplist_int`, `bplist_uid`, `bplist_member`, `bplist_units` |
+//! | `object` | `bplist_face`, `bplist_int`, `bplist_uid` |
+//! | `members` | `bplist_member`, `bplist_members` |
+//! | `parts` | `bplist_read`, `bplist_units` |
 //! | `sizes`, `text` | `bplist_size`, `bplist_text` |
 //!
 //! A handle (`handle`) owns a `session`: frame and certificate of a file without its bytes. Each call takes the bytes again and
@@ -28,9 +31,12 @@ mod linter;
 mod loan;
 mod lookup;
 mod loose;
+mod members;
 mod object;
+mod parts;
 mod session;
 mod sizes;
 mod status;
 mod text;
 mod verdict;
+mod words;

@@ -1,13 +1,13 @@
 //! The linter, for C.
 
-ghost use Rattle.std.specs.Prelude.{◌≡◌, ◌⊎◌, ◌<◌, Err, MatchOption, MatchResult, Option, Result, map, ok_or, option_map};
-ghost use Rattle.bplist_c.specs.Prelude.{Frame as frame, Head as head, IsFrame, IsHeadOf, Lint as lint_answer, LintRefusal as lint_refusal, IsFileFault, IsFileCircle, IsLinted, Lints, number, Memory, NoRule, Rule as rule_type, number_of_rule, word_of, Puts, items_of, kind_number as number_of_kind, circle_answer, ShowsLint};
+ghost use Rattle.std.specs.Prelude.{◌≡◌, ◌⊎◌, Err, MatchResult, Result, map};
+ghost use Rattle.bplist_c.specs.Prelude.{Frame as frame, Head as head, IsFrame, IsHeadOf, Lint as lint_answer, LintRefusal as lint_refusal, IsFileFault, IsFileCircle, IsLinted, Lints, number, Memory, Puts, items_of, kind_number as number_of_kind, circle_answer, ShowsLint};
 
 use crate::object::number_of as kind_number;
-use crate::status::{Status, put_all, put_answer};
+use crate::status::{Status, put_answer};
 use crate::verdict::{BplistVerdict, Top, refused};
 use bplist_lint::{Lint, LintRefusal, lint};
-use bplist_objects::{ObjectNo, rule_name, rule_of_number, shape_of, trailer_of};
+use bplist_objects::{ObjectNo, shape_of, trailer_of};
 use bplist_octets::SliceSource;
 use std::alloc::Global;
 
@@ -76,18 +76,6 @@ pub extern "C" fn bplist_lint(alloc: Global, file: &[u8], out: &mut BplistVerdic
 {
     let answer = lint_file(alloc, file);
     show(file, &answer, out)
-}
-
-/// The name of a rule, by its number.
-#[unsafe(no_mangle)]
-pub extern "C" fn bplist_rule_name(rule: u32, name: &mut [u8], count: &mut u64) -> u32
-    ensures { (found : Option rule_type) × MatchOption found ((rule ≡ 0) ⊎ (32 < rule)) (λ r. number_of_rule r ≡ rule)
-        × Puts (ok_or (option_map word_of found) NoRule) name.old name.new count.old count.new result }
-{
-    match rule_of_number(rule) {
-        Some(rule) => put_all(rule_name(rule).as_bytes(), name, count),
-        None => Status::NoRule.number(),
-    }
 }
 
 /// The circle for which the linter refuses a file.

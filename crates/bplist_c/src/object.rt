@@ -1,14 +1,13 @@
 //! What an object shows.
 
-ghost use Rattle.std.specs.Prelude.{◌≡◌, ◌+◌, ◌≤◌, ℕ, IfOk, List, Ok, Result, length, ok_or};
-ghost use Rattle.bplist_c.specs.Prelude.{part, IsTextKind, units_of, int, IsHeadOf, Spells, leaf, IsSafeBody, IsSafeHead, member_reference, BplistBody as body, Status as status, NoMember, BplistInteger as number, OnObject, body_of, int_answer, kind_number, uid_answer, units_answer, IsFileOf, IsSame, OnHandle, Puts, Tells};
+ghost use Rattle.std.specs.Prelude.{◌≡◌, ℕ, IfOk, Ok, Result, length};
+ghost use Rattle.bplist_c.specs.Prelude.{int, IsHeadOf, Spells, leaf, IsSafeBody, IsSafeHead, BplistBody as body, Status as status, BplistInteger as number, OnObject, body_of, int_answer, kind_number, uid_answer, IsFileOf, IsSame, OnHandle, Tells};
 
 use crate::handle::BplistHandle;
 use crate::loan::{give_back, lend};
 use crate::status::{Status, tell};
 use bplist_cert::Checked;
-use bplist_cursor::member_by_head;
-use bplist_objects::{Head, Kind, ObjectNo, int_of, read_units, shape_of, uid_of};
+use bplist_objects::{Head, Kind, ObjectNo, int_of, shape_of, uid_of};
 use bplist_octets::SliceSource;
 use std::alloc::Global;
 
@@ -88,19 +87,6 @@ fn halves(number: i128) -> BplistInteger
     }
 }
 
-/// Fills `into` with the units of a text from its unit `from` on.
-fn read_part(file: &[u8], head: &Head, from: u64, into: &mut [u16])
-    requires kind { IsTextKind head.now.kind }
-    requires body { IsSafeBody (length file.now) head.now }
-    requires within { from + length into.old ≤ head.now.count }
-    ensures { into.new ≡ part (units_of file.now head.now) from (length into.old) }
-{
-    match read_units(&mut SliceSource::new(file), head, from, into) {
-        Ok(()) => (),
-        Err(_) => unreachable!(),
-    }
-}
-
 /// The integer of an object.
 fn integer_of(checked: &Checked<SliceSource<'_>>, object: u32) -> Result<BplistInteger, Status>
     ensures { OnObject checked.now object Spells (λ content answer. answer ≡ int_answer content) result }
@@ -128,51 +114,6 @@ fn uid_of_object(checked: &Checked<SliceSource<'_>>, object: u32) -> Result<u32,
             Err(_) => unreachable!(),
         },
         _ => Err(Status::OtherKind),
-    }
-}
-
-/// Puts the units of a text from unit `from` on into a buffer, as many as there are and as fit, and tells how many.
-fn put_units(
-    checked: &Checked<SliceSource<'_>>,
-    object: u32,
-    from: u64,
-    buffer: &mut [u16],
-    count: &mut u64,
-) -> u32
-    ensures { (answer : Result (List ℕ) status) × Puts answer buffer.old buffer.new count.old count.new result
-        × OnObject checked.now object Spells (λ content answer. answer ≡ units_answer from (length buffer.old) content) answer }
-{
-    let file = checked.octets();
-    let head = match head_of_object(checked, object) {
-        Ok(head) => head,
-        Err(status) => return status.number(),
-    };
-    match head.kind {
-        Kind::Ascii | Kind::Wide => {
-            let from = from.min(head.count);
-            let now = (head.count - from).min(buffer.len() as u64);
-            read_part(file, &head, from, &mut buffer[..now as usize]);
-            *count = now;
-            0
-        }
-        _ => Status::OtherKind.number(),
-    }
-}
-
-/// The object of a member of an object.
-fn member_of(checked: &mut Checked<SliceSource<'_>>, object: u32, i: u64) -> Result<u32, Status>
-    ensures same { checked.new ≡ checked.old }
-    ensures exact { OnObject checked.old object Spells
-        (λ content answer. answer ≡ ok_or (member_reference content i) NoMember) result }
-{
-    let _before = checked.octets();
-    let head = head_of_object(checked, object)?;
-    let found = member_by_head(checked, &head, i);
-    let _after = checked.octets();
-    match found {
-        Ok(Some(node)) => Ok(node.object.0),
-        Ok(None) => Err(Status::NoMember),
-        Err(_) => Err(Status::NoObject),
     }
 }
 
@@ -252,59 +193,4 @@ pub extern "C" fn bplist_uid(
         Err(status) => Err(status),
     };
     tell(answer, out)
-}
-
-/// The object of member `i` of an object.
-#[unsafe(no_mangle)]
-pub extern "C" fn bplist_member(
-    alloc: Global,
-    handle: &mut BplistHandle,
-    file: &[u8],
-    object: u32,
-    i: u64,
-    out: &mut u32,
-) -> u32
-    requires same { IsFileOf file.now handle.old }
-    ensures kept { IsSame handle.old handle.new }
-    ensures exact { (answer : Result ℕ status) × Tells answer out.old out.new result
-        × OnHandle file.entry handle.old (λ checked. OnObject checked object Spells
-        (λ content answer. answer ≡ ok_or (member_reference content i) NoMember)) answer }
-{
-    let answer = match lend(alloc, handle, file) {
-        Ok(lent) => {
-            let mut lent = lent;
-            let answer = member_of(&mut lent.checked, object, i);
-            give_back(handle, lent);
-            answer
-        }
-        Err(status) => Err(status),
-    };
-    tell(answer, out)
-}
-
-/// The units of a text from unit `from` on, as many as there are and as fit.
-#[unsafe(no_mangle)]
-pub extern "C" fn bplist_units(
-    alloc: Global,
-    handle: &mut BplistHandle,
-    file: &[u8],
-    object: u32,
-    from: u64,
-    units: &mut [u16],
-    count: &mut u64,
-) -> u32
-    requires same { IsFileOf file.now handle.old }
-    ensures kept { IsSame handle.old handle.new }
-    ensures exact { (answer : Result (List ℕ) status) × Puts answer units.old units.new count.old count.new result
-        × OnHandle file.entry handle.old (λ checked. OnObject checked object Spells
-        (λ content answer. answer ≡ units_answer from (length units.old) content)) answer }
-{
-    match lend(alloc, handle, file) {
-        Ok(lent) => {
-            let status = put_units(&lent.checked, object, from, units, count);
-            give_back(handle, lent);
-            status
-        }
-        Err(status) => status.number(),
-    }
 }

@@ -38,7 +38,31 @@ pub(crate) enum Status {
     NoText,
     /// There is no rule with that number.
     NoRule,
+    /// There is no status with that number.
+    NoStatus,
 }
+
+/// What each status means, in the order of their numbers from 0.
+pub(crate) static STATUS_TEXTS: [&str; 18] = [
+    "The answer is in the outputs.",
+    "The file or the certificate breaks a rule.",
+    "A growth of memory was refused.",
+    "The handle is closed.",
+    "The handle is open already.",
+    "The file is not the one that was opened.",
+    "The file has no object with that number, or its top object does not reach it.",
+    "The object is of another kind than the call asks for.",
+    "The object has no such member.",
+    "The dictionary has no such key.",
+    "The step of the path is not an index of the array.",
+    "The value is neither a dictionary nor an array.",
+    "The path is not a JSON Pointer.",
+    "The path is not UTF-8.",
+    "The buffer is too short.",
+    "The value has no old-style text.",
+    "There is no rule with that number.",
+    "There is no status with that number.",
+];
 
 impl Status {
     /// The number that C is told.

@@ -3,6 +3,7 @@ pub mod Rules
 pub mod Frame
 pub mod Value
 pub mod Announced
+pub mod Markers
 pub mod Claims
 pub mod Scan
 pub mod Safe
@@ -24,3 +25,4 @@ pub mod SmallFiles
 pub mod Framed
 pub mod Visits
 pub mod Prelude
+pub mod RuleTexts

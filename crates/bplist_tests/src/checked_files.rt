@@ -92,11 +92,16 @@ fn keys_that_become_equal(rt: HostRuntime) -> Result<(), Fail> {
     for reads in 0..100 {
         match key_list(alloc, &row, &other, reads)? {
             Some(Ok(certificate)) => {
-                let sorted = certificate.keys.is_some_and(|keys| keys.positions.len() == 2);
+                let sorted = certificate
+                    .keys
+                    .is_some_and(|keys| keys.positions.len() == 2);
                 assert!(rt; sorted, "after {reads} reads");
             }
             Some(Err(fault)) => {
-                assert!(rt; matches!(fault, UpgradeFault::Changed), "after {reads} reads");
+                assert!(rt;
+                    matches!(fault, UpgradeFault::Changed),
+                    "after {reads} reads"
+                );
                 changes = changes.saturating_add(1);
             }
             None => {}

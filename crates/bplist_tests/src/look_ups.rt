@@ -81,6 +81,9 @@ fn sizes_are_measured_once(rt: HostRuntime) -> Result<(), Fail> {
     let once = reads_for_sizes(alloc, &row, 1)?;
     assert!(rt; once >= 1000, "{once} reads");
     let thrice = reads_for_sizes(alloc, &row, 3)?;
-    assert!(rt; thrice < once.saturating_mul(2), "{once} and {thrice} reads");
+    assert!(rt;
+        thrice < once.saturating_mul(2),
+        "{once} and {thrice} reads"
+    );
     Ok(())
 }

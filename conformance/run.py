@@ -1,0 +1,99 @@
+#!/usr/bin/env python3
+"""run.py [options] COMMAND..
+
+Runs COMMAND on every file of cases.tsv and compares its exit status with the expected answer: 0 if it takes the file,
+anything else if it refuses it. The word {} in COMMAND stands for the file; without one the file is the last word.
+
+    python3 run.py bplint lint --quiet
+    python3 run.py --values sh -c 'my-parser --spell "$0"'
+
+A file on which this suite's project decides more strictly or more widely than the format asks has the basis `profile`.
+Other answers to it are printed as choices and do not count; with --strict they count. With --values, COMMAND prints the
+value as README.md spells it, and it is compared too.
+
+The last line printed is `N passed, M failed`, with `, K choices` if there were any. The exit status is 1 if one failed.
+"""
+import argparse
+import concurrent.futures
+import csv
+import dataclasses
+import hashlib
+import os
+import pathlib
+import subprocess
+import sys
+
+HERE = pathlib.Path(__file__).resolve().parent
+
+
+@dataclasses.dataclass(frozen=True)
+class Case:
+    file: str
+    answer: str
+    rule: str
+    basis: str
+    needs: str
+    value: str
+    why: str
+
+
+def read_cases(only):
+    with open(HERE / "cases.tsv", encoding="utf-8", newline="") as lines:
+        cases = [Case(**row) for row in csv.DictReader(lines, delimiter="\t", quoting=csv.QUOTE_NONE)]
+    return [case for case in cases if only in ("", case.rule)]
+
+
+def words_for(command, path):
+    return [path if word == "{}" else word for word in command] if "{}" in command else [*command, path]
+
+
+def value_differs(case, printed):
+    value = printed.decode("utf-8", "replace").rstrip("\n")
+    if case.value.startswith("sha256 "):
+        value = f"sha256 {hashlib.sha256(value.encode()).hexdigest()}"
+    return value != case.value
+
+
+def problem(case, given):
+    """What is wrong with the command's answer to the file, or nothing."""
+    words = words_for(given.command, str(HERE / case.file))
+    try:
+        ran = subprocess.run(words, capture_output=True, timeout=given.seconds, check=False, stdin=subprocess.DEVNULL)
+    except subprocess.TimeoutExpired:
+        return f"no answer in {given.seconds} seconds"
+    if ran.returncode < 0:
+        return f"ended by signal {-ran.returncode}"
+    if (ran.returncode == 0) != (case.answer == "accept"):
+        return f"wanted {case.answer}, and the status is {ran.returncode}"
+    if given.values and case.answer == "accept" and value_differs(case, ran.stdout):
+        return f"wanted the value {case.value}, and it printed {ran.stdout[:200]!r}"
+    return ""
+
+
+def main():
+    parser = argparse.ArgumentParser(description=__doc__, formatter_class=argparse.RawDescriptionHelpFormatter)
+    parser.add_argument("--only", default="", metavar="RULE", help="the files that break this rule, or - for the sound ones")
+    parser.add_argument("--strict", action="store_true", help="count the choices as failures")
+    parser.add_argument("--values", action="store_true", help="compare what COMMAND prints with the value")
+    parser.add_argument("--seconds", type=float, default=20, help="how long COMMAND may take for a file")
+    parser.add_argument("--jobs", type=int, default=os.cpu_count() or 1)
+    parser.add_argument("command", nargs=argparse.REMAINDER)
+    given = parser.parse_args()
+    if not given.command:
+        parser.error("no COMMAND")
+    cases = read_cases(given.only)
+    with concurrent.futures.ThreadPoolExecutor(given.jobs) as pool:
+        problems = list(pool.map(lambda case: problem(case, given), cases))
+    failed = choices = 0
+    for case, said in zip(cases, problems):
+        choice = case.basis == "profile" and not given.strict and said.startswith("wanted")
+        choices, failed = choices + (said != "" and choice), failed + (said != "" and not choice)
+        if said:
+            print(f"{'choice: ' if choice else ''}{case.file}: {said}\n  {case.why}")
+    closing = f"{len(cases) - failed - choices} passed, {failed} failed"
+    print(closing + (f", {choices} choices" if choices else ""))
+    return 1 if failed else 0
+
+
+if __name__ == "__main__":
+    sys.exit(main())

@@ -1,0 +1,203 @@
+//! The members of containers: the objects that they refer to.
+
+ghost use Rattle.std.specs.Prelude.{◌≡◌, ◌≢◌, ◌+◌, ◌*◌, ◌≤◌, ◌<◌, ℕ, List, Result, length, ok_or, slice_index};
+ghost use Rattle.bplist_c.specs.Prelude.{Spells, IsSafeHead, member_reference, nth_number, ref_count, Dict, AreSpelled, MembersSay, Status as status, NoMember, OnObject, IsFileOf, IsSame, OnHandle, Puts, Tells};
+
+use crate::handle::BplistHandle;
+use crate::loan::{give_back, lend};
+use crate::object::head_of_object;
+use crate::status::{Status, tell};
+use bplist_cert::Checked;
+use bplist_cursor::member_by_head;
+use bplist_objects::{Head, Kind, read_refs, refs_of};
+use bplist_octets::SliceSource;
+use std::alloc::Global;
+
+/// How many members are read at once at most.
+const BLOCK: usize = 64;
+
+/// How many pairs they are of at most: the first may be a value, and the last a key.
+const PAIRS: usize = 33;
+
+/// The object of a member of an object.
+fn member_of(checked: &mut Checked<SliceSource<'_>>, object: u32, i: u64) -> Result<u32, Status>
+    ensures same { checked.new ≡ checked.old }
+    ensures exact { OnObject checked.old object Spells
+        (λ content answer. answer ≡ ok_or (member_reference content i) NoMember) result }
+{
+    let _before = checked.octets();
+    let head = head_of_object(checked, object)?;
+    let found = member_by_head(checked, &head, i);
+    let _after = checked.octets();
+    match found {
+        Ok(Some(node)) => Ok(node.object.0),
+        Ok(None) => Err(Status::NoMember),
+        Err(_) => Err(Status::NoObject),
+    }
+}
+
+/// Fills `into` with the numbers of the references from number `from` on, as they are written: in a dictionary the keys stand
+/// before the values.
+fn read_row(checked: &Checked<SliceSource<'_>>, head: &Head, from: u64, into: &mut [u64])
+    requires head { IsSafeHead checked.now.frame head.now }
+    requires within { from + length into.old ≤ ref_count head.now.kind head.now.count }
+    ensures { (k : ℕ) → k < length into.new → slice_index into.new k
+        ≡ nth_number checked.now.source.octets head.now.body checked.now.frame.ref_size (from + k) }
+{
+    let frame = checked.frame();
+    let mut source = SliceSource::new(checked.octets());
+    match read_refs(&mut source, &frame, head, from, into) {
+        Ok(()) => (),
+        Err(_) => unreachable!(),
+    }
+}
+
+/// Fills a block with the members of an array or a set from number `from` on.
+fn fill_in_order(checked: &Checked<SliceSource<'_>>, head: &Head, from: u64, into: &mut [u32])
+    requires kind { head.now.kind ≢ Dict }
+    requires head { IsSafeHead checked.now.frame head.now }
+    requires few { length into.old ≤ 64 }
+    requires within { from + length into.old ≤ ref_count head.now.kind head.now.count }
+    ensures { AreSpelled checked.now.source.octets checked.now.frame head.now from into.new }
+{
+    let mut block = [0u64; BLOCK];
+    let block = &mut block[..into.len()];
+    read_row(checked, head, from, block);
+    for k in 0..into.len() {
+        into[k] = (block[k] % (1 << 32)) as u32;
+    }
+}
+
+/// Fills a block with the members of a dictionary from number `from` on, each key before its value.
+fn fill_in_pairs(checked: &Checked<SliceSource<'_>>, head: &Head, from: u64, into: &mut [u32])
+    requires kind { head.now.kind ≡ Dict }
+    requires head { IsSafeHead checked.now.frame head.now }
+    requires few { length into.old ≤ 64 }
+    requires within { from + length into.old ≤ 2 * head.now.count }
+    ensures { AreSpelled checked.now.source.octets checked.now.frame head.now from into.new }
+{
+    let first = from / 2;
+    let pairs = ((from + into.len() as u64).div_ceil(2) - first) as usize;
+    let (mut keys, mut values) = ([0u64; PAIRS], [0u64; PAIRS]);
+    read_row(checked, head, first, &mut keys[..pairs]);
+    read_row(checked, head, head.count + first, &mut values[..pairs]);
+    for k in 0..into.len() {
+        let i = (from % 2) as usize + k;
+        let member = if i % 2 == 0 {
+            keys[i / 2]
+        } else {
+            values[i / 2]
+        };
+        into[k] = (member % (1 << 32)) as u32;
+    }
+}
+
+/// Fills a block with the members from number `from` on.
+fn fill_block(checked: &Checked<SliceSource<'_>>, head: &Head, from: u64, into: &mut [u32])
+    requires head { IsSafeHead checked.now.frame head.now }
+    requires few { length into.old ≤ 64 }
+    requires within { from + length into.old ≤ ref_count head.now.kind head.now.count }
+    ensures { AreSpelled checked.now.source.octets checked.now.frame head.now from into.new }
+{
+    match head.kind {
+        Kind::Dict => fill_in_pairs(checked, head, from, into),
+        _ => fill_in_order(checked, head, from, into),
+    }
+}
+
+/// Fills `into` with the members from number `from` on, block by block.
+fn fill(checked: &Checked<SliceSource<'_>>, head: &Head, from: u64, into: &mut [u32])
+    requires head { IsSafeHead checked.now.frame head.now }
+    requires within { from + length into.old ≤ ref_count head.now.kind head.now.count }
+    ensures { AreSpelled checked.now.source.octets checked.now.frame head.now from into.new }
+{
+    let mut done = 0usize;
+    while done < into.len() {
+        let now = (into.len() - done).min(BLOCK);
+        fill_block(
+            checked,
+            head,
+            from + done as u64,
+            &mut into[done..done + now],
+        );
+        done += now;
+    }
+}
+
+/// Puts the members of an object from number `from` on into a buffer, as many as there are and as fit, and tells how many.
+fn put_members(
+    checked: &Checked<SliceSource<'_>>,
+    object: u32,
+    from: u64,
+    buffer: &mut [u32],
+    count: &mut u64,
+) -> u32
+    ensures { (answer : Result (List ℕ) status) × Puts answer buffer.old buffer.new count.old count.new result
+        × OnObject checked.now object Spells (MembersSay from (length buffer.old)) answer }
+{
+    let head = match head_of_object(checked, object) {
+        Ok(head) => head,
+        Err(status) => return status.number(),
+    };
+    let all = refs_of(&head);
+    let from = from.min(all);
+    let now = (all - from).min(buffer.len() as u64);
+    fill(checked, &head, from, &mut buffer[..now as usize]);
+    *count = now;
+    0
+}
+
+/// The object of member `i` of an object.
+#[unsafe(no_mangle)]
+pub extern "C" fn bplist_member(
+    alloc: Global,
+    handle: &mut BplistHandle,
+    file: &[u8],
+    object: u32,
+    i: u64,
+    out: &mut u32,
+) -> u32
+    requires same { IsFileOf file.now handle.old }
+    ensures kept { IsSame handle.old handle.new }
+    ensures exact { (answer : Result ℕ status) × Tells answer out.old out.new result
+        × OnHandle file.entry handle.old (λ checked. OnObject checked object Spells
+        (λ content answer. answer ≡ ok_or (member_reference content i) NoMember)) answer }
+{
+    let answer = match lend(alloc, handle, file) {
+        Ok(lent) => {
+            let mut lent = lent;
+            let answer = member_of(&mut lent.checked, object, i);
+            give_back(handle, lent);
+            answer
+        }
+        Err(status) => Err(status),
+    };
+    tell(answer, out)
+}
+
+/// The objects of the members from number `from` on, as many as there are and as fit.
+#[unsafe(no_mangle)]
+pub extern "C" fn bplist_members(
+    alloc: Global,
+    handle: &mut BplistHandle,
+    file: &[u8],
+    object: u32,
+    from: u64,
+    objects: &mut [u32],
+    count: &mut u64,
+) -> u32
+    requires same { IsFileOf file.now handle.old }
+    ensures kept { IsSame handle.old handle.new }
+    ensures exact { (answer : Result (List ℕ) status) × Puts answer objects.old objects.new count.old count.new result
+        × OnHandle file.entry handle.old (λ checked. OnObject checked object Spells
+        (MembersSay from (length objects.old))) answer }
+{
+    match lend(alloc, handle, file) {
+        Ok(lent) => {
+            let status = put_members(&lent.checked, object, from, objects, count);
+            give_back(handle, lent);
+            status
+        }
+        Err(status) => status.number(),
+    }
+}

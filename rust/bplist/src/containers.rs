@@ -1,0 +1,242 @@
+//! Arrays, sets and dictionaries, and the iterators over them.
+
+use std::fmt::{self, Debug, Formatter};
+use std::iter::FusedIterator;
+
+use crate::ffi::{Session, Status};
+use crate::text::Text;
+use crate::value::{known, Value};
+
+/// How many members are asked for at once.
+const BLOCK: usize = 64;
+
+/// The container of an object.
+#[derive(Clone, Copy)]
+pub(crate) struct Members<'a> {
+    pub(crate) session: &'a Session<'a>,
+    pub(crate) object: u32,
+    /// How many members an array or a set has, or how many pairs a dictionary.
+    pub(crate) count: u64,
+}
+
+impl<'a> Members<'a> {
+    fn len(self) -> usize {
+        self.count as usize
+    }
+
+    fn value(self, object: u32) -> Value<'a> {
+        match Value::of(self.session, object) {
+            Some(value) => value,
+            None => unreachable!("object {object} is a member of object {}", self.object),
+        }
+    }
+
+    fn get(self, index: usize) -> Option<Value<'a>> {
+        let mut member = [0];
+        let found = known(self.session.members(self.object, index as u64, &mut member));
+        (found == 1).then(|| self.value(member[0]))
+    }
+
+    fn find(self, key: &str) -> Option<Value<'a>> {
+        let units: Vec<u16> = key.encode_utf16().collect();
+        match self.session.find_key(self.object, &units) {
+            Err(Status::NO_KEY) => None,
+            answer => Some(self.value(known(answer))),
+        }
+    }
+
+    fn debug(self, name: &str, f: &mut Formatter<'_>) -> fmt::Result {
+        f.debug_struct(name)
+            .field("object", &self.object)
+            .field("len", &self.count)
+            .finish()
+    }
+}
+
+/// The objects of members, which are asked for in blocks.
+#[derive(Clone)]
+struct Objects<'a> {
+    of: Members<'a>,
+    block: [u32; BLOCK],
+    /// Which of the block is next, and how many it has.
+    next: usize,
+    filled: usize,
+    /// Which member stands behind the block.
+    behind: u64,
+}
+
+impl<'a> Objects<'a> {
+    fn new(of: Members<'a>) -> Objects<'a> {
+        Objects {
+            of,
+            block: [0; BLOCK],
+            next: 0,
+            filled: 0,
+            behind: 0,
+        }
+    }
+
+    fn next_value(&mut self) -> Option<Value<'a>> {
+        if self.next == self.filled {
+            self.filled = known(self.of.session.members(
+                self.of.object,
+                self.behind,
+                &mut self.block,
+            ));
+            self.behind += self.filled as u64;
+            self.next = 0;
+            if self.filled == 0 {
+                return None;
+            }
+        }
+        let object = self.block[self.next];
+        self.next += 1;
+        Some(self.of.value(object))
+    }
+
+    /// How many members were given.
+    fn given(&self) -> usize {
+        self.behind as usize - (self.filled - self.next)
+    }
+}
+
+/// An array.
+#[derive(Clone, Copy)]
+pub struct Array<'a>(pub(crate) Members<'a>);
+
+/// A set. Its members come in the order of the file.
+#[derive(Clone, Copy)]
+pub struct Set<'a>(pub(crate) Members<'a>);
+
+/// A dictionary. Its pairs come in the order of the file.
+#[derive(Clone, Copy)]
+pub struct Dict<'a>(pub(crate) Members<'a>);
+
+macro_rules! container {
+    ($name:ident, $iter:ident, $item:ty) => {
+        impl<'a> $name<'a> {
+            /// How many there are.
+            pub fn len(&self) -> usize {
+                self.0.len()
+            }
+
+            /// Whether there are none.
+            pub fn is_empty(&self) -> bool {
+                self.0.count == 0
+            }
+
+            /// The number of the object that holds this container. An object may be a member of many others.
+            pub fn object(&self) -> u32 {
+                self.0.object
+            }
+
+            /// From the first to the last, in the order of the file.
+            pub fn iter(&self) -> $iter<'a> {
+                $iter(Objects::new(self.0))
+            }
+        }
+
+        impl<'a> IntoIterator for $name<'a> {
+            type Item = $item;
+            type IntoIter = $iter<'a>;
+
+            fn into_iter(self) -> $iter<'a> {
+                self.iter()
+            }
+        }
+
+        impl<'a> IntoIterator for &$name<'a> {
+            type Item = $item;
+            type IntoIter = $iter<'a>;
+
+            fn into_iter(self) -> $iter<'a> {
+                self.iter()
+            }
+        }
+
+        impl Debug for $name<'_> {
+            /// Writes the number of the object and how many there are, since a small file may hold a very large tree.
+            fn fmt(&self, f: &mut Formatter<'_>) -> fmt::Result {
+                self.0.debug(stringify!($name), f)
+            }
+        }
+    };
+}
+
+container!(Array, Iter, Value<'a>);
+container!(Set, Iter, Value<'a>);
+container!(Dict, Pairs, (Text<'a>, Value<'a>));
+
+impl<'a> Array<'a> {
+    /// The member with this index, or `None` from the end on.
+    pub fn get(&self, index: usize) -> Option<Value<'a>> {
+        self.0.get(index)
+    }
+}
+
+impl<'a> Dict<'a> {
+    /// The value for a key, or `None` if the dictionary has no such key.
+    ///
+    /// The call halves the keys if the file was opened with [`sorted`](crate::Options::sorted), and looks at one key after
+    /// the other if not.
+    pub fn get(&self, key: &str) -> Option<Value<'a>> {
+        self.0.find(key)
+    }
+
+    /// The keys, in the order of the file.
+    pub fn keys(&self) -> impl ExactSizeIterator<Item = Text<'a>> + 'a {
+        self.iter().map(|(key, _)| key)
+    }
+
+    /// The values, in the order of the file.
+    pub fn values(&self) -> impl ExactSizeIterator<Item = Value<'a>> + 'a {
+        self.iter().map(|(_, value)| value)
+    }
+}
+
+/// The members of an array or a set.
+#[derive(Clone)]
+pub struct Iter<'a>(Objects<'a>);
+
+impl<'a> Iterator for Iter<'a> {
+    type Item = Value<'a>;
+
+    fn next(&mut self) -> Option<Value<'a>> {
+        self.0.next_value()
+    }
+
+    fn size_hint(&self) -> (usize, Option<usize>) {
+        let left = self.0.of.len() - self.0.given();
+        (left, Some(left))
+    }
+}
+
+/// The pairs of a dictionary, each a key and a value.
+#[derive(Clone)]
+pub struct Pairs<'a>(Objects<'a>);
+
+impl<'a> Iterator for Pairs<'a> {
+    type Item = (Text<'a>, Value<'a>);
+
+    fn next(&mut self) -> Option<(Text<'a>, Value<'a>)> {
+        let key = self.0.next_value()?;
+        let value = self.0.next_value()?;
+        match key {
+            Value::Text(text) => Some((text, value)),
+            _ => unreachable!("the keys of a dictionary are texts"),
+        }
+    }
+
+    fn size_hint(&self) -> (usize, Option<usize>) {
+        let left = self.0.of.len() - self.0.given() / 2;
+        (left, Some(left))
+    }
+}
+
+impl ExactSizeIterator for Iter<'_> {}
+
+impl ExactSizeIterator for Pairs<'_> {}
+
+impl FusedIterator for Iter<'_> {}
+
+impl FusedIterator for Pairs<'_> {}

@@ -1,0 +1,206 @@
+//! Why a file is refused, and why a path leads nowhere.
+
+use std::error;
+use std::fmt::{self, Display, Formatter};
+
+use crate::ffi::{self, Status, Verdict};
+
+/// The rule about circles of references, which has no place.
+const CIRCLE: u32 = 23;
+
+/// The first rule about certificates, and the last one but one; [`KEY_ORDER`] is the last.
+const CERTIFICATES: std::ops::RangeInclusive<u32> = 24..=27;
+
+/// The rule about key lists in a certificate.
+const KEY_ORDER: u32 = 32;
+
+/// A rule of property lists, or of certificates, which has a number from 1 to 32.
+#[derive(Clone, Copy, Debug, PartialEq, Eq, Hash, PartialOrd, Ord)]
+pub struct Rule(u32);
+
+impl Rule {
+    /// The number of the rule.
+    pub fn number(self) -> u32 {
+        self.0
+    }
+
+    /// The name of the rule, for example `Marker`.
+    pub fn name(self) -> String {
+        ffi::rule_name(self.0)
+    }
+
+    /// What the rule asks, as one sentence, for example `The keys of a dictionary differ.`
+    pub fn sentence(self) -> String {
+        ffi::rule_text(self.0)
+    }
+}
+
+/// The first broken rule of a file or of a certificate, and what breaks it.
+#[derive(Clone, Debug, PartialEq, Eq)]
+pub struct Fault {
+    rule: Rule,
+    object: Option<u32>,
+    place: Option<u64>,
+    circle: Vec<u32>,
+}
+
+impl Fault {
+    /// The fault that a verdict tells.
+    fn told(file: &[u8], verdict: &Verdict) -> Result<Fault, Status> {
+        let circle = match verdict.rule {
+            CIRCLE => ffi::circle(file, verdict.circle)?,
+            _ => Vec::new(),
+        };
+        Ok(Fault {
+            rule: Rule(verdict.rule),
+            object: (verdict.has_object == 1).then_some(verdict.object),
+            place: (verdict.rule != CIRCLE).then_some(verdict.place),
+            circle,
+        })
+    }
+
+    /// The broken rule.
+    pub fn rule(&self) -> Rule {
+        self.rule
+    }
+
+    /// The number of the object that breaks the rule, if one does. Of a circle it is the first object.
+    pub fn object(&self) -> Option<u32> {
+        self.object
+    }
+
+    /// The place that shows the fault, counted in bytes from the first byte of the file, or of the certificate if
+    /// [`is_of_certificate`](Fault::is_of_certificate). A circle has no place.
+    pub fn place(&self) -> Option<u64> {
+        self.place
+    }
+
+    /// The objects of the circle if the file is refused because references go round in one: each refers to the next, and the
+    /// last to the first. It is empty for all other faults.
+    pub fn circle(&self) -> &[u32] {
+        &self.circle
+    }
+
+    /// Whether the certificate is at fault, and not the file.
+    pub fn is_of_certificate(&self) -> bool {
+        CERTIFICATES.contains(&self.rule.0) || self.rule.0 == KEY_ORDER
+    }
+}
+
+impl Display for Fault {
+    fn fmt(&self, f: &mut Formatter<'_>) -> fmt::Result {
+        write!(
+            f,
+            "rule {} ({}) is broken",
+            self.rule.number(),
+            self.rule.name()
+        )?;
+        if let Some(object) = self.object {
+            write!(f, " by object {object}")?;
+        }
+        if let Some(place) = self.place {
+            let whose = if self.is_of_certificate() {
+                " of the certificate"
+            } else {
+                ""
+            };
+            write!(f, " at place {place}{whose}")?;
+        }
+        write!(f, ": {}", self.rule.sentence())
+    }
+}
+
+/// Why a file is not opened.
+#[derive(Clone, Debug, PartialEq, Eq)]
+#[non_exhaustive]
+pub enum Error {
+    /// The file holds no value, or the certificate is not one of the file.
+    Refused(Fault),
+    /// Memory was refused. The call can be made again.
+    OutOfMemory,
+}
+
+impl Error {
+    /// The error that a status and a verdict tell.
+    pub(crate) fn told(file: &[u8], status: Status, verdict: &Verdict) -> Error {
+        match status {
+            Status::FAULT => match Fault::told(file, verdict) {
+                Ok(fault) => Error::Refused(fault),
+                Err(_) => Error::OutOfMemory,
+            },
+            _ => Error::OutOfMemory,
+        }
+    }
+}
+
+impl Display for Error {
+    fn fmt(&self, f: &mut Formatter<'_>) -> fmt::Result {
+        match self {
+            Error::Refused(fault) => Display::fmt(fault, f),
+            Error::OutOfMemory => f.write_str("out of memory"),
+        }
+    }
+}
+
+impl error::Error for Error {}
+
+/// Why a path leads to no value. Steps are counted from 0.
+#[derive(Clone, Copy, Debug, PartialEq, Eq)]
+#[non_exhaustive]
+pub enum PathError {
+    /// The dictionary at this step has no such key.
+    NoKey {
+        /// The step that cannot be taken.
+        step: u64,
+    },
+    /// The step is not an index of the array.
+    NoIndex {
+        /// The step that cannot be taken.
+        step: u64,
+    },
+    /// The value at this step is neither a dictionary nor an array.
+    NotSteppable {
+        /// The step that cannot be taken.
+        step: u64,
+    },
+    /// The text is not a JSON Pointer.
+    Text {
+        /// The byte at which it is wrong.
+        place: u64,
+    },
+    /// Memory was refused. The call can be made again.
+    OutOfMemory,
+}
+
+impl PathError {
+    /// The error of a status, with the step or the place that the call told.
+    pub(crate) fn told(status: Status, step: u64) -> PathError {
+        match status {
+            Status::NO_KEY => PathError::NoKey { step },
+            Status::NO_INDEX => PathError::NoIndex { step },
+            Status::NOT_STEPPABLE => PathError::NotSteppable { step },
+            Status::PATH_TEXT => PathError::Text { place: step },
+            Status::MEMORY => PathError::OutOfMemory,
+            other => unreachable!("{}", other.sentence()),
+        }
+    }
+}
+
+impl Display for PathError {
+    fn fmt(&self, f: &mut Formatter<'_>) -> fmt::Result {
+        match self {
+            PathError::NoKey { step } => write!(f, "step {step}: the dictionary has no such key"),
+            PathError::NoIndex { step } => write!(f, "step {step} is not an index of the array"),
+            PathError::NotSteppable { step } => write!(
+                f,
+                "step {step}: the value is neither a dictionary nor an array"
+            ),
+            PathError::Text { place } => {
+                write!(f, "the path is not a JSON Pointer at its byte {place}")
+            }
+            PathError::OutOfMemory => f.write_str("out of memory"),
+        }
+    }
+}
+
+impl error::Error for PathError {}

@@ -1,0 +1,52 @@
+//! Lints Apple's binary property lists (`bplist00`) and reads single values of them, without building a tree.
+//!
+//! ```
+//! use bplist::{Plist, Value};
+//!
+//! # fn main() -> Result<(), Box<dyn std::error::Error>> {
+//! let file = std::fs::read("tests/data/jobs.plist")?;
+//! let plist = Plist::open(&file)?;
+//! assert_eq!(plist.at("/jobs/1/id")?.as_int(), Some(42));
+//!
+//! if let Value::Dict(top) = plist.root() {
+//!     for (key, value) in top {
+//!         println!("{key}: {value:?}");
+//!     }
+//! }
+//!
+//! let error = Plist::open(&file[1..]).unwrap_err();
+//! assert!(error.to_string().starts_with("rule 3 (Magic) is broken at place 0: "));
+//! # Ok(())
+//! # }
+//! ```
+//!
+//! | what | items |
+//! |---|---|
+//! | a file, opened | [`Plist::open`], [`Options`], [`Plist`] |
+//! | whether a file holds a value, and why not | [`lint`], [`Error`], [`Fault`], [`Rule`] |
+//! | a value | [`Value`], [`Text`], [`Date`], [`Array`], [`Set`], [`Dict`] |
+//! | where a path leads | [`Plist::at`], [`PathError`] |
+//!
+//! Values borrow from the file and from its `Plist`. Each is read when it is asked for, and an iterator asks for its members
+//! in blocks. After a file is opened, reading it has no errors. An object may be a member of many others, so that a walk
+//! over a small file may take very long: [`Plist::nodes`] says before the walk how large the tree is.
+//!
+//! The crate is a layer over the C library bplist, whose answers are proved; this layer is tested. It has no dependencies.
+//! The build looks for `libbplist.a` in the directory that the environment variable `BPLIST_LIB_DIR` names, or by
+//! pkg-config. All unsafe code stands in one module, `ffi`.
+#![deny(unsafe_code)]
+#![warn(missing_docs)]
+
+mod containers;
+mod error;
+#[allow(unsafe_code)]
+mod ffi;
+mod plist;
+mod text;
+mod value;
+
+pub use containers::{Array, Dict, Iter, Pairs, Set};
+pub use error::{Error, Fault, PathError, Rule};
+pub use plist::{library_version, lint, Options, Plist, Summary};
+pub use text::{Text, Units};
+pub use value::{Date, Value};

@@ -1,0 +1,130 @@
+//! Texts, as they stand in the file.
+
+use std::borrow::Cow;
+use std::char::{self, REPLACEMENT_CHARACTER};
+use std::fmt::{self, Debug, Display, Formatter, Write};
+use std::iter::FusedIterator;
+use std::str;
+
+/// A text: ASCII, or units of UTF-16 in which surrogates may stand alone.
+#[derive(Clone, Copy)]
+pub struct Text<'a> {
+    octets: &'a [u8],
+    wide: bool,
+}
+
+impl<'a> Text<'a> {
+    /// A text of one byte a unit.
+    pub(crate) fn ascii(octets: &'a [u8]) -> Text<'a> {
+        Text {
+            octets,
+            wide: false,
+        }
+    }
+
+    /// A text of two bytes a unit, the greater byte first.
+    pub(crate) fn wide(octets: &'a [u8]) -> Text<'a> {
+        Text { octets, wide: true }
+    }
+
+    /// How many units of UTF-16 the text has.
+    pub fn len(&self) -> usize {
+        self.units().len()
+    }
+
+    /// Whether the text has no units.
+    pub fn is_empty(&self) -> bool {
+        self.octets.is_empty()
+    }
+
+    /// The text as it stands in the file, if it stands there as ASCII.
+    pub fn as_ascii(&self) -> Option<&'a str> {
+        if self.wide {
+            return None;
+        }
+        str::from_utf8(self.octets).ok()
+    }
+
+    /// The text, with U+FFFD for each surrogate that stands alone.
+    pub fn to_string_lossy(&self) -> Cow<'a, str> {
+        match self.as_ascii() {
+            Some(text) => Cow::Borrowed(text),
+            None => char::decode_utf16(self.units())
+                .map(|unit| unit.unwrap_or(REPLACEMENT_CHARACTER))
+                .collect(),
+        }
+    }
+
+    /// The units of UTF-16.
+    pub fn units(&self) -> Units<'a> {
+        Units {
+            octets: self.octets.chunks_exact(if self.wide { 2 } else { 1 }),
+        }
+    }
+}
+
+impl Display for Text<'_> {
+    /// Writes the text, with U+FFFD for each surrogate that stands alone.
+    fn fmt(&self, f: &mut Formatter<'_>) -> fmt::Result {
+        f.pad(&self.to_string_lossy())
+    }
+}
+
+impl Debug for Text<'_> {
+    /// Writes the text in quotes, and a surrogate that stands alone as `\u{d83d}`.
+    fn fmt(&self, f: &mut Formatter<'_>) -> fmt::Result {
+        f.write_char('"')?;
+        for unit in char::decode_utf16(self.units()) {
+            match unit {
+                Ok(letter) => write!(f, "{}", letter.escape_debug())?,
+                Err(alone) => write!(f, "\\u{{{:x}}}", alone.unpaired_surrogate())?,
+            }
+        }
+        f.write_char('"')
+    }
+}
+
+impl PartialEq for Text<'_> {
+    fn eq(&self, other: &Text<'_>) -> bool {
+        self.units().eq(other.units())
+    }
+}
+
+impl Eq for Text<'_> {}
+
+impl PartialEq<str> for Text<'_> {
+    fn eq(&self, other: &str) -> bool {
+        self.units().eq(other.encode_utf16())
+    }
+}
+
+impl PartialEq<&str> for Text<'_> {
+    fn eq(&self, other: &&str) -> bool {
+        *self == **other
+    }
+}
+
+/// The units of a text, from the first to the last.
+#[derive(Clone, Debug)]
+pub struct Units<'a> {
+    octets: std::slice::ChunksExact<'a, u8>,
+}
+
+impl Iterator for Units<'_> {
+    type Item = u16;
+
+    fn next(&mut self) -> Option<u16> {
+        self.octets.next().map(|unit| {
+            unit.iter()
+                .fold(0, |number, &octet| number << 8 | u16::from(octet))
+        })
+    }
+
+    fn size_hint(&self) -> (usize, Option<usize>) {
+        self.octets.size_hint()
+    }
+}
+
+impl ExactSizeIterator for Units<'_> {}
+
+impl FusedIterator for Units<'_> {}

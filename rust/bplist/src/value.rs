@@ -1,0 +1,153 @@
+//! Values, which borrow from the file.
+
+use std::time::{Duration, SystemTime};
+
+use crate::containers::{Array, Dict, Members, Set};
+use crate::ffi::{kind, Session, Status};
+use crate::text::Text;
+
+/// How many seconds 2001-01-01 00:00:00 UTC is after 1970-01-01 00:00:00 UTC.
+const EPOCH: u64 = 978_307_200;
+
+/// A value of a property list.
+#[derive(Clone, Copy, Debug)]
+#[non_exhaustive]
+pub enum Value<'a> {
+    /// Null, which stands for no value.
+    Null,
+    /// True or false.
+    Bool(bool),
+    /// An integer of at most 128 bits.
+    Int(i128),
+    /// A floating-point number.
+    Real(f64),
+    /// A point in time.
+    Date(Date),
+    /// Bytes, as they stand in the file.
+    Data(&'a [u8]),
+    /// A text.
+    Text(Text<'a>),
+    /// A number by which archives of NSKeyedArchiver refer to their objects.
+    Uid(u32),
+    /// An array.
+    Array(Array<'a>),
+    /// A set. Its members may be equal to one another.
+    Set(Set<'a>),
+    /// A dictionary, whose keys are texts that differ.
+    Dict(Dict<'a>),
+}
+
+/// What a call on an object of an opened file answers. There is no other answer, since the file does not change.
+pub(crate) fn known<T>(answer: Result<T, Status>) -> T {
+    answer.unwrap_or_else(|status| unreachable!("{}", status.sentence()))
+}
+
+impl<'a> Value<'a> {
+    /// The value of an object, or `None` if the top does not reach such an object.
+    pub(crate) fn of(session: &'a Session<'a>, object: u32) -> Option<Value<'a>> {
+        let body = match session.face(object) {
+            Err(Status::NO_OBJECT) => return None,
+            answer => known(answer),
+        };
+        let place = body.place as usize;
+        let octets = &session.file()[place..place + body.length as usize];
+        let members = Members {
+            session,
+            object,
+            count: body.count,
+        };
+        Some(match body.kind {
+            kind::NULL => Value::Null,
+            kind::FALSE => Value::Bool(false),
+            kind::TRUE => Value::Bool(true),
+            kind::INT => Value::Int(known(session.int(object))),
+            kind::REAL => Value::Real(real(octets)),
+            kind::DATE => Value::Date(Date(real(octets))),
+            kind::DATA => Value::Data(octets),
+            kind::ASCII => Value::Text(Text::ascii(octets)),
+            kind::WIDE => Value::Text(Text::wide(octets)),
+            kind::UID => Value::Uid(known(session.uid(object))),
+            kind::ARRAY => Value::Array(Array(members)),
+            kind::SET => Value::Set(Set(members)),
+            kind::DICT => Value::Dict(Dict(members)),
+            other => unreachable!("kind {other}"),
+        })
+    }
+
+    /// The integer, if the value is one.
+    pub fn as_int(&self) -> Option<i128> {
+        match self {
+            Value::Int(number) => Some(*number),
+            _ => None,
+        }
+    }
+
+    /// The bytes, if the value is data.
+    pub fn as_data(&self) -> Option<&'a [u8]> {
+        match self {
+            Value::Data(octets) => Some(octets),
+            _ => None,
+        }
+    }
+
+    /// The text, if the value is one.
+    pub fn as_text(&self) -> Option<Text<'a>> {
+        match self {
+            Value::Text(text) => Some(*text),
+            _ => None,
+        }
+    }
+
+    /// The array, if the value is one.
+    pub fn as_array(&self) -> Option<Array<'a>> {
+        match self {
+            Value::Array(array) => Some(*array),
+            _ => None,
+        }
+    }
+
+    /// The dictionary, if the value is one.
+    pub fn as_dict(&self) -> Option<Dict<'a>> {
+        match self {
+            Value::Dict(dict) => Some(*dict),
+            _ => None,
+        }
+    }
+}
+
+/// The number that 4 or 8 bytes spell by IEEE 754, the greatest byte first.
+fn real(octets: &[u8]) -> f64 {
+    if let Ok(wide) = <[u8; 8]>::try_from(octets) {
+        return f64::from_be_bytes(wide);
+    }
+    match <[u8; 4]>::try_from(octets) {
+        Ok(narrow) => f32::from_be_bytes(narrow).into(),
+        Err(_) => unreachable!("a number of {} bytes", octets.len()),
+    }
+}
+
+/// A point in time, in seconds since 2001-01-01 00:00:00 UTC. It may be any number, also one that is not finite.
+#[derive(Clone, Copy, Debug, PartialEq, PartialOrd)]
+pub struct Date(f64);
+
+impl Date {
+    /// The seconds since 2001-01-01 00:00:00 UTC.
+    pub fn seconds(self) -> f64 {
+        self.0
+    }
+
+    /// The same as a time of the system, if that can hold it.
+    pub fn to_system_time(self) -> Option<SystemTime> {
+        let epoch = SystemTime::UNIX_EPOCH.checked_add(Duration::from_secs(EPOCH))?;
+        // `Duration::from_secs_f64` takes finite numbers below 2^64 alone.
+        if self.0.is_nan() || self.0.abs() >= u64::MAX as f64 {
+            return None;
+        }
+        let since = Duration::from_secs_f64(self.0.abs());
+        if self.0 < 0.0 {
+            epoch.checked_sub(since)
+        } else {
+            epoch.checked_add(since)
+        }
+    }
+}

@@ -1,0 +1,170 @@
+//! Values of every kind, containers and paths.
+
+mod common;
+
+use bplist::{Options, PathError, Plist, Value};
+use common::file;
+use std::time::{Duration, SystemTime};
+
+/// An array of 200 members, each of them object 1 or 2 by turns, which are true and false.
+fn long_array() -> Vec<u8> {
+    let mut array = vec![0xaf, 0x10, 200];
+    array.extend((0..200).map(|i| 1 + i % 2));
+    file(&[&array, b"\x09", b"\x08"])
+}
+
+#[test]
+fn leaves() {
+    let wide: &[u8] = b"\x64\x00\xe9\xd8\x3d\xde\x00\xd8\x3d";
+    let array: &[u8] = b"\xad\x01\x02\x03\x04\x05\x06\x07\x08\x09\x0a\x0b\x0c\x0d";
+    let file = file(&[
+        array,
+        b"\x00",
+        b"\x09",
+        b"\x10\xff",
+        b"\x13\xff\xff\xff\xff\xff\xff\xff\xfe",
+        b"\x14\x00\x00\x00\x00\x00\x00\x00\x00\xff\xff\xff\xff\xff\xff\xff\xff",
+        b"\x22\x3f\xc0\x00\x00",
+        b"\x23\xbf\xf8\x00\x00\x00\x00\x00\x00",
+        b"\x33\xc0\x00\x00\x00\x00\x00\x00\x00",
+        b"\x42\x00\xff",
+        b"\x53abc",
+        wide,
+        b"\x81\x01\x00",
+        b"\xc1\x01",
+    ]);
+    let plist = Plist::open(&file).unwrap();
+    let values: Vec<Value> = plist.root().as_array().unwrap().iter().collect();
+    assert!(matches!(values[0], Value::Null));
+    assert!(matches!(values[1], Value::Bool(true)));
+    assert_eq!(values[2].as_int(), Some(255));
+    assert_eq!(values[3].as_int(), Some(-2));
+    assert_eq!(values[4].as_int(), Some(u64::MAX.into()));
+    assert!(matches!(values[5], Value::Real(number) if number == 1.5));
+    assert!(matches!(values[6], Value::Real(number) if number == -1.5));
+    let Value::Date(date) = values[7] else {
+        panic!("{:?}", values[7])
+    };
+    assert_eq!(date.seconds(), -2.0);
+    assert_eq!(
+        date.to_system_time(),
+        Some(SystemTime::UNIX_EPOCH + Duration::from_secs(978_307_198))
+    );
+    assert_eq!(values[8].as_data(), Some(&b"\x00\xff"[..]));
+    assert_eq!(values[9].as_text().unwrap().as_ascii(), Some("abc"));
+    let text = values[10].as_text().unwrap();
+    assert_eq!((text.as_ascii(), text.len()), (None, 4));
+    assert_eq!(text.to_string_lossy(), "\u{e9}\u{1f600}\u{fffd}");
+    assert_eq!(format!("{text:?}"), "\"\u{e9}\u{1f600}\\u{d83d}\"");
+    assert_eq!(
+        text.units().collect::<Vec<u16>>(),
+        [0xe9, 0xd83d, 0xde00, 0xd83d]
+    );
+    assert!(matches!(values[11], Value::Uid(256)));
+    let Value::Set(set) = values[12] else {
+        panic!("{:?}", values[12])
+    };
+    assert!(matches!(set.iter().next(), Some(Value::Null)));
+}
+
+/// More members than one block has.
+#[test]
+fn long_arrays() {
+    let file = long_array();
+    let plist = Plist::open(&file).unwrap();
+    let array = plist.root().as_array().unwrap();
+    let mut members = array.iter();
+    for i in 0..200 {
+        assert_eq!(members.len(), 200 - i);
+        assert!(matches!(members.next(), Some(Value::Bool(value)) if value == (i % 2 == 0)));
+    }
+    assert!(members.next().is_none() && members.next().is_none());
+    assert_eq!((array.len(), array.object(), members.len()), (200, 0, 0));
+    assert!(matches!(array.get(199), Some(Value::Bool(false))));
+    assert!(array.get(200).is_none() && array.get(usize::MAX).is_none());
+    assert_eq!(plist.nodes(), Ok(201));
+}
+
+#[test]
+fn dictionaries() {
+    let octets = std::fs::read("tests/data/jobs.plist").unwrap();
+    for sorted in [false, true] {
+        let plist = Options::new().sorted(sorted).open(&octets).unwrap();
+        let top = plist.root().as_dict().unwrap();
+        assert_eq!((top.len(), top.is_empty()), (2, false));
+        let mut pairs = top.iter();
+        assert_eq!(pairs.len(), 2);
+        let (key, jobs) = pairs.next().unwrap();
+        assert!(key == "jobs" && pairs.len() == 1);
+        assert_eq!(jobs.as_array().unwrap().len(), 2);
+        assert_eq!(
+            top.keys()
+                .map(|key| key.to_string())
+                .collect::<Vec<String>>(),
+            ["jobs", "open"]
+        );
+        assert_eq!(top.values().len(), 2);
+        assert!(matches!(top.get("open"), Some(Value::Bool(true))));
+        assert!(top.get("shut").is_none() && top.get("").is_none());
+    }
+}
+
+#[test]
+fn paths() {
+    let octets = std::fs::read("tests/data/jobs.plist").unwrap();
+    let plist = Plist::open(&octets).unwrap();
+    assert!(plist.at("/jobs/1/name").unwrap().as_text().unwrap() == "paint the fence");
+    assert!(plist.at("").unwrap().as_dict().is_some());
+    let error = |path| plist.at(path).unwrap_err();
+    assert_eq!(error("/works"), PathError::NoKey { step: 0 });
+    assert_eq!(error("/jobs/2"), PathError::NoIndex { step: 1 });
+    assert_eq!(error("/open/0"), PathError::NotSteppable { step: 1 });
+    assert_eq!(error("/a~2"), PathError::Text { place: 2 });
+    assert_eq!(
+        error("/jobs/2").to_string(),
+        "step 1 is not an index of the array"
+    );
+}
+
+#[test]
+fn objects() {
+    let file = file(&[b"\xa1\x01", b"\x09", b"\x08"]);
+    let plist = Plist::open(&file).unwrap();
+    assert!(matches!(plist.object(1), Some(Value::Bool(true))));
+    // The top does not reach object 2, and there is no object 3.
+    assert!(plist.object(2).is_none() && plist.object(3).is_none());
+    let summary = plist.summary();
+    assert_eq!((summary.objects, summary.top, summary.height), (3, 0, 2));
+    assert_eq!((summary.reached, summary.references), (2, 1));
+}
+
+#[test]
+fn certificates() {
+    let octets = std::fs::read("tests/data/jobs.plist").unwrap();
+    let plain = Plist::open(&octets).unwrap().certificate().unwrap();
+    let sorted = Options::new()
+        .sorted(true)
+        .open(&octets)
+        .unwrap()
+        .certificate()
+        .unwrap();
+    assert!(plain.starts_with(b"bplcert1") && sorted.starts_with(b"bplcert2"));
+    for certificate in [&plain, &sorted] {
+        let plist = Options::new()
+            .certificate(certificate)
+            .open(&octets)
+            .unwrap();
+        assert_eq!(plist.at("/jobs/0/id").unwrap().as_int(), Some(7));
+        assert_eq!(plist.certificate().unwrap(), *certificate);
+    }
+}
+
+/// A file can be opened by one thread and read by another.
+#[test]
+fn threads() {
+    let octets = long_array();
+    let plist = Plist::open(&octets).unwrap();
+    std::thread::scope(|scope| {
+        scope.spawn(move || assert_eq!(plist.root().as_array().unwrap().iter().count(), 200));
+    });
+}

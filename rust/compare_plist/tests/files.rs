@@ -1,0 +1,53 @@
+//! Each file of the folder `BPLIST_FILES` that both crates take has one value for both.
+
+use bplist::Plist;
+use compare_plist::same;
+use std::{env, fs, io, thread};
+
+/// The crate plist builds the tree of a value, so files with larger trees are left out.
+const MOST_NODES: u64 = 100_000;
+
+/// A walk over the deepest of these files needs as much.
+const STACK: usize = 1 << 30;
+
+/// Whether both crates take the file. They must see the same value in it then.
+fn is_compared(name: &str, file: &[u8]) -> bool {
+    let Ok(ours) = Plist::open(file) else {
+        return false;
+    };
+    if ours.nodes().unwrap() > MOST_NODES {
+        return false;
+    }
+    let Ok(theirs) = plist::Value::from_reader(io::Cursor::new(file)) else {
+        return false;
+    };
+    assert!(
+        same(ours.root(), &theirs),
+        "{name}: {:?} and {theirs:?}",
+        ours.root()
+    );
+    true
+}
+
+fn compare() {
+    let folder = env::var_os("BPLIST_FILES").expect("BPLIST_FILES names a folder of files");
+    let mut compared = 0;
+    for entry in fs::read_dir(folder).unwrap() {
+        let path = entry.unwrap().path();
+        if is_compared(&path.display().to_string(), &fs::read(&path).unwrap()) {
+            compared += 1;
+        }
+    }
+    println!("compared {compared} files");
+    assert!(compared > 0);
+}
+
+#[test]
+fn files() {
+    thread::Builder::new()
+        .stack_size(STACK)
+        .spawn(compare)
+        .unwrap()
+        .join()
+        .unwrap();
+}

@@ -1,0 +1,124 @@
+#!/usr/bin/env python3
+"""rust_crate.py
+
+Runs the tests of the Rust crate rust/bplist over the built libbplist.a, and compares it with the crate plist
+(rust/compare_plist) on the files of the tables and of other writers; `make lib` comes before. Both are built in a temporary
+folder, with no network.
+
+The crate plist is Debian's librust-plist-dev. Without it, or without cargo, the tests that need it are skipped; under
+BPLINT_GATE=1 they fail. The last line printed is `N passed, M failed`, with `, K skipped` where some were.
+"""
+import os
+import pathlib
+import re
+import shutil
+import subprocess
+import sys
+import tempfile
+
+from sample_files import table_files, written_files
+
+ROOT = pathlib.Path(__file__).resolve().parent.parent
+LIBRARY = ROOT / "crates/bplist_c/out"
+REGISTRY = pathlib.Path("/usr/share/cargo/registry")
+RESULT = re.compile(r"^test result: \w+\. (\d+) passed; (\d+) failed;", re.MULTILINE)
+COMPARED = re.compile(r"^compared (\d+) files", re.MULTILINE)
+# How many files both crates take at least, so that a comparison of nothing does not pass.
+LEAST_COMPARED = 100
+SECONDS = 1200
+
+
+class Tests:
+    def __init__(self, folder):
+        self.folder = folder
+        self.passed = self.failed = self.skipped = 0
+        shutil.copytree(ROOT / "rust", folder / "rust", ignore=shutil.ignore_patterns("target", "Cargo.lock"))
+
+    def count(self, name, difference):
+        if difference:
+            print(f"FAILED {name}: {difference}")
+            self.failed += 1
+        else:
+            self.passed += 1
+
+    def miss(self, name, why):
+        """A tool is not here, which fails the gate."""
+        if os.environ.get("BPLINT_GATE") == "1":
+            self.count(name, why)
+        else:
+            print(f"skipped {name}: {why}")
+            self.skipped += 1
+
+    def cargo(self, crate, *words, **variables):
+        environment = dict(os.environ, BPLIST_LIB_DIR=str(LIBRARY), CARGO_TARGET_DIR=str(self.folder / "target"))
+        environment.update(variables, RUSTFLAGS="-D warnings", RUSTDOCFLAGS="-D warnings")
+        words = [*words[:1], "--offline", *words[1:]]
+        folder = self.folder / "rust" / crate
+        return subprocess.run(
+            ["cargo", *words], cwd=folder, env=environment, capture_output=True, text=True, timeout=SECONDS, check=False
+        )
+
+    def run_tests(self, crate, *words, **variables):
+        """Runs `cargo test` and counts its tests, one more if cargo failed without a failed test. Gives what it printed."""
+        ran = self.cargo(crate, "test", *words, **variables)
+        results = [tuple(map(int, row)) for row in RESULT.findall(ran.stdout)]
+        self.passed += sum(passed for passed, _ in results)
+        failed = sum(failed for _, failed in results)
+        self.failed += failed
+        if failed or ran.returncode != 0 or not results:
+            print(f"FAILED cargo test of {crate}: {ran.stdout[-6000:]}{ran.stderr[-6000:]}")
+            self.failed += 0 if failed else 1
+        return ran.stdout
+
+    def see_documents(self):
+        ran = self.cargo("bplist", "doc", "--no-deps")
+        self.count("cargo doc", "" if ran.returncode == 0 else ran.stderr)
+
+    def without_library(self):
+        """The build says in one line what it misses."""
+        ran = subprocess.run(
+            ["cargo", "check", "--offline"],
+            cwd=self.folder / "rust/bplist",
+            env=dict(os.environ, BPLIST_LIB_DIR=str(self.folder), CARGO_TARGET_DIR=str(self.folder / "none")),
+            capture_output=True,
+            text=True,
+            timeout=SECONDS,
+            check=False,
+        )
+        told = "libbplist.a is not found" in ran.stderr and f"{self.folder} has none" in ran.stderr
+        self.count("a folder without the library", "" if ran.returncode != 0 and told else ran.stderr)
+
+    def compare(self):
+        if not list(REGISTRY.glob("plist-1.*")):
+            self.miss("comparison with the crate plist", "librust-plist-dev is not here")
+            return
+        files = self.folder / "files"
+        files.mkdir()
+        written = self.folder / "written"
+        written.mkdir()
+        for number, sample in enumerate([*table_files(), *written_files(written)]):
+            (files / f"{number}").write_bytes(sample.octets)
+        told = self.run_tests("compare_plist", "--", "--nocapture", BPLIST_FILES=str(files))
+        found = COMPARED.search(told)
+        print(found.group(0) if found else "nothing was compared")
+        few = "" if found and int(found.group(1)) >= LEAST_COMPARED else f"fewer than {LEAST_COMPARED}"
+        self.count("files that both crates take", few)
+
+
+def main():
+    with tempfile.TemporaryDirectory() as folder:
+        tests = Tests(pathlib.Path(folder))
+        if shutil.which("cargo"):
+            tests.run_tests("bplist")
+            tests.see_documents()
+            tests.without_library()
+            tests.compare()
+        else:
+            tests.miss("the Rust crate", "cargo is not here")
+    closing = f"{tests.passed} passed, {tests.failed} failed"
+    print(closing + (f", {tests.skipped} skipped" if tests.skipped else ""))
+    return 1 if tests.failed else 0
+
+
+if __name__ == "__main__":
+    sys.exit(main())
