@@ -52,14 +52,12 @@ class Installed:
     pkg_config: list = dataclasses.field(default_factory=list)
 
 
-def run(*words, folder=None, **environment):
+def run(*words, folder=None, umask=-1, **environment):
     """What a command prints. CalledProcessError if its status is not 0."""
     given = {**os.environ, **{name: str(value) for name, value in environment.items()}}
-    ran = subprocess.run(
-        [str(word) for word in words], cwd=folder, env=given, stdout=subprocess.PIPE, stderr=subprocess.STDOUT, text=True
-    )
-    ran.check_returncode()
-    return ran.stdout
+    words = [str(word) for word in words]
+    output = {"stdout": subprocess.PIPE, "stderr": subprocess.STDOUT, "text": True}
+    return subprocess.run(words, cwd=folder, env=given, umask=umask, check=True, **output).stdout
 
 
 def below(folder):
@@ -101,18 +99,16 @@ class Tests:
         else:
             self.passed += 1
 
-    def make(self, tree, *words, **environment):
+    def make(self, tree, *words, **given):
         # What is built stays as it is: `make` would ask rt whether it is new.
-        run("make", "-s", "-C", tree, "-o", "build", "-o", "lib", *self.built, *words, **environment)
+        run("make", "-s", "-C", tree, "-o", "build", "-o", "lib", *self.built, *words, **given)
 
     def make_twice(self):
         self.make(ROOT, "dist", f"DIST={self.dist}")
         again = self.folder / "again"
         date = run("git", "log", "-1", "--format=%ct", folder=ROOT).strip()
-        usual = os.umask(0o077)
         tree = copied_tree(self.folder / "tree")
-        self.make(tree, "dist", f"DIST={again}", SOURCE_DATE_EPOCH=date, **ELSEWHERE)
-        os.umask(usual)
+        self.make(tree, "dist", f"DIST={again}", umask=0o077, SOURCE_DATE_EPOCH=date, **ELSEWHERE)
         names = sorted(below(self.dist))
         wheels = [name for name in names if name.startswith(f"bplist-{VERSION}-") and name.endswith(".whl")]
         wanted = [f"{ARCHIVE}.tar.gz", "SHA256SUMS", *(f"{name}_{VERSION}_amd64.deb" for name in PACKAGES), *wheels[:1]]
