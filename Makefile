@@ -60,7 +60,7 @@ help:
 
 look:
 	@test -f '$(FILE)' || { echo 'make look FILE=F: F is the file to lint' >&2; exit 2; }
-	cd crates/bplint && rt try --data Info.plist='$(abspath $(FILE))' -- lint Info.plist
+	@file=$$(realpath '$(FILE)') && cd crates/bplint && rt try --data Info.plist="$$file" -- lint Info.plist
 
 lib:
 	cd crates/bplist_c && rt lib
@@ -97,12 +97,12 @@ dist: build lib
 gate test:
 	.ci/run
 
-edits:
+edits: build lib
 	python3 -B tests/edits.py --all
 
-bench: build lib
+bench: build lib wheel
 	python3 -B tests/bench.py $(BPLINT)
-	python3 -B tests/bench_library.py $(LIBRARY)
+	$(PYTHON) -B tests/bench_library.py $(LIBRARY) $(DIST)/bplist-*.whl
 
 install: build lib
 	@made=$$(for folder in $(FOLDERS); do \

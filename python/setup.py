@@ -1,4 +1,4 @@
-"""Builds the extension module over the C library libbplist.a, which `make lib` leaves in the folder that BPLIST_LIBRARY names."""
+"""Builds the extension module over the C library libbplist.a, which is in the folder that BPLIST_LIBRARY names."""
 import os
 import pathlib
 
