@@ -83,10 +83,10 @@ length-entries (pair u v ps) = ap suc (length-entries ps)
 
 -- as many members as the container has
 pub length-named : (kind : Members) (n : ℕ) (name : List ℕ) (w : Value) → IsContainer kind n w → length (named_members name w) ≡ n
-length-named Array n name (array vs) is = length-map (λ e. (index_name name e.0, e.1)) (enumerate_from 0 (members vs)) ∙ length-enumerate_from 0 (members vs) ∙ is
-length-named Set n name (set vs) is = length-map (λ e. (bracketed e.0, e.1)) (enumerate_from 0 (members vs)) ∙ length-enumerate_from 0 (members vs) ∙ is
+length-named Array n name (array vs) is = length-map (enumerate_from 0 (members vs)) (λ e. (index_name name e.0, e.1)) ∙ length-enumerate_from 0 (members vs) ∙ is
+length-named Set n name (set vs) is = length-map (enumerate_from 0 (members vs)) (λ e. (bracketed e.0, e.1)) ∙ length-enumerate_from 0 (members vs) ∙ is
 length-named Dict n name (dict ps) is =
-    length-map (λ e. (key_name name e.0 e.1.0, e.1.1)) (enumerate_from 0 (entries ps)) ∙ length-enumerate_from 0 (entries ps) ∙ length-entries ps ∙ is
+    length-map (enumerate_from 0 (entries ps)) (λ e. (key_name name e.0 e.1.0, e.1.1)) ∙ length-enumerate_from 0 (entries ps) ∙ length-entries ps ∙ is
 length-named _ n name _ is = absurd is
 
 -- ---- one member

@@ -1,5 +1,6 @@
 use Rattle.std.proofs.Common.{rules, arith, ◌≡◌, ◌++◌, ◌∷◌, ◌∙◌, ◌+◌, [], Err, ap, refl, sym, subst}
 use Rattle.std.specs.Prelude.{reverse}
+use Rattle.std.proofs.lemmas.Grind.{common_steps}
 use Rattle.std.proofs.lemmas.List.{reverse-append}
 use Rattle.std.proofs.lemmas.Result.{err_from_is_err_and}
 use Rattle.bplint_lines.specs.declared.fault.RunFault.TheVariants.{Memory}
@@ -10,24 +11,25 @@ use Rattle.bplint_engine.proofs.Puts.{excused_stops}
 use Rattle.bplint_engine.proofs.TreeSteps.{left_next, open_in_all, step_ends, step_goes}
 use Rattle.bplint_engine.proofs.tree_walk.step.Goals as goal
 
-pub returns-then-opened-clause-stack : goal.returns-then-opened-clause-stack
-returns-then-opened-clause-stack g c =
+pub returns-then-is_done-clause-stack : goal.returns-then-is_done-clause-stack
+returns-then-is_done-clause-stack g c =
     open_in_all c.args.checked.now.frame c.args.opened.name.«end» c.args.listing.now.names _ c.requires.stack.1
 
-pub returns-then-opened-clause-exact : goal.returns-then-opened-clause-exact
-returns-then-opened-clause-exact g c = λ honest left stands.
-    step_ends c.args.checked.now c.args.checked.now.frame _ c.args.listing.now c.args.opened left ? c.requires.stack stands
+pub returns-then-is_done-clause-exact : goal.returns-then-is_done-clause-exact
+returns-then-is_done-clause-exact g c = λ honest left stands.
+    let done : c.args.opened.next ≡ c.args.opened.count = first_of (search rules, grind (arith, common_steps)) in
+    step_ends c.args.checked.now c.args.checked.now.frame _ c.args.listing.now c.args.opened left done c.requires.stack stands
 
 pub returns-in_err-at-clause-exact : goal.returns-in_err-at-clause-exact
 returns-in_err-at-clause-exact g c = λ honest left stands.
     let of = stands.2 in
     let p = err_from_is_err_and c.from_residual.result c.from_residual.ensures.1 in
-    rw (p.1, p.2) (λ few. excused_stops _ _ (joined_lines left) _ (c.in_err-at.ensures.exact honest of.0 of.1 of.2))
+    rw (p.1, p.2) (λ few. excused_stops (g.W.Write.contents c.args.out.now) c.args.listing.now.sink (joined_lines left) _ (c.in_err-at.ensures.exact honest of.0 of.1 of.2))
 
 pub returns-in_err-push-clause-exact : goal.returns-in_err-push-clause-exact
 returns-in_err-push-clause-exact g c = λ honest left stands.
     let is : c.from_residual-in_err-push.result ≡ Err Memory = search rules in
-    rw is (λ few. excused_stops _ _ (joined_lines left) Memory tt)
+    rw is (λ few. excused_stops (g.W.Write.contents c.args.out.now) c.args.listing.now.sink (joined_lines left) Memory tt)
 
 pub returns-clause-exact : goal.returns-clause-exact
 returns-clause-exact g c = λ honest left stands.
