@@ -204,7 +204,7 @@ class Folder:
 
     def feed(self, opened, held):
         def write():
-            with contextlib.suppress(BrokenPipeError), os.fdopen(opened(), "wb") as handle:
+            with contextlib.suppress(BrokenPipeError, FileNotFoundError), os.fdopen(opened(), "wb") as handle:
                 handle.write(held)
 
         feeder = threading.Thread(target=write, daemon=True)

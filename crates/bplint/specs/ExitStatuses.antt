@@ -3,7 +3,7 @@ use Rattle.std.specs.Prelude.{◌≡◌, ◌⊎◌, ℕ, List, [], ◌∷◌, ma
 use Rattle.clap.specs.declared.error.kind.ErrorKind.{ErrorKind}
 use Rattle.clap.specs.declared.error.kind.ErrorKind.TheVariants as kinds
 use Rattle.bplint.specs.declared.args.Shown.{Shown}
-use Rattle.bplint.specs.declared.args.Shown.TheVariants.{Map, Members, Text, Values}
+use Rattle.bplint.specs.declared.args.Shown.TheVariants.{Map, Members, Text, Tree, Values}
 use Rattle.bplint_lines.specs.declared.fault.RunFault.{RunFault}
 use Rattle.bplint_lines.specs.declared.raw_fault.RawFault.{RawFault}
 use Rattle.bplint_lines.specs.declared.said.Said.{Said}
@@ -14,6 +14,8 @@ use Rattle.bplint_engine.specs.Get.{LinesSay, found_line}
 use Rattle.bplint_engine.specs.Lint.{LintSays}
 use Rattle.bplint_engine.specs.Ls.{listed}
 use Rattle.bplint_engine.specs.Print.{PrintSays}
+use Rattle.bplint_engine.specs.Streams.{LeavesSomeBy}
+use Rattle.bplint_engine.specs.Tree.{ListsAll}
 use Rattle.bplint_map.specs.Map.{MapSays}
 
 -- what is left with the writer is what `show`, `show --text`, `ls` or `map` says of the file
@@ -22,6 +24,8 @@ LeavesShown f (Values paths) old new result =
     Leaves (LinesSay found_line (LintSays f) f (map (λ path. string_bytes path) paths.items)) 0 old new result
 LeavesShown f (Text path limit) old new result = Leaves (PrintSays limit (LintSays f) f (path.now ∷ [])) limit old new result
 LeavesShown f (Members path) old new result = Leaves (LinesSay (listed path.now) (LintSays f) f (path.now ∷ [])) 0 old new result
+LeavesShown f (Tree path limit) old new result =
+    ∥ LeavesSomeBy (ListsAll limit (LintSays f) f path.now) old new result ∥₁
 LeavesShown f Map old new result = (most : ℕ) × LeavesBy (MapSays f) most old new result
 
 -- the exit status of an answer; that of refused memory may stand for another fault's, since its line takes memory

@@ -68,6 +68,8 @@ pub enum Request<'a> {
     Command(Job),
     /// `show`, `ls` or `map`, which take no certificate.
     Show(Shown<'a>),
+    /// `show --raw`, of the value under this path text.
+    Raw(&'a str),
 }
 
 impl<'a> Request<'a> {
@@ -75,7 +77,7 @@ impl<'a> Request<'a> {
     pub fn explains(&self) -> bool {
         match self {
             Request::Command(job) => job.explain,
-            Request::Show(_) => false,
+            Request::Show(_) | Request::Raw(_) => false,
         }
     }
 }
@@ -104,6 +106,13 @@ pub enum Shown<'a> {
     },
     /// The members of the value under this path text.
     Members(&'a str),
+    /// The value under this path text with all that is in it.
+    Tree {
+        /// The path text.
+        path: &'a str,
+        /// How many nodes the value may have.
+        limit: u64,
+    },
     /// The map of the file.
     Map,
 }
@@ -179,26 +188,39 @@ fn request_of<'a>(
     matches: &ArgMatches<'a>,
 ) -> Result<Request<'a>, Error> {
     match name {
-        "show" => Ok(Request::Show(shown_of(alloc, matches)?)),
-        "ls" => Ok(Request::Show(Shown::Members(path_in(matches)))),
+        "show" => show_of(alloc, matches),
+        "ls" => Ok(Request::Show(listed_by(matches))),
         "map" => Ok(Request::Show(Shown::Map)),
         _ => Ok(Request::Command(job_of(alloc, verb_of(name), matches)?)),
     }
 }
 
-/// What `show` shows. With `--text` it takes one path at most.
-fn shown_of<'a>(alloc: Global, matches: &ArgMatches<'a>) -> Result<Shown<'a>, Error> {
-    if !matches.get_flag("text") {
-        return Ok(Shown::Values(shown_paths(alloc, matches)?));
-    }
-    if matches.get_strs("PATH").unwrap_or(&[]).len() > 1 {
-        let message = "--text takes one PATH";
+/// What `show` asks. With `--text` or `--raw` it takes one path at most.
+fn show_of<'a>(alloc: Global, matches: &ArgMatches<'a>) -> Result<Request<'a>, Error> {
+    let (text, raw) = (matches.get_flag("text"), matches.get_flag("raw"));
+    if (text || raw) && matches.get_strs("PATH").unwrap_or(&[]).len() > 1 {
+        let message = "--text and --raw take one PATH";
         return Err(refusal(alloc, ErrorKind::TooManyValues, message)?);
     }
-    Ok(Shown::Text {
-        path: path_in(matches),
-        limit: limit_in(matches),
-    })
+    let path = path_in(matches);
+    if raw {
+        return Ok(Request::Raw(path));
+    }
+    if text {
+        let limit = limit_in(matches);
+        return Ok(Request::Show(Shown::Text { path, limit }));
+    }
+    Ok(Request::Show(Shown::Values(shown_paths(alloc, matches)?)))
+}
+
+/// What `ls` lists.
+fn listed_by<'a>(matches: &ArgMatches<'a>) -> Shown<'a> {
+    let path = path_in(matches);
+    if matches.get_flag("recursive") {
+        let limit = limit_in(matches);
+        return Shown::Tree { path, limit };
+    }
+    Shown::Members(path)
 }
 
 /// The path texts of `show`: with none given the empty one, for the whole.

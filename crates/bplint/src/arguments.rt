@@ -12,8 +12,8 @@ pub enum Form {
     Short(char),
     /// The same, and not together with another flag.
     ShortWithout(char, &'static str),
-    /// `--name`, and not together with another flag.
-    Without(&'static str),
+    /// `--name`, and not together with these others.
+    Without(&'static [&'static str]),
     /// `--limit N`, which goes with another flag, and the N where it is not given.
     Limit(&'static str, &'static str),
     /// A text that has to be given.
@@ -87,7 +87,7 @@ pub const TEXT_LIMIT: Argument = Argument {
 
 pub const RAW: Argument = Argument {
     name: "raw",
-    form: Form::Without("text"),
+    form: Form::Without(&["text", "LIMIT"]),
     help: "Write the bytes of data, the UTF-8 of a text, or the digits of a number",
 };
 
@@ -178,7 +178,7 @@ impl Argument {
             Form::ShortWithout(letter, other) => {
                 flag(arg, name).short(letter).conflicts_with(other)
             }
-            Form::Without(other) => flag(arg, name).conflicts_with(other),
+            Form::Without(others) => flag(arg, name).conflicts_with_all(others),
             Form::Limit(with, default) => limit(arg.default_value(default), with),
             Form::One => Ok(arg.required(true)),
             Form::Many => Ok(arg.required(true).num_args(1..).action(ArgAction::Append)),

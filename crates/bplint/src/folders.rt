@@ -33,19 +33,21 @@ pub fn is_folder<R: Files<File = File>>(rt: &R, name: &str) -> bool {
     }
 }
 
-/// The paths of all that stands in a folder, the last name first, by the order of the names' bytes. They may be no text.
+/// The paths of all that stands in a folder, the last name first, by the order of the names' bytes. They may be no text. A
+/// link to a folder is followed.
 pub fn paths_in<R: Files<File = File>>(
     rt: &R,
     alloc: Global,
     folder: &str,
 ) -> Result<Vec<Vec<u8>>, RunFault> {
-    let mut dir = rt.open_dir(folder).map_err(|_| RunFault::Open)?;
+    let front = with_slash(alloc, folder)?;
+    let mut dir = rt.open_dir(&front).map_err(|_| RunFault::Open)?;
     let names = read_whole(alloc, &mut dir)?;
     let mut paths = Vec::new(alloc);
     for name in names.split(|octet| *octet == 0) {
         match name {
             b"" | b"." | b".." => {}
-            _ => paths.push(joined(alloc, folder, name)?)?,
+            _ => paths.push(joined(alloc, &front, name)?)?,
         }
     }
     paths.sort_unstable();
@@ -53,13 +55,18 @@ pub fn paths_in<R: Files<File = File>>(
     Ok(paths)
 }
 
-/// The path of what has this name in a folder.
-fn joined(alloc: Global, folder: &str, name: &[u8]) -> Result<Vec<u8>, AllocError> {
-    let mut path = Vec::new(alloc);
-    path.extend_from_slice(folder.as_bytes())?;
+/// The name of a folder with a slash behind it.
+fn with_slash(alloc: Global, folder: &str) -> Result<String, AllocError> {
+    let mut front = String::from_str(alloc, folder)?;
     if !folder.ends_with('/') {
-        path.push(b'/')?;
+        front.push('/')?;
     }
+    Ok(front)
+}
+
+fn joined(alloc: Global, front: &str, name: &[u8]) -> Result<Vec<u8>, AllocError> {
+    let mut path = Vec::new(alloc);
+    path.extend_from_slice(front.as_bytes())?;
     path.extend_from_slice(name)?;
     Ok(path)
 }

@@ -5,7 +5,7 @@ ghost use Rattle.bplint.specs.ExitStatuses.{LeavesShown};
 use crate::args::{Job, Request, Run, Shown};
 use crate::input::{Inputs, Operand, open_inputs};
 use crate::output::OutFile;
-use bplint_engine::{list_on, run_certified, show_on, show_text_on};
+use bplint_engine::{list_all_on, list_on, run_certified, show_on, show_raw_on, show_text_on};
 use bplint_lines::{RawFault, RunFault, Said, explain};
 use bplint_map::map_on;
 use bplist_octets::{Pane, SliceSource, Source, Window, Windows};
@@ -98,6 +98,10 @@ fn answer_on<S: Source + Drop, W: Write>(
     match request {
         Request::Command(job) => command_on(alloc, job, src, cert, out),
         Request::Show(shown) => Ok(Ending::of(alloc, shown_on(alloc, shown, src, out))),
+        Request::Raw(path) => Ok(Ending {
+            answer: show_raw_on(alloc, src, path, out).0,
+            under: String::new(alloc),
+        }),
     }
 }
 
@@ -149,6 +153,7 @@ fn shown_on<S: Source + Drop, W: Write>(
         Shown::Values(paths) => show_on(alloc, src, paths, out).0,
         Shown::Text { path, limit } => show_text_on(alloc, src, path, *limit, out).0,
         Shown::Members(path) => list_on(alloc, src, path, out).0,
+        Shown::Tree { path, limit } => list_all_on(alloc, src, path, *limit, out).0,
         Shown::Map => map_on(alloc, &mut src, out),
     }
 }

@@ -25,7 +25,8 @@ impl<'a> Unread<'a> {
     /// How the run ends. If more is asked for, the name stands under the line of a failed open or read, and why it failed.
     pub fn ending<R: Files<File = File>>(self, rt: &R, alloc: Global, explain: bool) -> Ending {
         let why = match self.fault {
-            RunFault::Open | RunFault::Read(ReadFault::Device) if explain => reason(rt, self.name),
+            RunFault::Open if explain => why_not_open(rt, self.name),
+            RunFault::Read(ReadFault::Device) if explain => why_not_read(rt, self.name),
             _ => return Ending::with(alloc, self.fault),
         };
         match file_line(alloc, self.name, why) {
@@ -43,15 +44,14 @@ fn file_line(alloc: Global, name: &str, why: &str) -> Result<String, AllocError>
     format!(in alloc; "  file: {shown}: {why}\n")
 }
 
-/// Why what has this name cannot be read, as the system says when it is asked again.
-fn reason<R: Files<File = File>>(rt: &R, name: &str) -> &'static str {
+/// Why what has this name cannot be opened, as the system says when it is asked again.
+fn why_not_open<R: Files<File = File>>(rt: &R, name: &str) -> &'static str {
     match fs::metadata(rt, name) {
-        Ok(metadata) if metadata.is_dir() => "a folder",
-        Ok(metadata) if metadata.is_file() => match File::open(rt, name) {
-            Ok(_) => "a read failed",
+        Ok(metadata) if metadata.is_file() || metadata.is_dir() => match File::open(rt, name) {
+            Ok(_) => "it cannot be opened",
             Err(error) => reason_of(error.kind()),
         },
-        Ok(_) => "a read failed",
+        Ok(_) => "it cannot be opened",
         Err(error) => reason_of(error.kind()),
     }
 }
@@ -61,5 +61,13 @@ fn reason_of(kind: ErrorKind) -> &'static str {
         ErrorKind::NotFound => "no such file",
         ErrorKind::PermissionDenied => "no permission",
         _ => "it cannot be opened",
+    }
+}
+
+/// Why what has this name cannot be read: most often it is a folder.
+fn why_not_read<R: Files<File = File>>(rt: &R, name: &str) -> &'static str {
+    match fs::metadata(rt, name) {
+        Ok(metadata) if metadata.is_dir() => "a folder",
+        _ => "a read failed",
     }
 }

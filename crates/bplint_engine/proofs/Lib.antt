@@ -1,4 +1,5 @@
 mod CertifyAnswers
+mod ReadCharacters
 mod DecodedCertificates
 mod EqualAnswers
 mod LowerFaults
@@ -18,5 +19,11 @@ mod OnePrint
 mod PathAnswers
 mod PathQueries
 mod PrintAnswers
+mod Puts
+mod RawForms
 mod RefusedCertificates
+mod SentAnswers
 mod SentTexts
+mod SinkLines
+mod TreeLines
+mod TreeSteps

@@ -53,8 +53,7 @@ fn trailer_line<S: Source>(alloc: Global, src: &mut S) -> Result<String, RunFaul
     )?)
 }
 
-/// What a file without the header looks like that begins with `front`, if that is known. The length of an empty file says
-/// enough.
+/// What a file without the header looks like that begins with `front`, if that is known.
 fn look_of<S: Source>(
     alloc: Global,
     src: &mut S,
@@ -63,7 +62,7 @@ fn look_of<S: Source>(
     ensures reads { OnlyReads (read_failed result) (S.means src.old) (S.means src.new) }
 {
     if front.is_empty() {
-        return Ok(None);
+        return Ok(Some("an empty file"));
     }
     if are_zeros(front) {
         return Ok(if is_all_zeros(src)? {
