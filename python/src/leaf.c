@@ -1,12 +1,23 @@
 /* The values of objects that are no containers. */
 #include "extension.h"
 
+#include <endian.h>
 #include <string.h>
 
+/* The number of these bytes, the greatest first. */
 static uint64_t number_of(const uint8_t *bytes, uint64_t length)
 {
     uint64_t number = 0;
+    uint32_t four;
 
+    if (length == sizeof number) {
+        memcpy(&number, bytes, sizeof number);
+        return be64toh(number);
+    }
+    if (length == sizeof four) {
+        memcpy(&four, bytes, sizeof four);
+        return be32toh(four);
+    }
     for (uint64_t i = 0; i < length; i++)
         number = number << 8 | bytes[i];
     return number;
