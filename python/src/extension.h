@@ -27,6 +27,8 @@ enum {
     UID,
     /* datetime.datetime. */
     DATETIME,
+    /* The name of the one attribute of a UID, or None if UIDs have others. */
+    UID_DATA,
     HELD
 };
 

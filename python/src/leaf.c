@@ -69,12 +69,27 @@ static PyObject *integer_of(Handle *self, uint32_t object, const uint8_t *bytes,
     return joined(number);
 }
 
+/* A UID without a call of its __init__, which takes longer than all else. */
+static PyObject *bare_uid(State *state, PyObject *number)
+{
+    PyObject *uid = instance_of(state->held[UID]);
+
+    if (uid && PyObject_SetAttr(uid, state->held[UID_DATA], number) < 0)
+        Py_CLEAR(uid);
+    return uid;
+}
+
 static PyObject *uid_of(State *state, const uint8_t *bytes, uint64_t length)
 {
-    PyObject *number = PyLong_FromUnsignedLongLong(number_of(bytes, length));
-    PyObject *uid = number ? PyObject_CallFunctionObjArgs(state->held[UID], number, NULL) : NULL;
+    PyObject *uid, *number = PyLong_FromUnsignedLongLong(number_of(bytes, length));
 
-    Py_XDECREF(number);
+    if (number == NULL)
+        return NULL;
+    if (state->held[UID_DATA] == Py_None)
+        uid = PyObject_CallFunctionObjArgs(state->held[UID], number, NULL);
+    else
+        uid = bare_uid(state, number);
+    Py_DECREF(number);
     return uid;
 }
 
