@@ -60,7 +60,7 @@ help:
 
 look:
 	@test -f '$(FILE)' || { echo 'make look FILE=F: F is the file to lint' >&2; exit 2; }
-	cd crates/bplint && rt try --data Info.plist='$(abspath $(FILE))' -- lint Info.plist
+	@file=$$(realpath '$(FILE)') && cd crates/bplint && rt try --data Info.plist="$$file" -- lint Info.plist
 
 lib:
 	cd crates/bplist_c && rt lib
@@ -97,7 +97,7 @@ dist: build lib
 gate test:
 	.ci/run
 
-edits:
+edits: build lib
 	python3 -B tests/edits.py --all
 
 bench: build lib wheel

@@ -28,8 +28,8 @@ HEADS = {
 class Rule:
     """A row of the tables of docs/RULES.md, by the names of its columns."""
 
-    def __init__(self, columns, cells):
-        self.cells = dict(zip(columns, cells))
+    def __init__(self, columns, cells, definition):
+        self.cells = {"definition": definition, **dict(zip(columns, cells))}
         self.number, self.word = self.cells["rule"].split(" ")
 
     def names(self, column):
@@ -55,13 +55,15 @@ class Rule:
 
 def rules():
     page = (ROOT / "docs/RULES.md").read_text(encoding="utf-8").split("## Where each is decided")[1]
-    found, columns = [], []
+    found, columns, definition = [], [], ""
     for line in page.split("\n"):
         cells = line.strip("| ").split(" | ")
-        if cells[0] == "rule":
+        if line.startswith("Definition of each: "):
+            definition = line.removeprefix("Definition of each: ")
+        elif cells[0] == "rule":
             columns = cells
         elif re.match(r"\| \d+ \w+ \|", line):
-            found.append(Rule(columns, cells))
+            found.append(Rule(columns, cells, definition))
     return found
 
 

@@ -279,10 +279,10 @@ def basis_of(rule, octets, number):
         return "format" if breaks_format(octets) else "profile"
     if rule in ("OffsetSize", "RefSize"):
         return "profile" if octets[-26 if rule == "OffsetSize" else -25] else "format"
-    if rule in ("Marker", "Count"):
-        plist = Plist(octets)
-        byte = octets[plist.place(int(number)) + (rule == "Count")]
-        return "profile" if byte in WIDE_INTEGERS else "format"
+    if rule in ("Marker", "Count", "Extent"):
+        marker, count = octets[Plist(octets).place(int(number)) :][:2]
+        wide = marker in WIDE_INTEGERS if rule == "Marker" else marker & 15 == 15 and count in (0x14, *WIDE_INTEGERS)
+        return "profile" if wide else "format"
     return "format"
 
 

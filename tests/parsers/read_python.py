@@ -5,11 +5,11 @@ The exit status is 1 if the parser refuses the file with the error that it docum
 """
 import datetime
 import math
-import pathlib
+import os
 import struct
 import sys
 
-sys.path.insert(0, str(pathlib.Path(__file__).resolve().parent.parent))
+sys.path.insert(0, os.path.dirname(os.path.dirname(os.path.abspath(__file__))))
 from plist_value import DEPTH, NODES, Large  # noqa: E402
 
 EPOCH = datetime.datetime(2001, 1, 1)
@@ -74,7 +74,8 @@ class Spelling:
 
 def main():
     read, refusals, uid, data = {"plistlib": plistlib_parser, "biplist": biplist_parser}[sys.argv[1]]()
-    octets = pathlib.Path(sys.argv[2]).read_bytes()
+    with open(sys.argv[2], "rb") as file:
+        octets = file.read()
     try:
         value = read(octets)
     except refusals as error:

@@ -1,4 +1,4 @@
-use Rattle.bplint.proofs.look_on.Goals as goal
+use Rattle.bplint.proofs.runs.shown_on.Goals as goal
 
 pub returns-in-Values : goal.returns-in-Values
 returns-in-Values g c = λ honest.
