@@ -33,7 +33,7 @@ setup(
             extra_objects=[str(LIBRARY / "libbplist.a")],
             # With -g0 and -s there is no path in the module, and so it is the same wherever it is built.
             extra_compile_args=["-std=gnu11", "-Wall", "-Wextra", "-g0", "-fvisibility=hidden", f"-ffile-prefix-map={HERE}=."],
-            extra_link_args=["-s", "-Wl,--no-undefined-version"],
+            extra_link_args=["-s", "-Wl,-z,relro,-z,now"],
             py_limited_api=True,
         )
     ],
