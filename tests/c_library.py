@@ -3,26 +3,27 @@
 
 Compiles the programs of C over libbplist.a, all warnings errors, and runs them; `make build lib` comes before.
 
-- The walker (tests/c_walker.c) sees every file of the tables and of other writers, under valgrind where it is there, and prints
-  what `bplint lint` says; an error or a leak fails the batch. It is run again on some files with each growth refused in turn.
-- tests/c_threads.c calls the library from several threads, under valgrind's helgrind where it is there.
+- The walker (tests/c_walker.c) sees every file of the tables and of other writers, under valgrind if it is installed, and
+  prints what `bplint lint` says; an error or a leak fails the batch. It is run again on some files with each growth refused
+  in turn.
+- tests/c_threads.c calls the library from several threads, under valgrind's helgrind if it is installed.
 - The example prints values.
 - The library shows the calls of bplist.h and has no variables that it writes.
 - `make install` puts all in place, so that the example compiles by bplist.pc and runs; `make uninstall` takes all away.
 
-A file counts as a test, and so does each of the others. Without gcc nothing is run. The last line printed is `N passed, M failed`, with
-`, K skipped` where some were.
+A file counts as a test, and so does each of the others. Without gcc and nm nothing is run. The last line printed is
+`N passed, M failed`, with `, K skipped` if some were.
 """
 import os
 import pathlib
 import re
-import shutil
 import subprocess
 import sys
 import tempfile
 
 from run_vectors import doubling, expression
 from sample_files import table_files, written_files
+from tools import closing, lacks
 
 ROOT = pathlib.Path(__file__).resolve().parent.parent
 PROGRAM = ROOT / "crates/bplint/out/bplint"
@@ -86,7 +87,7 @@ class Tests:
     def __init__(self, folder):
         self.folder = folder
         self.passed = self.failed = self.skipped = 0
-        self.valgrind = shutil.which("valgrind")
+        self.has_valgrind = not lacks("valgrind")
         static = [f"-I{ROOT / 'include'}", LIBRARY]
         self.walker = built(folder, "tests/c_walker.c", *static)
         self.threads = built(folder, "tests/c_threads.c", *static, "-pthread")
@@ -99,8 +100,8 @@ class Tests:
         else:
             self.passed += 1
 
-    def skip(self, name, why):
-        print(f"skipped {name}: {why}")
+    def skip(self, tests, program):
+        print(f"skipped, {program} is not installed: {tests}")
         self.skipped += 1
 
     def file(self, name, octets):
@@ -110,8 +111,8 @@ class Tests:
 
     def rows(self):
         """Name, path and line of each file that is walked."""
-        if not shutil.which("plistutil"):
-            self.skip("plistutil", "not here; its files are not walked")
+        if lacks("plistutil"):
+            self.skip("walks over its files", "plistutil")
         samples = [*table_files(), *written_files(self.folder)]
         for number, sample in enumerate(samples):
             path = self.file(f"row{number}", sample.octets)
@@ -134,10 +135,10 @@ class Tests:
 
     def walk_all(self):
         tool = []
-        if self.valgrind:
-            tool = [self.valgrind, "-q", "--error-exitcode=99", "--leak-check=full", "--errors-for-leak-kinds=all"]
+        if self.has_valgrind:
+            tool = ["valgrind", "-q", "--error-exitcode=99", "--leak-check=full", "--errors-for-leak-kinds=all"]
         else:
-            self.skip("valgrind", "not here; the walks and the threads are run without it")
+            self.skip("errors and leaks of the walks and the threads", "valgrind")
         rows = list(self.rows())
         for start in range(0, len(rows), BATCH):
             self.walk(tool, rows[start : start + BATCH])
@@ -168,7 +169,7 @@ class Tests:
         return f"more than {MOST_GROWTHS} growths"
 
     def run_threads(self):
-        tool = [self.valgrind, "-q", "--tool=helgrind", "--error-exitcode=99"] if self.valgrind else []
+        tool = ["valgrind", "-q", "--tool=helgrind", "--error-exitcode=99"] if self.has_valgrind else []
         for name, octets in REFUSED.items():
             path = self.file(f"threads-{name}", octets)
             if subprocess.run([self.example, path], capture_output=True, check=False).returncode == 0:
@@ -222,8 +223,8 @@ class Tests:
         file = self.file("used", expression("top(10 07)"))
         said = subprocess.run([prefix / "bin/bplint", "lint", file], capture_output=True, check=False).stdout
         self.count("installed program", "" if said == b"ok reached 1 height 1 top int\n" else f"{said}")
-        if not shutil.which("pkg-config"):
-            self.skip("installed library", "pkg-config is not here")
+        if lacks("pkg-config"):
+            self.skip("the installed library", "pkg-config")
             return
         found = dict(os.environ, PKG_CONFIG_PATH=prefix / "lib/pkgconfig", LD_LIBRARY_PATH=prefix / "lib")
         asked = subprocess.run(["pkg-config", "--cflags", "--libs", "bplist"], capture_output=True, text=True, env=found, check=True)
@@ -237,9 +238,10 @@ def files_below(folder):
 
 
 def main():
-    if not shutil.which("gcc"):
-        print("skipped the C library: gcc is not here\n0 passed, 0 failed, 1 skipped")
-        return 0
+    for program in ("gcc", "nm"):
+        if lacks(program):
+            print(f"skipped, {program} is not installed: the C library\n{closing(0, 0, 1)}")
+            return 0
     with tempfile.TemporaryDirectory() as folder:
         tests = Tests(pathlib.Path(folder))
         tests.walk_all()
@@ -248,8 +250,7 @@ def main():
         tests.print_values()
         tests.see_symbols()
         tests.install()
-    closing = f"{tests.passed} passed, {tests.failed} failed"
-    print(closing + (f", {tests.skipped} skipped" if tests.skipped else ""))
+    print(closing(tests.passed, tests.failed, tests.skipped))
     return 1 if tests.failed else 0
 
 

@@ -1,9 +1,10 @@
 #!/usr/bin/env python3
 """edits.py [--all | CRATE [EDIT..]]
 
-Tries must-fail edits and says what refuses each: with no word those right in tests/edits/CRATE, which the gate tries; of a crate that
-is named those in its folder more/ too, all or those named; with --all every crate's. One line an edit: the edit, its function,
-the verdict and the goals. The verdicts:
+Tries must-fail edits and says what refuses each. With no word it tries those right in tests/edits/CRATE, which the gate
+tries beside those that `rt ci` tries. Of a crate that is named it tries all edits or those named, also in
+crates/CRATE/must-fail and tests/edits/CRATE/more. With --all it tries every crate's. One line an edit: the edit, its
+function, the verdict and the goals. The verdicts:
 
   false    the prover found values at which a goal of the edited function does not hold
   open     a goal that the prover decides by itself stays open
@@ -12,8 +13,8 @@ the verdict and the goals. The verdicts:
   unread   the prover could not take the function at all, which says nothing either
   PROVED   nothing refuses it
 
-An edit is named FUNCTION--what by the function that it changes, and passes where it is refused by one of the first three. The last
-line is `N passed, M failed`, and the status is 1 where one failed.
+An edit is named FUNCTION--what by the function that it changes, and passes if it is refused by one of the first three. The
+last line is `N passed, M failed`, and the status is 1 if one failed.
 
 Edits of different functions are tried together, in a copy of the crate over what its last check kept, so a crate takes a
 few checks; crates are tried side by side. Functions that no edit of the check turns are not proved there: their proofs are
@@ -94,7 +95,8 @@ class Edit:
             return self.crate if self.file in ("src/lib.rt", "src/main.rt") else self.file[4:-3].replace("/", "::")
         head = next(it for it in reversed(before) if it.startswith("impl"))
         trait, told, kind, argument = IMPL.match(head).groups()
-        # An impl for one argument, as that of Checked<SliceSource<'a>>, has the argument's name too. A parameter has one letter.
+        # An impl for one argument, as that of Checked<SliceSource<'a>>, has the argument's name too. A parameter has one
+        # letter.
         return kind + (trait or "") + (told or "") + (f"+{argument}" if argument and len(argument) > 1 else "")
 
     def goals(self, lines):
@@ -115,7 +117,7 @@ class Edit:
                     yield "unread", found[2]
 
 
-def read_edit(path):
+def read_edit(crate, path):
     pairs, file, old = [], "", ""
     for line in path.read_text().split("\n"):
         word, _, text = line.partition(": ")
@@ -125,7 +127,7 @@ def read_edit(path):
             old = text
         elif word.rstrip(":") == "new":
             pairs.append((file, old, text))
-    return Edit(path.relative_to(EDITS).parts[0], path.stem, pairs)
+    return Edit(crate, path.stem, pairs)
 
 
 def rounds(edits):
@@ -202,8 +204,8 @@ def line(edit, goals):
 
 
 def tried(rt, crate, edits):
-    """Each edit with its goals. A check leaves goals out, and does not try a function that calls one which another edit spoils:
-    those edits are tried again, with no hole, together as long as that decides some of them, and then each alone."""
+    """Each edit with its goals. A check leaves goals out, and does not try a function that calls one which another edit
+    spoils: those edits are tried again, with no hole, together as long as that decides some of them, and then each alone."""
     with tempfile.TemporaryDirectory(prefix="edits-") as kept:
         if (work := pathlib.Path(crate.folder, "out/incremental")).is_dir():
             shutil.copytree(work, kept, dirs_exist_ok=True)
@@ -219,7 +221,7 @@ def tried(rt, crate, edits):
 
 
 def check(rt, crate, edits, kept, is_short):
-    """The lines of a check of the crate with these edits, over what the folder keeps; a short one proves no other function."""
+    """The lines of a check of the crate with these edits, over what the folder keeps. A short one proves nothing else."""
     flags = ["--jobs", "1", "--allow-holes"]
     for edit in edits:
         flags += ["--only", edit.path] if edit.path else []
@@ -238,18 +240,24 @@ def check(rt, crate, edits, kept, is_short):
     if is_short and (not is_read or any(MADE.match(line) for line in lines)):
         return check(rt, crate, edits, kept, False)
     if not is_read:
-        raise ValueError("\n".join([f"{crate.name}: these edits were not read:", *[it for it in lines if "error" in it][:5]]))
+        errors = [it for it in lines if "error" in it]
+        raise ValueError("\n".join([f"{crate.name}: these edits were not read:", *errors[:5]]))
     return lines
 
 
-def edits_of(crate, names, has_more):
-    """A crate's edits, those of its folder more/ where they are asked for, all or those named, each with its function."""
-    folders = [EDITS / crate.name, EDITS / crate.name / "more"][: 1 + has_more]
+def folders_of(crate):
+    """Where the crate's edits stand: first those that the gate tries by this script."""
+    return [EDITS / crate.name, EDITS / crate.name / "more", pathlib.Path(crate.folder, "must-fail")]
+
+
+def edits_of(crate, names, is_gate):
+    """A crate's edits, all or those named, or those that the gate tries, each with its function."""
+    folders = folders_of(crate)[: 1 if is_gate else None]
     paths = {path.stem: path for folder in folders for path in sorted(folder.glob("*.edit"))}
     for name in names:
         if name not in paths:
             raise ValueError(f"{crate.name} has no edit {name}")
-    edits = [read_edit(paths[name]) for name in names or paths]
+    edits = [read_edit(crate.name, paths[name]) for name in names or paths]
     for edit in edits:
         edit.place(pathlib.Path(crate.folder))
         if edit.function and edit.function.split("::")[-1] != edit.name.split("--")[0]:
@@ -258,19 +266,21 @@ def edits_of(crate, names, has_more):
 
 
 def is_built(rt, library):
-    """Whether a library was built after its files were last written."""
+    """Whether a library is built of its files as they stand: as its stamp says, or where `rt ci` left none the times."""
     rlib = pathlib.Path(library.rlib)
-    written = max(os.path.getmtime(it) for it in rt.rtlib.files_of(library.folder))
-    return rlib.is_dir() and written <= rlib.stat().st_mtime
+    if library.is_built() or not rlib.is_dir():
+        return library.is_built()
+    return max(os.path.getmtime(it) for it in rt.rtlib.files_of(library.folder)) <= rlib.stat().st_mtime
 
 
-def try_crate(rt, crate, names, has_more):
+def try_crate(rt, crate, names, is_gate):
     """Tries a crate's edits, prints a line for each, and says how many there are and how many failed."""
     for library in crate.below():
         if not is_built(rt, library):
-            raise ValueError(f"{crate.name}: {library.name} below it is not built as it stands: run `rt lib` in crates/{library.name}")
-    edits, failed = edits_of(crate, names, has_more), 0
-    for edit, goals in tried(rt, crate, edits):
+            below = f"{library.name} below it is not built as it stands: run `rt lib` in crates/{library.name}"
+            raise ValueError(f"{crate.name}: {below}")
+    edits, failed = edits_of(crate, names, is_gate), 0
+    for edit, goals in tried(rt, crate, edits) if edits else ():
         failed += verdict(goals) not in REFUSED
         print(line(edit, goals), flush=True)
     return len(edits), failed
@@ -283,12 +293,13 @@ def at_once():
 
 
 def main(words):
-    has_more = bool(words)
+    is_gate = not words
     words = [it for it in words if it != "--all"]
     os.chdir(ROOT)
     rt = kit()
     rt.rtlib.guarded()
-    crates = [it for it in rt.rtlib.crates_below(str(ROOT)) if (EDITS / it.name).is_dir() and words[:1] in ([], [it.name])]
+    crates = [it for it in rt.rtlib.crates_below(str(ROOT)) if words[:1] in ([], [it.name])]
+    crates = [it for it in crates if any(folder.is_dir() for folder in folders_of(it))]
     if not crates:
         sys.exit(__doc__)
     # The uppermost first: they load most and take longest, so none of them is left for the end.
@@ -296,7 +307,7 @@ def main(words):
     with concurrent.futures.ThreadPoolExecutor(at_once()) as pool:
         try:
             names = [it.removesuffix(".edit") for it in words[1:]]
-            counts = list(pool.map(lambda it: try_crate(rt, it, names, has_more), crates))
+            counts = list(pool.map(lambda it: try_crate(rt, it, names, is_gate), crates))
         except ValueError as error:
             sys.exit(str(error))
     total, failed = (sum(it) for it in zip(*counts))

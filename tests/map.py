@@ -4,18 +4,18 @@
 Compares `bplint map` with a plain computation: on each file of tests/vectors, on those of tests/real_files.py, on damaged
 and overlapping ones. What `lint` says of a file is taken from PROGRAM; places, ends, rules 14 to 20, heights, gaps and overlaps
 are computed here, and each byte is counted. Without plistutil its files are skipped. The last line printed is `N passed, M
-failed`, with `, K skipped` where some were.
+failed`, with `, K skipped` if some were.
 """
 import pathlib
 import plistlib
 import random
-import shutil
 import subprocess
 import sys
 import tempfile
 
 import real_files
 import run_vectors
+from tools import closing, lacks
 
 TITLE = "place\tend\tobject\tkind\tcount\theight\n"
 FRAME_RULES = set(
@@ -201,7 +201,7 @@ def all_files(folder):
     yield from table_files()
     source = random.Random(7)
     for name, writer, value in real_files.all_files():
-        if writer is real_files.by_plistutil and shutil.which("plistutil") is None:
+        if writer is real_files.by_plistutil and lacks("plistutil"):
             yield name, None
             continue
         octets = writer(value, folder)
@@ -228,7 +228,7 @@ def main():
             else:
                 failed += 1
                 print(f"{name}: {trouble[:600]}")
-    print(f"{passed} passed, {failed} failed" + (f", {skipped} skipped" if skipped else ""))
+    print(closing(passed, failed, skipped))
     return 1 if failed else 0
 
 

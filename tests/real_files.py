@@ -4,17 +4,18 @@
 Makes property lists by other writers, Python's plistlib and libplist's plistutil, and runs PROGRAM on them: `lint` says
 yes, `check` takes what `certify` and `certify --sorted` write, `get` gives the leaves, and `ls` from the top down lists
 exactly the values. One file counts as one test.
-Without plistutil its files are skipped by name. The last line printed is `N passed, M failed`, with `, K skipped` where
-some were.
+Without plistutil its files are skipped by name. The last line printed is `N passed, M failed`, with `, K skipped` if some
+were.
 """
 import datetime
 import os
 import pathlib
 import plistlib
-import shutil
 import subprocess
 import sys
 import tempfile
+
+from tools import closing, lacks
 
 SHAPES = {
     "text": "one text",
@@ -165,7 +166,7 @@ def main():
     with tempfile.TemporaryDirectory(prefix="bplint") as folder:
         stage = Stage(folder, os.path.abspath(sys.argv[1]))
         for name, writer, value in all_files():
-            if writer is by_plistutil and shutil.which("plistutil") is None:
+            if writer is by_plistutil and lacks("plistutil"):
                 print(f"skipped, plistutil is not installed: {name}")
                 skipped += 1
                 continue
@@ -176,7 +177,7 @@ def main():
             except AssertionError as wrong:
                 print(f"{name}: {wrong}")
                 failed += 1
-    print(f"{passed} passed, {failed} failed" + (f", {skipped} skipped" if skipped else ""))
+    print(closing(passed, failed, skipped))
     return 1 if failed else 0
 
 

@@ -13,18 +13,18 @@ refused that call answers `Memory`, and the second answers as it does without a 
 answer's text, bplist_calls ends and names memory. Each call of `EVER` grows on some file, and no other call does.
 
 One subcommand, or one call, on one file counts as one test. Without gcc nothing is run. The last line printed is
-`N passed, M failed`, with `, K skipped` where some were.
+`N passed, M failed`, with `, K skipped` if some were.
 """
 import concurrent.futures
 import dataclasses
 import os
 import pathlib
-import shutil
 import subprocess
 import sys
 import tempfile
 
 from run_vectors import doubling, escaped, expression, number
+from tools import closing, lacks
 
 SOURCE = pathlib.Path(__file__).with_name("refuse_growth.c")
 MOST_GROWTHS = 10_000
@@ -256,7 +256,7 @@ def report(told):
     failed = [one for one in told if one.wrong]
     for one in failed:
         print(f"{one.row}: {one.name}\n  {one.wrong}")
-    print(f"{len(told) - len(failed)} passed, {len(failed)} failed")
+    print(closing(len(told) - len(failed), len(failed), 0))
     return len(failed)
 
 
@@ -264,14 +264,13 @@ def main():
     if len(sys.argv) != 3:
         sys.exit(__doc__)
     bplint, calls = map(os.path.abspath, sys.argv[1:])
-    compiler = shutil.which("gcc")
-    if compiler is None:
+    if lacks("gcc"):
         print("skipped, gcc is not installed: refused growths")
-        print("0 passed, 0 failed, 1 skipped")
+        print(closing(0, 0, 1))
         return 0
     with tempfile.TemporaryDirectory(prefix="bplint") as folder:
         library = os.path.join(folder, "refuse_growth.so")
-        subprocess.run([compiler, "-shared", "-fPIC", "-O1", "-o", library, SOURCE], check=True)
+        subprocess.run(["gcc", "-shared", "-fPIC", "-O1", "-o", library, SOURCE], check=True)
         with concurrent.futures.ThreadPoolExecutor(os.cpu_count()) as pool:
             told = command_outcomes(folder, library, bplint, pool)
             told += call_outcomes(Stage(folder, library), calls, pool)

@@ -1,10 +1,10 @@
 """The files that the tests over the C library and the Python package are run on: those of the tables, and other writers'."""
 import dataclasses
 import pathlib
-import shutil
 
 from real_files import all_files, by_plistutil
 from run_vectors import Hole, content, escaped
+from tools import lacks
 
 VECTORS = pathlib.Path(__file__).resolve().parent / "vectors"
 TABLES = ["program.tsv", "program_more.tsv", "library.tsv", "library_more.tsv"]
@@ -43,7 +43,7 @@ def table_files():
 
 
 def written_files(folder):
-    """The files of plistlib, and those of libplist's plistutil where it is there."""
+    """The files of plistlib, and those of libplist's plistutil if it is installed."""
     for name, writer, value in all_files():
-        if writer is not by_plistutil or shutil.which("plistutil"):
+        if writer is not by_plistutil or not lacks("plistutil"):
             yield Sample(name, writer(value, folder), None, value)

@@ -3,16 +3,17 @@
 
 Shows that little stack is enough: no function of BPLINT and of CALLS (bplist_calls) has a frame above 64 KiB, and with a stack
 of 256 KiB they give the outputs of both tables of vectors. Frames are read from what objdump prints; without objdump that
-part is skipped. The last line printed is `N passed, M failed`, with `, K skipped` where some were.
+part is skipped. The last line printed is `N passed, M failed`, with `, K skipped` if some were.
 """
 import collections
 import pathlib
 import re
 import shlex
-import shutil
 import subprocess
 import sys
 import tempfile
+
+from tools import closing, lacks
 
 HERE = pathlib.Path(__file__).resolve().parent
 MOST_FRAME = 64 * 1024
@@ -70,8 +71,8 @@ def main():
     programs = [pathlib.Path(word).resolve() for word in sys.argv[1:]]
     passed, failed, skipped = 0, 0, 0
     for program in programs:
-        if shutil.which("objdump") is None:
-            print(f"skipped: the frames of {program.name}, since there is no objdump")
+        if lacks("objdump"):
+            print(f"skipped, objdump is not installed: the frames of {program.name}")
             skipped += 1
         elif frames_fit(program):
             passed += 1
@@ -82,7 +83,7 @@ def main():
         for counts in (table("run_vectors.py", "program.tsv", bplint), table("run_library.py", "library.tsv", calls)):
             passed += counts[0]
             failed += counts[1]
-    print(f"{passed} passed, {failed} failed" + (f", {skipped} skipped" if skipped else ""))
+    print(closing(passed, failed, skipped))
     return 1 if failed else 0
 
 

@@ -4,7 +4,7 @@ use crate::runs::{outcome, with_path};
 use arrayvec::ArrayVec;
 use bplint_engine::{Verb, run_over};
 use bplist_samples::{
-    Last, PRINTABLE_DICT, Parts, Row, SMALLEST_FILE, ShortWriter, THREE_KEYS, small,
+    PRINTABLE_DICT, Parts, Row, SMALLEST_FILE, ShortWriter, THREE_KEYS, Trouble, small,
 };
 use std::test::Fail;
 
@@ -51,10 +51,11 @@ fn writers(rt: HostRuntime) -> Result<(), Fail> {
         let row = Row::new(alloc, "a file", small(alloc, objects, table)?)?;
         let command = with_path(alloc, *verb, path)?;
         let mut out = ShortWriter {
-            interrupts: *interrupts,
+            troubles: *interrupts,
+            first: Trouble::Interrupted,
             step: 7,
             room: *room,
-            last: Last::Fails,
+            last: Trouble::Fails,
             held: ArrayVec::new(),
         };
         let answer = run_over(alloc, &command, &row.octets, &row.certificate, &mut out);

@@ -1,10 +1,11 @@
 //! What stands between a text and its writer.
 
-ghost use Rattle.std.specs.Prelude.{◌≡◌, ◌+◌, ◌-◌, ◌^◌, ◌<◌, ◌≤◌, ◌↔◌, [], ◌++◌, length, take, OnOk, IfErr, IsTrue};
+ghost use Rattle.std.specs.Prelude.{◌≡◌, ◌+◌, ◌-◌, ◌^◌, ◌<◌, ◌≤◌, ◌↔◌, [], ◌++◌, length, take, MatchResult, OnOk, IfOk, IfErr, IsOk, IsTrue};
 ghost use Rattle.std.specs.Io.KnownBytes.{Appends};
+ghost use Rattle.std.specs.IoError.{error_kind};
 ghost use Rattle.bplist_ascii.specs.Sending.{Sending, SendsPart, Takes};
 
-use std::io::{ErrorKind, Write};
+use std::io::{self, ErrorKind, Write};
 use std::marker::Model;
 
 /// How many bytes wait for one write.
@@ -40,25 +41,43 @@ impl Sender {
     {
         let mut sent = 0;
         while sent < bytes.len() {
-            match out.write(&bytes[sent..]) {
-                Ok(0) => return Err(WriteFault { sent: self.sent }),
-                Ok(n) => {
-                    sent += n;
-                    self.sent += n as u64;
-                }
-                Err(error) => {
-                    if !self.tries_again(error.kind()) {
-                        return Err(WriteFault { sent: self.sent });
-                    }
-                    self.interrupts += 1;
-                }
-            }
+            let written = out.write(&bytes[sent..]);
+            sent += self.taken(written)?;
         }
         Ok(())
     }
 
+    /// Counts what a write did: how many bytes the writer took, none where an interrupted write is to be tried again. A write
+    /// that took nothing is a fault, and so is one that failed otherwise, or was interrupted once too often.
+    fn taken(&mut self, written: io::Result<usize>) -> Result<usize, WriteFault>
+        requires { IfOk written (λ n. self.old.sent + n < 2 ^ 64) }
+        ensures goes_on { IsOk result ↔ MatchResult written (λ n. 0 < n)
+            (λ e. (error_kind e ≡ ErrorKind.Interrupted) × (self.old.interrupts < 64)) }
+        ensures took { IfOk result (λ took. MatchResult written (λ n. took ≡ n) (λ _. took ≡ 0)) }
+        ensures counted { IfOk result (λ took. self.new.sent ≡ self.old.sent + took) }
+        ensures interrupts { IfOk result (λ _. MatchResult written (λ _. self.new.interrupts ≡ self.old.interrupts)
+            (λ _. self.new.interrupts ≡ self.old.interrupts + 1)) }
+        ensures stands { IfErr result (λ e. (e.sent ≡ self.old.sent) × (self.new ≡ self.old)) }
+    {
+        match written {
+            Ok(0) => Err(WriteFault { sent: self.sent }),
+            Ok(n) => {
+                self.sent += n as u64;
+                Ok(n)
+            }
+            Err(error) => {
+                if self.tries_again(error.kind()) {
+                    self.interrupts += 1;
+                    return Ok(0);
+                }
+                Err(WriteFault { sent: self.sent })
+            }
+        }
+    }
+
+    /// An interrupted write is tried again, so many times in all.
     fn tries_again(&self, kind: ErrorKind) -> bool
-        ensures { IsTrue result → self.now.interrupts < 64 }
+        ensures { IsTrue result ↔ (kind ≡ ErrorKind.Interrupted) × (self.now.interrupts < 64) }
     {
         kind == ErrorKind::Interrupted && self.interrupts < RETRIES
     }

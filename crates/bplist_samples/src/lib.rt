@@ -18,20 +18,23 @@
 //! | files with their certificates | [`Row`], [`tested_rows`], [`thousand_keys`] |
 //! | a call of each kind, with its answer as text | [`Call`], [`all_calls`], [`checked_text`] |
 //! | a source that counts what is asked of it | [`CountingSource`], [`Counts`] |
-//! | a writer with little room, or that is interrupted | [`ShortWriter`], [`Last`] |
+//! | a source with one read that fails, with any fault | [`FailingSource`], [`FailingRead`], [`READ_FAULTS`] |
+//! | a writer with little room, or with writes that fail at first | [`ShortWriter`], [`Trouble`] |
 #![tactic(auto)]
 
 mod calls;
 mod counting;
+mod failing;
 mod files;
 mod rows;
 mod writers;
 
 pub use calls::{Call, all_calls, checked_text};
 pub use counting::{CountingSource, Counts};
+pub use failing::{FailingRead, FailingSource, READ_FAULTS};
 pub use files::{
     A_TO_ONE, PRINTABLE_DICT, Parts, SMALLEST_FILE, THREE_KEYS, TWO_TRUES, UNPRINTABLE_DICT,
     doubling, small,
 };
 pub use rows::{Row, tested_rows, thousand_keys};
-pub use writers::{Last, ShortWriter};
+pub use writers::{ShortWriter, Trouble};

@@ -3,21 +3,35 @@
 use arrayvec::ArrayVec;
 use std::io::{self, ErrorKind, Write};
 
-/// How a writer without room answers.
+/// How a write goes wrong.
 #[derive(Clone, Copy)]
-pub enum Last {
+pub enum Trouble {
+    Interrupted,
+    WouldBlock,
     Fails,
     TakesNothing,
 }
 
-/// Answers Interrupted some times, takes `step` bytes at most a write and `room` bytes in all, and then answers `last`.
-/// It holds 64 bytes at most, and takes no memory.
+impl Trouble {
+    fn answer(self) -> io::Result<usize> {
+        match self {
+            Trouble::Interrupted => Err(io::Error::from(ErrorKind::Interrupted)),
+            Trouble::WouldBlock => Err(io::Error::from(ErrorKind::WouldBlock)),
+            Trouble::Fails => Err(io::Error::from(ErrorKind::Other)),
+            Trouble::TakesNothing => Ok(0),
+        }
+    }
+}
+
+/// Answers `first` to so many writes, then takes `step` bytes at most a write and `room` bytes in all, and then answers
+/// `last`. It holds 64 bytes at most, and takes no memory.
 #[derive(Drop)]
 pub struct ShortWriter {
-    pub interrupts: u64,
+    pub troubles: u64,
+    pub first: Trouble,
     pub step: usize,
     pub room: usize,
-    pub last: Last,
+    pub last: Trouble,
     pub held: ArrayVec<u8, 64>,
 }
 
@@ -25,10 +39,11 @@ impl ShortWriter {
     /// Takes `room` bytes, as many as it can at a write, and then fails.
     pub fn with_room(room: usize) -> ShortWriter {
         ShortWriter {
-            interrupts: 0,
+            troubles: 0,
+            first: Trouble::Interrupted,
             step: room,
             room,
-            last: Last::Fails,
+            last: Trouble::Fails,
             held: ArrayVec::new(),
         }
     }
@@ -36,15 +51,12 @@ impl ShortWriter {
 
 impl Write for ShortWriter {
     fn write(&mut self, buf: &[u8]) -> io::Result<usize> {
-        if self.interrupts > 0 {
-            self.interrupts -= 1;
-            return Err(io::Error::from(ErrorKind::Interrupted));
+        if self.troubles > 0 {
+            self.troubles -= 1;
+            return self.first.answer();
         }
         if self.room == 0 {
-            return match self.last {
-                Last::Fails => Err(io::Error::from(ErrorKind::Other)),
-                Last::TakesNothing => Ok(0),
-            };
+            return self.last.answer();
         }
         let count = buf.len().min(self.step).min(self.room);
         match self.held.try_extend_from_slice(&buf[..count]) {

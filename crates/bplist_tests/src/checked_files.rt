@@ -1,9 +1,11 @@
-//! What a check hands out, and what it hands back.
+//! What a check hands out and hands back, and a checked file that changes.
 
 use bplist_cert::{Certificate, Refusal, check};
+use bplist_lint::{UpgradeFault, upgrade};
 use bplist_objects::{Fault, ObjectNo, Rule};
-use bplist_octets::{SliceSource, Source};
-use bplist_samples::{PRINTABLE_DICT, Row, TWO_TRUES, small};
+use bplist_octets::{ShiftingSource, SliceSource, Source};
+use bplist_samples::{PRINTABLE_DICT, Parts, Row, TWO_TRUES, small};
+use std::alloc::Global;
 use std::test::Fail;
 
 /// A certificate of version 1 with the heights 9 and 4.
@@ -52,4 +54,54 @@ fn what_was_refused(rt: HostRuntime) -> Result<(), Fail> {
             Ok(())
         }
     }
+}
+
+/// A dictionary with the keys `a` and `b`.
+const TWO_KEYS: Parts = (
+    &[0xd2, 1, 2, 3, 3, 0x51, 0x61, 0x51, 0x62, 9],
+    &[8, 13, 15, 17],
+);
+
+/// The same bytes, but for the second key, which is `a` too.
+const KEY_TWICE: &[u8] = &[0xd2, 1, 2, 3, 3, 0x51, 0x61, 0x51, 0x61, 9];
+
+/// What a file of two keys that is another one after so many reads gets: its key list, `Changed`, or no certificate at all.
+fn key_list(
+    alloc: Global,
+    row: &Row,
+    other: &[u8],
+    reads: u64,
+) -> Result<Option<Result<Certificate, UpgradeFault>>, Fail> {
+    if row.octets.len() != other.len() {
+        return Err(Fail::from("a file of another length"));
+    }
+    let source = ShiftingSource::new(&row.octets, other, reads);
+    match check(alloc, source, row.certificate(alloc)?) {
+        Ok(mut checked) => Ok(Some(upgrade(alloc, &mut checked))),
+        Err(_) => Ok(None),
+    }
+}
+
+/// A key list never has two keys of equal texts, also where the second becomes equal after the check.
+#[test]
+fn keys_that_become_equal(rt: HostRuntime) -> Result<(), Fail> {
+    let alloc = rt.alloc();
+    let row = Row::small(alloc, "two-keys", TWO_KEYS)?;
+    let other = small(alloc, KEY_TWICE, TWO_KEYS.1)?;
+    let mut changes = 0u32;
+    for reads in 0..100 {
+        match key_list(alloc, &row, &other, reads)? {
+            Some(Ok(certificate)) => {
+                let sorted = certificate.keys.is_some_and(|keys| keys.positions.len() == 2);
+                assert!(rt; sorted, "after {reads} reads");
+            }
+            Some(Err(fault)) => {
+                assert!(rt; matches!(fault, UpgradeFault::Changed), "after {reads} reads");
+                changes = changes.saturating_add(1);
+            }
+            None => {}
+        }
+    }
+    assert!(rt; changes > 0);
+    Ok(())
 }

@@ -1,10 +1,13 @@
 //! One failing read at each turn: in the first run read number 0 fails, in the next one read number 1, and so on up to
-//! the first run in which none fails. The same call made again then answers as over a slice.
+//! the first run in which none fails. The call tells the fault of that read, and made again it answers as over a slice.
 
 use bplist_cert::{Certificate, check};
 use bplist_lint::lint;
-use bplist_octets::{FaultySource, SliceSource, Source};
-use bplist_samples::{Call, Parts, Row, all_calls, checked_text, small, tested_rows};
+use bplist_octets::{ReadFault, SliceSource, Source};
+use bplist_samples::{
+    Call, FailingRead, FailingSource, Parts, READ_FAULTS, Row, all_calls, checked_text, small,
+    tested_rows,
+};
 use std::alloc::{AllocError, Global};
 use std::process::Abort;
 use std::test::Fail;
@@ -19,9 +22,9 @@ struct Turn {
     again: String,
 }
 
-/// A check over a source whose read number `fails` fails, and another of what it hands back.
-fn check_turn(alloc: Global, row: &Row, fails: u64) -> Result<Turn, Fail> {
-    let source = FaultySource::new(&row.octets, fails);
+/// A check over a source with this read, and another of what it hands back.
+fn check_turn(alloc: Global, row: &Row, read: FailingRead) -> Result<Turn, Fail> {
+    let source = FailingSource::new(&row.octets, read);
     match check(alloc, source, row.certificate(alloc)?) {
         Ok(checked) => Ok(Turn {
             first: checked_text(alloc, &checked)?,
@@ -47,31 +50,37 @@ fn accepted_text<S: Source + Drop>(
     }
 }
 
-/// A call on a file that is checked over a source whose read number `fails` fails, made twice.
-fn call_turn(alloc: Global, row: &Row, call: &Call, fails: u64) -> Result<Turn, Fail> {
-    let mut checked = row.checked(alloc, FaultySource::new(&row.octets, fails))?;
+/// A call on a file that is checked over a source with this read, made twice.
+fn call_turn(alloc: Global, row: &Row, call: &Call, read: FailingRead) -> Result<Turn, Fail> {
+    let mut checked = row.checked(alloc, FailingSource::new(&row.octets, read))?;
     let first = call.answer_text(alloc, &mut checked)?;
     let again = call.answer_text(alloc, &mut checked)?;
     Ok(Turn { first, again })
 }
 
-/// Whether the first call of a turn met no failing read.
-fn is_whole(rt: &impl Abort, name: &str, turn: &Turn, want: &str) -> bool {
+/// Whether the first call of a turn did not come to this read.
+fn is_whole(rt: &impl Abort, name: &str, turn: &Turn, read: FailingRead, want: &str) -> bool {
     if turn.first.as_str() == want {
         return true;
     }
-    assert_eq!(rt; turn.first.as_str(), "Err(Read(Device))", "{name}");
+    assert_eq!(rt; turn.first.as_str(), read.text(), "{name}");
     assert_eq!(rt; turn.again.as_str(), want, "{name}");
     false
 }
 
-/// How many reads a check makes.
-fn check_at_each_turn(rt: &impl Abort, alloc: Global, row: &Row) -> Result<u64, Fail> {
+/// How many reads a check makes, each of which fails so in its turn.
+fn check_at_each_turn(
+    rt: &impl Abort,
+    alloc: Global,
+    row: &Row,
+    fault: ReadFault,
+) -> Result<u64, Fail> {
     let source = SliceSource::new(&row.octets);
     let want = accepted_text(alloc, row.name, source, row.certificate(alloc)?)?;
-    for fails in 0..MOST_READS {
-        if is_whole(rt, row.name, &check_turn(alloc, row, fails)?, &want) {
-            return Ok(fails);
+    for before in 0..MOST_READS {
+        let read = FailingRead { before, fault };
+        if is_whole(rt, row.name, &check_turn(alloc, row, read)?, read, &want) {
+            return Ok(before);
         }
     }
     Err(Fail::new(row.name))
@@ -83,32 +92,59 @@ fn whole_answer(alloc: Global, row: &Row, call: &Call) -> Result<String, Fail> {
     Ok(call.answer_text(alloc, &mut whole)?)
 }
 
-/// How many reads a call makes on a file whose check makes so many.
+/// How many reads a call makes on a file whose check ends before the first of them. Each fails in its turn.
 fn call_at_each_turn(
     rt: &impl Abort,
     alloc: Global,
     row: &Row,
     call: &Call,
-    checking: u64,
+    first: FailingRead,
 ) -> Result<u64, Fail> {
     let want = whole_answer(alloc, row, call)?;
     for turn in 0..MOST_READS {
-        let fails = checking.saturating_add(turn);
-        if is_whole(rt, row.name, &call_turn(alloc, row, call, fails)?, &want) {
+        let read = first.later(turn);
+        if is_whole(
+            rt,
+            row.name,
+            &call_turn(alloc, row, call, read)?,
+            read,
+            &want,
+        ) {
             return Ok(turn);
         }
     }
     Err(Fail::new(row.name))
 }
 
-fn row_at_each_turn(rt: &impl Abort, alloc: Global, row: &Row, calls: &[Call]) -> Result<(), Fail> {
-    let checking = check_at_each_turn(rt, alloc, row)?;
-    assert!(rt; checking > 0);
+fn row_at_each_turn(
+    rt: &impl Abort,
+    alloc: Global,
+    row: &Row,
+    calls: &[Call],
+    fault: ReadFault,
+) -> Result<(), Fail> {
+    let before = check_at_each_turn(rt, alloc, row, fault)?;
+    assert!(rt; before > 0);
     let mut reads = 0u64;
     for call in calls {
-        reads = reads.saturating_add(call_at_each_turn(rt, alloc, row, call, checking)?);
+        let first = FailingRead { before, fault };
+        reads = reads.saturating_add(call_at_each_turn(rt, alloc, row, call, first)?);
     }
     assert!(rt; reads > 0);
+    Ok(())
+}
+
+/// Lets each read of the check and of each call on these files fail so.
+fn rows_at_each_turn(
+    rt: &impl Abort,
+    alloc: Global,
+    rows: &[Row],
+    fault: ReadFault,
+) -> Result<(), Fail> {
+    let calls = all_calls(alloc)?;
+    for row in rows {
+        row_at_each_turn(rt, alloc, row, &calls, fault)?;
+    }
     Ok(())
 }
 
@@ -116,9 +152,9 @@ fn row_at_each_turn(rt: &impl Abort, alloc: Global, row: &Row, calls: &[Call]) -
 #[test]
 fn each_read_of_each_call(rt: HostRuntime) -> Result<(), Fail> {
     let alloc = rt.alloc();
-    let calls = all_calls(alloc)?;
-    for row in tested_rows(alloc)? {
-        row_at_each_turn(&rt, alloc, &row, &calls)?;
+    let rows = tested_rows(alloc)?;
+    for fault in READ_FAULTS {
+        rows_at_each_turn(&rt, alloc, &rows, *fault)?;
     }
     Ok(())
 }
@@ -127,9 +163,12 @@ fn each_read_of_each_call(rt: HostRuntime) -> Result<(), Fail> {
 #[test]
 fn each_read_of_each_call_with_key_lists(rt: HostRuntime) -> Result<(), Fail> {
     let alloc = rt.alloc();
-    let calls = all_calls(alloc)?;
+    let mut rows = Vec::new(alloc);
     for row in tested_rows(alloc)? {
-        row_at_each_turn(&rt, alloc, &row.sorted(alloc)?, &calls)?;
+        rows.push(row.sorted(alloc)?)?;
+    }
+    for fault in READ_FAULTS {
+        rows_at_each_turn(&rt, alloc, &rows, *fault)?;
     }
     Ok(())
 }
@@ -148,25 +187,27 @@ fn refusal<S: Source>(alloc: Global, source: &mut S) -> Result<String, AllocErro
     format!(in alloc; "{refused:?}")
 }
 
-/// What the linter says, over a source whose read number `fails` fails, and then once more.
-fn lint_turn(alloc: Global, octets: &[u8], fails: u64) -> Result<Turn, AllocError> {
-    let mut source = FaultySource::new(octets, fails);
+/// What the linter says, over a source with this read, and then once more.
+fn lint_turn(alloc: Global, octets: &[u8], read: FailingRead) -> Result<Turn, AllocError> {
+    let mut source = FailingSource::new(octets, read);
     let first = refusal(alloc, &mut source)?;
     let again = refusal(alloc, &mut source)?;
     Ok(Turn { first, again })
 }
 
-/// How many reads the linter makes of a file that it refuses.
+/// How many reads the linter makes of a file that it refuses, each of which fails so in its turn.
 fn lint_at_each_turn(
     rt: &impl Abort,
     alloc: Global,
     name: &'static str,
     octets: &[u8],
+    fault: ReadFault,
 ) -> Result<u64, Fail> {
     let want = refusal(alloc, &mut SliceSource::new(octets))?;
-    for fails in 0..MOST_READS {
-        if is_whole(rt, name, &lint_turn(alloc, octets, fails)?, &want) {
-            return Ok(fails);
+    for before in 0..MOST_READS {
+        let read = FailingRead { before, fault };
+        if is_whole(rt, name, &lint_turn(alloc, octets, read)?, read, &want) {
+            return Ok(before);
         }
     }
     Err(Fail::new(name))
@@ -177,8 +218,11 @@ fn lint_at_each_turn(
 fn each_read_of_the_linter(rt: HostRuntime) -> Result<(), Fail> {
     let alloc = rt.alloc();
     for (name, (objects, table)) in REFUSED {
-        let reads = lint_at_each_turn(&rt, alloc, name, &small(alloc, objects, table)?)?;
-        assert!(rt; reads > 0);
+        let octets = small(alloc, objects, table)?;
+        for fault in READ_FAULTS {
+            let reads = lint_at_each_turn(&rt, alloc, name, &octets, *fault)?;
+            assert!(rt; reads > 0);
+        }
     }
     Ok(())
 }

@@ -1,9 +1,10 @@
-//! How many comparisons, and how many reads of the source, the look-up of a key among a thousand takes.
+//! How many comparisons, and how many reads of the source, the look-up of a key among a thousand takes, and how many reads
+//! sizes take.
 
 use bplist_cert::Checked;
-use bplist_cursor::{Found, Node, Path, Why, locate_counted};
+use bplist_cursor::{Found, Node, Path, Query, Why, answer_all, locate_counted};
 use bplist_objects::ObjectNo;
-use bplist_samples::{CountingSource, Counts, thousand_keys};
+use bplist_samples::{CountingSource, Counts, Row, thousand_keys};
 use std::alloc::Global;
 use std::cell::Cell;
 use std::process::Abort;
@@ -56,5 +57,30 @@ fn thousand_keys_by_halving(rt: HostRuntime) -> Result<(), Fail> {
     for key in 0..1001 {
         is_by_halving(&rt, alloc, &mut checked, &counts, key)?;
     }
+    Ok(())
+}
+
+/// How many reads it takes to tell the size of the file's value so many times in one call.
+fn reads_for_sizes(alloc: Global, row: &Row, sizes: usize) -> Result<u64, Fail> {
+    let counts = Cell::new(Counts::default());
+    let source = CountingSource::new(&row.octets, &counts);
+    let mut checked = row.checked(alloc, source)?;
+    let mut queries = Vec::new(alloc);
+    for _ in 0..sizes {
+        queries.push(Query::Size(Path::parse(alloc, "")?))?;
+    }
+    counts.set(Counts::default());
+    answer_all(alloc, &mut checked, &queries)?;
+    Ok(counts.get().reads)
+}
+
+#[test]
+fn sizes_are_measured_once(rt: HostRuntime) -> Result<(), Fail> {
+    let alloc = rt.alloc();
+    let row = thousand_keys(alloc)?;
+    let once = reads_for_sizes(alloc, &row, 1)?;
+    assert!(rt; once >= 1000, "{once} reads");
+    let thrice = reads_for_sizes(alloc, &row, 3)?;
+    assert!(rt; thrice < once.saturating_mul(2), "{once} and {thrice} reads");
     Ok(())
 }

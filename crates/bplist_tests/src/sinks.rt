@@ -5,7 +5,7 @@ use bplist_ascii::{PrintFault, Sink, WriteFault, print};
 use bplist_cursor::{Node, measure};
 use bplist_objects::ObjectNo;
 use bplist_octets::SliceSource;
-use bplist_samples::{Last, PRINTABLE_DICT, Row, ShortWriter};
+use bplist_samples::{PRINTABLE_DICT, Row, ShortWriter, Trouble};
 use std::test::Fail;
 
 fn send_all(sink: &mut Sink, out: &mut ShortWriter, pieces: &[&[u8]]) -> Result<(), WriteFault> {
@@ -18,13 +18,13 @@ fn send_all(sink: &mut Sink, out: &mut ShortWriter, pieces: &[&[u8]]) -> Result<
 const DICT: &[&[u8]] = &[b"{", b"a", b"=", b"\"b c\"", b";", b"}", b"\n"];
 
 /// Interrupted writes, the most bytes of a write, the room, and what comes then; and what it says of `DICT` and holds.
-const WRITERS: &[(u64, usize, usize, Last, Result<(), WriteFault>, &[u8])] = &[
-    (0, 100, 100, Last::Fails, Ok(()), b"{a=\"b c\";}\n"),
+const WRITERS: &[(u64, usize, usize, Trouble, Result<(), WriteFault>, &[u8])] = &[
+    (0, 100, 100, Trouble::Fails, Ok(()), b"{a=\"b c\";}\n"),
     (
         0,
         100,
         4,
-        Last::Fails,
+        Trouble::Fails,
         Err(WriteFault { sent: 4 }),
         b"{a=\"",
     ),
@@ -32,7 +32,7 @@ const WRITERS: &[(u64, usize, usize, Last, Result<(), WriteFault>, &[u8])] = &[
         0,
         100,
         4,
-        Last::TakesNothing,
+        Trouble::TakesNothing,
         Err(WriteFault { sent: 4 }),
         b"{a=\"",
     ),
@@ -40,7 +40,7 @@ const WRITERS: &[(u64, usize, usize, Last, Result<(), WriteFault>, &[u8])] = &[
         0,
         1,
         10,
-        Last::Fails,
+        Trouble::Fails,
         Err(WriteFault { sent: 10 }),
         b"{a=\"b c\";}",
     ),
@@ -48,20 +48,28 @@ const WRITERS: &[(u64, usize, usize, Last, Result<(), WriteFault>, &[u8])] = &[
         0,
         100,
         10,
-        Last::Fails,
+        Trouble::Fails,
         Err(WriteFault { sent: 10 }),
         b"{a=\"b c\";}",
     ),
-    (0, 100, 0, Last::Fails, Err(WriteFault { sent: 0 }), b""),
-    (64, 1, 100, Last::Fails, Ok(()), b"{a=\"b c\";}\n"),
-    (65, 100, 100, Last::Fails, Err(WriteFault { sent: 0 }), b""),
+    (0, 100, 0, Trouble::Fails, Err(WriteFault { sent: 0 }), b""),
+    (64, 1, 100, Trouble::Fails, Ok(()), b"{a=\"b c\";}\n"),
+    (
+        65,
+        100,
+        100,
+        Trouble::Fails,
+        Err(WriteFault { sent: 0 }),
+        b"",
+    ),
 ];
 
 #[test]
 fn writers_that_fail(rt: HostRuntime) -> Result<(), Fail> {
     for (interrupts, step, room, last, want, held) in WRITERS {
         let mut out = ShortWriter {
-            interrupts: *interrupts,
+            troubles: *interrupts,
+            first: Trouble::Interrupted,
             step: *step,
             room: *room,
             last: *last,
@@ -73,14 +81,29 @@ fn writers_that_fail(rt: HostRuntime) -> Result<(), Fail> {
     Ok(())
 }
 
+/// Only an interrupted write is tried again: a writer that fails once in another way, or takes nothing once, and would take
+/// all from then on, is asked no more.
+#[test]
+fn writers_that_fail_once(rt: HostRuntime) -> Result<(), Fail> {
+    for first in [Trouble::WouldBlock, Trouble::Fails, Trouble::TakesNothing] {
+        let mut out = ShortWriter::with_room(64);
+        out.troubles = 1;
+        out.first = first;
+        let fault = WriteFault { sent: 0 };
+        assert_eq!(rt; send_all(&mut Sink::new(), &mut out, DICT), Err(fault));
+        assert_eq!(rt; out.held.as_slice(), b"".as_slice());
+    }
+    Ok(())
+}
+
 /// One sink counts the interrupted writes of all that goes through it.
 #[test]
 fn interrupts_are_counted_over_the_whole_sink(rt: HostRuntime) -> Result<(), Fail> {
     let mut sink = Sink::new();
     let mut out = ShortWriter::with_room(100);
-    out.interrupts = 40;
+    out.troubles = 40;
     assert_eq!(rt; send_all(&mut sink, &mut out, &[b"true\n"]), Ok(()));
-    out.interrupts = 25;
+    out.troubles = 25;
     let fault = WriteFault { sent: 5 };
     assert_eq!(rt; send_all(&mut sink, &mut out, &[b"null\n"]), Err(fault));
     assert_eq!(rt; out.held.as_slice(), b"true\n".as_slice());
