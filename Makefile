@@ -100,9 +100,9 @@ gate test:
 edits: build lib
 	python3 -B tests/edits.py --all
 
-bench: build lib
+bench: build lib wheel
 	python3 -B tests/bench.py $(BPLINT)
-	python3 -B tests/bench_library.py $(LIBRARY)
+	$(PYTHON) -B tests/bench_library.py $(LIBRARY) $(DIST)/bplist-*.whl
 
 install: build lib
 	@made=$$(for folder in $(FOLDERS); do \

@@ -86,7 +86,7 @@ CALLS = {
 
 # What outlives each call: a reference that is left behind is one too many here.
 HELD = [FILE, ODD, CIRCLE, CERTIFICATE, PLIST, VALUE, bplist.Dict, bplist.Array, bplist.Set, bplist.Plist, bplist.Date]
-HELD += [bplist.Refused, plistlib.UID, datetime.timedelta, datetime.datetime, type(VALUE).__base__, None, True, False]
+HELD += [bplist.Refused, plistlib.UID, datetime.datetime, type(VALUE).__base__, None, True, False]
 
 
 def said(given):

@@ -56,7 +56,6 @@ def bind(
     dict_: type[Container],
     date: type[float],
     uid: collections.abc.Callable[[int], typing.Any],
-    epoch: datetime.datetime,
-    timedelta: type[datetime.timedelta],
+    moment: type[datetime.datetime],
     /,
 ) -> None: ...

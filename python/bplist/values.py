@@ -181,4 +181,4 @@ class Dict(Container, MappingBase):
 
 collections.abc.Sequence.register(Array)
 collections.abc.Mapping.register(Dict)
-_bplist.bind(Array, Set, Dict, Date, plistlib.UID, datetime.datetime(2001, 1, 1), datetime.timedelta)
+_bplist.bind(Array, Set, Dict, Date, plistlib.UID, datetime.datetime)

@@ -25,9 +25,8 @@ enum {
     /* The class of dates that datetime can't hold, and that of UIDs. */
     FAR_DATE,
     UID,
-    /* The first moment of 2001, and the class of spans of time. */
-    EPOCH,
-    TIMEDELTA,
+    /* datetime.datetime. */
+    DATETIME,
     HELD
 };
 
@@ -139,6 +138,11 @@ extern PyType_Spec members_spec;
    dictionary: methods of containers. */
 PyObject *members_from(PyObject *container, PyObject *arguments);
 PyObject *members_pairs(PyObject *container, PyObject *none);
+
+/* date.c */
+
+/* The date so many seconds after the first moment of 2001, or the seconds themselves if datetime can't hold it. */
+PyObject *date_of(State *state, double seconds);
 
 /* leaf.c */
 

@@ -15,6 +15,7 @@ import plistlib
 import random
 import runpy
 import signal
+import struct
 import subprocess
 import sys
 import tempfile
@@ -271,6 +272,23 @@ class Edges(unittest.TestCase):
         self.assertIsInstance(far, bplist.Date)
         self.assertGreater(far, 1e300)
         self.assertTrue(math.isnan(self.value_of(b"\x33\x7f\xf8" + bytes(6))))
+
+    def test_dates(self):
+        """A date is what plistlib reckons, to the microsecond: also at the ends of datetime's range, and beyond them."""
+        epoch = datetime.datetime(2001, 1, 1)
+        given = random.Random(3)
+        first, last = (moment - epoch for moment in (datetime.datetime.min, datetime.datetime.max))
+        cases = [given.uniform(first.total_seconds(), last.total_seconds()) for _ in range(3000)]
+        cases += [float(round(case)) for case in cases] + [given.uniform(-1e-5, 1e-5) for _ in range(1000)]
+        cases += [days * 86400.0 for days in range(-800, 1600)] + [n / 64 + 1e-6 * (n % 5 - 2) / 2 for n in range(-640, 640)]
+        for end in (first.total_seconds(), last.total_seconds()):
+            cases += [end + step for step in (-86400, -1, -1e-3, 0, 1e-3, 1, 86400)]
+        for case in cases:
+            value = self.value_of(b"\x33" + struct.pack(">d", case))
+            try:
+                self.assertEqual(value, epoch + datetime.timedelta(seconds=case), case)
+            except OverflowError:
+                self.assertEqual((type(value), value), (bplist.Date, case))
 
     def test_long_integers(self):
         self.assertEqual(self.value_of(b"\x14" + b"\x7f" + b"\xff" * 15), 2**127 - 1)

@@ -31,6 +31,10 @@ pub struct Lint<'a> {
     pub hex: bool,
     /// Whether nothing is printed of a file that holds a value.
     pub quiet: bool,
+    /// Whether a FILE that is a folder stands for the files below it.
+    pub recursive: bool,
+    /// Whether the files are counted at the end.
+    pub summary: bool,
     /// Whether more is said under a fault's line.
     pub explain: bool,
 }
@@ -64,6 +68,16 @@ pub enum Request<'a> {
     Command(Job),
     /// `show`, `ls` or `map`, which take no certificate.
     Show(Shown<'a>),
+}
+
+impl<'a> Request<'a> {
+    /// Whether more is said under a fault's line.
+    pub fn explains(&self) -> bool {
+        match self {
+            Request::Command(job) => job.explain,
+            Request::Show(_) => false,
+        }
+    }
 }
 
 /// A command of the engine. One that prints has exactly one path.
@@ -122,16 +136,29 @@ fn lint_of<'a>(alloc: Global, matches: &ArgMatches<'a>) -> Result<Lint<'a>, Allo
         files: matches.get_strs("FILE").unwrap_or(&[]).to_vec(alloc)?,
         hex: matches.get_flag("hex"),
         quiet: matches.get_flag("quiet"),
+        recursive: matches.get_flag("recursive"),
+        summary: matches.get_flag("summary"),
         explain: matches.get_flag("explain"),
     })
 }
 
-/// The line that explains the rule of a word.
+/// The line that explains the rule of a word or a number.
 fn explain_of<'a>(alloc: Global, word: &str) -> Result<Line<'a>, Error> {
-    match rule_of_word(word) {
+    if let Some(rule) = rule_of_word(word) {
+        return Ok(Line::Explain(rule));
+    }
+    match number_in(word) {
         Some(rule) => Ok(Line::Explain(rule)),
         None => Err(unknown_word(alloc, word)?),
     }
+}
+
+/// The rule whose number a word is, in decimal digits of which the first is not 0.
+fn number_in(word: &str) -> Option<Rule> {
+    if word.starts_with(['+', '0']) {
+        return None;
+    }
+    rule_of_number(word.parse::<u32>().ok()?)
 }
 
 fn run_of<'a>(alloc: Global, name: &str, matches: &ArgMatches<'a>) -> Result<Run<'a>, Error> {

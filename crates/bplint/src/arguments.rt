@@ -8,6 +8,14 @@ use std::alloc::{AllocError, Global};
 pub enum Form {
     /// `--name`.
     Flag,
+    /// `--name`, or `-` and this letter.
+    Short(char),
+    /// The same, and not together with another flag.
+    ShortWithout(char, &'static str),
+    /// `--name`, and not together with another flag.
+    Without(&'static str),
+    /// `--limit N`, which goes with another flag, and the N where it is not given.
+    Limit(&'static str, &'static str),
     /// A text that has to be given.
     One,
     /// The same, once or more often.
@@ -18,8 +26,6 @@ pub enum Form {
     Any,
     /// A number that has to be given.
     Number,
-    /// `--limit`, which goes with `--text` alone.
-    TextLimit,
 }
 
 /// An argument, as the tables have it.
@@ -33,14 +39,26 @@ pub struct Argument {
 
 pub const HEX: Argument = Argument {
     name: "hex",
-    form: Form::Flag,
+    form: Form::Short('x'),
     help: "FILE and CERT hold hexadecimal text, and OUT will",
 };
 
 pub const QUIET: Argument = Argument {
     name: "quiet",
-    form: Form::Flag,
+    form: Form::Short('q'),
     help: "Print nothing for a file that holds a value",
+};
+
+pub const RECURSIVE: Argument = Argument {
+    name: "recursive",
+    form: Form::ShortWithout('r', "hex"),
+    help: "Lint all files below a FILE that is a folder, if they begin with bplist",
+};
+
+pub const SUMMARY: Argument = Argument {
+    name: "summary",
+    form: Form::Flag,
+    help: "Count at the end how many files were sound, not sound and unreadable",
 };
 
 pub const EXPLAIN: Argument = Argument {
@@ -63,8 +81,26 @@ pub const TEXT: Argument = Argument {
 
 pub const TEXT_LIMIT: Argument = Argument {
     name: "LIMIT",
-    form: Form::TextLimit,
+    form: Form::Limit("text", "1048576"),
     help: "How many bytes of text to print at most, the line feed not counted",
+};
+
+pub const RAW: Argument = Argument {
+    name: "raw",
+    form: Form::Without("text"),
+    help: "Write the bytes of data, the UTF-8 of a text, or the digits of a number",
+};
+
+pub const TREE: Argument = Argument {
+    name: "recursive",
+    form: Form::Short('R'),
+    help: "List what is in the members too, each behind its container",
+};
+
+pub const TREE_LIMIT: Argument = Argument {
+    name: "LIMIT",
+    form: Form::Limit("recursive", "1000000"),
+    help: "How many nodes to list at most",
 };
 
 pub const FILE: Argument = Argument {
@@ -128,7 +164,7 @@ pub const LIMIT: Argument = Argument {
 pub const WORD: Argument = Argument {
     name: "WORD",
     form: Form::One,
-    help: "The word of a rule, as fault lines have it",
+    help: "The word of a rule, as fault lines have it, or its number",
 };
 
 impl Argument {
@@ -137,20 +173,28 @@ impl Argument {
         let name = self.name;
         let arg = Arg::new(alloc, name).help(self.help);
         match self.form {
-            Form::Flag => Ok(arg.long(name).action(ArgAction::SetTrue)),
+            Form::Flag => Ok(flag(arg, name)),
+            Form::Short(letter) => Ok(flag(arg, name).short(letter)),
+            Form::ShortWithout(letter, other) => {
+                flag(arg, name).short(letter).conflicts_with(other)
+            }
+            Form::Without(other) => flag(arg, name).conflicts_with(other),
+            Form::Limit(with, default) => limit(arg.default_value(default), with),
             Form::One => Ok(arg.required(true)),
             Form::Many => Ok(arg.required(true).num_args(1..).action(ArgAction::Append)),
             Form::Maybe => Ok(arg),
             Form::Any => Ok(arg.num_args(1..).action(ArgAction::Append)),
             Form::Number => Ok(arg.required(true).value_parser(value_parser!(u64))),
-            Form::TextLimit => text_limit(arg),
         }
     }
 }
 
-fn text_limit(arg: Arg<'_>) -> Result<Arg<'_>, AllocError> {
+fn flag<'a>(arg: Arg<'a>, name: &'a str) -> Arg<'a> {
+    arg.long(name).action(ArgAction::SetTrue)
+}
+
+fn limit<'a>(arg: Arg<'a>, with: &'a str) -> Result<Arg<'a>, AllocError> {
     arg.long("limit")
-        .default_value("1048576")
         .value_parser(value_parser!(u64))
-        .requires_arg("text")
+        .requires_arg(with)
 }

@@ -1,10 +1,9 @@
 //! How a run ends: a fault's line on standard error, and the exit status.
-ghost use Rattle.std.specs.Prelude.{Err, MatchResult};
 ghost use Rattle.bplint.specs.ExitStatuses.{EndsWith, IsRefusedWith};
 ghost use Rattle.clap.specs.Values.{kind_of};
 
 use crate::runs::Ending;
-use bplint_lines::{RunFault, Said};
+use bplint_lines::{RawFault, RunFault, Said};
 use clap::Error;
 use clap::error::ErrorKind;
 use std::alloc::{AllocError, Global};
@@ -12,31 +11,15 @@ use std::alloc::{AllocError, Global};
 /// The exit status of a wrong command line.
 pub const WRONG_LINE: u8 = 2;
 
-/// Prints a fault's line behind the prefix and what is said under it, and gives the exit status.
-pub fn end<R: Eprint>(rt: &R, alloc: Global, prefix: &str, ending: Result<Ending, RunFault>) -> u8
-    ensures { MatchResult ending (λ ended. EndsWith ended.answer result) (λ fault. EndsWith (Err fault) result) }
+/// Prints a fault's line behind the prefix, with what is said under it, and gives the exit status. All is printed at once,
+/// so that runs side by side do not mix their lines.
+pub fn end<R: Eprint>(rt: &R, alloc: Global, prefix: &str, ending: Ending) -> u8
+    ensures { EndsWith ending.answer result }
 {
-    match ending {
-        Ok(Ending { answer, under }) => finish(rt, alloc, prefix, answer, &under),
-        Err(fault) => finish(rt, alloc, prefix, Err(fault), ""),
-    }
-}
-
-/// Prints a fault's line behind the prefix, with what is said under it, and gives the exit status. All is printed at once, so that
-/// runs side by side do not mix their lines.
-pub fn finish<R: Eprint>(
-    rt: &R,
-    alloc: Global,
-    prefix: &str,
-    answer: Result<Said, RunFault>,
-    under: &str,
-) -> u8
-    ensures { EndsWith answer result }
-{
-    match answer {
+    match ending.answer {
         Ok(Said::All) => 0,
         Ok(Said::SomeMissing) => 1,
-        Err(fault) => match lines_of(alloc, prefix, &fault, under) {
+        Err(fault) => match lines_of(alloc, prefix, &fault, &ending.under) {
             Ok(lines) => {
                 let _ = rt.eprint(lines);
                 fault.status()
@@ -53,7 +36,7 @@ pub fn finish<R: Eprint>(
 fn lines_of(
     alloc: Global,
     prefix: &str,
-    fault: &RunFault,
+    fault: &RawFault,
     under: &str,
 ) -> Result<String, AllocError> {
     let line = fault.line(alloc)?;
@@ -65,7 +48,7 @@ pub fn refuse<R: Print + Eprint>(rt: &R, alloc: Global, error: Error) -> u8
     ensures { IsRefusedWith (kind_of error) result }
 {
     match error.kind() {
-        ErrorKind::OutOfMemory => finish(rt, alloc, "", Err(RunFault::Memory), ""),
+        ErrorKind::OutOfMemory => end(rt, alloc, "", Ending::with(alloc, RunFault::Memory)),
         kind => {
             let _ = error.print(rt);
             match kind {

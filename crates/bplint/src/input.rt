@@ -1,11 +1,12 @@
 //! Inputs: FILE and CERT, each read by place or whole.
 ghost use Rattle.std.specs.Prelude.{◌≡◌, ◌⊎◌, ◌≤◌, ◌<◌, [], IfErr, IfOk, IfSome, MatchOption, MatchResult, None, Ok, codes, length, true, vec_len};
 ghost use Rattle.std.specs.Str.{bytes_eq};
-ghost use Rattle.bplint.specs.Inputs.{IsInputFault, IsNothing, IsReadFault, HasLength, IsReadWhole, IsShort, IsWholeFault, KeepsWhole, OfWhole};
+ghost use Rattle.bplint.specs.Inputs.{IsInputFault, IsNothing, IsReadFault, HasLength, IsReadWhole, IsShort, IsWholeFault, KeepsWhole, OfWhole, starts_with_bplist};
 ghost use Rattle.bplint_engine.specs.Check.{IsDecoded};
 ghost use Rattle.bplint_engine.specs.Hexadecimal.{spelled};
 
 use crate::args::Operands;
+use crate::unread::Unread;
 use bplint_engine::undo_hex;
 use bplint_lines::RunFault;
 use bplist_cert::{CertRefusal, Certificate, Refusal};
@@ -23,7 +24,7 @@ pub const SPARE_READS: usize = 64;
 /// Reads to the end of the input. An interrupted read is tried again.
 ///
 /// `bytes` and `too_long` speak of a reader whose `remaining` the kit knows. Of a `File` and of standard input it is `None`.
-fn read_whole<R: Read>(alloc: Global, reader: &mut R) -> Result<Vec<u8>, RunFault>
+pub fn read_whole<R: Read>(alloc: Global, reader: &mut R) -> Result<Vec<u8>, RunFault>
     ensures bounded { IfOk result (λ v. vec_len v ≤ WHOLE_LIMIT) }
     ensures bytes { IfOk result (λ v. IfSome (R.remaining reader.old) (λ xs. v.items ≡ xs)) }
     ensures too_long { IfErr result (λ fault. fault ≡ RunFault.InputTooLong
@@ -82,6 +83,25 @@ impl Operand {
         }
     }
 
+    /// Whether the input begins as binary property lists of all versions do.
+    pub fn is_bplist(&mut self) -> Result<bool, RunFault>
+        ensures whole { OfWhole (λ text. MatchResult result (λ yes. yes ≡ starts_with_bplist text) (λ _. ⊥)) self.old }
+        ensures kept { KeepsWhole self.old self.new }
+        ensures faults { IfErr result IsReadFault }
+    {
+        match self {
+            Operand::Whole(text) => Ok(text.starts_with(b"bplist")),
+            Operand::File(file) => {
+                let mut front = [0; 6];
+                if file.len() < 6 {
+                    return Ok(false);
+                }
+                file.read_at(0, &mut front)?;
+                Ok(front == *b"bplist")
+            }
+        }
+    }
+
     /// What decoding the input as a certificate gives. The fault is that of a failed read.
     pub fn decode(&mut self, alloc: Global) -> Result<Result<Certificate, CertRefusal>, RunFault>
         ensures whole { OfWhole (λ text. MatchResult result (IsDecoded text) (λ _. ⊥)) self.old }
@@ -132,22 +152,29 @@ fn read_all(alloc: Global, file: FileSource) -> Result<Vec<u8>, RunFault>
 /// Opens what is named, and undoes hexadecimal text.
 ///
 /// FILE is opened before CERT, and both before a text is looked at.
-pub fn open_inputs<R: Files<File = File> + Input>(
+pub fn open_inputs<'a, R: Files<File = File> + Input>(
     rt: &R,
     alloc: Global,
-    operands: &Operands<'_>,
-) -> Result<Inputs, RunFault> {
-    let Operands { file, cert, hex } = *operands;
-    let inputs = Inputs {
-        file: open_operand(rt, alloc, file, hex)?,
-        cert: open_certificate(rt, alloc, cert, hex)?,
-    };
+    operands: &Operands<'a>,
+) -> Result<Inputs, Unread<'a>> {
+    let hex = operands.hex;
+    let (file_name, cert_name) = (operands.file, operands.cert.unwrap_or(""));
+    let file = open_operand(rt, alloc, file_name, hex).map_err(|fault| Unread::new(
+        file_name, fault,
+    ))?;
+    let cert = open_certificate(rt, alloc, operands.cert, hex).map_err(|fault| Unread::new(
+        cert_name, fault,
+    ))?;
     if !hex {
-        return Ok(inputs);
+        return Ok(Inputs { file, cert });
     }
     Ok(Inputs {
-        file: inputs.file.undo_hex(alloc)?,
-        cert: inputs.cert.undo_hex(alloc)?,
+        file: file
+            .undo_hex(alloc)
+            .map_err(|fault| Unread::new(file_name, fault))?,
+        cert: cert
+            .undo_hex(alloc)
+            .map_err(|fault| Unread::new(cert_name, fault))?,
     })
 }
 

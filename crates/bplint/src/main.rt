@@ -12,7 +12,9 @@
 //! | `input` | FILE and CERT: open and read by place, or read whole |
 //! | `output` | OUT, which is created with its first byte |
 //! | `runs` | one request over one FILE |
-//! | `linting`, `file_names` | `lint` over several FILEs, and their names in lines |
+//! | `linting`, `tally` | `lint` over several FILEs and folders, and their counts |
+//! | `folders`, `file_names` | what stands in a folder, and names in lines |
+//! | `unread` | why an input could not be read |
 //! | `endings` | a fault's line, and the exit status |
 //!
 //! What is written is proved in bplint_engine, bplint_map and bplint_lines; the functions here pass it on.
@@ -24,23 +26,26 @@ mod args;
 mod arguments;
 mod endings;
 mod file_names;
+mod folders;
 mod input;
 mod linting;
 mod output;
 mod runs;
 mod subcommands;
+mod tally;
+mod unread;
 
 use args::Line;
 use bplint_lines::{RunFault, Said, rule_text};
 use bplist_objects::Rule;
-use endings::{WRONG_LINE, end, finish, refuse};
+use endings::{WRONG_LINE, end, refuse};
 use linting::lint_files;
 use output::OutFile;
-use runs::run;
+use runs::{Ending, run};
 use std::alloc::Global;
 use std::fs::{File, Files};
 use std::io;
-use std::io::Write;
+use std::io::{IsTerminal, Write};
 use std::process::ExitCode;
 
 /// Writes what a rule asks.
@@ -56,18 +61,20 @@ fn page<R: Files<File = File> + Print>(
     }
 }
 
-/// Does what the words of a command line ask, and gives the exit status.
+/// Does what the words of a command line ask, and gives the exit status. `on_terminal` is whether standard error is a
+/// terminal.
 fn start<R: Files<File = File> + Input + Print + Eprint>(
     rt: &R,
     alloc: Global,
     words: &[String],
+    on_terminal: bool,
 ) -> u8
     ensures { result ≤ 4 }
 {
     match args::read_line(alloc, words) {
-        Ok(Line::Lint(lint)) => lint_files(rt, alloc, &lint),
+        Ok(Line::Lint(lint)) => lint_files(rt, alloc, &lint, on_terminal),
         Ok(Line::Run(line)) => end(rt, alloc, "", run(rt, alloc, &line)),
-        Ok(Line::Explain(rule)) => finish(rt, alloc, "", page(rt, alloc, rule), ""),
+        Ok(Line::Explain(rule)) => end(rt, alloc, "", Ending::of(alloc, page(rt, alloc, rule))),
         Err(error) => refuse(rt, alloc, error),
     }
 }
@@ -79,9 +86,14 @@ fn words(rt: &HostRuntime) -> io::Result<Vec<String>> {
 
 fn main(rt: HostRuntime) -> ExitCode {
     let status = match words(&rt) {
-        Ok(words) => start(&rt, rt.alloc(), &words),
+        Ok(words) => start(&rt, rt.alloc(), &words, rt.stderr().is_terminal()),
         Err(error) if error.kind() == io::ErrorKind::OutOfMemory => {
-            finish(&rt, rt.alloc(), "", Err(RunFault::Memory), "")
+            end(
+                &rt,
+                rt.alloc(),
+                "",
+                Ending::with(rt.alloc(), RunFault::Memory),
+            )
         }
         Err(error) => {
             let _ = match error.kind() {

@@ -2,15 +2,17 @@
 
 use crate::arguments::{
     ANY_PATHS, Argument, CERT, EXPLAIN, FILE, FILES, HEX, LIMIT, MAYBE_PATH, OUT, PATH, PATHS,
-    QUIET, SORTED, TEXT, TEXT_LIMIT, WORD,
+    QUIET, RAW, RECURSIVE, SORTED, SUMMARY, TEXT, TEXT_LIMIT, TREE, TREE_LIMIT, WORD,
 };
 use clap::Command;
 use std::alloc::{AllocError, Global};
 
 /// Behind the help of each subcommand: the exit statuses, and where the rules stand.
-const LINT_HELP: &str = "Example: find . -name '*.plist' -print0 | xargs -0 bplint lint --quiet
+const LINT_HELP: &str = "Example: bplint lint Info.plist
+         bplint lint --recursive --quiet backup
 
-With several FILEs each line begins with the name of its file, and the status is the greatest of theirs.
+With several FILEs or --recursive each line begins with the name of its file, and the status is the greatest of theirs.
+Below a folder links are not followed, and files that do not begin with bplist are passed over.
 Exit status: 0 yes, 1 a broken rule, 2 a wrong command line, 3 a failed read or write, 4 no memory.
 The rules: man bplint, or docs/RULES.md.";
 
@@ -37,11 +39,13 @@ path, 3 a failed read or write, 4 no memory. The rules: man bplint, or docs/RULE
 
 const SHOW_HELP: &str = "Example: bplint show Info.plist /CFBundleName /LSArchitecturePriority/0
          bplint show --text Info.plist /CFBundleURLTypes
+         bplint show --raw Info.plist /inner | bplint lint -
 
 Exit status: 0 yes, 1 a broken rule, a path that leads nowhere or no text of that length, 2 a wrong command line or
 path, 3 a failed read or write, 4 no memory. The rules: man bplint, or docs/RULES.md.";
 
 const LS_HELP: &str = "Example: bplint ls Info.plist /LSArchitecturePriority
+         bplint ls --recursive Info.plist
 
 A line has a path, a tab and what lies there. A place in brackets stands where no path leads.
 Exit status: 0 yes, 1 a broken rule or a path that leads nowhere, 2 a wrong command line or path, 3 a failed read or
@@ -55,8 +59,9 @@ Exit status: 0 yes, 1 a broken rule of 1 to 13, 2 a wrong command line, 3 a fail
 The rules: man bplint, or docs/RULES.md.";
 
 const EXPLAIN_HELP: &str = "Example: bplint explain KeyTwice
+         bplint explain 22
 
-Exit status: 0 yes, 2 no such word, 3 a failed write, 4 no memory. All rules: man bplint, or docs/RULES.md.";
+Exit status: 0 yes, 2 no such rule, 3 a failed write, 4 no memory. All rules: man bplint, or docs/RULES.md.";
 
 const HELP: &str = "Example: bplint lint Info.plist
 
@@ -79,19 +84,19 @@ static SUBCOMMANDS: [Subcommand; 9] = [
         name: "lint",
         about: "Says whether each FILE holds a value",
         help: LINT_HELP,
-        arguments: &[HEX, QUIET, EXPLAIN, FILES],
+        arguments: &[HEX, QUIET, RECURSIVE, SUMMARY, EXPLAIN, FILES],
     },
     Subcommand {
         name: "show",
         about: "Prints what lies under each PATH, or the whole",
         help: SHOW_HELP,
-        arguments: &[HEX, TEXT, TEXT_LIMIT, FILE, ANY_PATHS],
+        arguments: &[HEX, TEXT, TEXT_LIMIT, RAW, FILE, ANY_PATHS],
     },
     Subcommand {
         name: "ls",
         about: "Lists the members of the value under PATH, or of the whole",
         help: LS_HELP,
-        arguments: &[HEX, FILE, MAYBE_PATH],
+        arguments: &[HEX, TREE, TREE_LIMIT, FILE, MAYBE_PATH],
     },
     Subcommand {
         name: "map",
@@ -148,7 +153,7 @@ impl Subcommand {
 pub fn bplint<'a>(alloc: Global) -> Result<Command<'a>, AllocError> {
     let mut command = Command::new(alloc, "bplint")
         .about("Lints, checks and reads binary property lists")
-        .version("0.2.0")
+        .version("0.3.0")
         .after_help(HELP)
         .subcommand_required(true);
     for subcommand in &SUBCOMMANDS {

@@ -23,6 +23,7 @@
 
 mod explanation;
 mod fault;
+mod file_lines;
 mod member_names;
 mod object_path;
 mod output_lines;

@@ -8,7 +8,7 @@ use Rattle.std.proofs.lemmas.List.{flat_map_more}
 use Rattle.std.specs.Char.{is_control}
 use Rattle.std.specs.List.{flat_map}
 use Rattle.bplint.specs.FileNames.{shown_char}
-use Rattle.bplint.proofs.file_names.prefix_of.Goals as goal
+use Rattle.bplint.proofs.file_names.shown_name.Goals as goal
 
 control_is_byte : (c : ℕ) → is_control c ≡ true → c < 256
 control_is_byte c control = grind (arith, nat_tests)
@@ -27,4 +27,4 @@ pub returns : goal.returns
 returns c =
     let all = YieldsList-end (YieldsList-from_chars c.args.name.now c.utf8.name cc) c.loop-c.yielded _ c.loop-c.yielded_by _ _ c.in-None.is c.next.ensures.steps in
     let same = sym (flat_map-map shown_char (λ c. c) c.loop-c.yielded) ∙ ap (flat_map shown_char) all.0 in
-    rw (c.in_ok-push_str.ensures.bytes, c.loop-c.invariant, same) refl
+    rw (c.loop-c.invariant, same) refl
