@@ -1,12 +1,15 @@
 #!/usr/bin/env python3
 """definitions.py [--write | --count [CALL..]]
 
-Makes docs/DEFINITIONS.md from the comments of crates/*/specs: each definition that a contract of a public call cites, with the
-line in plain words above it. With --write the document is written; without, it is compared with the one that is there, and the
-last line printed is `N passed, M failed`, one test for each crate. With --count the definitions and their lines are counted, crate
-by crate: what all public calls lead to, those too that only definitions cite, or those named, with types as `Checked` for their
-methods.
+Makes docs/DEFINITIONS.md from crates/*/specs: what a reader has to believe, in the order in which it is read. The page has
+the definitions that the theorem leads to with their text, then those that its other clauses add, and then, by name, those
+of all other public calls. With --write the page is written. Without, it is compared with the one that is there, one test a
+section; and two more tests ask that no public contract leads to a definition that computes what the grammar says, and that
+each file of the theorem has its place in the reading order. The last line printed is `N passed, M failed`. With --count the
+table of the page is printed, or how many definitions and lines the contracts of these calls lead to, with types as
+`Checked` for their methods.
 """
+import itertools
 import pathlib
 import re
 import sys
@@ -15,19 +18,48 @@ HERE = pathlib.Path(__file__).resolve().parent.parent
 
 HEAD = """# Definitions
 
-Each definition that the contract of a public call cites, with the plain words above it in its file; the table counts those too that
-only definitions cite. The head of each file names its source: Apple's published CFBinaryPList.c, a standard, or `profile`, a choice
-of this project. `tests/definitions.py --write` makes this page, and the gate compares.
+What a reader has to believe, from the bytes to the theorem. Each block is a part of the named file, without the definitions
+that only proofs and private contracts cite. A name without a definition here is a type of the Rust code, as `Frame`, `Kind`
+and `Head`, or a word of the kit's library. The words above a definition say it in plain English. The words above a block
+name its source: Apple's published CFBinaryPList.c, a standard, or `profile`, a choice of this project.
 
-| who relies on | has to believe definitions | of lines |
+`tests/definitions.py --write` makes this page, and the gate compares. A line of the table has what it adds to those above
+it. Comments are not counted.
+
+| to believe | definitions | lines |
 |---|---|---|
 """
-THEOREM = {"check", "answer_all", "Certificate", "Checked", "Source"}
-PROGRAM = {"bplint_lines", "bplint_map", "bplint_engine"}
+# The files that the theorem leads to, in reading order.
+READING = {
+    "Bytes and numbers": [("bplist_octets", "Octets"), ("bplist_objects", "Numbers")],
+    "The trailer and the offsets": [("bplist_objects", "Rules"), ("bplist_objects", "Frame")],
+    "Values": [("bplist_objects", "Value")],
+    "Fronts and heads": [("bplist_objects", "Announced")],
+    "What an object spells": [("bplist_objects", "Heads")],
+    "What an object holds": [("bplist_objects", "Holds")],
+    "What the top reaches": [("bplist_objects", "Reach")],
+    "What a file holds": [("bplist_objects", "Extents"), ("bplist_objects", "File")],
+    "Where a path leads": [("bplist_cursor", "Members"), ("bplist_cursor", "Look")],
+    "How many nodes a value has": [("bplist_cursor", "Nodes")],
+    "What a value replies": [("bplist_cursor", "Replies")],
+    "What a source of bytes means": [("bplist_octets", "Meaning")],
+    "The theorem": [("bplist_cursor", "Answered")],
+}
+# The parts of the page with text: a title, and the clauses of `answer_certified` that each adds.
+PARTS = {
+    "the theorem: clause `theorem` of `answer_certified`, and `Source`": ["theorem"],
+    "that the call only reads: clause `handed`": ["handed"],
+    "when replies come: clauses `yes` and `accepted`": ["yes", "accepted"],
+    "which fault comes: clause `refused`": ["refused"],
+}
+# The files whose definitions compute what the grammar says, for contracts inside crates.
+COMPUTING = {("bplist_objects", "Markers"), ("bplist_objects", "Spelled")}
 
 DECLARED = re.compile(r"( *)(?:abbrev|unfoldable) pub (\S+)|( *)pub (?:record|data) (\S+)")
 IMPORT = re.compile(r"use Rattle\.(\w+)\.specs\.([\w.]+?)(?:\.\{([^}]*)\}| as (\w+))")
 CLAUSE = re.compile(r"\b(?:requires|ensures|ghost)\b(?! use)[^{;]*\{")
+PUBLIC = re.compile(r"^pub (?:const )?(?:fn|struct|enum|trait) (\w+)", re.M)
+NAMED_CLAUSE = re.compile(r"\bensures (\w+) \{")
 
 
 class Definition:
@@ -35,7 +67,12 @@ class Definition:
 
     def __init__(self, crate, file, name, comment):
         self.crate, self.file, self.name, self.comment = crate, file, name, comment
-        self.lines = []
+        self.lines, self.modules = [], []
+
+    def text(self):
+        """The definition with the words above it, as in its file."""
+        indent = " " * (len(self.lines[0]) - len(self.lines[0].lstrip()))
+        return "\n".join([f"{indent}-- {line}" for line in self.comment] + self.lines).rstrip()
 
     def declares(self):
         """Its name, and those of the constructors of a data type."""
@@ -80,20 +117,21 @@ def definitions_of(crate, path):
         modules = [one for one in modules if indent > one[0]]
         declared = DECLARED.match(line)
         inner = re.match(r" *pub (\S+) :", line) if mutual is not None and indent == mutual + 2 else None
-        if text.startswith("--"):
+        if text.startswith("-- ----"):
+            comment = []
+        elif text.startswith("--"):
             comment.append(text[2:].strip())
         elif text.startswith("use "):
             comment = []
-        elif text.startswith("module _"):
+        elif text.startswith("module _") or text in ("mutual", "abbrev mutual"):
             modules.append((indent, text))
-        elif text == "abbrev mutual":
-            mutual = indent
+            mutual = indent if text == "abbrev mutual" else mutual
         elif declared or inner:
             mutual = mutual if inner else None
             name = inner[1] if inner else declared[2] or declared[4]
-            found.append(Definition(crate, path.stem, name, " ".join(comment)))
-            found[-1].lines = [text] if not declared else [line]
-            found[-1].modules = [module for _, module in modules]
+            found.append(Definition(crate, path.stem, name, comment))
+            found[-1].lines = [line]
+            found[-1].modules = list(modules)
             comment = []
         elif found:
             found[-1].lines.append(line)
@@ -136,7 +174,7 @@ class Specs:
                 continue
             seen.add(one)
             imports = self.imports[one.crate, one.file]
-            words = one.cites() + [word for module in one.modules for word in words_of(module)]
+            words = one.cites() + [word for _, module in one.modules for word in words_of(module)]
             places = (self.resolved(word, imports) for word in words)
             open_ += [self.by_name[place] for place in places if place in self.by_name]
         return seen
@@ -152,6 +190,13 @@ def exported(source):
     """The names that a crate's root exports."""
     used = re.findall(r"^pub use \w+::(?:(\w+)|\{([^}]*)\});", source, re.M)
     return {name.strip() for one, many in used for name in (one or many).split(",") if name.strip()}
+
+
+def public_names(sources):
+    """The names that a crate exports: of a program, which has no root for callers, all that are public in a file."""
+    if "lib" in sources:
+        return exported(sources["lib"])
+    return {name for text in sources.values() for name in PUBLIC.findall(text)}
 
 
 def items(source):
@@ -179,6 +224,12 @@ def clauses(text):
     return " ".join(balanced(text, found.end() - 1) for found in CLAUSE.finditer(text))
 
 
+def named_clauses(text):
+    """The clauses of a text that have a name, as they stand."""
+    found = NAMED_CLAUSE.finditer(text)
+    return {one[1]: text[one.start() : one.end() - 1] + balanced(text, one.end() - 1) for one in found}
+
+
 def public_part(item, names):
     """What of an item callers of the crate see."""
     head = re.search(r"^(pub |impl\b|mod |#\[cfg\(test)", item, re.M)
@@ -186,7 +237,7 @@ def public_part(item, names):
         return ""
     if "#[unsafe(no_mangle)]" in item:
         return item
-    named = re.search(r"^pub (?:const )?(?:fn|struct|enum|trait) (\w+)", item, re.M)
+    named = PUBLIC.search(item)
     if named:
         return item if named[1] in names else ""
     block = re.search(r"^impl\b(?:<[^{]*?>)? *(?:([\w:]+)(?:<[^{]*?>)? for )?&?(?:mut )?(\w+)", item, re.M)
@@ -197,15 +248,18 @@ def public_part(item, names):
     return "\n".join(re.findall(r"^    pub (?:const )?fn .*?^    }$", item, re.M | re.S))
 
 
+def sources_of(specs, crate):
+    """The files of a crate's src/ by their names."""
+    return {path.stem: path.read_text() for path in sorted((specs.root / "crates" / crate / "src").glob("*.rt"))}
+
+
 def cited_by(specs, crate, calls):
     """What the contracts of a crate's public calls cite, or those of these calls and types alone, where some are given."""
-    source = specs.root / "crates" / crate / "src"
-    lib = source / "lib.rt"
-    names = exported(lib.read_text()) if lib.exists() else set()
+    sources = sources_of(specs, crate)
+    names = public_names(sources)
     names &= calls or names
     cited = set()
-    for path in sorted(source.glob("*.rt")):
-        text = path.read_text()
+    for text in sources.values():
         imports = imports_of(text)
         for item in items(text):
             if calls and "#[unsafe(no_mangle)]" in item and not calls & set(re.findall(r"fn (\w+)", item)):
@@ -214,23 +268,107 @@ def cited_by(specs, crate, calls):
     return cited
 
 
-def reachable(calls, of=()):
-    """The definitions of each crate that contracts of public calls lead to, in reading order, and those that they cite: of these
-    crates' calls, or all."""
-    specs = Specs(HERE)
-    cited = {place for crate in of or specs.by_crate for place in cited_by(specs, crate, calls)}
-    found = specs.reachable(cited)
-    cited = {specs.by_name[place] for place in cited if place in specs.by_name}
-    return {crate: [one for one in all_ if one in found] for crate, all_ in specs.by_crate.items()}, cited, specs
+def theorem_clauses(specs):
+    """The clauses of `answer_certified` by name, and what each cites."""
+    for text in sources_of(specs, "bplist_cursor").values():
+        for item in items(text):
+            if re.search(r"^pub fn answer_certified\b", item, re.M):
+                imports, found = imports_of(text), named_clauses(item)
+                cited = {name: {specs.resolved(word, imports) for word in words_of(one)} for name, one in found.items()}
+                return found, cited
+    raise SystemExit("answer_certified is gone")
 
 
-def section(crate, found, cited):
-    """What the page says of a crate: of each file the definitions that contracts cite."""
-    out, held = [f"\n## {crate}\n"], [one for one in found if one in cited]
-    for file in dict.fromkeys(one.file for one in held):
-        lines = "".join(f"- `{one.name}`: {one.comment}\n" for one in held if one.file == file)
-        out.append(f"\n[{file}](../crates/{crate}/specs/{file}.antt)\n\n{lines}")
+class Reading:
+    """What is to be believed: each part with the definitions that it adds to those before it."""
+
+    def __init__(self):
+        self.specs = Specs(HERE)
+        self.clauses, cited = theorem_clauses(self.specs)
+        places, self.seen, self.parts = cited_by(self.specs, "bplist_octets", {"Source"}), set(), {}
+        for part, names in PARTS.items():
+            places |= {place for name in names for place in cited[name]}
+            self.add(part, places)
+        for part, crates_of_it in self.groups().items():
+            places |= {place for crate in crates_of_it for place in cited_by(self.specs, crate, set())}
+            self.add(part, places)
+
+    def groups(self):
+        """The crates of the other parts."""
+        library = [crate for crate in self.specs.by_crate if crate.startswith("bplist_") and crate != "bplist_c"]
+        program = [crate for crate in self.specs.by_crate if crate.startswith("bplint")]
+        return {"all other calls of the library": library, "the program": program, "the C library": ["bplist_c"]}
+
+    def add(self, part, places):
+        """A part: the definitions that these places lead to and no part before."""
+        found = self.specs.reachable(places)
+        self.parts[part] = [one for listed in self.specs.by_crate.values() for one in listed if one in found - self.seen]
+        self.seen |= found
+
+    def table(self):
+        """The rows of the table: each part, how many definitions it adds, and their lines."""
+        rows = [(part, len(found), lines_of(found)) for part, found in self.parts.items()]
+        return [*rows, ("all of them", sum(row[1] for row in rows), sum(row[2] for row in rows))]
+
+    def page(self):
+        """The page, section by section."""
+        rows = "".join(f"| {part} | {many} | {lines:,} |\n" for part, many, lines in self.table())
+        sections = {"the table": HEAD + rows}
+        for part, found in self.parts.items():
+            with_text = part in PARTS
+            clause = "".join(f"\n```rust\n{self.clauses[name]}\n```\n" for name in PARTS.get(part, ()))
+            body = reading_blocks(found) if part == next(iter(PARTS)) else blocks(by_file(found), with_text, "###")
+            sections[part] = f"\n## {part[0].upper()}{part[1:]}\n{clause}{body}"
+        return sections
+
+
+def by_file(found):
+    """Definitions by their crate and file, in their order."""
+    files = {}
+    for one in found:
+        files.setdefault((one.crate, one.file), []).append(one)
+    return files
+
+
+def reading_blocks(found):
+    """The blocks of the theorem, in reading order."""
+    files, out = by_file(found), []
+    for title, places in READING.items():
+        out.append(f"\n### {title}\n" + blocks({place: files[place] for place in places if place in files}, True, None))
     return "".join(out)
+
+
+def blocks(files, with_text, heading):
+    """The definitions of each of these files: with their text, or by name with the words above them."""
+    out = []
+    for (crate, file), found in files.items():
+        path = f"crates/{crate}/specs/{file}.antt"
+        out.append(f"\n{heading} {file}\n" if heading and with_text else "")
+        if with_text:
+            out.append(f"\n[{path}](../{path}): {head_of(path)}\n\n```text\n{text_of(found)}\n```\n")
+        else:
+            listed = "".join(f"- `{one.name}`: {' '.join(one.comment)}\n" for one in found)
+            out.append(f"\n[{path}](../{path})\n\n{listed}")
+    return "".join(out)
+
+
+def head_of(path):
+    """The words at the head of a file of specs/."""
+    head = itertools.takewhile(lambda line: line.startswith("--"), (HERE / path).read_text().splitlines())
+    return " ".join(line[2:].strip() for line in head)
+
+
+def text_of(found):
+    """The text of definitions of one file, with the modules that they stand in."""
+    out, open_ = [], []
+    for one in found:
+        common = 0
+        while common < min(len(open_), len(one.modules)) and open_[common] == one.modules[common]:
+            common += 1
+        out += [" " * indent + module for indent, module in one.modules[common:]]
+        open_ = one.modules
+        out += [one.text(), ""]
+    return "\n".join(out).rstrip()
 
 
 def lines_of(found):
@@ -239,44 +377,46 @@ def lines_of(found):
 
 
 def count(calls):
-    found, _, specs = reachable(calls)
-    print("crate\tdefinitions\treachable\tlines")
-    rows = [(crate, len(specs.by_crate[crate]), len(listed), lines_of(listed)) for crate, listed in found.items()]
-    for row in [*rows, ("all", *(sum(row[i] for row in rows) for i in (1, 2, 3)))]:
+    """Prints the table, or how much the contracts of these calls lead to."""
+    if calls:
+        specs = Specs(HERE)
+        found = specs.reachable({place for crate in specs.by_crate for place in cited_by(specs, crate, calls)})
+        print(f"{len(found)}\t{lines_of(found)}")
+        return 0
+    for row in Reading().table():
         print("\t".join(map(str, row)))
     return 0
 
 
-def head():
-    """What the page begins with: how much the calls of each part lead to."""
-    library = {crate for crate in crates(HERE) if crate.startswith("bplist_")} - {"bplist_c"}
-    parts = {
-        "the theorem": reachable(THEOREM),
-        "the library in Rattle": reachable(set(), library),
-        "the program": reachable(set(), PROGRAM),
-        "the C library": reachable(set(), {"bplist_c"}),
-        "all of them": reachable(set()),
-    }
-    rows = [(part, [one for listed in found.values() for one in listed]) for part, (found, _, _) in parts.items()]
-    return HEAD + "".join(f"| {part} | {len(found)} | {lines_of(found):,} |\n" for part, found in rows)
+def computing(reading):
+    """What public contracts lead to, and should not: definitions that compute what the grammar says."""
+    found = sorted(f"{one.name} ({one.file})" for one in reading.seen if (one.crate, one.file) in COMPUTING)
+    return f"public contracts lead to definitions that compute: {', '.join(found)}" if found else ""
+
+
+def misplaced(reading):
+    """The files of the theorem that have no place in the reading order."""
+    placed = {place for places in READING.values() for place in places}
+    found = [f"{crate}, {file}" for crate, file in by_file(reading.parts[next(iter(PARTS))]) if (crate, file) not in placed]
+    return f"these files have no place in the reading order: {'; '.join(found)}" if found else ""
 
 
 def main():
     if "--count" in sys.argv[1:]:
         return count(set(sys.argv[2:]))
-    found, cited, _ = reachable(set())
-    sections = {crate: section(crate, listed, cited) for crate, listed in found.items() if listed}
-    sections = {"all": head(), **sections}
-    page = HERE / "docs/DEFINITIONS.md"
+    reading, page = Reading(), HERE / "docs/DEFINITIONS.md"
+    sections = reading.page()
     if "--write" in sys.argv[1:]:
         page.write_text("".join(sections.values()))
         return 0
     text = page.read_text() if page.exists() else ""
-    stale = [crate for crate, wanted in sections.items() if wanted not in text]
-    for crate in stale:
-        print(f"docs/DEFINITIONS.md is not what specs/ says ({crate}): run tests/definitions.py --write")
-    print(f"{len(sections) - len(stale)} passed, {len(stale)} failed")
-    return 1 if stale else 0
+    stale = [part for part, wanted in sections.items() if wanted not in text]
+    failed = [f"docs/DEFINITIONS.md is not what specs/ says: run tests/definitions.py --write ({part})" for part in stale]
+    failed += [lines for lines in (computing(reading), misplaced(reading)) if lines]
+    for one in failed:
+        print(one)
+    print(f"{len(sections) + 2 - len(failed)} passed, {len(failed)} failed")
+    return 1 if failed else 0
 
 
 if __name__ == "__main__":

@@ -1,8 +1,9 @@
 -- What `get` and `ls` say, from the answers of the cursor.
-use Rattle.std.proofs.Common.{◌≡◌, ◌∙◌, ◌++◌, ◌||◌, inr, ℕ, List, [], ◌∷◌, map, Bool, Result, Ok, Err, ap, append-nil, refl, sym}
-use Rattle.std.proofs.Math.Logic.{∥∥₁_map}
+use Rattle.std.proofs.Common.{◌≡◌, ◌∙◌, ◌++◌, ◌||◌, inr, ℕ, List, [], ◌∷◌, map, Bool, Result, Ok, Err, ap, append-nil, refl, sym, subst}
+use Rattle.std.proofs.Math.Logic.{∥∥₁_map, ∥∥₁_elim}
+use Rattle.std.proofs.Props.{props}
 use Rattle.std.proofs.lemmas.Grind.{merely}
-use Rattle.std.specs.Prelude.{if◌then◌else◌, is_err}
+use Rattle.std.specs.Prelude.{if◌then◌else◌, is_err, IfOk, IfErr, MatchResult}
 use Rattle.std.specs.List.{AllZip, flat_map, list_any}
 use Rattle.bplist_objects.specs.declared.frame.Frame.{Frame}
 use Rattle.bplist_objects.specs.Value.{Value}
@@ -10,7 +11,14 @@ use Rattle.bplist_objects.specs.Holds.{Holds}
 use Rattle.bplist_cursor.specs.declared.found.Why.{Why}
 use Rattle.bplist_cursor.specs.declared.reply.Query.{Query}
 use Rattle.bplist_cursor.specs.declared.reply.Query.TheVariants.{Get}
+use Rattle.bplist_cursor.specs.declared.reply.Reply.{Reply}
 use Rattle.bplist_cursor.specs.declared.reply.Reply.TheVariants.{Face, Missing}
+use Rattle.bplist_cursor.specs.Answered.{IsAnswered, RefusesBy}
+use Rattle.bplist_cursor.specs.declared.certified_answers.AnswerFault.{AnswerFault}
+use Rattle.bplist_cert.specs.Encoding.{octets_of}
+use Rattle.bplist_cert.specs.Lists.{Lists, IsCertificate}
+use Rattle.bplist_cert.specs.PairFault.{IsPairFault}
+use Rattle.bplist_cert.specs.Sorted.{IsAccepted}
 use Rattle.bplist_cursor.specs.Look.{look}
 use Rattle.bplist_cursor.specs.Path.{IsPathOf}
 use Rattle.bplist_cursor.specs.Replies.{face, reply}
@@ -22,10 +30,12 @@ use Rattle.bplint_engine.specs.Output.{Answers, IsRefusal}
 use Rattle.bplint_lines.specs.Faults.{Gives, IsExcused}
 use Rattle.bplint_lines.specs.declared.said.Said.{Said}
 use Rattle.bplint_lines.specs.declared.said.Said.TheVariants.{All, SomeMissing}
-use Rattle.bplint_engine.specs.Get.{LinesSay, found_line, is_missing, replies_said, reply_line, said_of}
+use Rattle.bplint_engine.specs.Get.{LinesSay, answer_fault, found_line, is_missing, replies_said, reply_line, said_of}
+use Rattle.bplint_engine.specs.Check.{CheckSays}
 use Rattle.bplint_engine.specs.Ls.{listed}
 use Rattle.bplint_engine.proofs.EqualAnswers.{same_gives}
-use Rattle.bplint_engine.proofs.PathAnswers.{IsThere, IsYes}
+use Rattle.bplint_engine.proofs.PathAnswers.{AreLines, IsThere, IsYes, check_yes, file_refused}
+use Rattle.bplint_engine.proofs.RefusedCertificates.{answer_refused}
 
 -- a read failed or memory was refused
 pub excused_refused : (Says : Answer → Type 0) (fault : RunFault) → IsExcused fault → IsRefusal Says fault
@@ -69,6 +79,30 @@ queries_say Says f texts paths queries F (Ok output) are asked (said, bytes, say
     let t = told_of v paths queries output.said output.bytes.items asked (told v held) in
     inr (paths, gives said bytes, are, says, (v, holds, same_gives output.said (said_of (map (look 0 v) paths)) output.bytes.items (flat_map found_line (map (look 0 v) paths)) t.0 t.1)))
 queries_say Says f texts paths queries F (Err fault) are asked sure there told = merely (excused_refused (LinesSay found_line Says f texts) fault told)
+
+-- the same from the replies that the file's value gives
+pub replies_say : (Says : Answer → Type 0) (f : List ℕ) (texts : List (List ℕ)) (paths : List (List (List ℕ))) (queries : List Query) (replies : List Reply) (made : Result Output RunFault)
+    → AllZip IsPathOf texts paths → queries ≡ map Get paths → ∥ IsYes Says ∥₁ → ∥ IsAnswered f queries replies ∥₁
+    → Gives (λ output. (output.said ≡ replies_said replies) × (output.bytes.items ≡ flat_map reply_line replies)) made
+    → ∥ Answers (LinesSay found_line Says f texts) made ∥₁
+replies_say Says f texts paths queries replies (Ok output) are asked sure there told =
+    ∥∥₁_elim sure (hlevel props) (λ (said, bytes, says). ∥∥₁_map there (λ a.
+    let t = told_of a.value paths queries output.said output.bytes.items asked (told.0 ∙ ap replies_said a.answered, told.1 ∙ ap (λ (rs : List Reply). flat_map reply_line rs) a.answered) in
+    inr (paths, gives said bytes, are, says, (a.value, a.holds, same_gives output.said (said_of (map (look 0 a.value) paths)) output.bytes.items (flat_map found_line (map (look 0 a.value) paths)) t.0 t.1))))
+replies_say Says f texts paths queries replies (Err fault) are asked sure there told = merely (excused_refused (LinesSay found_line Says f texts) fault told)
+
+-- the same of a file and a certificate, where there may be no replies
+pub certified_say : (f cert : List ℕ) (texts : List (List ℕ)) (paths : List (List (List ℕ))) (queries : List Query) (lists : Lists) {R : Type 0} (items : R → List Reply) (told : Result R AnswerFault) (made : Result Output RunFault)
+    → AllZip IsPathOf texts paths → queries ≡ map Get paths → IsCertificate lists × (cert ≡ octets_of lists)
+    → IfOk told (λ replies. ∥ IsAnswered f queries (items replies) ∥₁) → IfOk told (λ _. ∥ ((F : Frame) × IsAccepted f F lists) ∥₁)
+    → IfErr told (RefusesBy (IsPairFault f lists))
+    → MatchResult told (λ replies. Gives (λ output. (output.said ≡ replies_said (items replies)) × (output.bytes.items ≡ flat_map reply_line (items replies))) made) (λ fault. made ≡ Err (answer_fault fault))
+    → ∥ Answers (LinesSay found_line (CheckSays f cert) f texts) made ∥₁
+certified_say f cert texts paths queries lists items (Ok replies) made are asked (is, spelled) there accepted refused lines =
+    replies_say (CheckSays f cert) f texts paths queries (items replies) made are asked (∥∥₁_map accepted (λ a. check_yes f cert a.0 lists (is, spelled, merely a.1))) there lines
+certified_say f cert texts paths queries lists items (Err fault) made are asked (is, spelled) there accepted refused lines =
+    subst (λ x. ∥ Answers (LinesSay found_line (CheckSays f cert) f texts) x ∥₁) (sym lines)
+    (merely (file_refused (CheckSays f cert) f texts (AreLines found_line) paths (answer_fault fault) are (answer_refused f cert lists fault is spelled refused)))
 
 -- the same of the lines of `ls`
 pub list_says : (Says : Answer → Type 0) (f text : List ℕ) (steps : List (List ℕ)) (F : Frame) (made : Result Output RunFault)

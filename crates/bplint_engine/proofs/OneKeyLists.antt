@@ -1,32 +1,23 @@
 -- The key lists of a certificate of least heights are one.
-use Rattle.std.proofs.Common.{◌≡◌, ℕ, zero, suc, ◌+◌, ◌-◌, ◌*◌, ◌<◌, ◌≤◌, List, [], ◌∷◌, slice_index, slice_index_or, length, inl, inr, Bool, true, false, cond, nat_lt, Less, Option, Some, None, is_some, unwrap_or, refl, sym, ap, ◌∙◌, subst, arith}
-use Rattle.std.specs.List.{AllZip}
-use Rattle.std.specs.Option.{option_and_then}
-use Rattle.std.proofs.lemmas.Bool.{cases_lt, cases_order, false≢true}
+use Rattle.std.proofs.Common.{◌≡◌, ℕ, zero, suc, ◌+◌, ◌-◌, ◌<◌, ◌≤◌, List, [], ◌∷◌, slice_index, slice_index_or, length, inl, inr, cond, map, Less, Option, Some, None, is_some, unwrap_or, refl, sym, ap, ◌∙◌, subst, arith}
+use Rattle.std.specs.List.{AllZip, range_with_len}
+use Rattle.std.proofs.lemmas.Bool.{cases_lt, cases_order}
 use Rattle.std.proofs.lemmas.List.{ext_get_or}
 use Rattle.std.proofs.lemmas.List.Elements.{All-get_or, All-from_recursion}
 use Rattle.std.proofs.lemmas.List.FromFn.{get_or-map-range_with_len}
 use Rattle.bplist_octets.specs.Octets.{part}
 use Rattle.bplist_objects.specs.declared.frame.Frame.{Frame}
-use Rattle.bplist_objects.specs.declared.head.Head.{Head}
-use Rattle.bplist_objects.specs.declared.kind.Kind.{Kind}
-use Rattle.bplist_objects.specs.declared.kind.Kind.TheVariants as kinds
-use Rattle.bplist_objects.specs.Announced.{head_found, HasHead}
-use Rattle.bplist_objects.specs.Heads.{Content, content_of, Spells}
-use Rattle.bplist_objects.specs.Numbers.{nums_at}
+use Rattle.bplist_objects.specs.Heads.{Content, Spells}
 use Rattle.bplist_objects.specs.Units.{compare_units}
 use Rattle.bplist_objects.proofs.Fronts.{one_head}
 use Rattle.bplist_objects.proofs.Parts.{get_or-part}
-use Rattle.bplist_objects.proofs.HeadTies.{spells_body}
-use Rattle.bplist_objects.proofs.References.{length-nums_at}
 use Rattle.bplist_objects.proofs.UnitOrder.{compare_units-less_less, compare_units-not_less}
 use Rattle.bplist_cert.specs.Lists.{Lists, lists}
 use Rattle.bplist_cert.specs.Sorted.{IsSorted, IsAccepted}
 use Rattle.bplist_cert.specs.Valid.{IsVouchedBy, SpellsText, IsValid}
-use Rattle.bplist_cert.proofs.AcceptedCertificates.{vouched_shape}
 use Rattle.bplist_cert.proofs.AllNumbers.{onto}
-use Rattle.bplist_lint.specs.Upgraded.{pairs, pairs_below, IsUpgraded}
-use Rattle.bplist_lint.proofs.ListSteps.{pairs_of}
+use Rattle.bplist_lint.specs.Upgraded.{pairs, pairs_below, together, IsUpgraded}
+use Rattle.bplist_lint.proofs.ListSteps.{pairs_given, pairs_one}
 use Rattle.bplist_lint.proofs.RangeSums.{found_next}
 
 -- ---- positions whose units ascend
@@ -141,10 +132,6 @@ module _ (f : List ℕ) (F : Frame) where
   one_sorted ks xs ys s t =
       one_rising s.units (length ks) xs ys (rising s.units ks xs s refl) (rising s.units ks ys t (one_texts ks t.units s.units t.texts s.texts))
 
-vouched_by : (h : ℕ) → nat_lt 0 h ≡ true → 1 ≤ h
-vouched_by zero e = absurd (false≢true e)
-vouched_by (suc h) e = omega arith
-
 -- an object that has positions is a vouched dictionary
 module _ (f : List ℕ) (F : Frame) (heights : List ℕ) where
   record IsListedDict (n : ℕ) : Type 0 where
@@ -170,37 +157,32 @@ module _ (f : List ℕ) (F : Frame) (heights : List ℕ) where
     none : pairs f F heights n ≡ None → ⊥
     none e = let z = ap (λ o. unwrap_or o 0) e in omega (arith, has, z)
 
-    -- a vouched object with this head
-    listed_with : (v : IsVouchedBy heights n) (head : Head) → HasHead f F n head → (kind : Kind) → head.kind ≡ kind → pairs f F heights n ≡ pairs_of (record { kind = kind; count = head.count; body = head.body; «end» = head.«end» })
-        → IsListedDict n
-    listed_with v head e kinds.Dict is many =
-        let o = valid.vouched n v in
-        let body = spells_body f F n head o.content (vouched_shape f F heights valid n v head e) o.spells in
-        record {
-          vouched = v;
-          ks = nums_at f head.body F.ref_size head.count;
-          ms = nums_at f (head.body + head.count * F.ref_size) F.ref_size head.count;
-          spells = subst (λ k. Spells f F n (content_of f F k head.count head.body)) is (subst (Spells f F n) body o.spells);
-          many = many ∙ ap Some (sym (length-nums_at f head.body F.ref_size head.count));
-        }
-    listed_with v head e _ is many = absurd (none many)
-
-    listed_by : (b : Bool) (o : Option Head) → nat_lt 0 (slice_index heights n) ≡ b → head_found f F n ≡ o → pairs f F heights n ≡ cond b (option_and_then pairs_of o) None → IsListedDict n
-    listed_by false o v e many = absurd (none many)
-    listed_by true None v e many = absurd (none many)
-    listed_by true (Some head) v e many = listed_with (vouched_by (slice_index heights n) v) head e head.kind refl many
-
     listed_dict : IsListedDict n
-    listed_dict = listed_by (nat_lt 0 (slice_index heights n)) (head_found f F n) refl refl refl
+    listed_dict = go (pairs f F heights n) refl
+      where
+        go : (found : Option ℕ) → pairs f F heights n ≡ found → IsListedDict n
+        go None e = absurd (none e)
+        go (Some k) e =
+            let (vouched, (ks, ms, spells, long)) = pairs_given f F heights valid n k e in
+            record { vouched = vouched; ks = ks; ms = ms; spells = spells; many = e ∙ ap Some (sym long) }
 
   -- ---- the key lists
   module _ (c : Lists) (u : IsUpgraded f F heights c) where
     accepted_lists : IsAccepted f F (lists heights (Some u.keyed))
     accepted_lists = subst (IsAccepted f F) u.is u.accepted
 
+    numbers_are : u.many ≡ pairs f F heights
+    numbers_are = λ i n. pairs_one f F heights accepted_lists.valid u.many u.are n i
+
+    starts_are : u.keyed.starts ≡ map (λ n. cond (is_some (pairs f F heights n)) (pairs_below f F heights n) 0) (range_with_len 0 F.objects)
+    starts_are = u.starts ∙ ap (λ many. map (λ n. cond (is_some (many n)) (together many n) 0) (range_with_len 0 F.objects)) numbers_are
+
+    total_is : length u.keyed.positions ≡ pairs_below f F heights F.objects
+    total_is = u.total ∙ ap (λ many. together many F.objects) numbers_are
+
     start_of : (n : ℕ) → n < F.objects → slice_index u.keyed.starts n ≡ cond (is_some (pairs f F heights n)) (pairs_below f F heights n) 0
     start_of n low =
-        ap (λ xs. slice_index xs n) u.starts
+        ap (λ xs. slice_index xs n) starts_are
         ∙ get_or-map-range_with_len (λ m. cond (is_some (pairs f F heights m)) (pairs_below f F heights m) 0) 0 F.objects n n 0 low (omega arith)
 
     -- the key list of a dictionary
@@ -226,8 +208,8 @@ module _ (f : List ℕ) (F : Frame) (heights : List ℕ) where
     -- the certificate with key lists is one
     pub one_upgraded : c ≡ d
     one_upgraded =
-        let starts : u.keyed.starts ≡ w.keyed.starts = u.starts ∙ sym w.starts in
+        let starts : u.keyed.starts ≡ w.keyed.starts = starts_are c u ∙ sym (starts_are d w) in
         let positions : u.keyed.positions ≡ w.keyed.positions =
-        ext_get_or 0 u.keyed.positions w.keyed.positions (u.total ∙ sym w.total) (λ p low. same_position p (omega (arith, low, u.total))) in
+        ext_get_or 0 u.keyed.positions w.keyed.positions (total_is c u ∙ sym (total_is d w)) (λ p low. same_position p (omega (arith, low, total_is c u))) in
         let keyed : u.keyed ≡ w.keyed = λ i. record { starts = starts i; positions = positions i } in
         u.is ∙ ap (λ k. lists heights (Some k)) keyed ∙ sym w.is

@@ -2,11 +2,15 @@
 use Rattle.std.specs.Prelude.{◌≡◌, ◌++◌, ℕ, List, [], codes, map, Bool, true, false, if◌then◌else◌, Result, Ok, Err, is_err}
 use Rattle.std.specs.List.{flat_map, list_any}
 use Rattle.bplist_objects.specs.Value.{Value}
+use Rattle.bplist_cursor.specs.declared.certified_answers.AnswerFault.{AnswerFault}
+use Rattle.bplist_cursor.specs.declared.certified_answers.AnswerFault.TheVariants as answers
 use Rattle.bplist_cursor.specs.declared.found.Why.{Why}
 use Rattle.bplist_cursor.specs.declared.reply.Reply.{Reply}
 use Rattle.bplist_cursor.specs.declared.reply.Reply.TheVariants.{Face, Missing}
 use Rattle.bplist_cursor.specs.Look.{look}
 use Rattle.bplist_cursor.specs.Replies.{face}
+use Rattle.bplint_lines.specs.declared.fault.RunFault.{RunFault}
+use Rattle.bplint_lines.specs.declared.fault.RunFault.TheVariants as faults
 use Rattle.bplint_lines.specs.declared.said.Said.{Said}
 use Rattle.bplint_lines.specs.declared.said.Said.TheVariants.{All, SomeMissing}
 use Rattle.bplint_lines.specs.Answers.{Answer, gives}
@@ -41,3 +45,10 @@ is_missing reply = elim reply [ Missing step why ↦ true | _ ↦ false ]
 -- what is said of replies
 abbrev pub replies_said : List Reply → Said
 replies_said replies = if list_any is_missing replies then SomeMissing else All
+
+-- the fault of a run for that of the replies
+abbrev pub answer_fault : AnswerFault → RunFault
+answer_fault (answers.Fault broken) = faults.Fault broken
+answer_fault (answers.Read failed) = faults.Read failed
+answer_fault answers.Changed = faults.Changed
+answer_fault answers.Memory = faults.Memory

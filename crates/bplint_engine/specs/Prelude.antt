@@ -8,6 +8,7 @@ pub use Rattle.bplist_cert.specs.Encoding.{octets_of}
 pub use Rattle.bplist_cert.specs.Lists.{IsCertificate, Lists}
 pub use Rattle.bplist_cert.specs.Valid.{IsVouchedBy}
 pub use Rattle.bplist_lint.specs.Upgraded.{IsUpgraded}
+pub use Rattle.bplist_cursor.specs.Answered.{answer_read}
 pub use Rattle.bplist_cursor.specs.Kept.{OnlyReadsFile}
 pub use Rattle.bplist_cursor.specs.Look.{look}
 pub use Rattle.bplist_cursor.specs.Members.{member_of}
@@ -21,7 +22,7 @@ pub use Rattle.bplint_lines.specs.OutputLines.{check_line, face_line, lint_line,
 pub use Rattle.bplint_engine.specs.Certify.{CertifySays, written}
 pub use Rattle.bplint_engine.specs.Check.{CheckSays, IsDecoded}
 pub use Rattle.bplint_engine.specs.Commands.{Asked, PrintsOnePath}
-pub use Rattle.bplint_engine.specs.Get.{LinesSay, found_line, reply_line, said_of}
+pub use Rattle.bplint_engine.specs.Get.{LinesSay, answer_fault, found_line, reply_line, said_of}
 pub use Rattle.bplint_engine.specs.Hexadecimal.{spelled}
 pub use Rattle.bplint_engine.specs.Least.{IsLeastFor}
 pub use Rattle.bplint_engine.specs.Lint.{LintSays}

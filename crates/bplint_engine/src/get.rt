@@ -1,16 +1,15 @@
 //! The answer of `get`.
-ghost use Rattle.std.specs.Prelude.{◌≡◌, ◌++◌, ℕ, List, IfOk, IsTrue, OnOk, map, string_bytes};
+ghost use Rattle.std.specs.Prelude.{◌≡◌, ◌++◌, ℕ, List, Err, IfOk, IsTrue, MatchResult, OnOk, map, string_bytes};
 ghost use Rattle.std.specs.List.{flat_map};
 ghost use Rattle.std.specs.List.{list_any};
-ghost use Rattle.bplint_engine.specs.Prelude.{OnlyReads, Holds, Value, OnlyReadsFile, reply, read_failed, Answers, Gives, CheckSays, IsDecoded, LinesSay, found_line, reply_line};
+ghost use Rattle.bplint_engine.specs.Prelude.{OnlyReads, Holds, Value, OnlyReadsFile, reply, answer_read, answer_fault, read_failed, Answers, Gives, CheckSays, IsDecoded, LinesSay, found_line, reply_line};
 ghost use Rattle.bplint_engine.specs.Get as spec;
 
-use crate::certified_file::check_decoded;
 use crate::output::Output;
 use crate::path_queries::queries_of;
 use bplint_lines::{RunFault, Said, add_face, add_missing};
 use bplist_cert::{CertRefusal, Certificate, Checked};
-use bplist_cursor::{Query, Reply, answer_all};
+use bplist_cursor::{AnswerFault, Query, Reply, answer_all, answer_certified};
 use bplist_octets::Source;
 use std::alloc::{AllocError, Global};
 
@@ -30,10 +29,24 @@ pub(crate) fn get_output<S: Source>(
         Ok(queries) => queries,
         Err(fault) => return (Err(fault), src),
     };
-    match check_decoded(alloc, src, decoded) {
-        Ok(checked) => answer_queries(alloc, checked, &queries),
-        Err((fault, src)) => (Err(fault), src),
-    }
+    let certificate = match decoded {
+        Ok(certificate) => certificate,
+        Err(refusal) => return (Err(RunFault::from(refusal)), src),
+    };
+    let (told, src, _certificate) = answer_certified(alloc, src, certificate, &queries);
+    (lines_told(alloc, told), src)
+}
+
+/// The lines of the replies, or why there are none.
+fn lines_told(alloc: Global, told: Result<Vec<Reply>, AnswerFault>) -> Result<Output, RunFault>
+    ensures reads { read_failed result ≡ answer_read told }
+    ensures exact { MatchResult told
+        (λ replies. Gives (λ output. (output.said ≡ spec.replies_said replies.items)
+        × (output.bytes.items ≡ flat_map reply_line replies.items)) result)
+        (λ fault. result ≡ Err (answer_fault fault)) }
+{
+    let replies = told?;
+    Ok(lines_of(alloc, &replies)?)
 }
 
 /// The lines of the answers, and the source again.

@@ -5,6 +5,7 @@ ghost use Rattle.bplint_lines.specs.declared.fault.RunFault.TheVariants.{Read, T
 ghost use Rattle.bplist_ascii.specs.declared.print_fault.PrintFault.TheVariants as print;
 ghost use Rattle.bplist_cert.specs.declared.certificate.CertRefusal.TheVariants as cert;
 ghost use Rattle.bplist_cert.specs.declared.refusal.Refusal.TheVariants as check;
+ghost use Rattle.bplist_cursor.specs.declared.certified_answers.AnswerFault.TheVariants as answer;
 ghost use Rattle.bplist_cursor.specs.declared.faults.CursorFault.TheVariants as cursor;
 ghost use Rattle.bplist_cursor.specs.declared.faults.Unread.TheVariants as unread;
 ghost use Rattle.bplist_cursor.specs.declared.path.PathFault.TheVariants as path;
@@ -14,7 +15,7 @@ ghost use Rattle.bplint_lines.specs.FaultLines.{fault_line, report_of};
 
 use bplist_ascii::{PrintFault, WriteFault};
 use bplist_cert::{CertRefusal, Refusal};
-use bplist_cursor::{CursorFault, PathFault, Unread};
+use bplist_cursor::{AnswerFault, CursorFault, PathFault, Unread};
 use bplist_lint::{LintRefusal, ObjectNos, UpgradeFault};
 use bplist_objects::{Fault, ObjectNo, Rule, rule_name};
 use bplist_octets::ReadFault;
@@ -127,6 +128,24 @@ impl From<CursorFault> for RunFault {
             CursorFault::Read(fault) => RunFault::Read(fault),
             CursorFault::Changed => RunFault::Changed,
             CursorFault::Memory => RunFault::Memory,
+        }
+    }
+}
+
+impl From<AnswerFault> for RunFault {
+    ghost from_gives = { λ cause fault. fault ≡ elim cause [
+      | answer.Fault broken ↦ Fault broken
+      | answer.Read failed ↦ Read failed
+      | answer.Changed ↦ Changed
+      | answer.Memory ↦ Memory
+    ] };
+
+    fn from(cause: AnswerFault) -> RunFault {
+        match cause {
+            AnswerFault::Fault(fault) => RunFault::Fault(fault),
+            AnswerFault::Read(fault) => RunFault::Read(fault),
+            AnswerFault::Changed => RunFault::Changed,
+            AnswerFault::Memory => RunFault::Memory,
         }
     }
 }

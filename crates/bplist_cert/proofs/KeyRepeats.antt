@@ -20,7 +20,7 @@ use Rattle.bplist_keys.specs.Ranks.{AreClasses}
 use Rattle.bplist_keys.specs.Classes.{HasNamedKeys, AreClassed, HaveClasses, AreApart}
 use Rattle.bplist_objects.specs.Claims.{FailsAt}
 use Rattle.bplist_objects.proofs.ClaimLaws.{fails_too}
-use Rattle.bplist_keys.proofs.RankLaws.{none_marked}
+use Rattle.bplist_keys.proofs.RankLaws.{none_marked, classes_same}
 use Rattle.bplist_keys.proofs.WeightSteps.{text_units-head}
 use Rattle.bplist_cert.specs.DictKeys.{IsText, KeysAreTexts, KeysDiffer, IsFirstTwice}
 use Rattle.bplist_cert.specs.Lists.{Keyed, lists}
@@ -55,7 +55,7 @@ module _ (f : List ℕ) (F : Frame) where
   keys_classed named classes n are named_keys head has dict = record {
     only = λ k low some. ((are.given (ref f F head k)).0 some).1;
     all = λ k low shape. (are.given (ref f F head k)).1 (named_keys head has dict k low, shape);
-    same = λ i j _ _. are.same (ref f F head i) (ref f F head j);
+    same = λ i j _ _. classes_same f F named classes are (ref f F head i) (ref f F head j);
   }
 
   -- keys are good by one head

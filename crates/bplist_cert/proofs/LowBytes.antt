@@ -11,8 +11,10 @@ use Rattle.bplist_objects.specs.Safe.{ref_count}
 use Rattle.bplist_objects.specs.Announced.{HasHead}
 use Rattle.bplist_objects.specs.Rules.{KeepsAll}
 use Rattle.bplist_objects.specs.ObjectRules.{KeepsByObject, shape_rules, body_rules, object_rules}
+use Rattle.bplist_objects.specs.Heads.{content_at}
 use Rattle.bplist_objects.proofs.BodyLaws.{HasHead-unique}
 use Rattle.bplist_objects.proofs.RuleLaws.{kept_all_after}
+use Rattle.bplist_objects.proofs.ProperLeaves.{spells_bodies}
 use Rattle.bplist_objects.proofs.HeadTies.{shape_announced}
 use Rattle.bplist_cert.specs.DictKeys.{IsText}
 use Rattle.bplist_cert.specs.declared.low_bytes.Stretch.{Stretch}
@@ -99,7 +101,7 @@ module _ (f : List ℕ) (F : Frame) (m : ℕ) (head : Head) (has : HasHead f F m
 -- the bytes of an Ascii text are low
 pub text_low : (f : List ℕ) (F : Frame) (m : ℕ) (key : Head) → IsText f F m key → key.kind ≡ kinds.Ascii → IsLow f key.body (key.body + key.count)
 text_low f F m key is ascii k low high =
-    let bytes = is.is.1.kept.0 key is.is.0.has ascii in
+    let bytes = (spells_bodies f F m (content_at f F key) is.is.1).0 key is.is.0.has ascii in
     let e : key.body + (k - key.body) * 1 ≡ k = omega (arith, low) in
     subst (λ p. num_at f p 1 < 128) e (bytes (k - key.body) (omega (arith, low, high)))
 

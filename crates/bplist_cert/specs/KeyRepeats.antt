@@ -8,7 +8,7 @@ use Rattle.bplist_objects.specs.Announced.{HasHead}
 use Rattle.bplist_objects.specs.Rules.{KeepsAll}
 use Rattle.bplist_objects.specs.ObjectRules.{KeepsByObject, object_rules}
 use Rattle.bplist_objects.specs.Scan.{ref}
-use Rattle.bplist_keys.specs.Classes.{HasNamedKeys}
+use Rattle.bplist_keys.specs.Classes.{HasNamedKeys, IsNamedBy}
 use Rattle.bplist_cert.specs.Lists.{Keyed, Lists}
 use Rattle.bplist_cert.specs.Valid.{IsVouchedBy}
 use Rattle.bplist_cert.specs.DictKeys.{KeysAreTexts}
@@ -31,6 +31,14 @@ HaveGoodKeys f F heights keys bound = (n : ℕ) → n < bound → IsVouchedBy he
 abbrev pub HaveNamedKeys : List ℕ → Frame → List ℕ → ℕ → List Bool → Type 0
 HaveNamedKeys f F heights bound marks =
     (length marks ≡ F.objects) × ((n : ℕ) → n < bound → IsVouchedBy heights n → HasNamedKeys f F marks n)
+
+-- object m is a key of dictionary n
+abbrev pub IsKeyOf : List ℕ → Frame → ℕ → ℕ → Type 0
+IsKeyOf f F n m = (head : Head) × HasHead f F n head × (head.kind ≡ Dict) × IsNamedBy f F head head.count m
+
+-- object m is a key of some vouched dictionary
+abbrev pub IsVouchedKey : List ℕ → Frame → List ℕ → ℕ → Type 0
+IsVouchedKey f F heights m = (n : ℕ) × IsVouchedBy heights n × IsKeyOf f F n m
 
 -- object n is a dictionary whose keys break them, first with this fault
 abbrev pub BreaksKeys : List ℕ → Frame → ℕ → Option Keyed → ℕ → Fault → Type 0

@@ -1,7 +1,7 @@
 //! The objects that the vouched dictionaries name as keys.
 
-ghost use Rattle.std.specs.Prelude.{◌≡◌, ◌+◌, ◌<◌, ◌≤◌, ℕ, IfOk, IfSome, length};
-ghost use Rattle.bplist_cert.specs.Prelude.{OnlyReads, Gives, Never, read_failed, off, frame_in, HonestlyIn, KeepsAll, KeepsByObject, object_rules, HasNamedKeys, HaveNamedKeys, ArePlaces, IsMarked, IsVouchedBy, KeepBeforeKeysBelow, Judges, refused_read};
+ghost use Rattle.std.specs.Prelude.{◌≡◌, ◌⊎◌, ◌+◌, ◌<◌, ◌≤◌, ℕ, None, IfOk, IfSome, OnOk, length};
+ghost use Rattle.bplist_cert.specs.Prelude.{OnlyReads, Gives, Never, read_failed, off, frame_in, HonestlyIn, KeepsAll, KeepsByObject, object_rules, HasNamedKeys, HaveNamedKeys, IsKeyOf, IsVouchedKey, ArePlaces, IsMarked, IsVouchedBy, KeepBeforeKeysBelow, Judges, refused_read};
 
 use crate::heights::block_of;
 use crate::refusal::Refusal;
@@ -27,6 +27,8 @@ fn name_object<P: Framed>(
     ensures keeps { (m : ℕ) → IsMarked named.old.marks.items m → IsMarked named.new.marks.items m }
     ensures exact { HonestlyIn (P.means src.old) (λ f F. place ≡ off f F n → KeepsAll (KeepsByObject f F n) object_rules
         → length named.old.marks.items ≡ F.objects → Gives (λ _. HasNamedKeys f F named.new.marks.items n) Never result) }
+    ensures only { HonestlyIn (P.means src.old) (λ f F. place ≡ off f F n → OnOk result ((m : ℕ)
+        → IsMarked named.new.marks.items m → IsMarked named.old.marks.items m ⊎ IsKeyOf f F n m)) }
 {
     let head = shape_in(src, ObjectNo(n), place)?;
     match head.kind {
@@ -50,6 +52,8 @@ pub(crate) fn name_block<P: Framed>(
     ensures exact { HonestlyIn (P.means src.old) (λ f F. ArePlaces f F from places.now
         → KeepBeforeKeysBelow f F heights.now (from + length places.now) → HaveNamedKeys f F heights.now from named.old.marks.items
         → Gives (λ _. HaveNamedKeys f F heights.now (from + length places.now) named.new.marks.items) Never result) }
+    ensures only { HonestlyIn (P.means src.old) (λ f F. ArePlaces f F from places.now → OnOk result ((m : ℕ)
+        → IsMarked named.new.marks.items m → IsMarked named.old.marks.items m ⊎ IsVouchedKey f F heights.now m)) }
 {
     let _frame = src.frame();
     let block = block_of(heights, from, places.len());
@@ -75,6 +79,8 @@ pub(crate) fn seen_keys<P: Framed>(
     ensures exact { HonestlyIn (P.means src.old) (λ f F. KeepBeforeKeysBelow f F heights.now bound
         → IfSome given (λ keys. HaveNamedKeys f F heights.now bound keys.marks.items)
         → Judges (λ named. HaveNamedKeys f F heights.now bound named.marks.items) Never result) }
+    ensures only { HonestlyIn (P.means src.old) (λ f F. given ≡ None → IfOk result (λ named. (m : ℕ)
+        → IsMarked named.marks.items m → IsVouchedKey f F heights.now m)) }
 {
     let objects = src.frame().objects;
     if let Some(named) = given {
@@ -95,7 +101,7 @@ pub(crate) fn seen_keys<P: Framed>(
     Ok(named)
 }
 
-/// The objects that the vouched dictionaries name as keys.
+/// The objects that the vouched dictionaries name as keys, and no others.
 pub fn vouched_keys<P: Framed>(
     alloc: Global,
     src: &mut P,
@@ -106,6 +112,8 @@ pub fn vouched_keys<P: Framed>(
     ensures all { IfOk result (λ named. length named.marks.items ≡ (frame_in (P.means src.old)).objects) }
     ensures exact { HonestlyIn (P.means src.old) (λ f F. KeepBeforeKeysBelow f F heights.now F.objects
         → Judges (λ named. (n : ℕ) → IsVouchedBy heights.now n → HasNamedKeys f F named.marks.items n) Never result) }
+    ensures only { HonestlyIn (P.means src.old) (λ f F. IfOk result (λ named. (m : ℕ)
+        → IsMarked named.marks.items m → IsVouchedKey f F heights.now m)) }
 {
     let bound = src.frame().objects;
     seen_keys(alloc, src, heights, bound, None)

@@ -14,6 +14,7 @@ use Rattle.bplist_objects.specs.Heads.{HasShape}
 use Rattle.bplist_objects.specs.Rules.{KeepsAll}
 use Rattle.bplist_objects.specs.ObjectRules.{KeepsByObject, body_rules}
 use Rattle.bplist_objects.proofs.Fronts.{one_shape}
+use Rattle.bplist_objects.proofs.ProperLeaves.{spells_bodies, bodies_spell}
 use Rattle.bplist_cert.specs.CheckedFile.{CheckedFile, IsChecked}
 use Rattle.bplist_cert.specs.Valid.{IsVouchedBy}
 use Rattle.bplist_cursor.specs.LentBodies.{SpellsBytes}
@@ -35,8 +36,8 @@ module _ (checked : CheckedFile) (known : IsChecked checked) (honest : IsTrue ch
   spells_bytes head has is bytes body =
       let f = checked.source.octets in
       let F = checked.frame in
-      let kept : KeepsAll (KeepsByObject f F n) body_rules = ∥∥₁_elim (known.accepted honest) (hlevel props) (λ a. (a.valid.vouched n vouched).spells.kept) in
-      (head, (has, record { shape = head; has = has; kept = kept; means = refl }), is, body)
+      let kept : KeepsAll (KeepsByObject f F n) body_rules = ∥∥₁_elim (known.accepted honest) (hlevel props) (λ a. spells_bodies f F n _ (a.valid.vouched n vouched).spells) in
+      (head, (has, bodies_spell f F n head has kept), is, body)
 
 -- an object with another head has no such body
 pub other_head : (f : List ℕ) (F : Frame) (n : ℕ) (head : Head) → HasShape f F n head → (head.kind ≡ kinds.Bytes → ⊥) → (head.kind ≡ kinds.Ascii → ⊥)

@@ -25,3 +25,4 @@ mod IndexSteps
 mod FoundSteps
 mod ListItems
 mod KeyReplies
+mod AcceptedAnswers

@@ -21,4 +21,5 @@ pub mod Steps
 pub mod KeySearch
 pub mod Found
 pub mod Queries
+pub mod Answered
 pub mod Prelude

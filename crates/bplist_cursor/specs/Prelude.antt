@@ -1,6 +1,8 @@
 -- The names that the clauses of this crate cite, passed on from one place. Declares nothing.
+pub use Rattle.bplist_octets.specs.Meaning.{Honestly, OnlyReads}
 pub use Rattle.bplist_octets.specs.Octets.{part}
 pub use Rattle.bplist_objects.specs.Announced.{item_size}
+pub use Rattle.bplist_objects.specs.Answers.{Never}
 pub use Rattle.bplist_objects.specs.Frame.{IsFrame}
 pub use Rattle.bplist_objects.specs.Heads.{Content, Spells, array, content_at, dict, leaf, refs, set}
 pub use Rattle.bplist_objects.specs.Holds.{Holds}
@@ -14,7 +16,10 @@ pub use Rattle.bplist_objects.specs.declared.frame.Frame.{Frame}
 pub use Rattle.bplist_objects.specs.declared.kind.Kind.TheVariants.{Dict}
 pub use Rattle.bplist_cert.specs.CheckedFile.{HonestlyChecked}
 pub use Rattle.bplist_cert.specs.Lists.{Keyed}
+pub use Rattle.bplist_cert.specs.PairFault.{IsPairFault}
+pub use Rattle.bplist_cert.specs.Sorted.{IsAccepted}
 pub use Rattle.bplist_cert.specs.Valid.{IsValid, IsVouchedBy, SpellsText}
+pub use Rattle.bplist_cursor.specs.Answered.{IsAnswered, RefusesBy, answer_read}
 pub use Rattle.bplist_cursor.specs.Causes.{GivesCursor, GivesRead, cursor_read, read_failed}
 pub use Rattle.bplist_cursor.specs.Formless.{IsFormless}
 pub use Rattle.bplist_cursor.specs.Forms.{Formed, form_at, form_of, form_of_text, joined}

@@ -17,6 +17,7 @@
 //! | its members and bytes | [`member`], [`bytes_of`] |
 //! | the same by its head, part by part | [`node_head`], [`member_by_head`], [`body_bytes`], [`body_units`] |
 //! | replies to many queries | [`answer`], [`answer_all`], [`Query`], [`Reply`], [`List`] |
+//! | the same from a file and a certificate, which carries the theorem | [`answer_certified`], [`AnswerFault`] |
 //! | numbers of nodes and lengths of texts | [`measure`], [`Measures`], [`Form`] |
 //! | units that need no quotes | [`is_plain`], [`are_plain`] |
 //!
@@ -27,6 +28,7 @@
 mod answers;
 mod bodies;
 mod bytes;
+mod certified_answers;
 mod checked_objects;
 mod faces;
 mod faults;
@@ -52,6 +54,7 @@ mod text_length;
 pub use answers::{answer, answer_all};
 pub use bodies::{body_bytes, body_units};
 pub use bytes::bytes_of;
+pub use certified_answers::{AnswerFault, answer_certified};
 pub use faces::Face;
 pub use faults::{CursorFault, Unread};
 pub use form::Form;

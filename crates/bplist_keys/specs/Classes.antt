@@ -18,6 +18,10 @@ module _ (f : List ℕ) (F : Frame) where
   abbrev pub HasNamedKeys : List Bool → ℕ → Type 0
   HasNamedKeys named n = (head : Head) → HasHead f F n head → head.kind ≡ Dict → (k : ℕ) → k < head.count → IsMarked named (ref f F head k)
 
+  -- object m is one of the first so many references of this head: of a dictionary, one of so many keys
+  abbrev pub IsNamedBy : Head → ℕ → ℕ → Type 0
+  IsNamedBy head many m = (k : ℕ) × (k < many) × (m ≡ ref f F head k)
+
   -- the keys of a dictionary with this head have these classes: those alone that are texts by marker and count, and two
   -- have the same one exactly where their units are the same
   pub record AreClassed (classes : List ℕ) (head : Head) : Type 0 where

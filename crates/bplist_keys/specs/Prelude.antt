@@ -8,6 +8,7 @@ pub use Rattle.bplist_objects.specs.Safe.{IsSafeBody, IsSafeHead}
 pub use Rattle.bplist_objects.specs.Scan.{ref}
 pub use Rattle.bplist_objects.specs.Units.{IsTextKind, compare_units, units_of}
 pub use Rattle.bplist_objects.specs.declared.kind.Kind.TheVariants.{Dict}
+pub use Rattle.bplist_keys.specs.Classes.{IsNamedBy}
 pub use Rattle.bplist_keys.specs.Failures.{failed_to_read}
 pub use Rattle.bplist_keys.specs.Marks.{IsMarked}
 pub use Rattle.bplist_keys.specs.Notes.{Agree, AreTrue, note_at}

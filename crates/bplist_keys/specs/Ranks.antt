@@ -6,7 +6,7 @@ use Rattle.bplist_objects.specs.declared.frame.Frame.{Frame}
 use Rattle.bplist_objects.specs.Units.{compare_units}
 use Rattle.bplist_keys.specs.declared.weight.Weight.{Weight}
 use Rattle.bplist_keys.specs.Marks.{IsMarked}
-use Rattle.bplist_keys.specs.Texts.{HasTextShape, text_units}
+use Rattle.bplist_keys.specs.Texts.{HasTextShape, HasUnits}
 use Rattle.bplist_keys.specs.Weights.{AreWeighed}
 use Rattle.bplist_keys.specs.WeightOrder.{AreOrdered}
 
@@ -14,14 +14,14 @@ module _ (f : List ℕ) (F : Frame) (named : List Bool) (numbers : List ℕ) whe
   -- exactly the named texts have a number above 0, and two are equal exactly where their units are
   pub record AreClasses : Type 0 where
     pub given : (m : ℕ) → (0 < slice_index numbers m) ↔ (IsMarked named m × HasTextShape f F m)
-    pub same : (a b : ℕ) → 0 < slice_index numbers a → 0 < slice_index numbers b
-        → (slice_index numbers a ≡ slice_index numbers b) ↔ (text_units f F a ≡ text_units f F b)
+    pub same : (a b : ℕ) (us vs : List ℕ) → 0 < slice_index numbers a → 0 < slice_index numbers b
+        → HasUnits f F a us → HasUnits f F b vs → (slice_index numbers a ≡ slice_index numbers b) ↔ (us ≡ vs)
 
   -- besides, numbers are ordered as the units are
   pub record AreRanks : Type 0 where
     pub classes : AreClasses
-    pub order : (a b : ℕ) → 0 < slice_index numbers a → 0 < slice_index numbers b
-        → (slice_index numbers a < slice_index numbers b) ↔ (compare_units (text_units f F a) (text_units f F b) ≡ Less)
+    pub order : (a b : ℕ) (us vs : List ℕ) → 0 < slice_index numbers a → 0 < slice_index numbers b
+        → HasUnits f F a us → HasUnits f F b vs → (slice_index numbers a < slice_index numbers b) ↔ (compare_units us vs ≡ Less)
 
   -- the numbers are in the order of weights of this kind and of units
   pub record AreRankedBy (by : Weight) : Type 0 where

@@ -2,7 +2,7 @@
 
 ghost use Rattle.std.specs.Prelude.{◌≡◌, ◌⊎◌, Contains, ◌≤◌, ◌<◌, ◌^◌, ℕ, IfOk, OnOk, is_err, false, true, count_by, length, map, set, replicate, slice_index};
 ghost use Rattle.std.specs.Int.{from_bool};
-ghost use Rattle.bplist_keys.specs.Prelude.{OnlyReads, frame_in, HonestlyIn, IsSafeHead, Dict, ref, IsMarked};
+ghost use Rattle.bplist_keys.specs.Prelude.{OnlyReads, frame_in, HonestlyIn, IsSafeHead, Dict, ref, IsMarked, IsNamedBy};
 
 use bplist_objects::{Framed, Head, read_refs_in};
 use bplist_octets::ReadFault;
@@ -95,6 +95,8 @@ fn name_block<P: Framed>(
     ensures keeps { (m : ℕ) → IsMarked named.old.marks.items m → IsMarked named.new.marks.items m }
     ensures named { HonestlyIn (P.means src.old) (λ f F. IfOk result (λ next. (k : ℕ) → from ≤ k → k < next
         → ref f F head.now k < length named.old.marks.items → IsMarked named.new.marks.items (ref f F head.now k))) }
+    ensures only { HonestlyIn (P.means src.old) (λ f F. IfOk result (λ next. (m : ℕ) → IsMarked named.new.marks.items m
+        → IsMarked named.old.marks.items m ⊎ IsNamedBy f F head.now next m)) }
 {
     let count = (head.count - from).min(BLOCK as u64);
     let mut buffer = [0u64; BLOCK];
@@ -104,7 +106,7 @@ fn name_block<P: Framed>(
     Ok(from + count)
 }
 
-/// Names the keys of a dictionary, as far as there are marks.
+/// Names the keys of a dictionary, as far as there are marks, and nothing else.
 pub fn name_keys<P: Framed>(
     src: &mut P,
     head: &Head,
@@ -117,6 +119,8 @@ pub fn name_keys<P: Framed>(
     ensures keeps { (m : ℕ) → IsMarked named.old.marks.items m → IsMarked named.new.marks.items m }
     ensures named { HonestlyIn (P.means src.old) (λ f F. OnOk result ((k : ℕ) → k < head.now.count
         → ref f F head.now k < length named.old.marks.items → IsMarked named.new.marks.items (ref f F head.now k))) }
+    ensures only { HonestlyIn (P.means src.old) (λ f F. OnOk result ((m : ℕ) → IsMarked named.new.marks.items m
+        → IsMarked named.old.marks.items m ⊎ IsNamedBy f F head.now head.now.count m)) }
 {
     let mut done = 0u64;
     while done < head.count {

@@ -1,7 +1,8 @@
 -- A file is well formed exactly where its reached objects keep their rules and its top is founded.
-use Rattle.std.proofs.Common.{◌≡◌, ℕ, ◌<◌, ◌≤◌, ◌+◌, ◌++◌, inl, inr, List, [], ◌∷◌, None, subst, arith}
+use Rattle.std.proofs.Common.{◌≡◌, ℕ, ◌<◌, ◌≤◌, ◌+◌, ◌++◌, inl, inr, true, false, List, [], ◌∷◌, None, replicate, subst, arith}
 use Rattle.std.specs.List.{AllByRecursion}
 use Rattle.std.proofs.lemmas.Bool.{cases_lt}
+use Rattle.std.proofs.lemmas.List.{get_or-replicate}
 use Rattle.bplist_objects.specs.declared.rule.Rule.TheVariants as rules
 use Rattle.bplist_objects.specs.declared.frame.Frame.{Frame}
 use Rattle.bplist_objects.specs.declared.head.Head.{Head}
@@ -12,6 +13,7 @@ use Rattle.bplist_objects.specs.Announced.{HasHead}
 use Rattle.bplist_objects.specs.Rules.{KeepsAll}
 use Rattle.bplist_objects.specs.ObjectRules.{KeepsByObject, object_rules}
 use Rattle.bplist_objects.specs.Reach.{Reach, Founded}
+use Rattle.bplist_objects.specs.Scan.{ref}
 use Rattle.bplist_objects.specs.Extents.{HaveRoom, IsOverfull}
 use Rattle.bplist_objects.proofs.RuleLaws.{kept_all_after, kept_all_parts}
 use Rattle.bplist_objects.proofs.Lists.{all_weaker}
@@ -23,8 +25,10 @@ use Rattle.bplist_cert.specs.Lists.{lists}
 use Rattle.bplist_cert.specs.Valid.{HasKeys}
 use Rattle.bplist_cert.specs.CheckRules.{KeepsRule, key_rules}
 use Rattle.bplist_cert.proofs.CheckSteps.{kept_by_good, good_by_kept}
+use Rattle.bplist_cert.proofs.KeyRepeats.{keys_inside}
 use Rattle.bplist_cert.proofs.KeyTies.{HaveKeys, keys_from_rules, rules_from_keys}
 use Rattle.bplist_lint.specs.ReachRules.{KeepReached, reach_rules}
+use Rattle.bplist_lint.specs.ReachWalk.{AreNamed}
 use Rattle.bplist_lint.specs.WellFormed.{IsWellFormed}
 
 -- the greatest of some numbers is one of them
@@ -64,6 +68,12 @@ module _ (f : List ℕ) (F : Frame) where
     -- a reached object that keeps rules 14 to 20 spells a content
     pub kept_spells : KeepReached f F reach_rules F.objects → (n : ℕ) → Reach f F n → (c : Content) × Spells f F n c
     kept_spells kept n r = let lt = reach_within f F (numbered frame).top n r in (keeps_iff f F n frame lt).0 (parted_rules n (kept n lt r)).0
+
+    -- where all objects are named, so are the keys of the reached ones
+    pub all_named : KeepReached f F reach_rules F.objects → AreNamed f F (replicate F.objects true)
+    all_named kept n r head has dict k low =
+        let lt = reach_within f F (numbered frame).top n r in
+        get_or-replicate F.objects (ref f F head k) true false (keys_inside f F n (parted_rules n (kept n lt r)).0 head has dict k low)
 
     kept_room : KeepReached f F reach_rules F.objects → HaveRoom f F (Reach f F)
     kept_room kept [] r d a t = omega (arith, t, (numbered frame).table_early)

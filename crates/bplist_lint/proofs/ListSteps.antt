@@ -1,7 +1,7 @@
 -- Steps of the making of key lists one behind the other.
-use Rattle.std.proofs.Common.{◌≡◌, ◌≢◌, inl, inr, ℕ, zero, suc, ◌+◌, ◌-◌, ◌*◌, ◌<◌, ◌≤◌, rules, true, false, List, [], ◌++◌, length, take, drop, set, slice_index, Option, Some, None, is_some, unwrap_or, nat_lt, cond, refl, sym, ◌∙◌, ap, subst, arith, lt-ltb}
+use Rattle.std.proofs.Common.{◌≡◌, ◌↔◌, Bool, ◌≢◌, inl, inr, ℕ, zero, suc, ◌+◌, ◌-◌, ◌*◌, ◌<◌, ◌≤◌, rules, true, false, List, [], ◌++◌, length, take, drop, set, slice_index, Option, Some, None, is_some, unwrap_or, nat_lt, cond, refl, sym, ◌∙◌, ap, subst, arith, lt-ltb}
 use Rattle.std.proofs.Math.Seq.{drop-append_seam, take-length}
-use Rattle.std.proofs.lemmas.Bool.{cases_eq}
+use Rattle.std.proofs.lemmas.Bool.{cases_eq, ltb-true}
 use Rattle.std.proofs.lemmas.List.{get_or-set_same, get_or-set_other, length-append, length-drop, drop-append-le, take-append-le}
 use Rattle.std.proofs.lemmas.List.FromFn.{fill_by_all}
 use Rattle.bplist_octets.specs.Octets.{part}
@@ -10,22 +10,26 @@ use Rattle.bplist_objects.specs.declared.kind.Kind.{Kind}
 use Rattle.bplist_objects.specs.declared.kind.Kind.TheVariants as kinds
 use Rattle.bplist_objects.specs.declared.head.Head.{Head}
 use Rattle.bplist_objects.specs.Frame.{off}
-use Rattle.bplist_objects.specs.Heads.{HasShape}
-use Rattle.bplist_objects.specs.Announced.{markers_of, head_found, HasHead, item_size}
+use Rattle.bplist_objects.specs.Numbers.{nums_at}
+use Rattle.bplist_objects.specs.Heads.{Content, HasShape, Spells, content_of}
+use Rattle.bplist_objects.proofs.References.{dict_parts, as_many, length-nums_at}
+use Rattle.std.proofs.lemmas.Option.{same_Some}
+use Rattle.std.specs.Option.{option_and_then}
+use Rattle.bplist_objects.specs.Announced.{HasHead, item_size}
+use Rattle.bplist_objects.specs.Markers.{markers_of, head_found}
 use Rattle.bplist_objects.specs.Extents.{HaveRoom}
-use Rattle.bplist_objects.proofs.HeadLaws.{head_parts}
+use Rattle.bplist_objects.proofs.HeadLaws.{head_parts, head_is_found}
 use Rattle.bplist_objects.proofs.AnnouncedHeads.{announced_short}
 use Rattle.bplist_objects.proofs.Lists.{all_weaker}
 use Rattle.bplist_objects.proofs.ExtentSums.{shape_extent, sums_none, sums_more, sums_same}
 use Rattle.bplist_objects.proofs.BodyLaws.{HasHead-unique}
-use Rattle.bplist_objects.proofs.HeadTies.{shape_announced}
 use Rattle.bplist_cert.specs.Lists.{Keyed}
 use Rattle.bplist_cert.specs.Valid.{IsVouchedBy, IsValid}
 use Rattle.bplist_cert.specs.DictKeys.{AreInOrder}
 use Rattle.bplist_lint.specs.KeyLists.{IsListed}
 use Rattle.bplist_cert.proofs.CheckSteps.{good_keeps}
 use Rattle.bplist_cert.proofs.AcceptedCertificates.{accepted, valid_seen, vouched_keys}
-use Rattle.bplist_lint.specs.Upgraded.{pairs, pairs_below, Listed, IsUpgraded}
+use Rattle.bplist_lint.specs.Upgraded.{pairs, pairs_below, HasPairs, Listed, IsUpgraded}
 use Rattle.bplist_lint.proofs.RangeSums.{found_next}
 use Rattle.bplist_lint.proofs.TallySteps.{next_is}
 
@@ -58,6 +62,50 @@ other_pairs head = by head.kind
     by : (kind : Kind) → (kind ≡ kinds.Dict → ⊥) → pairs_of (with_kind head kind) ≡ None
     by kinds.Dict no_dict = absurd (no_dict refl)
     by _ no_dict = refl
+
+-- only that of a dictionary announces pairs
+some_pairs : (head : Head) (k : ℕ) → pairs_of head ≡ Some k → (head.kind ≡ kinds.Dict) × (head.count ≡ k)
+some_pairs head k = by head.kind
+  where
+    by : (kind : Kind) → pairs_of (with_kind head kind) ≡ Some k → (kind ≡ kinds.Dict) × (head.count ≡ k)
+    by kinds.Dict e = (refl, same_Some head.count k e)
+    by _ e = absurd (cc e)
+
+-- the pairs that are found are those of vouched dictionaries
+module _ (f : List ℕ) (F : Frame) (heights : List ℕ) where
+  pairs_vouched : (n : ℕ) → IsVouchedBy heights n → (c : Content) (s : Spells f F n c) → pairs f F heights n ≡ pairs_of s.shape
+  pairs_vouched n v c s =
+      ap (λ b. cond b (option_and_then pairs_of (head_found f F n)) None) (lt-ltb 0 (slice_index heights n) (omega (arith, v)))
+      ∙ ap (option_and_then pairs_of) (head_is_found f F n s.shape s.has.has)
+
+  pub pairs_there : (n k : ℕ) → HasPairs f F heights n k → pairs f F heights n ≡ Some k
+  pairs_there n k (v, (ks, ms, s, long)) =
+      let parts = dict_parts f F s.shape.kind s.shape.count s.shape.body ks ms s.means in
+      let many = as_many f F s.shape.kind s.shape.count s.shape.body ks ms s.means in
+      pairs_vouched n v (Content.dict ks ms) s ∙ dict_pairs s.shape parts.0 ∙ ap Some (sym many.0 ∙ long)
+
+  pub pairs_given : IsValid f F heights → (n k : ℕ) → pairs f F heights n ≡ Some k → HasPairs f F heights n k
+  pairs_given valid n k e = go (nat_lt 0 (slice_index heights n)) refl
+    where
+      go : (b : Bool) → nat_lt 0 (slice_index heights n) ≡ b → HasPairs f F heights n k
+      go false off = absurd (let none : pairs f F heights n ≡ None = ap (λ b. cond b (option_and_then pairs_of (head_found f F n)) None) off in cc (e, none))
+      go true on =
+          let low = ltb-true 0 (slice_index heights n) on in
+          let v : IsVouchedBy heights n = omega (arith, low) in
+          let o = valid.vouched n v in
+          let shape = o.spells.shape in
+          let is = some_pairs shape k (sym (pairs_vouched n v o.content o.spells) ∙ e) in
+          let dict : o.content ≡ content_of f F kinds.Dict shape.count shape.body = o.spells.means ∙ ap (λ kind. content_of f F kind shape.count shape.body) is.0 in
+          (v, (nums_at f shape.body F.ref_size shape.count, nums_at f (shape.body + shape.count * F.ref_size) F.ref_size shape.count, subst (Spells f F n) dict o.spells, length-nums_at f shape.body F.ref_size shape.count ∙ is.1))
+
+  -- and there are no others
+  pub pairs_one : IsValid f F heights → (many : ℕ → Option ℕ) → ((n k : ℕ) → (many n ≡ Some k) ↔ HasPairs f F heights n k) → (n : ℕ) → many n ≡ pairs f F heights n
+  pairs_one valid many are n = go (many n) (pairs f F heights n) refl refl
+    where
+      go : (a b : Option ℕ) → many n ≡ a → pairs f F heights n ≡ b → many n ≡ pairs f F heights n
+      go (Some k) b e e' = e ∙ sym (pairs_there n k ((are n k).0 e))
+      go None (Some k) e e' = (are n k).1 (pairs_given valid n k e') ∙ sym e'
+      go None None e e' = e ∙ sym e'
 
 module _ (f : List ℕ) (F : Frame) (heights : List ℕ) where
   pairs_next : (n : ℕ) → pairs_below f F heights (suc n) ≡ pairs_below f F heights n + unwrap_or (pairs f F heights n) 0
@@ -128,10 +176,10 @@ module _ (f : List ℕ) (F : Frame) (heights : List ℕ) where
           }
 
       found : head_found f F n ≡ Some head
-      found = shape_announced f F n head shape
+      found = head_is_found f F n head shape.has
 
       same_head : (other : Head) → HasHead f F n other → head ≡ other
-      same_head other has = HasHead-unique f F n head other found has
+      same_head other has = HasHead-unique f F n head other shape.has has
 
       -- an object that is no dictionary
       pub listed_other : (head.kind ≡ kinds.Dict → ⊥) → Listed f F heights (n + 1) (set starts n 0) positions
@@ -182,6 +230,8 @@ module _ (f : List ℕ) (F : Frame) (heights : List ℕ) where
     upgraded = record {
       keyed = keyed;
       is = refl;
+      many = pairs f F heights;
+      are = λ n k. (pairs_given f F heights valid n k, pairs_there f F heights n k);
       starts = fill_by_all (λ n. cond (is_some (pairs f F heights n)) (pairs_below f F heights n) 0) keyed.starts F.objects 0 count l.begins;
       total = l.total;
       accepted = accepted f F (record { heights = heights; keys = Some keyed }) (record {

@@ -9,16 +9,17 @@ use Rattle.bplist_objects.specs.declared.kind.Kind.{Kind}
 use Rattle.bplist_objects.specs.declared.kind.Kind.TheVariants as kinds
 use Rattle.bplist_objects.specs.Heads.{Content, HasShape, Spells, content_at, refs}
 use Rattle.bplist_objects.specs.Safe.{ref_count}
-use Rattle.bplist_objects.specs.Announced.{head_found}
+use Rattle.bplist_objects.specs.Markers.{head_found}
 use Rattle.bplist_objects.specs.Spelled.{is_proper, spelled_at, refs_at}
 use Rattle.bplist_objects.proofs.Fronts.{one_shape}
 use Rattle.bplist_objects.proofs.SpelledContents.{spells_iff}
 use Rattle.bplist_objects.proofs.References.{length-refs}
 use Rattle.bplist_objects.specs.Scan.{AreBelow, nth_number}
 use Rattle.bplist_objects.proofs.References.{nth-refs, all_refs}
-use Rattle.bplist_objects.proofs.ProperLeaves.{body_kept}
+use Rattle.bplist_objects.proofs.ProperLeaves.{body_kept, spells_bodies, bodies_spell}
+use Rattle.bplist_objects.proofs.HeadLaws.{head_is_found}
 use Rattle.bplist_objects.proofs.ReachedObjects.{refs_spelled}
-use Rattle.bplist_objects.proofs.HeadTies.{shape_announced, spells_body}
+use Rattle.bplist_objects.proofs.HeadTies.{spells_body}
 use Rattle.bplist_lint.specs.declared.object_graph.View.{View}
 use Rattle.bplist_lint.specs.Graph.{IsPart}
 use Rattle.bplist_lint.specs.ReferenceGraph.{refs_announced, hidden, refs_in}
@@ -53,7 +54,7 @@ module _ (f : List ℕ) (F : Frame) (n : ℕ) where
 
   -- its head is found
   pub found_as : (h : Head) → HasShape f F n h → head_found f F n ≡ Some h
-  found_as h has = shape_announced f F n h has
+  found_as h has = head_is_found f F n h has.has
 
   -- the references of an object with a shape: there are as many as the shape says, and they are the numbers that stand there
   pub record IsAs (h : Head) : Type 0 where
@@ -68,7 +69,7 @@ module _ (f : List ℕ) (F : Frame) (n : ℕ) where
       record {
         count = ap length is ∙ length-refs f F h.kind h.count h.body;
         each = λ k l. ap (λ xs. slice_index xs k) is ∙ nth-refs f F h.kind h.count h.body k l;
-        low = s.kept.1.1.0 h has.has;
+        low = (spells_bodies f F n c s).1.1.0 h has.has;
       }
 
   pub as_shape : (h : Head) → HasShape f F n h → (i : ℕ) → i < length (refs_at f F n) → IsAs h
@@ -130,12 +131,8 @@ module _ (f : List ℕ) (F : Frame) (n : ℕ) where
   pub refs_as_shape : (h : Head) → HasShape f F n h → AreBelow f h.body F.ref_size (ref_count h.kind h.count) F.objects → refs_at f F n ≡ refs (content_at f F h)
   refs_as_shape h has below = elim (cases_lt 0 (ref_count h.kind h.count)) [
     | inl some ↦
-        let s : Spells f F n (content_at f F h) = record {
-          shape = h;
-          has = has;
-          kept = body_kept f F n h has.has (proper_container h.kind h.count h.body some) (all_refs f F (λ m. m < F.objects) h.kind h.count h.body below);
-          means = refl;
-        } in
+        let s : Spells f F n (content_at f F h) =
+        bodies_spell f F n h has (body_kept f F n h has.has (proper_container h.kind h.count h.body some) (all_refs f F (λ m. m < F.objects) h.kind h.count h.body below)) in
         refs_spelled f F n (content_at f F h) s
     | inr none ↦
         let zero : ref_count h.kind h.count ≡ 0 = omega (arith, none) in

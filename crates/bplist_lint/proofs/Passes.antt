@@ -1,5 +1,6 @@
 -- What the linter's passes come to, one behind the other.
-use Rattle.std.proofs.Common.{◌≡◌, ℕ, zero, suc, ◌+◌, ◌<◌, ◌≤◌, inl, cond, nat_lt, Bool, List, length, take, slice_index, count_by, map, IsTrue, None, refl, sym, ap, subst, ◌∙◌, arith, lt-ltb}
+use Rattle.std.proofs.Common.{◌≡◌, ℕ, zero, suc, ◌+◌, ◌<◌, ◌≤◌, inl, cond, nat_lt, Bool, List, length, take, slice_index, count_by, filter, map, IsTrue, None, refl, sym, ap, subst, ◌∙◌, arith, lt-ltb}
+use Rattle.std.specs.List.{range_with_len}
 use Rattle.std.proofs.Math.Numerals.{add-one}
 use Rattle.std.proofs.Math.Seq.{take-length}
 use Rattle.std.proofs.lemmas.List.Sums.{sum_by_more}
@@ -31,11 +32,11 @@ use Rattle.bplist_lint.specs.Trail.{number}
 use Rattle.bplist_keys.specs.Offsets.{AreOffsets32}
 use Rattle.bplist_lint.specs.OffsetRule.{AreBelowTable, IsOffsetFault}
 use Rattle.bplist_lint.specs.LeastHeights.{AreLeastHeights}
-use Rattle.bplist_lint.specs.Linted.{KeepsRules, IsLintedBy, HasNoHeights}
+use Rattle.bplist_lint.specs.Linted.{HaveReferences, KeepsRules, IsLintedBy, HasNoHeights}
 use Rattle.bplist_lint.proofs.HeldValues.{formed_holds, holds_formed}
 use Rattle.bplist_lint.proofs.KeptRules.{kept_both, kept_spells}
 use Rattle.bplist_lint.proofs.OffsetSteps.{kept_low, kept_high}
-use Rattle.bplist_lint.proofs.RangeSums.{sum_next}
+use Rattle.bplist_lint.proofs.RangeSums.{sum_next, have_references}
 use Rattle.bplist_lint.proofs.Walks.{same_mark}
 use Rattle.bplist_lint.proofs.ReferenceGraph.{circle_iff}
 use Rattle.bplist_lint.proofs.LintAnswers.{formed_by_valid, least_lowest, lint_yes}
@@ -120,7 +121,9 @@ module _ (f : List ℕ) (F : Frame) where
         lowest = λ other valid n r. (least_lowest f F other heights valid yes.1.least n r).1;
         height = height;
         reached = reached ∙ same_number sifted s heights yes.1 vouched;
-        references = references ∙ same_references sifted s heights yes.1 vouched;
+        references =
+            subst (HaveReferences f F (filter (is_vouched heights) (range_with_len 0 F.objects))) (sym (references ∙ same_references sifted s heights yes.1 vouched))
+            (have_references f F (is_vouched heights) (λ n on. let v = ltb-true 0 (slice_index heights n) on in let o = yes.2.vouched n (omega arith) in (o.content, o.spells)) (range_with_len 0 F.objects));
         few = omega (arith, references);
       }
 

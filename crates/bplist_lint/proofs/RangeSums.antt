@@ -1,13 +1,18 @@
 -- Sums over the numbers below a bound, and those over the objects below it.
-use Rattle.std.proofs.Common.{◌≡◌, ℕ, zero, suc, ◌+◌, Bool, true, false, cond, List, [], ◌∷◌, ◌++◌, Option, Some, None, unwrap_or, sum, sum_by, filter, filter_map, refl, sym, ap, ◌∙◌, arith}
+use Rattle.std.proofs.Common.{◌≡◌, ℕ, zero, suc, ◌+◌, Bool, true, false, cond, List, [], ◌∷◌, ◌++◌, length, Option, Some, None, unwrap_or, sum, sum_by, filter, filter_map, refl, sym, ap, ◌∙◌, arith}
 use Rattle.std.specs.List.{range_with_len, cons_option}
 use Rattle.std.specs.Option.{option_map_or}
 use Rattle.std.proofs.lemmas.List.Sums.{sum_by-cons, sum_by_push}
 use Rattle.bplist_objects.specs.declared.frame.Frame.{Frame}
 use Rattle.bplist_objects.specs.declared.head.Head.{Head}
-use Rattle.bplist_objects.specs.Announced.{head_found, HasHead}
+use Rattle.bplist_objects.specs.Announced.{HasHead}
+use Rattle.bplist_objects.specs.Markers.{head_found}
+use Rattle.bplist_objects.specs.Heads.{Content, refs, Spells}
 use Rattle.bplist_objects.specs.Safe.{ref_count}
+use Rattle.bplist_objects.proofs.References.{length-refs}
+use Rattle.bplist_objects.proofs.HeadLaws.{head_is_found}
 use Rattle.bplist_lint.specs.ReachRules.{references_below}
+use Rattle.bplist_lint.specs.Linted.{HaveReferences}
 use Rattle.bplist_lint.specs.ReachWalk.{extent, extents_below}
 
 -- the sum of g below n
@@ -58,7 +63,7 @@ module _ (f : List ℕ) (F : Frame) where
   references_of n = option_map_or (λ head. ref_count head.kind head.count) (head_found f F n) 0
 
   pub references_are : (n : ℕ) (head : Head) → HasHead f F n head → references_of n ≡ ref_count head.kind head.count
-  references_are n head has = ap (λ found. option_map_or (λ head. ref_count head.kind head.count) found 0) has
+  references_are n head has = ap (λ found. option_map_or (λ head. ref_count head.kind head.count) found 0) (head_is_found f F n head has)
 
   module _ (p : ℕ → Bool) (n : ℕ) where
     pub extents_sum : extents_below f F p n ≡ sum_below (λ m. cond (p m) (extent f F m) 0) n
@@ -77,3 +82,29 @@ module _ (f : List ℕ) (F : Frame) where
     references_next =
         let one = sum_next (λ m. cond (p m) (references_of m) 0) n in
         omega (arith, one, references_sum p n, references_sum p (suc n))
+
+  -- ---- the references of objects that spell something
+  module _ (p : ℕ → Bool) (spell : (n : ℕ) → p n ≡ true → (c : Content) × Spells f F n c) where
+    -- how many references the heads of these announce
+    abbrev announced : List ℕ → ℕ
+    announced xs = sum_by (λ head. ref_count head.kind head.count) (filter_map (head_found f F) xs)
+
+    pub have_references : (xs : List ℕ) → HaveReferences f F (filter p xs) (announced (filter p xs))
+    have_references [] = refl
+    have_references (x ∷ xs) = one (p x) refl (have_references xs)
+      where
+        one : (b : Bool) → p x ≡ b → HaveReferences f F (filter p xs) (announced (filter p xs))
+            → HaveReferences f F (cond b (x ∷ filter p xs) (filter p xs)) (announced (cond b (x ∷ filter p xs) (filter p xs)))
+        one false e rest = rest
+        one true e rest =
+            let (c, s) = spell x e in
+            let later = filter_map (head_found f F) (filter p xs) in
+            let count : length (refs c) ≡ ref_count s.shape.kind s.shape.count = ap (λ d. length (refs d)) s.means ∙ length-refs f F s.shape.kind s.shape.count s.shape.body in (
+              c,
+              announced (filter p xs),
+              s,
+              rest,
+              ap (λ o. sum_by (λ (head : Head). ref_count head.kind head.count) (cons_option o later)) (head_is_found f F x s.shape s.has.has)
+                  ∙ sum_by-cons (λ (head : Head). ref_count head.kind head.count) s.shape later
+                  ∙ ap (λ k. k + announced (filter p xs)) (sym count),
+            )

@@ -12,6 +12,7 @@ use Rattle.bplist_objects.specs.Reach.{Reach, top, next}
 use Rattle.bplist_objects.specs.Extents.{Sums}
 use Rattle.bplist_objects.specs.Rules.{KeepsAll}
 use Rattle.bplist_objects.specs.Spelled.{refs_at}
+use Rattle.bplist_objects.proofs.HeadLaws.{head_is_found}
 use Rattle.bplist_objects.proofs.Lists.{none_in}
 use Rattle.bplist_objects.proofs.ReachedObjects.{refs_iff}
 use Rattle.bplist_keys.specs.Classes.{HasNamedKeys}
@@ -83,7 +84,7 @@ sum_as_marked g marks visited n same = sum_alike _ _ n (λ m low. ap (λ b. cond
 
 module _ (f : List ℕ) (F : Frame) where
   extent_is : (n : ℕ) (head : Head) → HasHead f F n head → extent f F n ≡ head.«end» - off f F n
-  extent_is n head has = ap (extent_by (off f F n)) has
+  extent_is n head has = ap (extent_by (off f F n)) (head_is_found f F n head has)
 
   -- ---- the beginning
   pub walking_start : F.top.0 < F.objects → (keys : List Bool) → IsWalkState f F 0 [] (set (replicate F.objects false) F.top.0 true) (replicate F.objects false) keys (record { reached = 0; used = 0; references = 0 })

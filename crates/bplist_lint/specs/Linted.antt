@@ -1,10 +1,11 @@
 -- What the linter says of a file that holds a value. Source: profile.
-use Rattle.std.specs.Prelude.{◌≡◌, ℕ, ◌+◌, ◌≤◌, nat_lt, List, slice_index, count_by, None}
+use Rattle.std.specs.Prelude.{◌≡◌, ℕ, ◌+◌, ◌≤◌, nat_lt, List, [], ◌∷◌, length, slice_index, count_by, filter, None}
+use Rattle.std.specs.List.{range_with_len}
 use Rattle.bplist_objects.specs.declared.frame.Frame.{Frame}
 use Rattle.bplist_objects.specs.declared.head.Head.{Head}
 use Rattle.bplist_objects.specs.declared.kind.Kind.{Kind}
 use Rattle.bplist_objects.specs.Frame.{IsFrame}
-use Rattle.bplist_objects.specs.Heads.{IsHeadOf}
+use Rattle.bplist_objects.specs.Heads.{Content, refs, Spells, IsHeadOf}
 use Rattle.bplist_objects.specs.Value.{Value}
 use Rattle.bplist_objects.specs.File.{FileHolds}
 use Rattle.bplist_objects.specs.Reach.{Reach}
@@ -13,8 +14,13 @@ use Rattle.bplist_cert.specs.Valid.{IsValid}
 use Rattle.bplist_lint.specs.declared.answer.Lint.{Lint}
 use Rattle.bplist_lint.specs.declared.walk.Reached.{Reached}
 use Rattle.bplist_lint.specs.LeastHeights.{AreLeastHeights}
-use Rattle.bplist_lint.specs.ReachRules.{KeepReached, references_below}
+use Rattle.bplist_lint.specs.ReachRules.{KeepReached}
 use Rattle.bplist_lint.specs.ReachWalk.{IsWalked}
+
+-- these objects have t references together, each those of what it spells
+abbrev pub HaveReferences : List ℕ → Frame → List ℕ → ℕ → Type 0
+HaveReferences f F [] t = t ≡ 0
+HaveReferences f F (n ∷ ns) t = (c : Content) × (r : ℕ) × Spells f F n c × HaveReferences f F ns r × (t ≡ length (refs c) + r)
 
 -- the file holds a value; the certificate has the least valid heights, and the numbers are those of reached objects
 pub record IsLintedBy (f : List ℕ) (F : Frame) (lint : Lint) : Type 0 where
@@ -26,7 +32,7 @@ pub record IsLintedBy (f : List ℕ) (F : Frame) (lint : Lint) : Type 0 where
   pub lowest : (other : List ℕ) → IsValid f F other → (n : ℕ) → Reach f F n → slice_index lint.certificate.heights n ≤ slice_index other n
   pub height : lint.height ≡ slice_index lint.certificate.heights F.top.0
   pub reached : lint.reached ≡ count_by (nat_lt 0) lint.certificate.heights
-  pub references : lint.references ≡ references_below f F (λ n. nat_lt 0 (slice_index lint.certificate.heights n)) F.objects
+  pub references : HaveReferences f F (filter (λ n. nat_lt 0 (slice_index lint.certificate.heights n)) (range_with_len 0 F.objects)) lint.references
   pub few : lint.references + 8 ≤ F.table
 
 -- the same, with the file's frame

@@ -6,7 +6,7 @@ use Rattle.bplist_objects.specs.declared.rule.Rule.TheVariants as rules
 use Rattle.bplist_objects.specs.declared.fault.Fault.{Fault}
 use Rattle.bplist_objects.specs.declared.frame.Frame.{Frame}
 use Rattle.bplist_objects.specs.Safe.{ref_count}
-use Rattle.bplist_objects.specs.Announced.{head_found}
+use Rattle.bplist_objects.specs.Markers.{head_found}
 use Rattle.bplist_objects.specs.ObjectRules.{object_rules}
 use Rattle.bplist_objects.specs.Reach.{Reach}
 use Rattle.bplist_objects.specs.Extents.{Sums}

@@ -5,7 +5,8 @@ use Rattle.bplist_objects.specs.declared.fault.ObjectFault.{ObjectFault}
 use Rattle.bplist_objects.specs.declared.fault.ObjectFault.TheVariants as object_faults
 use Rattle.bplist_objects.specs.declared.frame.Frame.{Frame}
 use Rattle.bplist_objects.specs.declared.head.Head.{Head}
-use Rattle.bplist_objects.specs.Announced.{HasHead, head_found}
+use Rattle.bplist_objects.specs.Announced.{HasHead}
+use Rattle.bplist_objects.specs.Markers.{head_found}
 use Rattle.bplist_objects.specs.Frame.{off}
 use Rattle.bplist_objects.specs.ObjectRules.{KeepsByObject, object_rules}
 use Rattle.bplist_objects.specs.Reach.{Reach}

@@ -6,7 +6,7 @@ use Rattle.bplist_objects.specs.declared.kind.Kind.{Kind}
 use Rattle.bplist_objects.specs.declared.kind.Kind.TheVariants as kinds
 use Rattle.bplist_objects.specs.Reach.{Reach}
 use Rattle.bplist_objects.specs.Safe.{ref_count}
-use Rattle.bplist_objects.specs.Announced.{head_found}
+use Rattle.bplist_objects.specs.Markers.{head_found}
 use Rattle.bplist_objects.specs.Spelled.{refs_at}
 use Rattle.bplist_keys.specs.Marks.{IsMarked}
 use Rattle.bplist_lint.specs.declared.object_graph.View.{View}

@@ -1,26 +1,32 @@
 -- The key lists of vouched dictionaries, one behind the other. Source: profile.
-use Rattle.std.specs.Prelude.{◌≡◌, ℕ, ◌<◌, ◌≤◌, nat_lt, cond, List, length, slice_index, Option, Some, None, is_some, map, sum, filter_map}
+use Rattle.std.specs.Prelude.{◌≡◌, ◌↔◌, ℕ, ◌<◌, ◌≤◌, nat_lt, cond, List, length, slice_index, Option, Some, None, is_some, map, sum, filter_map}
 use Rattle.std.specs.List.{range_with_len}
 use Rattle.std.specs.Option.{option_and_then}
 use Rattle.bplist_objects.specs.declared.frame.Frame.{Frame}
 use Rattle.bplist_objects.specs.declared.head.Head.{Head}
 use Rattle.bplist_objects.specs.declared.kind.Kind.TheVariants.{Dict}
-use Rattle.bplist_objects.specs.Announced.{head_found, HasHead}
+use Rattle.bplist_objects.specs.Announced.{HasHead}
+use Rattle.bplist_objects.specs.Heads.{Spells, dict}
+use Rattle.bplist_objects.specs.Markers.{head_found}
 use Rattle.bplist_objects.specs.Extents.{Sums}
 use Rattle.bplist_cert.specs.Lists.{Keyed, Lists, lists}
 use Rattle.bplist_cert.specs.Valid.{IsVouchedBy}
 use Rattle.bplist_cert.specs.Sorted.{IsAccepted}
 use Rattle.bplist_cert.specs.CheckRules.{HasOrder}
 
+-- the numbers of the objects below n that have one, added up
+abbrev pub together : (ℕ → Option ℕ) → ℕ → ℕ
+together many n = sum (filter_map many (range_with_len 0 n))
+
 module _ (f : List ℕ) (F : Frame) (heights : List ℕ) where
-  -- how many positions the key list of object n has, if it is a vouched dictionary
+  -- how many positions the key list of object n has, computed: as many as its head counts, if it is a vouched dictionary
   abbrev pub pairs : ℕ → Option ℕ
   pairs n = cond (nat_lt 0 (slice_index heights n))
       (option_and_then (λ head. elim head.kind [ Dict ↦ Some head.count | _ ↦ None ]) (head_found f F n)) None
 
   -- how many positions the key lists of the objects below n have together
   abbrev pub pairs_below : ℕ → ℕ
-  pairs_below n = sum (filter_map pairs (range_with_len 0 n))
+  pairs_below n = together pairs n
 
   -- so far the vouched dictionaries have their key lists
   pub record Listed (n : ℕ) (starts positions : List ℕ) : Type 0 where
@@ -33,10 +39,17 @@ module _ (f : List ℕ) (F : Frame) (heights : List ℕ) where
     pub sums : Sums f F (IsVouchedBy heights) n used
     pub few : length positions ≤ used
 
-  -- the certificate keeps its heights and gets the key lists of the vouched dictionaries, one after the other
+  -- object n is vouched for, and spells a dictionary of so many pairs
+  abbrev pub HasPairs : ℕ → ℕ → Type 0
+  HasPairs n count = IsVouchedBy heights n × ((ks ms : List ℕ) × Spells f F n (dict ks ms) × (length ks ≡ count))
+
+  -- the certificate keeps its heights and gets the key lists of the vouched dictionaries, one after the other, and each is as
+  -- long as its dictionary has pairs
   pub record IsUpgraded (certificate : Lists) : Type 0 where
     pub keyed : Keyed
     pub is : certificate ≡ lists heights (Some keyed)
-    pub starts : keyed.starts ≡ map (λ n. cond (is_some (pairs n)) (pairs_below n) 0) (range_with_len 0 F.objects)
-    pub total : length keyed.positions ≡ pairs_below F.objects
+    pub many : ℕ → Option ℕ
+    pub are : (n count : ℕ) → (many n ≡ Some count) ↔ HasPairs n count
+    pub starts : keyed.starts ≡ map (λ n. cond (is_some (many n)) (together many n) 0) (range_with_len 0 F.objects)
+    pub total : length keyed.positions ≡ together many F.objects
     pub accepted : IsAccepted f F certificate

@@ -6,12 +6,11 @@ use Rattle.bplist_objects.specs.declared.kind.Kind.{Kind}
 use Rattle.bplist_objects.specs.declared.kind.Kind.TheVariants as kinds
 use Rattle.bplist_objects.specs.declared.head.Head.{Head}
 use Rattle.bplist_objects.specs.Frame.{off, IsFrame}
-use Rattle.bplist_objects.specs.Announced.{Markers, plain, counted, markers_of, AnnouncesAs, item_size}
+use Rattle.bplist_objects.specs.Announced.{item_size}
 use Rattle.bplist_objects.specs.Heads.{HasShape}
-use Rattle.bplist_objects.specs.Safe.{MarkersCount, ref_count, IsSafe, IsSafeFrame, IsSafeHead}
+use Rattle.bplist_objects.specs.Safe.{ref_count, IsSafe, IsSafeFrame, IsSafeHead}
 use Rattle.bplist_objects.proofs.BodyLaws.{refs_fit}
 use Rattle.bplist_objects.proofs.FrameTies.{numbered}
-use Rattle.bplist_objects.proofs.HeadLaws.{head_parts}
 use Rattle.bplist_objects.proofs.ShapeLaws.{item_size-pos}
 
 -- a frame is safe
@@ -30,16 +29,10 @@ frame_safe f F frame =
       table = n.table_early;
     }
 
--- the count that is announced is one that its form may say
-announced_said : (f : List ℕ) (p : ℕ) (form : Markers) (count body : ℕ) → AnnouncesAs f p form count body → MarkersCount form count
-announced_said f p (plain low high says) count body a = (slice_index f p, a.0, a.1, a.2)
-announced_said f p (counted high) count body a = tt
-
 -- the head of an object is safe
 pub shape_safe : (f : List ℕ) (F : Frame) (n : ℕ) (head : Head) → HasShape f F n head → IsSafeHead F head
 shape_safe f F n head h =
-    let parts = head_parts f F n head h.has in
-    record { may = announced_said f (off f F n) (markers_of head.kind) head.count head.body parts.0; body = omega (arith, parts.1); table = h.inside }
+    record { may = (h.has.front, h.has.announces); body = omega (arith, h.has.ends); table = h.inside }
 
 module _ (F : Frame) (head : Head) (safe : IsSafeHead F head) (low : 1 ≤ F.ref_size) where
   -- a body has no more items than bytes before the table

@@ -8,7 +8,7 @@ use Rattle.bplist_objects.specs.Frame.{off}
 use Rattle.bplist_objects.specs.Heads.{HasShape}
 use Rattle.bplist_objects.specs.Holds.{AreDistinct}
 use Rattle.bplist_objects.specs.Extents.{TakeOctets, AtMost, Sums, HaveRoom, IsOverfull}
-use Rattle.bplist_objects.specs.Announced.{markers_of}
+use Rattle.bplist_objects.specs.Markers.{markers_of}
 use Rattle.bplist_objects.proofs.AnnouncedHeads.{announced_short}
 use Rattle.bplist_objects.proofs.HeadLaws.{head_parts}
 use Rattle.bplist_objects.proofs.Fronts.{one_shape}

@@ -5,7 +5,8 @@ use Rattle.bplist_objects.specs.declared.head.Head.{Head}
 use Rattle.bplist_objects.specs.Frame.{off, IsFrame}
 use Rattle.bplist_objects.specs.Heads.{Content, HasShape, content_at, Spells, IsHeadOf}
 use Rattle.bplist_objects.specs.Rules.{KeepsAll}
-use Rattle.bplist_objects.specs.Announced.{markers_of, HasHead}
+use Rattle.bplist_objects.specs.Announced.{HasHead}
+use Rattle.bplist_objects.specs.Markers.{markers_of}
 use Rattle.bplist_objects.specs.ObjectRules.{KeepsByObject, shape_rules, body_rules, object_rules}
 use Rattle.bplist_objects.proofs.BodyLaws.{HasHead-unique}
 use Rattle.bplist_objects.proofs.Fronts.{one_shape}
@@ -14,6 +15,7 @@ use Rattle.bplist_objects.proofs.HeadLaws.{head_parts}
 use Rattle.bplist_objects.proofs.FrameTies.{numbered}
 use Rattle.bplist_objects.proofs.RuleLaws.{kept_all_after}
 use Rattle.bplist_objects.proofs.ShapeLaws.{shape_kept}
+use Rattle.bplist_objects.proofs.ProperLeaves.{spells_bodies, bodies_spell}
 
 module _ (f : List ℕ) (F : Frame) (n : ℕ) where
   -- ---- marker and count
@@ -34,20 +36,15 @@ module _ (f : List ℕ) (F : Frame) (n : ℕ) where
 
   -- an object that spells a content keeps rules 14 to 20
   pub spells_keeps : (c : Content) → Spells f F n c → KeepsAll (KeepsByObject f F n) object_rules
-  spells_keeps c s = kept_all_after (KeepsByObject f F n) shape_rules body_rules (shape_keeps s.shape s.has) s.kept
+  spells_keeps c s = kept_all_after (KeepsByObject f F n) shape_rules body_rules (shape_keeps s.shape s.has) (spells_bodies f F n c s)
 
   module _ (frame : IsFrame f F) (lt : n < F.objects) where
-    -- the place lies so far before the file's end that every front is in the file
-    place_room : off f F n + 32 < length f
-    place_room = omega (arith, (numbered frame).offsets n lt, (numbered frame).table_late)
-
     -- a head that is announced, and whose rules 14 to 17 are kept, is a shape
     pub announced_shape : (head : Head) → HasHead f F n head → KeepsAll (KeepsByObject f F n) shape_rules → HasShape f F n head
     announced_shape head h kept =
-        let short = (announced_short f (off f F n) (markers_of head.kind) head.count head.body (head_parts f F n head h).0).1 in
         let early = kept.1.1.1.0 kept.1.0 (kept.1.1.0 kept.1.0) in
         let inside : head.«end» ≤ F.table = subst (λ (x : Head). x.«end» ≤ F.table) (HasHead-unique f F n early.0 head early.1 h) early.2 in
-        record { low = kept.0; has = h; within = omega (arith, place_room, short); inside = inside }
+        record { low = kept.0; has = h; inside = inside }
 
     pub shape_tie : (head : Head) → (HasHead f F n head × KeepsAll (KeepsByObject f F n) shape_rules) ↔ HasShape f F n head
     shape_tie head = ((λ h. announced_shape head h.0 h.1), λ h. (shape_announced head h, shape_keeps head h))
@@ -56,15 +53,8 @@ module _ (f : List ℕ) (F : Frame) (n : ℕ) where
     -- the body of a head whose rules are all kept
     pub kept_spells : (head : Head) → HasHead f F n head → KeepsAll (KeepsByObject f F n) object_rules → IsHeadOf f F n head
     kept_spells head h kept =
-        let shape = announced_shape head h (kept.0, (kept.1.0, (kept.1.1.0, (kept.1.1.1.0, tt)))) in (
-          shape,
-          record {
-            shape = head;
-            has = shape;
-            kept = kept.1.1.1.1;
-            means = refl;
-          },
-        )
+        let shape = announced_shape head h (kept.0, (kept.1.0, (kept.1.1.0, (kept.1.1.1.0, tt)))) in
+        (shape, bodies_spell f F n head shape kept.1.1.1.1)
 
     -- ---- the ties
     pub head_tie : (head : Head) → (HasHead f F n head × KeepsAll (KeepsByObject f F n) object_rules) ↔ IsHeadOf f F n head

@@ -7,7 +7,7 @@ use Rattle.std.specs.Int.{cast_signed, w64, w128}
 use Rattle.bplist_octets.specs.Octets.{num}
 use Rattle.bplist_objects.specs.declared.kind.Kind.{Kind}
 use Rattle.bplist_objects.specs.declared.kind.Kind.TheVariants.{Int}
-use Rattle.bplist_objects.specs.Safe.{MayCount}
+use Rattle.bplist_objects.specs.Announced.{MayCount}
 use Rattle.bplist_octets.proofs.Spelled.{num-lt}
 use Rattle.bplist_objects.specs.Numbers.{integer}
 
@@ -24,7 +24,7 @@ widths n (suc (suc (suc (suc (suc w))))) h e = absurd (omega arith)
 pub int_count : (k : Kind) (n : ℕ) → k ≡ Int → MayCount k n → (1 ≤ n) × (n ≤ 16) × ((n ≤ 4) ⊎ ((n ≡ 8) ⊎ (n ≡ 16)))
 int_count k n e may =
     let m = subst (λ k. MayCount k n) e may in
-    let w = widths n (m.0 - 16) (omega (arith, m.2)) m.3 in
+    let w = widths n m.1.0 m.1.1 m.1.2 in
     (w.0, elim w.1 [ inl l ↦ omega arith | inr r ↦ elim r [ inl e ↦ omega (arith, e) | inr e ↦ omega (arith, e) ] ], w.1)
 
 -- the first byte is below 128 where the number is in the lower half, and else it is not

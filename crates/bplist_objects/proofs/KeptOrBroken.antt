@@ -1,6 +1,6 @@
 -- Each rule is kept or broken, and so either all rules are kept or there is a first fault.
-use Rattle.std.proofs.Common.{◌≡◌, ℕ, ◌<◌, ◌≤◌, ◌+◌, ◌-◌, ◌*◌, ◌^◌, ◌⊎◌, inl, inr, List, [], ◌∷◌, length, slice_index, Option, Some, None, IsSome, refl, subst, arith}
-use Rattle.std.proofs.lemmas.Bool.{cases_lt, cases_eq, false≢true}
+use Rattle.std.proofs.Common.{◌≡◌, ℕ, ◌<◌, ◌≤◌, ◌+◌, ◌-◌, ◌*◌, ◌^◌, ◌⊎◌, inl, inr, List, [], ◌∷◌, length, slice_index, Option, Some, None, refl, sym, ◌∙◌, subst, arith}
+use Rattle.std.proofs.lemmas.Bool.{cases_lt, cases_eq}
 use Rattle.bplist_objects.specs.declared.rule.Rule.{Rule}
 use Rattle.bplist_objects.specs.declared.rule.Rule.TheVariants as rules
 use Rattle.bplist_objects.specs.declared.fault.Fault.{Fault}
@@ -14,12 +14,15 @@ use Rattle.bplist_objects.specs.Frame.{off, trailer, header, Keeps, frame_rules}
 use Rattle.bplist_objects.specs.Rules.{KeepsAll, IsFirstFault, OfObject}
 use Rattle.bplist_objects.specs.Scan.{AreBelow, IsFirstNotBelow, nth_number}
 use Rattle.bplist_objects.specs.FrameRules.{Breaks, IsFrameFault}
-use Rattle.bplist_objects.specs.Announced.{HasHead, kind_at, head_found}
+use Rattle.bplist_objects.specs.Announced.{HasHead, IsMarker}
+use Rattle.bplist_objects.specs.Markers.{kind_at, head_found}
 use Rattle.bplist_objects.specs.ObjectRules.{KeepsByObject, BreaksByObject, IsObjectFault}
 use Rattle.bplist_objects.specs.Safe.{ref_count}
 use Rattle.bplist_objects.proofs.Lists.{Either}
 use Rattle.bplist_objects.proofs.ClaimLaws.{all_or_failure}
 use Rattle.bplist_objects.proofs.BodyLaws.{HasHead-unique}
+use Rattle.bplist_objects.proofs.HeadLaws.{marker_marks, marks_marker, marked_kind, kind_marked, head_is_found, found_head, head_within}
+use Rattle.std.proofs.lemmas.Option.{same_Some}
 
 is_le : (a b : ℕ) → Either (a ≤ b)
 is_le a b = elim (cases_lt b a) [
@@ -113,9 +116,12 @@ frame_kept_or_fault f = elim (cases_lt (length f) 41) [
 ]
 
 -- ---- rules 14 to 20
-some_decided : {X : Type 0} (o : Option X) → Either (IsSome o)
-some_decided None = inr false≢true
-some_decided (Some x) = inl refl
+marker_decided : (m : ℕ) → Either (IsMarker m)
+marker_decided m = go (kind_at m) refl
+  where
+    go : (found : Option Kind) → kind_at m ≡ found → Either (IsMarker m)
+    go None e = inr (λ is. let marks = marker_marks m is in absurd (cc (e, kind_marked m marks.0 marks.1)))
+    go (Some kind) e = inl (marks_marker m kind (marked_kind m kind e))
 
 ascii_decided : (kind : Kind) → Either (kind ≡ kinds.Ascii)
 ascii_decided kinds.Ascii = inl refl
@@ -126,16 +132,26 @@ uid_decided kinds.Uid = inl refl
 uid_decided _ = inr (λ e. cc e)
 
 module _ (f : List ℕ) (F : Frame) (n : ℕ) where
+  -- whether a head is announced
+  head_decided : Either ((head : Head) × HasHead f F n head)
+  head_decided = go (head_found f F n) refl
+    where
+      go : (found : Option Head) → head_found f F n ≡ found → Either ((head : Head) × HasHead f F n head)
+      go None e = inr (λ h. absurd (cc (e, head_is_found f F n h.0 h.1)))
+      go (Some head) e = elim (is_le head.body (length f)) [
+        | inl l ↦ inl (head, found_head f F n head l e)
+        | inr far ↦ inr (λ h. far (subst (λ (x : Head). x.body ≤ length f) (same_Some h.0 head (sym (head_is_found f F n h.0 h.1) ∙ e)) (head_within f F n h.0 h.1)))
+      ]
+
   -- of the head that is announced, if one is, one of two things holds
   with_head : (P Q : Head → Type 0) → ((head : Head) → P head ⊎ Q head) → ((head : Head) → HasHead f F n head → P head) ⊎ ((head : Head) × HasHead f F n head × Q head)
-  with_head P Q each = go (head_found f F n) refl
-    where
-      go : (found : Option Head) → head_found f F n ≡ found → ((head : Head) → HasHead f F n head → P head) ⊎ ((head : Head) × HasHead f F n head × Q head)
-      go None e = inl (λ head h. absurd (cc (e, h)))
-      go (Some head) e = elim (each head) [
-        | inl p ↦ inl (λ other k. subst P (HasHead-unique f F n head other e k) p)
-        | inr q ↦ inr (head, e, q)
-      ]
+  with_head P Q each = elim head_decided [
+    | inr none ↦ inl (λ head h. absurd (none (head, h)))
+    | inl there ↦ elim (each there.0) [
+      | inl p ↦ inl (λ other k. subst P (HasHead-unique f F n there.0 other there.1 k) p)
+      | inr q ↦ inr (there.0, there.1, q)
+    ]
+  ]
 
   of_head : (P : Head → Type 0) → ((head : Head) → Either (P head)) → Either ((head : Head) → HasHead f F n head → P head)
   of_head P each = elim (with_head P (λ head. P head → ⊥) each) [
@@ -151,22 +167,24 @@ module _ (f : List ℕ) (F : Frame) (n : ℕ) where
   at p (inl k) = inl k
   at p (inr no1) = inr (p, (no1, refl))
 
-  count_decided : Either (o + 1 < F.table → IsSome (head_found f F n))
-  count_decided = is_implied (is_less (o + 1) F.table) (some_decided (head_found f F n))
+  count_decided : Either (o + 1 < F.table → (head : Head) × HasHead f F n head)
+  count_decided = is_implied (is_less (o + 1) F.table) head_decided
 
   -- whether a head is announced that lies before the table
-  early_decided : (found : Option Head) → head_found f F n ≡ found → Either ((head : Head) × HasHead f F n head × (head.«end» ≤ F.table))
-  early_decided None e = inr (λ h. absurd (cc (e, h.1)))
-  early_decided (Some head) e = elim (is_le head.«end» F.table) [
-    | inl l ↦ inl (head, e, l)
-    | inr late ↦ inr (λ h. late (subst (λ (x : Head). x.«end» ≤ F.table) (HasHead-unique f F n h.0 head h.1 e) h.2))
+  early_decided : Either ((head : Head) × HasHead f F n head × (head.«end» ≤ F.table))
+  early_decided = elim head_decided [
+    | inr none ↦ inr (λ h. none (h.0, h.1))
+    | inl there ↦ elim (is_le there.0.«end» F.table) [
+      | inl l ↦ inl (there.0, there.1, l)
+      | inr late ↦ inr (λ h. late (subst (λ (x : Head). x.«end» ≤ F.table) (HasHead-unique f F n h.0 there.0 h.1 there.1) h.2))
+    ]
   ]
 
   object_rule_decided : (rule : Rule) → KeepsByObject f F n rule ⊎ ((place : ℕ) × BreaksByObject f F n rule place)
   object_rule_decided rules.OffsetLow = at (F.table + n * F.offset_size) (is_le 8 o)
-  object_rule_decided rules.Marker = at o (some_decided (kind_at (slice_index f o)))
-  object_rule_decided rules.Count = at (o + 1) (is_implied (some_decided (kind_at (slice_index f o))) count_decided)
-  object_rule_decided rules.Extent = at o (is_implied (some_decided (kind_at (slice_index f o))) (is_implied count_decided (early_decided (head_found f F n) refl)))
+  object_rule_decided rules.Marker = at o (marker_decided (slice_index f o))
+  object_rule_decided rules.Count = at (o + 1) (is_implied (marker_decided (slice_index f o)) count_decided)
+  object_rule_decided rules.Extent = at o (is_implied (marker_decided (slice_index f o)) (is_implied count_decided early_decided))
   object_rule_decided rules.UidLarge =
       at o (of_head (λ head. head.kind ≡ kinds.Uid → num_at f head.body head.count ≤ 4294967295)
       (λ head. is_implied (uid_decided head.kind) (is_le (num_at f head.body head.count) 4294967295)))

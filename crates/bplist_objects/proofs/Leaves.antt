@@ -57,5 +57,4 @@ module _ (f : List ℕ) (F : Frame) where
 
   -- a UID that an object spells fits 32 bits, so its low 32 bits are all of it
   pub spelled_uid : (n x : ℕ) → Spells f F n (Content.leaf (uid x)) → x ≤ 4294967295
-  spelled_uid n x s =
-      let value = uid_value s.shape.kind s.shape.count s.shape.body x s.means in omega (arith, value.1, s.kept.1.0 s.shape s.has.has value.0)
+  spelled_uid n x s = s.uid x refl

@@ -17,9 +17,10 @@ use Rattle.bplist_objects.specs.Scan.{AreBelow, nth_number}
 use Rattle.bplist_objects.specs.Safe.{ref_count}
 use Rattle.bplist_objects.specs.Rules.{KeepsAll}
 use Rattle.bplist_objects.specs.ObjectRules.{KeepsByObject, body_rules}
-use Rattle.bplist_objects.specs.Heads.{Content, refs, content_at, Spells}
+use Rattle.bplist_objects.specs.Heads.{Content, refs, content_of, content_at, HasShape, Spells}
 use Rattle.bplist_objects.specs.Spelled.{is_proper}
-use Rattle.bplist_objects.proofs.BodyLaws.{HasHead-unique}
+use Rattle.bplist_objects.proofs.BodyLaws.{bodies_keep}
+use Rattle.bplist_objects.proofs.Leaves.{uid_value}
 use Rattle.bplist_objects.proofs.Parts.{num-byte, get_or-part}
 use Rattle.bplist_objects.proofs.References.{all_refs, each_ref}
 
@@ -57,19 +58,12 @@ each_low f place count a k lt = subst (λ b. b < 128) (sym (nth_byte f place cou
 
 module _ (f : List ℕ) (F : Frame) (n : ℕ) where
   module _ (head : Head) (has : HasHead f F n head) where
-    -- what holds of the head of an object holds of each
-    of_each : (P : Head → Type 0) → P head → (other : Head) → HasHead f F n other → P other
-    of_each P p other h = subst P (HasHead-unique f F n head other has h) p
-
     -- an object keeps rules 18 to 20 where the test says so of its body, and its references are objects
     pub body_kept : IsTrue (is_proper f head.kind head.count head.body) → AllByRecursion (λ m. m < F.objects) (refs (content_at f F head)) → KeepsAll (KeepsByObject f F n) body_rules
-    body_kept proper below = (
-      of_each (λ x. x.kind ≡ kinds.Ascii → AreBelow f x.body 1 x.count 128) (λ e. each_low f head.body head.count ((low_decides 128 _).0 (tested kinds.Ascii e))),
-      (
-        of_each (λ x. x.kind ≡ kinds.Uid → num_at f x.body x.count ≤ 4294967295) (λ e. (le_decides _ _).0 (tested kinds.Uid e)),
-        (of_each (λ x. AreBelow f x.body F.ref_size (ref_count x.kind x.count) F.objects) (each_ref f F (λ m. m < F.objects) head.kind head.count head.body below), tt),
-      ),
-    )
+    body_kept proper below =
+        bodies_keep f F n head has (λ e. each_low f head.body head.count ((low_decides 128 _).0 (tested kinds.Ascii e)))
+        (λ e. (le_decides _ _).0 (tested kinds.Uid e))
+        (each_ref f F (λ m. m < F.objects) head.kind head.count head.body below)
       where
         tested : (kind : Kind) → head.kind ≡ kind → IsTrue (is_proper f kind head.count head.body)
         tested kind e = subst (λ k. IsTrue (is_proper f k head.count head.body)) e proper
@@ -83,8 +77,25 @@ module _ (f : List ℕ) (F : Frame) (n : ℕ) where
         go kinds.Uid e = (le_decides _ _).1 (kept.1.0 head has e)
         go _ e = refl
 
+  -- ---- what is spelled keeps rules 18 to 20
   -- the references of what an object spells are objects
   pub refs_below : (c : Content) → Spells f F n c → AllByRecursion (λ m. m < F.objects) (refs c)
-  refs_below c s =
+  refs_below c s = recursion_from_All _ _ s.refs
+
+  pub spells_bodies : (c : Content) → Spells f F n c → KeepsAll (KeepsByObject f F n) body_rules
+  spells_bodies c s =
       let head = s.shape in
-      subst (λ x. AllByRecursion (λ m. m < F.objects) (refs x)) (sym s.means) (all_refs f F (λ m. m < F.objects) head.kind head.count head.body (s.kept.1.1.0 head s.has.has))
+      bodies_keep f F n head s.has.has (λ e. each_low f head.body head.count (recursion_from_All _ _ (s.ascii e)))
+      (λ e. s.uid (num_at f head.body head.count) (s.means ∙ ap (λ k. content_of f F k head.count head.body) e))
+      (each_ref f F (λ m. m < F.objects) head.kind head.count head.body (subst (λ x. AllByRecursion (λ m. m < F.objects) (refs x)) s.means (refs_below c s)))
+
+  -- and what keeps them is spelled
+  pub bodies_spell : (head : Head) → HasShape f F n head → KeepsAll (KeepsByObject f F n) body_rules → Spells f F n (content_at f F head)
+  bodies_spell head has kept = record {
+    shape = head;
+    has = has;
+    means = refl;
+    ascii = λ e. All-from_recursion _ _ (all_low f head.body head.count (kept.0 head has.has e));
+    uid = λ x e. let value = uid_value f F head.kind head.count head.body x (sym e) in omega (arith, value.1, kept.1.0 head has.has value.0);
+    refs = All-from_recursion _ _ (all_refs f F (λ m. m < F.objects) head.kind head.count head.body (kept.1.1.0 head has.has));
+  }

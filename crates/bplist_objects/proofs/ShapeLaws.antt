@@ -1,7 +1,6 @@
 -- How the rules of marker and count are kept and broken.
-use Rattle.std.proofs.Common.{◌≡◌, ℕ, ◌+◌, ◌*◌, ◌<◌, ◌≤◌, List, slice_index, Option, Some, None, IsSome, sym, arith, refl, inl, inr, subst}
+use Rattle.std.proofs.Common.{◌≡◌, ℕ, ◌+◌, ◌*◌, ◌<◌, ◌≤◌, List, length, slice_index, Some, arith, refl, inl, inr, subst}
 use Rattle.std.proofs.Math.Nat.{mul-le-mul_left}
-use Rattle.std.proofs.lemmas.Bool.{false≢true}
 use Rattle.bplist_objects.specs.declared.rule.Rule.TheVariants.{Extent}
 use Rattle.bplist_objects.specs.declared.fault.Fault.{Fault}
 use Rattle.bplist_objects.specs.declared.frame.Frame.{Frame}
@@ -10,7 +9,8 @@ use Rattle.bplist_objects.specs.declared.kind.Kind.{Kind}
 use Rattle.bplist_objects.specs.declared.kind.Kind.TheVariants as kinds
 use Rattle.bplist_objects.specs.Rules.{KeepsAll}
 use Rattle.bplist_objects.specs.Frame.{off}
-use Rattle.bplist_objects.specs.Announced.{kind_at, head_found, Markers, plain, counted, markers_of, Marks, IsLongOf, IsIntMarker, HasLongCount, AnnouncesAs, HasHead, item_size}
+use Rattle.bplist_objects.specs.Announced.{HasHead, IsMarker, item_size}
+use Rattle.bplist_objects.specs.Markers.{Markers, plain, counted, markers_of, Marks, IsLongOf, IsIntMarker, HasLongCount, AnnouncesAs}
 use Rattle.bplist_objects.specs.ObjectRules.{KeepsByObject, IsObjectFault, shape_rules}
 use Rattle.bplist_objects.specs.CountFaults.{IsLongCountFault}
 use Rattle.bplist_objects.specs.Answers.{GivesFault}
@@ -18,6 +18,7 @@ use Rattle.bplist_objects.specs.declared.fault.ObjectFault.{ObjectFault}
 use Rattle.bplist_objects.specs.declared.fault.ObjectFault.TheVariants as errors
 use Rattle.bplist_objects.proofs.HeadLaws.{long_marks, long-Announces, announced_marks, marks_marker, head_parts, head_announced}
 use Rattle.bplist_objects.proofs.BodyLaws.{HasHead-unique}
+use Rattle.bplist_objects.proofs.AnnouncedHeads.{announced_short}
 
 -- a count behind a long marker is announced
 pub announced_behind : (f : List ℕ) (place : ℕ) (form : Markers) (count body : ℕ) → IsLongOf form (slice_index f place) → HasLongCount f place count body → AnnouncesAs f place form count body
@@ -45,11 +46,11 @@ module _ (f : List ℕ) (F : Frame) (n : ℕ) (far : 8 ≤ off f F n) where
   o = off f F n
 
   module _ (head : Head) (h : HasHead f F n head) where
-    marker_kept : IsSome (kind_at (slice_index f o))
+    marker_kept : IsMarker (slice_index f o)
     marker_kept = marks_marker (slice_index f o) head.kind (announced_marks f o (markers_of head.kind) head.count head.body (head_parts f F n head h).0)
 
-    head_there : IsSome (head_found f F n)
-    head_there = subst IsSome (sym h) refl
+    head_there : (x : Head) × HasHead f F n x
+    head_there = (head, h)
 
     -- the head that is announced lies before the table
     pub shape_kept : head.«end» ≤ F.table → KeepsAll (KeepsByObject f F n) shape_rules
@@ -70,14 +71,13 @@ module _ (f : List ℕ) (F : Frame) (n : ℕ) (far : 8 ≤ off f F n) where
   long_count kind l head h = long-Announces f o head.kind head.count head.body (kind, l) (head_parts f F n head h).0
 
   -- what is wrong with a long count is the first that is wrong with the object
-  pub shape_long : 1 ≤ F.ref_size → (kind : Kind) → Marks (slice_index f o) kind → IsLongOf (markers_of kind) (slice_index f o) → (fault : Fault) → IsLongCountFault f F.table o n fault → IsObjectFault f F n shape_rules fault
-  shape_long low kind marks long fault (object, inl (rule, inside, wrong, place)) =
-      inr (far, inr (marks_marker (slice_index f o) kind marks, inl (rule, (object, ((λ k. never (head_found f F n) refl (k (marks_marker (slice_index f o) kind marks) inside)), place)))))
+  pub shape_long : 1 ≤ F.ref_size → off f F n + 18 ≤ length f → (kind : Kind) → Marks (slice_index f o) kind → IsLongOf (markers_of kind) (slice_index f o) → (fault : Fault) → IsLongCountFault f F.table o n fault → IsObjectFault f F n shape_rules fault
+  shape_long low room kind marks long fault (object, inl (rule, inside, wrong, place)) =
+      inr (far, inr (marks_marker (slice_index f o) kind marks, inl (rule, (object, ((λ k. never (k (marks_marker (slice_index f o) kind marks) inside)), place)))))
     where
-      never : (found : Option Head) → head_found f F n ≡ found → IsSome found → ⊥
-      never None e h = false≢true h
-      never (Some head) e h = wrong (marker-HasLongCount f o head.count head.body (long_count kind long head e))
-  shape_long low kind marks long fault (object, inr (rule, place, inl late)) =
+      never : (head : Head) × HasHead f F n head → ⊥
+      never (head, h) = wrong (marker-HasLongCount f o head.count head.body (long_count kind long head h))
+  shape_long low room kind marks long fault (object, inr (rule, place, inl late)) =
       inr (far, inr (marks_marker (slice_index f o) kind marks, inr (λ m l. absurd (omega arith), inl (rule, (object, (early, place))))))
     where
       early : KeepsByObject f F n Extent → ⊥
@@ -85,13 +85,13 @@ module _ (f : List ℕ) (F : Frame) (n : ℕ) (far : 8 ≤ off f F n) where
           let e = k (marks_marker (slice_index f o) kind marks) (λ l. absurd (omega arith)) in
           let count = long_count kind long e.0 e.1 in
           omega (arith, late, e.2, (head_parts f F n e.0 e.1).1, count)
-  shape_long low kind marks long fault (object, inr (rule, place, inr (count, body, has, late))) =
+  shape_long low room kind marks long fault (object, inr (rule, place, inr (count, body, has, late))) =
       let head : Head = record { kind = kind; count = count; body = body; «end» = body + count * item_size F.ref_size kind } in
-      shape_extent head (head_announced f F n head (announced_behind f o (markers_of kind) count body long has, refl)) (no_room F.table body count (item_size F.ref_size kind) (item_size-pos F.ref_size kind low) late) fault rule object place
+      shape_extent head (head_announced f F n head (omega (arith, room, (announced_short f o (markers_of kind) count body (announced_behind f o (markers_of kind) count body long has)).1)) (announced_behind f o (markers_of kind) count body long has, refl)) (no_room F.table body count (item_size F.ref_size kind) (item_size-pos F.ref_size kind low) late) fault rule object place
 
 -- what a call answers that is wrong with a long count is the first that is wrong with the object
-pub shape_count : (f : List ℕ) (F : Frame) (n place : ℕ) (kind : Kind) (e : ObjectFault) → 1 ≤ F.ref_size → place ≡ off f F n → 8 ≤ place → IsLongOf (markers_of kind) (slice_index f place) → GivesFault (IsLongCountFault f F.table place n) e → GivesFault (IsObjectFault f F n shape_rules) e
-shape_count f F n place kind (errors.Read _) low at far long h = tt
-shape_count f F n place kind (errors.Fault fault) low at far long h =
+pub shape_count : (f : List ℕ) (F : Frame) (n place : ℕ) (kind : Kind) (e : ObjectFault) → 1 ≤ F.ref_size → place + 18 ≤ length f → place ≡ off f F n → 8 ≤ place → IsLongOf (markers_of kind) (slice_index f place) → GivesFault (IsLongCountFault f F.table place n) e → GivesFault (IsObjectFault f F n shape_rules) e
+shape_count f F n place kind (errors.Read _) low room at far long h = tt
+shape_count f F n place kind (errors.Fault fault) low room at far long h =
     let here = subst (λ p. IsLongOf (markers_of kind) (slice_index f p)) at long in
-    shape_long f F n (subst (λ p. 8 ≤ p) at far) low kind (long_marks (slice_index f (off f F n)) (markers_of kind) here) here fault (subst (λ p. IsLongCountFault f F.table p n fault) at h)
+    shape_long f F n (subst (λ p. 8 ≤ p) at far) low (subst (λ p. p + 18 ≤ length f) at room) kind (long_marks (slice_index f (off f F n)) (markers_of kind) here) here fault (subst (λ p. IsLongCountFault f F.table p n fault) at h)

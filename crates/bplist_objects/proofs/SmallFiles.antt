@@ -1,12 +1,11 @@
 -- The definitions hold of small files.
-use Rattle.std.proofs.Common.{◌≡◌, ℕ, zero, suc, ◌<◌, ◌≤◌, ◌+◌, List, [], ◌∷◌, slice_index, true, refl, sym, ap, ◌∙◌, arith, take, get_or-take}
+use Rattle.std.proofs.Common.{◌≡◌, ℕ, zero, suc, ◌<◌, ◌≤◌, ◌+◌, List, [], ◌∷◌, slice_index, true, refl, sym, ap, ◌∙◌, arith, take, get_or-take, inl}
 use Rattle.bplist_octets.specs.Octets.{num}
 use Rattle.bplist_objects.specs.declared.frame.Frame.{Frame}
 use Rattle.bplist_objects.specs.declared.kind.Kind.TheVariants as kinds
 use Rattle.bplist_objects.specs.Frame.{header, trailer, off, Keeps, IsFrame}
 use Rattle.bplist_objects.specs.declared.rule.Rule.TheVariants.{Magic, RefNarrow, OffsetNarrow}
 use Rattle.bplist_objects.specs.Value.{boolean, text, leaf, array, value, no_values, dict, pair, no_pairs}
-use Rattle.bplist_objects.specs.Announced.{kind_at, head_found}
 use Rattle.bplist_objects.specs.Heads.{Content, Spells}
 use Rattle.bplist_objects.specs.Reach.{Reach}
 use Rattle.bplist_objects.specs.Extents.{HaveRoom, AtMost}
@@ -14,7 +13,7 @@ use Rattle.bplist_objects.specs.File.{FileHolds}
 use Rattle.bplist_objects.specs.SmallFiles.{small_file}
 use Rattle.bplist_objects.proofs.Lists.{all_weaker}
 use Rattle.bplist_objects.proofs.FrameTies.{Numbered, trailer_is_frame}
-use Rattle.bplist_objects.proofs.ProperLeaves.{body_kept}
+use Rattle.std.proofs.lemmas.List.Elements.{All-from_recursion}
 use Rattle.bplist_objects.proofs.ExtentSums.{most_none, most_more, shape_extent}
 use Rattle.bplist_objects.proofs.ReachedObjects.{reach_within}
 
@@ -65,11 +64,13 @@ frame_true =
     }) (λ _. omega arith) (λ _. omega arith)
 
 true_0 : Spells row_true (trailer row_true) 0 (Content.leaf (boolean true))
-unfolding num head_found kind_at
+unfolding num
 true_0 = record {
   shape = record { kind = kinds.True; count = 0; body = 9; «end» = 9 };
-  has = record { low = omega arith; has = refl; within = omega arith; inside = omega arith };
-  kept = body_kept row_true (trailer row_true) 0 _ refl refl tt;
+  has = record { low = omega arith; has = record { front = 9 ∷ []; announces = (refl, refl); stands = refl; body = refl; ends = refl }; inside = omega arith };
+  ascii = λ e. cc e;
+  uid = λ x e. cc e;
+  refs = All-from_recursion (λ m. m < 1) [] tt;
   means = refl;
 }
 
@@ -116,20 +117,24 @@ frame_array =
     }) (λ _. omega arith) (λ _. omega arith)
 
 array_0 : Spells row_array (trailer row_array) 0 (Content.array (1 ∷ 1 ∷ []))
-unfolding num head_found kind_at
+unfolding num
 array_0 = record {
   shape = record { kind = kinds.Array; count = 2; body = 9; «end» = 11 };
-  has = record { low = omega arith; has = refl; within = omega arith; inside = omega arith };
-  kept = body_kept row_array (trailer row_array) 0 _ refl refl (omega arith, (omega arith, tt));
+  has = record { low = omega arith; has = record { front = 162 ∷ []; announces = inl (omega arith, refl); stands = refl; body = refl; ends = refl }; inside = omega arith };
+  ascii = λ e. cc e;
+  uid = λ x e. cc e;
+  refs = All-from_recursion (λ m. m < 2) (1 ∷ 1 ∷ []) (omega arith, (omega arith, tt));
   means = refl;
 }
 
 array_1 : Spells row_array (trailer row_array) 1 (Content.leaf (boolean true))
-unfolding num head_found kind_at
+unfolding num
 array_1 = record {
   shape = record { kind = kinds.True; count = 0; body = 12; «end» = 12 };
-  has = record { low = omega arith; has = refl; within = omega arith; inside = omega arith };
-  kept = body_kept row_array (trailer row_array) 1 _ refl refl tt;
+  has = record { low = omega arith; has = record { front = 9 ∷ []; announces = (refl, refl); stands = refl; body = refl; ends = refl }; inside = omega arith };
+  ascii = λ e. cc e;
+  uid = λ x e. cc e;
+  refs = All-from_recursion (λ m. m < 2) [] tt;
   means = refl;
 }
 
@@ -178,29 +183,35 @@ frame_dict =
     }) (λ _. omega arith) (λ _. omega arith)
 
 dict_0 : Spells row_dict (trailer row_dict) 0 (Content.dict (1 ∷ []) (2 ∷ []))
-unfolding num head_found kind_at
+unfolding num
 dict_0 = record {
   shape = record { kind = kinds.Dict; count = 1; body = 9; «end» = 11 };
-  has = record { low = omega arith; has = refl; within = omega arith; inside = omega arith };
-  kept = body_kept row_dict (trailer row_dict) 0 _ refl refl (omega arith, (omega arith, tt));
+  has = record { low = omega arith; has = record { front = 209 ∷ []; announces = inl (omega arith, refl); stands = refl; body = refl; ends = refl }; inside = omega arith };
+  ascii = λ e. cc e;
+  uid = λ x e. cc e;
+  refs = All-from_recursion (λ m. m < 3) (1 ∷ 2 ∷ []) (omega arith, (omega arith, tt));
   means = refl;
 }
 
 dict_1 : Spells row_dict (trailer row_dict) 1 (Content.leaf (text (97 ∷ [])))
-unfolding num head_found kind_at
+unfolding num
 dict_1 = record {
   shape = record { kind = kinds.Ascii; count = 1; body = 12; «end» = 13 };
-  has = record { low = omega arith; has = refl; within = omega arith; inside = omega arith };
-  kept = body_kept row_dict (trailer row_dict) 1 _ refl refl tt;
+  has = record { low = omega arith; has = record { front = 81 ∷ []; announces = inl (omega arith, refl); stands = refl; body = refl; ends = refl }; inside = omega arith };
+  ascii = λ e. All-from_recursion (λ b. b < 128) (97 ∷ []) (omega arith, tt);
+  uid = λ x e. cc e;
+  refs = All-from_recursion (λ m. m < 3) [] tt;
   means = refl;
 }
 
 dict_2 : Spells row_dict (trailer row_dict) 2 (Content.leaf (boolean true))
-unfolding num head_found kind_at
+unfolding num
 dict_2 = record {
   shape = record { kind = kinds.True; count = 0; body = 14; «end» = 14 };
-  has = record { low = omega arith; has = refl; within = omega arith; inside = omega arith };
-  kept = body_kept row_dict (trailer row_dict) 2 _ refl refl tt;
+  has = record { low = omega arith; has = record { front = 9 ∷ []; announces = (refl, refl); stands = refl; body = refl; ends = refl }; inside = omega arith };
+  ascii = λ e. cc e;
+  uid = λ x e. cc e;
+  refs = All-from_recursion (λ m. m < 3) [] tt;
   means = refl;
 }
 

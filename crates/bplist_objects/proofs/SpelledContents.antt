@@ -8,10 +8,10 @@ use Rattle.bplist_objects.specs.declared.frame.Frame.{Frame}
 use Rattle.bplist_objects.specs.declared.head.Head.{Head}
 use Rattle.bplist_objects.specs.Frame.{off}
 use Rattle.bplist_objects.specs.Heads.{Content, refs, content_at, Spells}
-use Rattle.bplist_objects.specs.Announced.{HasHead, head_found}
+use Rattle.bplist_objects.specs.Markers.{head_found}
 use Rattle.bplist_objects.specs.Spelled.{is_proper, is_spelled, spelled_at}
-use Rattle.bplist_objects.proofs.HeadLaws.{if_some}
-use Rattle.bplist_objects.proofs.ProperLeaves.{le_decides, low_decides, body_kept, kept_proper, refs_below}
+use Rattle.bplist_objects.proofs.HeadLaws.{if_some, head_is_found, found_head, head_within}
+use Rattle.bplist_objects.proofs.ProperLeaves.{le_decides, low_decides, body_kept, kept_proper, refs_below, spells_bodies, bodies_spell}
 
 module _ (f : List ℕ) (F : Frame) (n : ℕ) where
   abbrev o : ℕ
@@ -31,14 +31,10 @@ module _ (f : List ℕ) (F : Frame) (n : ℕ) where
       (Decides-and _ _ (λ p. p, λ p. p)
       (low_decides F.objects (refs (content_at f F head))))))
 
-  found_spells : (head : Head) → HasHead f F n head → IsSpelled head → Spells f F n (content_at f F head)
+  found_spells : (head : Head) → head_found f F n ≡ Some head → IsSpelled head → Spells f F n (content_at f F head)
   found_spells head h s =
-      record {
-        shape = head;
-        has = record { low = s.0; has = h; within = s.1.0; inside = s.1.1.0 };
-        kept = body_kept f F n head h s.1.1.1.0 s.1.1.1.1;
-        means = refl;
-      }
+      let has = found_head f F n head s.1.0 h in
+      bodies_spell f F n head (record { low = s.0; has = has; inside = s.1.1.0 }) (body_kept f F n head has s.1.1.1.0 s.1.1.1.1)
 
   abbrev content_found : Option Head → Option Content
   content_found = option_and_then (λ head. if is_spelled f F n head then Some (content_at f F head) else None)
@@ -51,8 +47,8 @@ module _ (f : List ℕ) (F : Frame) (n : ℕ) where
       to : Spells f F n c → spelled_at f F n ≡ Some c
       to s =
           let head = s.shape in
-          let rules : IsSpelled head = (s.has.low, (s.has.within, (s.has.inside, (kept_proper f F n head s.has.has s.kept, subst (λ x. AllByRecursion (λ m. m < F.objects) (refs x)) s.means (refs_below f F n c s))))) in
-          ap content_found s.has.has ∙ ap (λ t. if t then Some (content_at f F head) else None) ((spelled_decides head).1 rules) ∙ ap Some (sym s.means)
+          let rules : IsSpelled head = (s.has.low, (head_within f F n head s.has.has, (s.has.inside, (kept_proper f F n head s.has.has (spells_bodies f F n c s), subst (λ x. AllByRecursion (λ m. m < F.objects) (refs x)) s.means (refs_below f F n c s))))) in
+          ap content_found (head_is_found f F n head s.has.has) ∙ ap (λ t. if t then Some (content_at f F head) else None) ((spelled_decides head).1 rules) ∙ ap Some (sym s.means)
 
       from : (found : Option Head) → head_found f F n ≡ found → content_found found ≡ Some c → Spells f F n c
       from None e r = absurd (cc r)

@@ -13,7 +13,8 @@ use Rattle.bplist_objects.specs.declared.kind.Kind.TheVariants as kinds
 use Rattle.bplist_objects.specs.Frame.{off}
 use Rattle.bplist_objects.specs.Safe.{ref_count}
 use Rattle.bplist_objects.specs.Rules.{KeepsAll}
-use Rattle.bplist_objects.specs.Announced.{Markers, plain, counted, markers_of, Marks, AnnouncesAs, HasHead, kind_at, count_found, long_found, item_size}
+use Rattle.bplist_objects.specs.Announced.{HasHead, item_size}
+use Rattle.bplist_objects.specs.Markers.{Markers, plain, counted, markers_of, Marks, AnnouncesAs, kind_at, count_found, long_found}
 use Rattle.bplist_objects.specs.ObjectRules.{KeepsByObject, IsObjectFault, shape_rules, body_rules, object_rules}
 use Rattle.bplist_objects.specs.Visits.{is_looked_into, count_in, size_of_kind, size_said}
 use Rattle.bplist_objects.proofs.HeadLaws.{marked_kind, kind_marked, announced_marks, found_announced, head_announced, head_parts}
@@ -114,7 +115,7 @@ free_refs count kinds.Set e = absurd (cc e)
 free_refs count kinds.Dict e = absurd (cc e)
 free_refs count _ e = refl
 
-module _ (f : List ℕ) (F : Frame) (n size : ℕ) (far : 8 ≤ off f F n) (said : size_said (slice_index f (off f F n)) ≡ Some size) where
+module _ (f : List ℕ) (F : Frame) (n size : ℕ) (far : 8 ≤ off f F n) (inside : off f F n < length f) (said : size_said (slice_index f (off f F n)) ≡ Some size) where
   abbrev o : ℕ
   o = off f F n
 
@@ -135,7 +136,7 @@ module _ (f : List ℕ) (F : Frame) (n size : ℕ) (far : 8 ≤ off f F n) (said
   head = record { kind = kind; count = count; body = o + 1; «end» = o + 1 + count * item_size F.ref_size kind }
 
   has : HasHead f F n head
-  has = head_announced f F n head (found_announced f o (markers_of kind) says.2 (count, o + 1) (in_found f o (markers_of kind) count says.4), refl)
+  has = head_announced f F n head (omega (arith, inside)) (found_announced f o (markers_of kind) says.2 (count, o + 1) (in_found f o (markers_of kind) count says.4), refl)
 
   ends : head.«end» ≡ o + size
   ends =

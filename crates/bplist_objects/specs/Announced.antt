@@ -1,127 +1,60 @@
--- What the marker and the count at the place of an object announce. Source: the format comment of CFBinaryPList.c.
-use Rattle.std.specs.Prelude.{◌≡◌, ◌⊎◌, ℕ, ◌+◌, ◌-◌, ◌*◌, ◌^◌, ◌<◌, ◌≤◌, Bool, true, false, ◌&&◌, nat_eq, nat_le, if◌then◌else◌, List, [], ◌∷◌, slice_index, Option, Some, None, find}
-use Rattle.std.specs.Option.{option_map, option_and_then}
+-- The front of an object, its marker and count, and the head that the file's bytes announce by it. Source: the format comment
+-- of CFBinaryPList.c.
+use Rattle.std.specs.Prelude.{◌≡◌, ◌⊎◌, ℕ, ◌+◌, ◌*◌, ◌^◌, ◌<◌, ◌≤◌, List, [], ◌∷◌, length}
+use Rattle.bplist_octets.specs.Octets.{part, num}
 use Rattle.bplist_objects.specs.declared.frame.Frame.{Frame}
 use Rattle.bplist_objects.specs.declared.kind.Kind.{Kind}
 use Rattle.bplist_objects.specs.declared.kind.Kind.TheVariants as kinds
 use Rattle.bplist_objects.specs.declared.head.Head.{Head}
-use Rattle.bplist_objects.specs.Numbers.{num_at}
 use Rattle.bplist_objects.specs.Frame.{off}
 
--- how many bytes of the body each of the count takes
+-- how many bytes of the body one item of the count takes
 abbrev pub item_size : ℕ → Kind → ℕ
 item_size ref_size kind =
     elim kind [ kinds.Wide ↦ 2 | kinds.Array ↦ ref_size | kinds.Set ↦ ref_size | kinds.Dict ↦ 2 * ref_size | _ ↦ 1 ]
 
--- how markers say a count: each from the least to the greatest its own, or all with this high half in the low half, where 15 says that it follows
-pub data Markers : Type 0 where
-  plain : (low high : ℕ) → (ℕ → ℕ) → Markers
-  counted : (high : ℕ) → Markers
+-- a short count is below 15, and stands in the low half of the marker
+abbrev pub IsShortCount : ℕ → ℕ → List ℕ → Type 0
+IsShortCount high count front = (count < 15) × (front ≡ (16 * high + count) ∷ [])
 
--- the markers of each kind and the counts that they say
-abbrev pub markers_of : Kind → Markers
-markers_of kinds.Null = plain 0 0 (λ marker. 0)
-markers_of kinds.False = plain 8 8 (λ marker. 0)
-markers_of kinds.True = plain 9 9 (λ marker. 0)
-markers_of kinds.Int = plain 16 20 (λ marker. 2 ^ (marker - 16))
-markers_of kinds.Real = plain 34 35 (λ marker. 2 ^ (marker - 32))
-markers_of kinds.Date = plain 51 51 (λ marker. 8)
-markers_of kinds.Bytes = counted 4
-markers_of kinds.Ascii = counted 5
-markers_of kinds.Wide = counted 6
-markers_of kinds.Uid = plain 128 143 (λ marker. marker - 127)
-markers_of kinds.Array = counted 10
-markers_of kinds.Set = counted 12
-markers_of kinds.Dict = counted 13
+-- a long count stands behind a marker with low half 15, as an integer object of 1, 2, 4, 8 or 16 bytes
+abbrev pub IsLongCount : ℕ → ℕ → List ℕ → Type 0
+IsLongCount high count front =
+    (w : ℕ) × (l : List ℕ) × (w ≤ 4) × (length l ≡ 2 ^ w) × (num l ≡ count) × (front ≡ (16 * high + 15) ∷ (16 + w) ∷ l)
 
--- the byte is a marker of this form
-abbrev pub is_marker_of : Markers → ℕ → Bool
-is_marker_of (plain low high says) marker = nat_le low marker && nat_le marker high
-is_marker_of (counted high) marker = nat_le (16 * high) marker && nat_le marker (16 * high + 15)
+-- the front is a marker with this high half and the count, short or long
+abbrev pub IsCount : ℕ → ℕ → List ℕ → Type 0
+IsCount high count front = IsShortCount high count front ⊎ IsLongCount high count front
 
--- all kinds
-abbrev pub all_kinds : List Kind
-all_kinds =
-    kinds.Null ∷ kinds.False ∷ kinds.True ∷ kinds.Int ∷ kinds.Real ∷ kinds.Date ∷ kinds.Bytes ∷ kinds.Ascii ∷ kinds.Wide ∷ kinds.Uid
-    ∷ kinds.Array ∷ kinds.Set ∷ kinds.Dict ∷ []
+-- the front of an object of this kind and count, which is the bytes before its body
+abbrev pub IsFront : Kind → ℕ → List ℕ → Type 0
+IsFront kinds.Null count front = (count ≡ 0) × (front ≡ 0 ∷ [])
+IsFront kinds.False count front = (count ≡ 0) × (front ≡ 8 ∷ [])
+IsFront kinds.True count front = (count ≡ 0) × (front ≡ 9 ∷ [])
+IsFront kinds.Int count front = (w : ℕ) × (w ≤ 4) × (count ≡ 2 ^ w) × (front ≡ (16 + w) ∷ [])
+IsFront kinds.Real count front = (w : ℕ) × (2 ≤ w) × (w ≤ 3) × (count ≡ 2 ^ w) × (front ≡ (32 + w) ∷ [])
+IsFront kinds.Date count front = (count ≡ 8) × (front ≡ 51 ∷ [])
+IsFront kinds.Bytes count front = IsCount 4 count front
+IsFront kinds.Ascii count front = IsCount 5 count front
+IsFront kinds.Wide count front = IsCount 6 count front
+IsFront kinds.Uid count front = (n : ℕ) × (n ≤ 15) × (count ≡ n + 1) × (front ≡ (128 + n) ∷ [])
+IsFront kinds.Array count front = IsCount 10 count front
+IsFront kinds.Set count front = IsCount 12 count front
+IsFront kinds.Dict count front = IsCount 13 count front
 
--- the kind of a marker, if the byte is one
-unfoldable pub kind_at : ℕ → Option Kind
-kind_at marker = find (λ kind. is_marker_of (markers_of kind) marker) all_kinds
+-- the byte begins some front
+abbrev pub IsMarker : ℕ → Type 0
+IsMarker marker = (kind : Kind) × (count : ℕ) × (rest : List ℕ) × IsFront kind count (marker ∷ rest)
 
--- the count that stands behind the marker as the number of an Int, and the place after it, if there is one
-abbrev pub long_found : List ℕ → ℕ → Option (ℕ × ℕ)
-long_found f place =
-    let size = 2 ^ (slice_index f (place + 1) - 16) in
-    if is_marker_of (markers_of kinds.Int) (slice_index f (place + 1)) then Some (num_at f (place + 2) size, place + 2 + size) else None
-
--- the count and the body that a marker of this form announces
-abbrev pub count_found : List ℕ → ℕ → Markers → Option (ℕ × ℕ)
-count_found f place (plain low high says) = Some (says (slice_index f place), place + 1)
-count_found f place (counted high) =
-    if nat_eq (slice_index f place) (16 * high + 15) then long_found f place else Some (slice_index f place - 16 * high, place + 1)
+-- some front is of this kind and count
+abbrev pub MayCount : Kind → ℕ → Type 0
+MayCount kind count = (front : List ℕ) × IsFront kind count front
 
 module _ (f : List ℕ) (F : Frame) where
-  -- the head of this kind with this count and body
-  abbrev pub head_with : Kind → ℕ × ℕ → Head
-  head_with kind (count, body) = record { kind = kind; count = count; body = body; end = body + count * item_size F.ref_size kind }
-
-  -- the head that marker and count of object n announce, if any
-  unfoldable pub head_found : ℕ → Option Head
-  head_found n =
-      option_and_then (λ kind. option_map (head_with kind) (count_found f (off f F n) (markers_of kind))) (kind_at (slice_index f (off f F n)))
-
-  -- marker and count of object n announce this head
-  abbrev pub HasHead : ℕ → Head → Type 0
-  HasHead n head = head_found n ≡ Some head
-
--- ---- the same by place and index
--- the least marker of a form
-abbrev pub least_marker : Markers → ℕ
-least_marker (plain low high says) = low
-least_marker (counted high) = 16 * high
-
--- the greatest marker of a form
-abbrev pub greatest_marker : Markers → ℕ
-greatest_marker (plain low high says) = high
-greatest_marker (counted high) = 16 * high + 15
-
--- the byte is a marker of this kind
-abbrev pub Marks : ℕ → Kind → Type 0
-Marks marker kind = (least_marker (markers_of kind) ≤ marker) × (marker ≤ greatest_marker (markers_of kind))
-
--- the marker holds a count, or says that it follows
-abbrev pub is_counted : Markers → Bool
-is_counted (plain low high says) = false
-is_counted (counted high) = true
-
--- the marker is of this form, and says that the count follows
-abbrev pub IsLongOf : Markers → ℕ → Type 0
-IsLongOf (plain low high says) marker = ⊥
-IsLongOf (counted high) marker = marker ≡ 16 * high + 15
-
--- the marker says that the count follows
-abbrev pub IsLong : ℕ → Type 0
-IsLong marker = (kind : Kind) × IsLongOf (markers_of kind) marker
-
--- the byte behind such a marker is that of an integer of 1 to 16 bytes
-abbrev pub IsIntMarker : ℕ → Type 0
-IsIntMarker form = (16 ≤ form) × (form ≤ 20)
-
--- the count behind the marker, and the place after it
-abbrev pub HasLongCount : List ℕ → ℕ → ℕ → ℕ → Type 0
-HasLongCount f place count body =
-    (w : ℕ) × (w ≤ 4) × (slice_index f (place + 1) ≡ 16 + w) × (count ≡ num_at f (place + 2) (2 ^ w))
-    × (body ≡ place + 2 + 2 ^ w)
-
--- marker and count are of this form and announce this count and body
-abbrev pub AnnouncesAs : List ℕ → ℕ → Markers → ℕ → ℕ → Type 0
-AnnouncesAs f place (plain low high says) count body =
-    (low ≤ slice_index f place) × (slice_index f place ≤ high) × (count ≡ says (slice_index f place)) × (body ≡ place + 1)
-AnnouncesAs f place (counted high) count body =
-    ((count < 15) × (slice_index f place ≡ 16 * high + count) × (body ≡ place + 1))
-    ⊎ ((slice_index f place ≡ 16 * high + 15) × HasLongCount f place count body)
-
--- marker and count announce this kind, count and body
-abbrev pub Announces : List ℕ → ℕ → Kind → ℕ → ℕ → Type 0
-Announces f place kind count body = AnnouncesAs f place (markers_of kind) count body
+  -- the file's bytes from the offset of object n on are a front, and this is the head that it announces
+  pub record HasHead (n : ℕ) (head : Head) : Type 0 where
+    pub front : List ℕ
+    pub announces : IsFront head.kind head.count front
+    pub stands : part f (off f F n) (length front) ≡ front
+    pub body : head.body ≡ off f F n + length front
+    pub ends : head.«end» ≡ head.body + head.count * item_size F.ref_size head.kind

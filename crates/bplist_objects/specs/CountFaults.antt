@@ -2,7 +2,7 @@
 use Rattle.std.specs.Prelude.{◌≡◌, ◌⊎◌, ℕ, ◌+◌, ◌<◌, ◌≤◌, List, slice_index, Some}
 use Rattle.bplist_objects.specs.declared.rule.Rule.TheVariants.{Count, Extent}
 use Rattle.bplist_objects.specs.declared.fault.Fault.{Fault}
-use Rattle.bplist_objects.specs.Announced.{IsIntMarker, HasLongCount}
+use Rattle.bplist_objects.specs.Markers.{IsIntMarker, HasLongCount}
 
 -- the byte behind the marker lies before the table and is no integer's marker
 abbrev pub IsFormFault : List ℕ → ℕ → ℕ → Fault → Type 0

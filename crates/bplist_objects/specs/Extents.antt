@@ -8,10 +8,14 @@ use Rattle.bplist_objects.specs.Heads.{HasShape}
 use Rattle.bplist_objects.specs.Holds.{AreDistinct}
 
 module _ (f : List ℕ) (F : Frame) where
-  -- these objects take t bytes together, each from its place to its end
+  -- object n takes e bytes, from its offset to its end
+  abbrev pub Takes : ℕ → ℕ → Type 0
+  Takes n e = (head : Head) × HasShape f F n head × (head.end ≡ off f F n + e)
+
+  -- these objects take t bytes together
   abbrev pub TakeOctets : List ℕ → ℕ → Type 0
   TakeOctets [] t = t ≡ 0
-  TakeOctets (n ∷ ns) t = (e r : ℕ) × ((head : Head) × HasShape f F n head × (head.end ≡ off f F n + e)) × TakeOctets ns r × (t ≡ e + r)
+  TakeOctets (n ∷ ns) t = (e r : ℕ) × Takes n e × TakeOctets ns r × (t ≡ e + r)
 
   -- no distinct objects of S take more than t bytes together
   abbrev pub AtMost : (ℕ → Type 0) → ℕ → Type 0

@@ -1,6 +1,6 @@
--- What an object spells: what stands in the body of the head that its marker and count announce. Source: the format comment of
+-- What an object spells, which is the meaning of the body behind its front. Source: the format comment of
 -- CFBinaryPList.c.
-use Rattle.std.specs.Prelude.{◌≡◌, ℕ, ◌+◌, ◌*◌, ◌≤◌, List, [], ◌++◌, length, true, false}
+use Rattle.std.specs.Prelude.{◌≡◌, ℕ, ◌+◌, ◌*◌, ◌<◌, ◌≤◌, List, [], ◌++◌, All, true, false}
 use Rattle.bplist_octets.specs.Octets.{part}
 use Rattle.bplist_objects.specs.declared.frame.Frame.{Frame}
 use Rattle.bplist_objects.specs.declared.kind.Kind.{Kind}
@@ -9,8 +9,6 @@ use Rattle.bplist_objects.specs.declared.head.Head.{Head}
 use Rattle.bplist_objects.specs.Numbers.{integer, num_at, nums_at}
 use Rattle.bplist_objects.specs.Frame.{off}
 use Rattle.bplist_objects.specs.Announced.{HasHead}
-use Rattle.bplist_objects.specs.Rules.{KeepsAll}
-use Rattle.bplist_objects.specs.ObjectRules.{KeepsByObject, body_rules}
 use Rattle.bplist_objects.specs.Value.{Leaf, null, boolean, int, real, date, bytes, text, uid}
 
 -- what an object spells: a leaf, or a container with the numbers of its references
@@ -29,7 +27,6 @@ module _ (f : List ℕ) (F : Frame) where
   pub record HasShape (n : ℕ) (head : Head) : Type 0 where
     pub low : 8 ≤ off f F n
     pub has : HasHead f F n head
-    pub within : head.body ≤ length f
     pub inside : head.«end» ≤ F.table
 
   -- what a body of this kind and count at this place means
@@ -52,12 +49,15 @@ module _ (f : List ℕ) (F : Frame) where
   abbrev pub content_at : Head → Content
   content_at head = content_of head.kind head.count head.body
 
-  -- object n spells this content: it keeps rules 14 to 20, and its body means this
+  -- object n has a head whose body means this content: ASCII text has bytes below 128, a UID is at most 4294967295, and each
+  -- reference is the number of an object
   pub record Spells (n : ℕ) (content : Content) : Type 0 where
     pub shape : Head
     pub has : HasShape n shape
-    pub kept : KeepsAll (KeepsByObject f F n) body_rules
     pub means : content ≡ content_at shape
+    pub ascii : shape.kind ≡ kinds.Ascii → All (λ b. b < 128) (part f shape.body shape.count)
+    pub uid : (x : ℕ) → content ≡ leaf (uid x) → x ≤ 4294967295
+    pub refs : All (λ m. m < F.objects) (refs content)
 
   -- object n has this head and spells what its body means
   abbrev pub IsHeadOf : ℕ → Head → Type 0

@@ -3,6 +3,7 @@ pub mod Rules
 pub mod Frame
 pub mod Value
 pub mod Announced
+pub mod Markers
 pub mod Claims
 pub mod Scan
 pub mod Safe

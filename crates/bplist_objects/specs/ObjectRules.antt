@@ -1,6 +1,6 @@
 -- The rules 14 to 20 of an object by itself: how each is kept, and how it is broken and where. Source: the format comment of
 -- CFBinaryPList.c; all words, places and the order are profile.
-use Rattle.std.specs.Prelude.{◌≡◌, ℕ, ◌+◌, ◌*◌, ◌<◌, ◌≤◌, List, [], ◌∷◌, ◌++◌, slice_index, IsSome}
+use Rattle.std.specs.Prelude.{◌≡◌, ℕ, ◌+◌, ◌*◌, ◌<◌, ◌≤◌, List, [], ◌∷◌, ◌++◌, slice_index}
 use Rattle.bplist_objects.specs.declared.rule.Rule.{Rule}
 use Rattle.bplist_objects.specs.declared.rule.Rule.TheVariants.{OffsetLow, Marker, Count, Extent, NotAscii, UidLarge, RefHigh}
 use Rattle.bplist_objects.specs.declared.fault.Fault.{Fault}
@@ -12,7 +12,7 @@ use Rattle.bplist_objects.specs.Frame.{off}
 use Rattle.bplist_objects.specs.Rules.{IsFirstFault, OfObject}
 use Rattle.bplist_objects.specs.Scan.{AreBelow, IsFirstNotBelow}
 use Rattle.bplist_objects.specs.Safe.{ref_count}
-use Rattle.bplist_objects.specs.Announced.{kind_at, head_found, HasHead}
+use Rattle.bplist_objects.specs.Announced.{IsMarker, HasHead}
 
 -- rules 14 to 17 in order
 abbrev pub shape_rules : List Rule
@@ -29,10 +29,10 @@ object_rules = shape_rules ++ body_rules
 -- object n keeps this rule; rules 16 and 17 ask nothing where one of marker and count before is broken
 abbrev pub KeepsByObject : List ℕ → Frame → ℕ → Rule → Type 0
 KeepsByObject f F n OffsetLow = 8 ≤ off f F n
-KeepsByObject f F n Marker = IsSome (kind_at (slice_index f (off f F n)))
-KeepsByObject f F n Count = IsSome (kind_at (slice_index f (off f F n))) → off f F n + 1 < F.table → IsSome (head_found f F n)
+KeepsByObject f F n Marker = IsMarker (slice_index f (off f F n))
+KeepsByObject f F n Count = IsMarker (slice_index f (off f F n)) → off f F n + 1 < F.table → (head : Head) × HasHead f F n head
 KeepsByObject f F n Extent =
-    IsSome (kind_at (slice_index f (off f F n))) → (off f F n + 1 < F.table → IsSome (head_found f F n))
+    IsMarker (slice_index f (off f F n)) → (off f F n + 1 < F.table → (head : Head) × HasHead f F n head)
     → (head : Head) × HasHead f F n head × (head.«end» ≤ F.table)
 KeepsByObject f F n NotAscii =
     (head : Head) → HasHead f F n head → head.kind ≡ kinds.Ascii → AreBelow f head.body 1 head.count 128

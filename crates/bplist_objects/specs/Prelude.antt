@@ -4,7 +4,7 @@ pub use Rattle.std.specs.declared.cmp.Ordering.TheVariants.{Less, Equal}
 pub use Rattle.bplist_octets.specs.Meaning.{Honestly, OnlyReads, last_count}
 pub use Rattle.bplist_octets.specs.Octets.{num, part}
 pub use Rattle.bplist_octets.specs.Windows.{borrowed}
-pub use Rattle.bplist_objects.specs.Announced.{Announces, HasHead, HasLongCount, IsLongOf, Marks, is_counted, item_size, kind_at, markers_of}
+pub use Rattle.bplist_objects.specs.Announced.{HasHead, IsFront, IsMarker, MayCount, item_size}
 pub use Rattle.bplist_objects.specs.Answers.{Gives, Never, read_failed}
 pub use Rattle.bplist_objects.specs.CountFaults.{IsLongCountFault}
 pub use Rattle.bplist_objects.specs.File.{FileHolds}
@@ -14,11 +14,12 @@ pub use Rattle.bplist_objects.specs.Framed.{HonestlyBy, HonestlyIn, IsFramed, fr
 pub use Rattle.bplist_objects.specs.Heads.{Content, HasShape, IsHeadOf, Spells, content_at, refs}
 pub use Rattle.bplist_objects.specs.Holds.{Holds}
 pub use Rattle.bplist_objects.specs.Kinds.{IsLeafKind}
+pub use Rattle.bplist_objects.specs.Markers.{Announces, HasLongCount, IsLongOf, MarkersCount, Marks, is_counted, markers_of}
 pub use Rattle.bplist_objects.specs.Numbers.{integer, num_at}
 pub use Rattle.bplist_objects.specs.ObjectRules.{BreaksByObject, IsObjectFault, KeepsByObject, body_rules, object_rules, shape_rules}
 pub use Rattle.bplist_objects.specs.Reach.{Chain, Founded}
 pub use Rattle.bplist_objects.specs.Rules.{IsFirstFault, KeepsAll}
-pub use Rattle.bplist_objects.specs.Safe.{IsSafe, IsSafeBody, IsSafeFrame, IsSafeHead, MayCount, ref_count}
+pub use Rattle.bplist_objects.specs.Safe.{IsSafe, IsSafeBody, IsSafeFrame, IsSafeHead, ref_count}
 pub use Rattle.bplist_objects.specs.Scan.{AreBelow, AreNumbers, IsFirstNotBelow, MeanNumbers, nth_number}
 pub use Rattle.bplist_objects.specs.SmallFiles.{small_file}
 pub use Rattle.bplist_objects.specs.Trailer.{frame_of_trailer}

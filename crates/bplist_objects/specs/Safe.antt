@@ -4,7 +4,7 @@ use Rattle.bplist_objects.specs.declared.frame.Frame.{Frame}
 use Rattle.bplist_objects.specs.declared.head.Head.{Head}
 use Rattle.bplist_objects.specs.declared.kind.Kind.{Kind}
 use Rattle.bplist_objects.specs.declared.kind.Kind.TheVariants as kinds
-use Rattle.bplist_objects.specs.Announced.{Markers, plain, counted, markers_of, item_size}
+use Rattle.bplist_objects.specs.Announced.{MayCount, item_size}
 
 -- frame and length allow reading: sizes are 1 to 8, the table lies within
 pub record IsSafe (len : ℕ) (frame : Frame) : Type 0 where
@@ -20,27 +20,18 @@ pub record IsSafeFrame (len : ℕ) (frame : Frame) : Type 0 where
   pub top : frame.top.0 < frame.objects
   pub table : 9 ≤ frame.table
 
--- a marker of this form may say this count
-abbrev pub MarkersCount : Markers → ℕ → Type 0
-MarkersCount (plain low high says) count = (marker : ℕ) × (low ≤ marker) × (marker ≤ high) × (count ≡ says marker)
-MarkersCount (counted high) count = Unit {0}
-
--- the same of a kind
-abbrev pub MayCount : Kind → ℕ → Type 0
-MayCount kind count = MarkersCount (markers_of kind) count
-
 -- how many references a head has
 abbrev pub ref_count : Kind → ℕ → ℕ
 ref_count kind count = elim kind [ kinds.Array ↦ count | kinds.Set ↦ count | kinds.Dict ↦ 2 * count | _ ↦ 0 ]
 
 -- the parts of an object with this head lie before the table
 pub record IsSafeHead (frame : Frame) (head : Head) : Type 0 where
-  pub may : MarkersCount (markers_of head.kind) head.count
+  pub may : MayCount head.kind head.count
   pub body : head.body + head.count * item_size frame.ref_size head.kind ≤ head.«end»
   pub table : head.«end» ≤ frame.table
 
 -- the body of this head lies in so many bytes
 pub record IsSafeBody (len : ℕ) (head : Head) : Type 0 where
-  pub may : MarkersCount (markers_of head.kind) head.count
+  pub may : MayCount head.kind head.count
   pub body : head.body + head.count * item_size 1 head.kind ≤ head.«end»
   pub within : head.«end» ≤ len

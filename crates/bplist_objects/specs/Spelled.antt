@@ -11,7 +11,7 @@ use Rattle.bplist_objects.specs.declared.head.Head.{Head}
 use Rattle.bplist_objects.specs.Numbers.{num_at}
 use Rattle.bplist_objects.specs.Frame.{off}
 use Rattle.bplist_objects.specs.Heads.{Content, refs, content_at}
-use Rattle.bplist_objects.specs.Announced.{head_found}
+use Rattle.bplist_objects.specs.Markers.{head_found}
 
 -- rules 18 and 19: Ascii bytes are below 128, a UID is not too large
 abbrev pub is_proper : List ℕ → Kind → ℕ → ℕ → Bool

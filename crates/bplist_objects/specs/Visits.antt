@@ -10,7 +10,8 @@ use Rattle.bplist_objects.specs.declared.visit.Visit.TheVariants as visits
 use Rattle.bplist_objects.specs.Frame.{off}
 use Rattle.bplist_objects.specs.Rules.{KeepsAll}
 use Rattle.bplist_objects.specs.Safe.{IsSafeHead, ref_count}
-use Rattle.bplist_objects.specs.Announced.{Markers, plain, counted, markers_of, item_size, kind_at, HasHead}
+use Rattle.bplist_objects.specs.Announced.{item_size, HasHead}
+use Rattle.bplist_objects.specs.Markers.{Markers, plain, counted, markers_of, kind_at}
 use Rattle.bplist_objects.specs.ObjectRules.{KeepsByObject, shape_rules, object_rules}
 
 -- a rule looks into bodies of this kind: rules 18 and 19, or rule 20 where there are references

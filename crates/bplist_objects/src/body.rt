@@ -17,6 +17,7 @@ use bplist_octets::Source;
 /// Looks at the body of object `n`, which stands at `place`, by rules 18 to 20, where this is its head as `shape_at` answers
 /// it. `Read` is answered where a read failed.
 #[inline(always)]
+#[tactic(auto, using(crate::proofs::HeadLaws::uid_count))]
 pub fn check_body<S: Source>(
     src: &mut S,
     frame: &Frame,

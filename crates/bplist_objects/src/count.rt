@@ -1,7 +1,7 @@
 //! The count of an object: in its marker, or as an integer object behind it.
 
 ghost use Rattle.std.specs.Prelude.{◌≡◌, ℕ, ◌+◌, ◌^◌, ◌≤◌, ◌<◌, List, true, IfOk, IfSome, MatchOption, length, slice_index};
-ghost use Rattle.bplist_objects.specs.Prelude.{OnlyReads, Honestly, Gives, read_failed, Marks, markers_of, is_counted, IsLongOf, HasLongCount, Announces, MayCount, IsLongCountFault};
+ghost use Rattle.bplist_objects.specs.Prelude.{OnlyReads, Honestly, Gives, read_failed, Marks, markers_of, is_counted, IsLongOf, HasLongCount, Announces, MarkersCount, IsLongCountFault};
 
 use crate::fault::{ObjectFault, broken};
 use crate::frame::ObjectNo;
@@ -74,7 +74,7 @@ pub(crate) fn short_count(kind: Kind, marker: u8) -> Option<u8>
     ensures found { MatchOption result
         (IsLongOf (markers_of kind) marker × (is_counted (markers_of kind) ≡ true))
         (λ count. (f : List ℕ) (place : ℕ) → slice_index f place ≡ marker → Announces f place kind count (place + 1)) }
-    ensures may { IfSome result (MayCount kind) }
+    ensures may { IfSome result (MarkersCount (markers_of kind)) }
 {
     match kind {
         Kind::Bytes | Kind::Ascii | Kind::Wide | Kind::Array | Kind::Set | Kind::Dict => {

@@ -53,6 +53,7 @@ pub(crate) fn marker_at<S: Source>(
 
 /// The head of object `n`, whose place is known, by its marker.
 #[inline(always)]
+#[tactic(auto, using(crate::proofs::HeadLaws::may_count, crate::proofs::HeadLaws::may_count_long))]
 pub(crate) fn head_by_marker<S: Source>(
     src: &mut S,
     frame: &Frame,

@@ -1,7 +1,7 @@
 //! The kinds of objects and their markers.
 
-ghost use Rattle.std.specs.Prelude.{◌≡◌, ◌≤◌, MatchOption, IsSome};
-ghost use Rattle.bplist_objects.specs.Prelude.{Marks, kind_at, item_size};
+ghost use Rattle.std.specs.Prelude.{◌≡◌, ◌≤◌, MatchOption};
+ghost use Rattle.bplist_objects.specs.Prelude.{IsMarker, Marks, item_size};
 
 /// The kind of an object.
 #[derive(Clone, Copy, Debug, PartialEq, Eq, Drop)]
@@ -37,7 +37,7 @@ pub enum Kind {
 /// The kind that a marker is of.
 #[tactic(auto, using(crate::proofs::HeadLaws::marker_marks))]
 pub(crate) fn kind_of(marker: u8) -> Option<Kind>
-    ensures { MatchOption result (IsSome (kind_at marker) → ⊥) (Marks marker) }
+    ensures { MatchOption result (IsMarker marker → ⊥) (Marks marker) }
 {
     // By the high half first: each kind but the first ones has halves of its own, so that one jump tells it.
     match marker / 16 {

@@ -1,9 +1,18 @@
 //! Laws of the definitions: each is the contract of a function that does nothing.
 
 ghost use Rattle.bplist_objects.specs.declared.fault.Fault.{Fault as fault};
+ghost use Rattle.bplist_objects.specs.declared.kind.Kind.{Kind as kind};
 ghost use Rattle.std.specs.Prelude.{◌≡◌, ◌↔◌, ◌⊎◌, ℕ, ◌+◌, ◌*◌, ◌^◌, ◌<◌, ◌≤◌, true, List, [], ◌∷◌, length, slice_index, Option};
-ghost use Rattle.bplist_objects.specs.Prelude.{Frame as frame, ObjectNo as object_no, Head as head, Rule as rule, Keeps, frame_rules, IsFrame, Value, boolean, array, value, no_values, dict, pair, no_pairs, Content, refs, content_at, HasShape, Spells, IsHeadOf, Holds, FileHolds, KeepsAll, nth_number, Breaks, IsFrameFault, HasHead, KeepsByObject, BreaksByObject, shape_rules, object_rules, IsObjectFault, ref_count, IsSafe, IsSafeFrame, IsSafeHead, Chain, Founded, small_file};
+ghost use Rattle.bplist_objects.specs.Prelude.{Frame as frame, ObjectNo as object_no, Head as head, Rule as rule, Keeps, frame_rules, IsFrame, Value, boolean, array, value, no_values, dict, pair, no_pairs, Content, refs, content_at, HasShape, Spells, IsHeadOf, Holds, FileHolds, KeepsAll, nth_number, Breaks, IsFrameFault, part, off, IsFront, HasHead, KeepsByObject, BreaksByObject, shape_rules, object_rules, IsObjectFault, ref_count, IsSafe, IsSafeFrame, IsSafeHead, Chain, Founded, small_file};
 ghost use Rattle.bplist_objects.specs.Value.{leaf};
+
+/// At one place at most one head is announced, and a front that stands there announces one.
+pub fn one_announced_head()
+    ensures one { (f : List ℕ) (F : frame) (n : ℕ) (a b : head) → HasHead f F n a → HasHead f F n b → a ≡ b }
+    ensures found { (f : List ℕ) (F : frame) (n : ℕ) (k : kind) (count : ℕ) (front : List ℕ) → IsFront k count front
+        → part f (off f F n) (length front) ≡ front
+        → (a : head) × HasHead f F n a × (a.kind ≡ k) × (a.count ≡ count) × (a.body ≡ off f F n + length front) }
+{}
 
 /// At one place marker and count say at most one head.
 pub fn one_shape()

@@ -41,6 +41,7 @@ pub fn int_of<S: Source>(src: &mut S, head: &Head) -> Result<i128, ReadFault>
 /// The UID of a Uid: the low 32 bits of its bytes.
 ///
 /// The head is one of kind Uid whose body lies in the source. An error is a failed read.
+#[tactic(auto, using(crate::proofs::HeadLaws::uid_count))]
 pub fn uid_of<S: Source>(src: &mut S, head: &Head) -> Result<u32, ReadFault>
     requires kind { head.now.kind ≡ Uid }
     requires head { IsSafeBody (length (S.means src.old).octets) head.now }

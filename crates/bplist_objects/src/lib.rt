@@ -22,8 +22,8 @@
 //! | the first look at an object over that, which for many leaves is all of it | [`visit_in`], [`Visit`] |
 //! | broken rules, their words and numbers | [`Rule`], [`rule_name`], [`rule_number`], [`rule_of_number`], [`Fault`], [`ObjectFault`] |
 //!
-//! The laws tie the definitions: an object has at most one head and one value (`one_head`, `one_value`), rules are kept exactly
-//! where there is a head (`kept_iff_head`), and the first fault is one (`one_first_fault`).
+//! The laws tie the definitions: an object has at most one head, one content and one value (`one_announced_head`, `one_head`,
+//! `one_value`), rules are kept exactly where there is a head (`kept_iff_head`), and the first fault is one (`one_first_fault`).
 #![tactic(auto)]
 
 mod body;
@@ -54,8 +54,8 @@ pub use head::{Head, shape_at, shape_of};
 pub use kind::Kind;
 pub use laws::{
     fault_excludes, founded_has_no_circle, keeps_iff_frame, keeps_iff_spells, kept_iff_head,
-    kept_is_not_broken, kept_or_fault, one_first_fault, one_head, one_shape, one_value,
-    one_value_of_file, references_by_index, references_fit, rows_hold,
+    kept_is_not_broken, kept_or_fault, one_announced_head, one_first_fault, one_head, one_shape,
+    one_value, one_value_of_file, references_by_index, references_fit, rows_hold,
 };
 pub use leaf::{int_of, octets_at, uid_of};
 pub use leaf_laws::{leaves_by_parts, units_are_ordered};

@@ -57,3 +57,10 @@ returns-clause-exact g c = λ honest low vouched seen learnt.
     let texts = (rw (c.in_ok-good.ensures.reads, c.in_ok-head.ensures.reads) at c.in_ok-check_texts.ensures.exact) honest learnt.1 in
     order_given f F (λ runs. ((good.0, runs), texts.0)) F.objects c.args.keys.now c.args.n head has c.in-Dict.is texts.1 c.check_order.result
     ((rw (c.in_ok-check_texts.ensures.reads, c.in_ok-good.ensures.reads, c.in_ok-head.ensures.reads) at c.check_order.ensures.exact) honest good.1 texts.1)
+
+pub returns-in_default : goal.returns-in_default
+returns-in_default g c = record {
+  reads = c.in_ok-head.ensures.reads;
+  exact = λ honest low vouched seen learnt.
+      (learnt, good_at (g.P.Source.means c.args.src.now).octets (frame_in (g.P.Source.means c.args.src.now)) (Some c.args.keys.now) c.args.n c.in_ok-head.head (c.in_ok-head.ensures.rules honest).0 (λ dict. absurd (c.in_default.not-Dict dict)));
+}

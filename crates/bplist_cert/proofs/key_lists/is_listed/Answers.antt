@@ -2,7 +2,11 @@ use Rattle.std.proofs.Common.{subst}
 use Rattle.bplist_objects.specs.declared.frame.Frame.{Frame}
 use Rattle.bplist_objects.specs.declared.head.Head.{Head}
 use Rattle.bplist_objects.specs.Framed.{frame_in}
-use Rattle.bplist_objects.proofs.BodyLaws.{HasHead-unique}
+use Rattle.bplist_objects.proofs.BodyLaws.{HasHead-unique, of_other_kind}
+use Rattle.bplist_objects.specs.declared.kind.Kind.TheVariants.{Dict}
+use Rattle.std.proofs.lemmas.Result.{err_from_is_err_and}
+use Rattle.bplist_cert.proofs.TextObjects.{shape_kept}
+use Rattle.bplist_cert.proofs.CheckSteps.{given_weaker}
 use Rattle.bplist_cert.specs.CheckRules.{HasOrder}
 use Rattle.bplist_cert.specs.KeyPairs.{HaveTextShapes}
 use Rattle.bplist_cert.proofs.key_lists.is_listed.Goals as goal
@@ -15,3 +19,20 @@ returns-in_ok-has_good_list-in-Dict-clause-exact g c = λ honest known at kept.
     let has_here = (c.in_ok-head.ensures.rules honest at).0 in
     let found = (rw c.in_ok-head.ensures.reads at c.in_ok-has_good_list-in-Dict.ensures.exact) honest known in
     (found.0, λ good head has dict. subst (λ (h : Head). HaveTextShapes f F h × HasOrder f F c.args.keys.now c.args.n h) (HasHead-unique f F c.args.n here head has_here has) (found.1 good))
+
+pub returns-in_err-head-clause-exact : goal.returns-in_err-head-clause-exact
+returns-in_err-head-clause-exact g c = λ honest known at kept.
+    let m = g.P.Source.means c.args.src.now in
+    let p = err_from_is_err_and c.from_residual.result c.from_residual.ensures.1 in
+    let rules = c.in_err-head.ensures.rules honest at in
+    rw (p.1, p.2) (given_weaker _ _ c.in_err-head.field-0.0 (λ fault h. absurd (shape_kept m.octets (frame_in m) c.args.n fault kept h)) rules)
+
+pub returns-in_default : goal.returns-in_default
+returns-in_default g c = record {
+  reads = c.in_ok-head.ensures.reads;
+  exact = λ honest known at kept. (
+    known,
+    λ good head has dict.
+        absurd (of_other_kind (g.P.Source.means c.args.src.now).octets (frame_in (g.P.Source.means c.args.src.now)) c.args.n c.in_ok-head.head (c.in_ok-head.ensures.rules honest at).0 Dict c.in_default.not-Dict head has dict),
+  );
+}

@@ -1,4 +1,4 @@
-use Rattle.std.proofs.Common.{◌+◌, ◌≤◌, ◌<◌, ap, sym, subst, ◌∙◌, length, slice_index, inl, inr, arith}
+use Rattle.std.proofs.Common.{◌+◌, ◌≤◌, ◌<◌, IsTrue, refl, ap, sym, subst, ◌∙◌, length, slice_index, inl, inr, arith}
 use Rattle.std.proofs.lemmas.Bool.{cases_eq, cases_lt, false≢true}
 use Rattle.std.proofs.lemmas.Result.{err_from_is_err_and}
 use Rattle.bplist_objects.specs.declared.frame.Frame.{Frame}
@@ -9,6 +9,7 @@ use Rattle.bplist_cert.specs.KeysLooks.{IsListed}
 use Rattle.bplist_cert.proofs.KeyRepeats.{seen_own}
 use Rattle.bplist_cert.proofs.KeyPairs.{low_listed}
 use Rattle.bplist_cert.proofs.KeysLooks.{none_past}
+use Rattle.bplist_cert.proofs.key_lists.look_at_lists.Goals.{then-look, else-look}
 use Rattle.bplist_cert.proofs.key_lists.look_at_lists.Goals as goal
 
 pub loop-i-preserved-then-not-may_be_wrong : goal.loop-i-preserved-then-not-may_be_wrong
@@ -100,3 +101,11 @@ returns-clause-exact g c = λ honest places seen lists.
             absurd (omega (arith, none, vouched))
       ];
     }
+
+pub loop-i-init : goal.loop-i-init
+loop-i-init g c = record {
+  same = refl;
+  lists = λ honest places seen lists.
+      let was : IsTrue c.args.look.now.good = elim c.if-look.branch [ then-look w ↦ w.if-look.true | else-look w ↦ absurd (cc (w.look-is, c.if-not-look.false)) ] in
+      record { learnt = lists.learnt; good = λ good m low vouched. lists.good was m (omega (arith, low)) vouched };
+}

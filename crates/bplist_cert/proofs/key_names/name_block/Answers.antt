@@ -42,6 +42,13 @@ loop-i-preserved g c =
                 | inr d ↦ λ head has dict k l. w.in_ok-name_object.ensures.keeps _ (so_far.1 m (omega (arith, low, d)) vouched head has dict k l)
               ],
             );
+        only = λ honest places.
+            let told = (rw v.same at w.in_ok-name_object.ensures.only) honest (places c.loop-i.i under) in
+            let vouched : IsVouchedBy heights n = omega (arith, height, w.if-height-gt1.true) in
+            rw w.named-is (λ m marked. elim (told m marked) [
+              | inl before ↦ v.only honest places m before
+              | inr key ↦ inr (n, vouched, key)
+            ]);
       }
       | else-height-gt1 w ↦ record {
         same = rw w.src-is v.same;
@@ -55,6 +62,7 @@ loop-i-preserved g c =
                 | inr d ↦ so_far.1 m (omega (arith, low, d)) vouched
               ],
             );
+        only = λ honest places. rw w.named-is (v.only honest places);
       }
     ]
 

@@ -1,4 +1,4 @@
-use Rattle.std.proofs.Common.{◌≡◌, ◌∙◌, length, arith}
+use Rattle.std.proofs.Common.{◌≡◌, ◌∙◌, inl, inr, length, arith}
 use Rattle.std.proofs.lemmas.List.{length-take-le}
 use Rattle.std.proofs.lemmas.Result.{err_from_is_err_and}
 use Rattle.bplist_objects.specs.Answers.{Never}
@@ -27,6 +27,10 @@ loop-done-preserved g c =
           let exact = (rw (c.in_ok-read_offsets_in.ensures.reads, v.same) at c.in_ok-name_block.ensures.exact) honest places in
           let named = exact (λ k below is. seen k (omega (arith, below, all)) is) (v.named honest seen) in
           (named.0, λ m low vouched. named.1 m (omega (arith, low, all)) vouched);
+      only = λ honest m marked.
+          let places = (rw v.same at c.in_ok-read_offsets_in.ensures.offsets) honest in
+          let told = (rw (c.in_ok-read_offsets_in.ensures.reads, v.same) at c.in_ok-name_block.ensures.only) honest places in
+          elim (told m marked) [ inl before ↦ v.only honest m before | inr key ↦ key ];
     }
 
 pub returns-clause-exact : goal.returns-clause-exact

@@ -1,10 +1,11 @@
-use Rattle.std.proofs.Common.{◌≡◌, ◌≤◌, ◌-◌, length}
+use Rattle.std.proofs.Common.{◌≡◌, ℕ, ◌≤◌, ◌-◌, length}
 use Rattle.bplist_objects.specs.Framed.{frame_in, HonestlyIn}
+use Rattle.bplist_keys.specs.Marks.{IsMarked}
 use Rattle.bplist_cert.specs.Looks.{KeepBeforeKeysBelow}
-use Rattle.bplist_cert.specs.KeyRepeats.{HaveNamedKeys}
+use Rattle.bplist_cert.specs.KeyRepeats.{HaveNamedKeys, IsVouchedKey}
 use Rattle.bplist_cert.proofs.key_names.seen_keys.Given as goal
 
--- the keys of the vouched dictionaries so far are named
+-- the keys of the vouched dictionaries so far are named, and nothing but keys of vouched ones
 abbrev pub invariant-loop-done : goal.invariant-loop-done
 invariant-loop-done g l =
     let means = g.P.Source.means in
@@ -13,6 +14,7 @@ invariant-loop-done g l =
       reached : l.done ≤ l.bound;
       all : length l.named.marks.items ≡ (frame_in (means l.fn.src)).objects;
       named : HonestlyIn (means l.fn.src) (λ f F. KeepBeforeKeysBelow f F l.heights l.bound → HaveNamedKeys f F l.heights l.done l.named.marks.items);
+      only : HonestlyIn (means l.fn.src) (λ f F. (m : ℕ) → IsMarked l.named.marks.items m → IsVouchedKey f F l.heights m);
     }
 
 abbrev pub decreases-loop-done : goal.decreases-loop-done

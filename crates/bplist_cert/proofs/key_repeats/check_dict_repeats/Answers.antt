@@ -72,3 +72,12 @@ returns-in-Some-Repeated-clause-exact g c = λ honest low vouched seen classed s
     let twice = again_twice f F head _ (classed head has c.in-Dict.is) texts.1 c.in-Some-Repeated.i found.1 in
     let place = rw (c.in_ok-check_texts.ensures.reads, c.in_ok-found.ensures.reads, c.in_ok-head.ensures.reads) at c.ref_place.ensures in
     (head, has, (c.in-Dict.is, inr (texts.1, (refl, refl, (c.in-Some-Repeated.i, twice, place)))))
+
+pub returns-in_default : goal.returns-in_default
+returns-in_default g c = record {
+  reads = c.in_ok-head.ensures.reads;
+  same = refl;
+  stamped = λ x. inr refl;
+  exact = λ honest low vouched seen classed stamps learnt.
+      (learnt, good_at (g.P.Source.means c.args.src.now).octets (frame_in (g.P.Source.means c.args.src.now)) None c.args.n c.in_ok-head.head (c.in_ok-head.ensures.rules honest).0 (λ dict. absurd (c.in_default.not-Dict dict)));
+}

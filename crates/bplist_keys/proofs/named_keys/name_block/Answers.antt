@@ -1,5 +1,5 @@
-use Rattle.std.proofs.Common.{◌≡◌, ℕ, ◌+◌, ◌-◌, ◌<◌, length, sym, ap, ◌∙◌, subst, arith}
-use Rattle.std.proofs.lemmas.Grind.{common_steps}
+use Rattle.std.proofs.Common.{◌≡◌, ℕ, ◌+◌, ◌-◌, ◌<◌, inl, inr, length, sym, ap, ◌∙◌, subst, arith}
+use Rattle.std.proofs.lemmas.Grind.{common_steps, get_or_default_zero}
 use Rattle.bplist_objects.specs.Framed.{frame_in}
 use Rattle.bplist_objects.specs.Scan.{ref}
 use Rattle.bplist_keys.specs.Marks.{IsMarked}
@@ -16,3 +16,13 @@ returns-clause-named g c = λ honest k from high inside.
     let here = c.in_ok-read_refs_in.ensures.numbers honest i low ∙ ap (ref m.octets (frame_in m) c.args.head.now) is in
     subst (λ x. IsMarked c.insert_all.new.self.marks.items x) here
     (c.insert_all.ensures.named i low (subst (λ x. x < length c.insert_all.new.self.marks.items) (sym here) (omega (arith, c.insert_all.ensures.all, inside))))
+
+pub returns-clause-only : goal.returns-clause-only
+returns-clause-only g c = λ honest m marked.
+    let numbers = c.read_refs_in.new.into in
+    let long : length numbers ≡ c.min-count.result = grind (arith, common_steps) in
+    elim (c.insert_all.ensures.only m marked) [
+      | inl before ↦ inl before
+      | inr (i, low, is) ↦
+          inr (c.args.from + i, omega (arith, long, low), sym is ∙ get_or_default_zero numbers i m low ∙ c.in_ok-read_refs_in.ensures.numbers honest i low)
+    ]

@@ -1,6 +1,7 @@
-use Rattle.std.proofs.Common.{◌≡◌, ℕ, ◌<◌, ◌≤◌, ◌-◌, length}
+use Rattle.std.proofs.Common.{◌≡◌, ◌⊎◌, ℕ, ◌<◌, ◌≤◌, ◌-◌, length}
 use Rattle.bplist_objects.specs.Framed.{HonestlyIn}
 use Rattle.bplist_objects.specs.Scan.{ref}
+use Rattle.bplist_keys.specs.Classes.{IsNamedBy}
 use Rattle.bplist_keys.specs.Marks.{IsMarked}
 use Rattle.bplist_keys.proofs.named_keys.name_keys.Given as goal
 
@@ -13,6 +14,7 @@ invariant-loop-done g l =
       reached : l.done ≤ l.head.count;
       keeps : (m : ℕ) → IsMarked l.fn.named.marks.items m → IsMarked l.named.marks.items m;
       named : HonestlyIn (means l.fn.src) (λ f F. (k : ℕ) → k < l.done → ref f F l.head k < length l.fn.named.marks.items → IsMarked l.named.marks.items (ref f F l.head k));
+      only : HonestlyIn (means l.fn.src) (λ f F. (m : ℕ) → IsMarked l.named.marks.items m → IsMarked l.fn.named.marks.items m ⊎ IsNamedBy f F l.head l.done m);
     }
 
 abbrev pub decreases-loop-done : goal.decreases-loop-done

@@ -1,5 +1,5 @@
 use Rattle.std.proofs.lemmas.Result.{err_from_is_err_and}
-use Rattle.bplist_objects.proofs.BodyLaws.{object_fault_after}
+use Rattle.bplist_objects.proofs.BodyLaws.{object_fault_after, object_fault_before}
 use Rattle.bplist_objects.proofs.body.head_at.Goals as goal
 
 pub returns-in_err-check_body-clause-rules : goal.returns-in_err-check_body-clause-rules
@@ -9,3 +9,8 @@ returns-in_err-check_body-clause-rules g c = λ honest framed at.
     let shape = c.in_ok-head.ensures.rules honest framed at in
     let body = rw c.in_ok-head.ensures.reads at c.in_err-check_body.ensures.exact in
     rw (p.1, p.2) (object_fault_after f c.args.frame.now c.args.n.0 c.in_err-check_body.field-0.0 shape.1 (body honest at shape.0))
+
+pub returns-in_err-head-clause-rules : goal.returns-in_err-head-clause-rules
+returns-in_err-head-clause-rules g c = λ honest framed at.
+    let p = err_from_is_err_and c.from_residual.result c.from_residual.ensures.1 in
+    rw (p.1, p.2) (object_fault_before (g.S.Source.means c.args.src.now).octets c.args.frame.now c.args.n.0 c.in_err-head.field-0.0 (c.in_err-head.ensures.rules honest framed at))

@@ -1,6 +1,6 @@
 use Rattle.std.proofs.Common.{refl, arith}
 use Rattle.bplist_objects.specs.declared.visit.TheConstants.{SIZES}
-use Rattle.bplist_objects.specs.Announced.{kind_at}
+use Rattle.bplist_objects.specs.Markers.{kind_at}
 use Rattle.bplist_objects.proofs.VisitLaws.{none_there, some_there}
 use Rattle.bplist_objects.proofs.visit.size_said.Goals as goal
 

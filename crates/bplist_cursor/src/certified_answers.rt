@@ -1,0 +1,89 @@
+//! Replies to queries about a file that comes with a certificate: the theorem of the library.
+
+ghost use Rattle.std.specs.Prelude.{◌≡◌, IfOk, IfErr};
+ghost use Rattle.bplist_cursor.specs.Prelude.{Honestly, OnlyReads, Frame as frame, IsAccepted, IsPairFault, Never, IsAnswered, RefusesBy, answer_read};
+ghost use Rattle.bplist_cert.specs.declared.refusal.Refusal.TheVariants as check;
+ghost use Rattle.bplist_cursor.specs.declared.faults.CursorFault.TheVariants as cursor;
+ghost use Rattle.bplist_cursor.specs.declared.certified_answers.AnswerFault.TheVariants.{Fault as is_fault, Read, Changed, Memory};
+
+use crate::answers::answer_all;
+use crate::faults::CursorFault;
+use crate::reply::{Query, Reply};
+use bplist_cert::{Certificate, Refusal, check};
+use bplist_objects::Fault;
+use bplist_octets::{ReadFault, Source};
+use std::alloc::Global;
+
+/// Why no replies come for a file and a certificate.
+#[derive(Clone, Copy, Debug, PartialEq, Eq, Drop)]
+pub enum AnswerFault {
+    /// File or certificate breaks a rule, so the certificate is not accepted.
+    Fault(Fault),
+    /// A read of the source failed.
+    Read(ReadFault),
+    /// The source gives other bytes than those that were checked.
+    Changed,
+    /// A growth was refused.
+    Memory,
+}
+
+impl From<Refusal> for AnswerFault {
+    ghost from_gives = { λ refusal e. e
+        ≡ elim refusal [ check.Fault broken ↦ is_fault broken | check.Read failed ↦ Read failed | check.Memory ↦ Memory ] };
+
+    fn from(refusal: Refusal) -> AnswerFault {
+        match refusal {
+            Refusal::Fault(fault) => AnswerFault::Fault(fault),
+            Refusal::Read(fault) => AnswerFault::Read(fault),
+            Refusal::Memory => AnswerFault::Memory,
+        }
+    }
+}
+
+impl From<CursorFault> for AnswerFault {
+    ghost from_gives = { λ fault e. e
+        ≡ elim fault [ cursor.Read failed ↦ Read failed | cursor.Changed ↦ Changed | cursor.Memory ↦ Memory ] };
+
+    fn from(fault: CursorFault) -> AnswerFault {
+        match fault {
+            CursorFault::Read(fault) => AnswerFault::Read(fault),
+            CursorFault::Changed => AnswerFault::Changed,
+            CursorFault::Memory => AnswerFault::Memory,
+        }
+    }
+}
+
+/// Checks a file and a certificate, whoever made them, and answers queries about the file's value: one reply a query, in the
+/// order of the queries. Source and certificate are handed back in each case; the source was only read, inside the file.
+///
+/// Its contract is the theorem of the library, over an honest source. If replies come, the file holds exactly one value by
+/// the grammar, references from its top stay inside the table and never run in a circle, and the replies are those of the
+/// value's tree (`theorem`); the certificate is accepted then (`yes`), and an accepted one gets replies (`accepted`).
+///
+/// `Fault` names the first fault of file and certificate. `Read` comes if a read of the source failed, and `Memory` if memory
+/// was refused. `Changed` comes only over a source that is not honest.
+pub fn answer_certified<S: Source>(
+    alloc: Global,
+    src: S,
+    cert: Certificate,
+    queries: &[Query],
+) -> (Result<Vec<Reply>, AnswerFault>, S, Certificate)
+    ensures handed { (result.2 ≡ cert) × OnlyReads (answer_read result.0) (S.means src) (S.means result.1) }
+    ensures theorem { Honestly (S.means src) (λ f. IfOk result.0 (λ replies. ∥ IsAnswered f queries.now replies.items ∥₁)) }
+    ensures yes { Honestly (S.means src) (λ f. IfOk result.0 (λ _. ∥ ((F : frame) × IsAccepted f F cert) ∥₁)) }
+    ensures accepted { Honestly (S.means src) (λ f. (F : frame) → IsAccepted f F cert → IfErr result.0 (RefusesBy Never)) }
+    ensures refused { Honestly (S.means src) (λ f. IfErr result.0 (RefusesBy (IsPairFault f cert))) }
+{
+    match check(alloc, src, cert) {
+        Ok(checked) => {
+            let mut checked = checked;
+            let told = answer_all(alloc, &mut checked, queries);
+            let (src, cert) = checked.into_parts();
+            match told {
+                Ok(replies) => (Ok(replies), src, cert),
+                Err(fault) => (Err(AnswerFault::from(fault)), src, cert),
+            }
+        }
+        Err((refusal, src, cert)) => (Err(AnswerFault::from(refusal)), src, cert),
+    }
+}
