@@ -24,6 +24,8 @@ LIBRARY = ROOT / "crates/bplist_c/out"
 REGISTRY = pathlib.Path("/usr/share/cargo/registry")
 RESULT = re.compile(r"^test result: \w+\. (\d+) passed; (\d+) failed;", re.MULTILINE)
 COMPARED = re.compile(r"^compared (\d+) files", re.MULTILINE)
+# What the crate plist reads wrong: a count of 16 bytes as one of 1 byte.
+LONG_COUNT = re.compile(rb"[\x4f\x5f\x6f\xaf\xdf]\x14")
 # How many files both crates take at least, so that a comparison of nothing does not pass.
 LEAST_COMPARED = 100
 SECONDS = 1200
@@ -95,7 +97,8 @@ class Tests:
         written = self.folder / "written"
         written.mkdir()
         for number, sample in enumerate([*table_files(), *written_files(written)]):
-            (files / f"{number}").write_bytes(sample.octets)
+            if not LONG_COUNT.search(sample.octets):
+                (files / f"{number}").write_bytes(sample.octets)
         told = self.run_tests("compare_plist", "--", "--nocapture", BPLIST_FILES=str(files))
         found = COMPARED.search(told)
         print(found.group(0) if found else "nothing was compared")

@@ -36,8 +36,8 @@ fn member_of(checked: &mut Checked<SliceSource<'_>>, object: u32, i: u64) -> Res
     }
 }
 
-/// Fills `into` with the numbers of the references from number `from` on, as they are written: in a dictionary the keys stand
-/// before the values.
+/// Fills `into` with the numbers of the references from number `from` on, as they are written: in a dictionary the keys
+/// stand before the values.
 fn read_row(checked: &Checked<SliceSource<'_>>, head: &Head, from: u64, into: &mut [u64])
     requires head { IsSafeHead checked.now.frame head.now }
     requires within { from + length into.old ≤ ref_count head.now.kind head.now.count }

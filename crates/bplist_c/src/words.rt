@@ -51,7 +51,8 @@ pub extern "C" fn bplist_rule_text(rule: u32, text: &mut [u8], count: &mut u64) 
 /// What a status means, as one sentence, by its number.
 #[unsafe(no_mangle)]
 pub extern "C" fn bplist_status_text(status: u32, text: &mut [u8], count: &mut u64) -> u32
-    ensures answered { status ≡ 0 → Puts (Ok (codes "The answer is in the outputs.")) text.old text.new count.old count.new result }
+    ensures answered { status ≡ 0
+        → Puts (Ok (codes "The answer is in the outputs.")) text.old text.new count.old count.new result }
     ensures other { status ≢ 0 → (found : Option status_type)
         × MatchOption found ((status ≡ 0) ⊎ (17 < status)) (λ s. number_of s ≡ status)
         × Puts (ok_or (option_map sentence_of found) NoStatus) text.old text.new count.old count.new result }
