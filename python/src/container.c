@@ -129,7 +129,7 @@ static PyObject *has_key(PyObject *object, PyObject *key)
 }
 
 static PyMethodDef methods[] = {
-    {"_member", member_of, METH_O, "The value of a member by its number. Of a dictionary 2j is key j, and 2j + 1 its value."},
+    {"_member", member_of, METH_O, "The value of a member. Of a dictionary number 2j is key j, and 2j + 1 its value."},
     {"_members", members_from, METH_VARARGS, "The values of every `step`th member from number `first` on."},
     {"_pairs", members_pairs, METH_NOARGS, "The pairs of a dictionary."},
     {"_value_of", value_of_key, METH_O, "The value of a key of a dictionary, or KeyError."},

@@ -93,8 +93,8 @@ static PyObject *uid_of(State *state, const uint8_t *bytes, uint64_t length)
     return uid;
 }
 
-/* The text of UTF-16, the greater byte first. For a lone surrogate the codec calls its handler, which may be anybody's code: the
-   bytes are kept meanwhile. */
+/* The text of UTF-16, the greater byte first. For a lone surrogate the codec calls its handler, which may be anybody's code:
+   the bytes are kept meanwhile. */
 static PyObject *wide_of(PyObject *owner, const char *bytes, Py_ssize_t length)
 {
     int order = 1;
