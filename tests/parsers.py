@@ -272,11 +272,11 @@ def between(name):
 def written_column(page, name, parser):
     """A parser's column in a table of the page."""
     held = between(name).search(page)
-    lines = [line.strip("| ").split(" | ") for line in held[2].split("\n")] if held else [[]]
+    lines = [[cell.strip() for cell in line.split("|")[1:-1]] for line in held[2].split("\n")] if held else [[]]
     if parser not in lines[0]:
         return {}
     at = lines[0].index(parser)
-    return {line[0]: line[at] for line in lines[2:]}
+    return {line[0]: line[at] for line in lines[2:] if line[at]}
 
 
 def versions(page):

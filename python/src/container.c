@@ -5,16 +5,9 @@
 
 PyObject *class_of(State *state, uint32_t kind)
 {
-    switch (kind) {
-    case BPLIST_ARRAY:
+    if (kind == BPLIST_ARRAY)
         return state->held[ARRAY];
-    case BPLIST_SET:
-        return state->held[SET];
-    case BPLIST_DICT:
-        return state->held[DICT];
-    default:
-        return NULL;
-    }
+    return state->held[kind == BPLIST_SET ? SET : DICT];
 }
 
 PyObject *container_new(PyObject *class, Handle *plist, uint32_t object, uint64_t count)

@@ -191,7 +191,7 @@ fn shown_of<'a>(alloc: Global, matches: &ArgMatches<'a>) -> Result<Shown<'a>, Er
     if !matches.get_flag("text") {
         return Ok(Shown::Values(shown_paths(alloc, matches)?));
     }
-    if paths_in(matches).len() > 1 {
+    if matches.get_strs("PATH").unwrap_or(&[]).len() > 1 {
         let message = "--text takes one PATH";
         return Err(refusal(alloc, ErrorKind::TooManyValues, message)?);
     }
@@ -203,7 +203,7 @@ fn shown_of<'a>(alloc: Global, matches: &ArgMatches<'a>) -> Result<Shown<'a>, Er
 
 /// The path texts of `show`: with none given the empty one, for the whole.
 fn shown_paths(alloc: Global, matches: &ArgMatches<'_>) -> Result<Vec<String>, AllocError> {
-    match paths_in(matches) {
+    match matches.get_strs("PATH").unwrap_or(&[]) {
         [] => one_path(alloc, ""),
         texts => all_paths(alloc, texts),
     }
@@ -238,7 +238,7 @@ fn paths_of(alloc: Global, verb: Verb, matches: &ArgMatches<'_>) -> Result<Vec<S
 {
     match verb {
         Verb::Print => one_path(alloc, path_in(matches)),
-        Verb::Get => all_paths(alloc, paths_in(matches)),
+        Verb::Get => all_paths(alloc, matches.get_strs("PATH").unwrap_or(&[])),
         Verb::Lint | Verb::Certify | Verb::Check => Ok(Vec::new(alloc)),
     }
 }
@@ -261,10 +261,6 @@ fn all_paths(alloc: Global, texts: &[&str]) -> Result<Vec<String>, AllocError> {
 /// The first PATH, and the empty text for the whole where none was given.
 fn path_in<'a>(matches: &ArgMatches<'a>) -> &'a str {
     matches.get_str("PATH").unwrap_or("")
-}
-
-fn paths_in<'m, 'a>(matches: &'m ArgMatches<'a>) -> &'m [&'a str] {
-    matches.get_strs("PATH").unwrap_or(&[])
 }
 
 fn limit_in(matches: &ArgMatches<'_>) -> u64 {

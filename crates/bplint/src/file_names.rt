@@ -1,5 +1,5 @@
 //! File names as lines show them.
-ghost use Rattle.std.specs.Prelude.{◌≡◌, ◌++◌, IfOk, codes, string_bytes};
+ghost use Rattle.std.specs.Prelude.{◌≡◌, ◌++◌, IfOk, string_bytes};
 ghost use Rattle.std.specs.List.{flat_map};
 ghost use Rattle.bplint.specs.FileNames.{shown_octet, shown_text};
 
@@ -27,12 +27,18 @@ pub fn shown_octets(alloc: Global, name: &[u8]) -> Result<String, AllocError>
 {
     let mut shown = String::new(alloc);
     for octet in name {
-        let octet = *octet;
-        if (0x20..0x7f).contains(&octet) {
-            shown.push(octet as char)?;
-        } else {
-            write!(shown, "\\x{octet:02x}")?;
-        }
+        add_octet(&mut shown, *octet)?;
     }
     Ok(shown)
+}
+
+/// Adds a byte of a name that is not UTF-8.
+fn add_octet(shown: &mut String, octet: u8) -> Result<(), AllocError>
+    ensures { IfOk result (λ _. string_bytes shown.new ≡ string_bytes shown.old ++ shown_octet octet) }
+{
+    if 0x20 <= octet && octet < 0x7f {
+        shown.push(octet as char)
+    } else {
+        write!(shown, "\\x{octet:02x}")
+    }
 }

@@ -238,7 +238,7 @@ fn open_certificate<R: Files<File = File>>(
     name: Option<&str>,
     hex: bool,
 ) -> Result<Operand, RunFault>
-    ensures none { name ≡ None → MatchResult result IsNothing (λ _. ⊥) }
+    ensures none { name.entry ≡ None → MatchResult result IsNothing (λ _. ⊥) }
     ensures hex { hex ≡ true → IfOk result IsReadWhole }
     ensures short { IfOk result IsShort }
     ensures faults { IfErr result IsInputFault }

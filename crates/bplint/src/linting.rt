@@ -196,11 +196,13 @@ impl<'a, R: Files<File = File> + Input + Print + Eprint> Linter<'a, R> {
     }
 
     /// Prints the counts.
-    fn print_counts(&self) {
-        let _ = match self.tally.line(self.alloc) {
-            Ok(line) => self.rt.eprintln(line),
-            Err(_) => self.rt.eprintln("memory"),
-        };
+    fn print_counts(&mut self) {
+        match self.tally.line(self.alloc) {
+            Ok(line) => {
+                let _ = self.rt.eprintln(line);
+            }
+            Err(_) => self.end("", Ending::with(self.alloc, RunFault::Memory)),
+        }
     }
 }
 

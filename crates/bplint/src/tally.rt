@@ -45,12 +45,11 @@ impl Tally {
         requires { status ≤ 4 }
         ensures { self.new.status ≡ max self.old.status status }
     {
-        let group = match status {
-            0 => &mut self.sound,
-            1 => &mut self.unsound,
-            _ => &mut self.unreadable,
-        };
-        *group = group.saturating_add(1);
+        match status {
+            0 => self.sound = self.sound.saturating_add(1),
+            1 => self.unsound = self.unsound.saturating_add(1),
+            _ => self.unreadable = self.unreadable.saturating_add(1),
+        }
         self.status = self.status.max(status);
     }
 
