@@ -60,7 +60,7 @@ help:
 
 look:
 	@test -f '$(FILE)' || { echo 'make look FILE=F: F is the file to lint' >&2; exit 2; }
-	cd crates/bplint && rt try --data Info.plist='$(abspath $(FILE))' -- lint Info.plist
+	@file=$$(realpath '$(FILE)') && cd crates/bplint && rt try --data Info.plist="$$file" -- lint Info.plist
 
 lib:
 	cd crates/bplist_c && rt lib
@@ -87,8 +87,8 @@ wheel:
 test-wheel: wheel
 	$(PYTHON) -B tests/python_package.py $(DIST)/bplist-*.whl
 
-# What is made depends on the commit and its date alone.
-dist wheel: export SOURCE_DATE_EPOCH ?= $(shell git log -1 --format=%ct)
+# What is made depends on the commit and its date alone; outside a clone it is the date of today.
+dist wheel: export SOURCE_DATE_EPOCH ?= $(or $(shell git log -1 --format=%ct 2>/dev/null),$(shell date +%s))
 
 dist: build lib
 	$(MAKE) wheel
@@ -97,12 +97,12 @@ dist: build lib
 gate test:
 	.ci/run
 
-edits:
+edits: build lib
 	python3 -B tests/edits.py --all
 
-bench: build lib
+bench: build lib wheel
 	python3 -B tests/bench.py $(BPLINT)
-	python3 -B tests/bench_library.py $(LIBRARY)
+	$(PYTHON) -B tests/bench_library.py $(LIBRARY) $(DIST)/bplist-*.whl
 
 install: build lib
 	@made=$$(for folder in $(FOLDERS); do \

@@ -8,12 +8,13 @@ _bplint() {
   if [[ $current == -* ]]; then
     local flags
     case $verb in
-      lint) flags="--hex --quiet --explain --help" ;;
-      show) flags="--hex --text --limit --help" ;;
-      certify) flags="--hex --sorted --help" ;;
-      check) flags="--hex --explain --help" ;;
-      ls | map | get | print) flags="--hex --help" ;;
-      explain) flags="--help" ;;
+      lint) flags="--hex --quiet --recursive --summary --explain --help -x -q -r -h" ;;
+      show) flags="--hex --text --limit --raw --help -x -h" ;;
+      ls) flags="--hex --recursive --limit --help -x -R -h" ;;
+      certify) flags="--hex --sorted --help -x -h" ;;
+      check) flags="--hex --explain --help -x -h" ;;
+      map | get | print) flags="--hex --help -x -h" ;;
+      explain) flags="--help -h" ;;
       *) flags="" ;;
     esac
     mapfile -t COMPREPLY < <(compgen -W "$flags" -- "$current")

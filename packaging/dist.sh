@@ -1,6 +1,6 @@
 #!/bin/sh
-# dist.sh FOLDER: writes the archive, the Debian packages and SHA256SUMS into FOLDER, of what `make build lib wheel` built. Run by
-# `make dist`, which sets SOURCE_DATE_EPOCH.
+# dist.sh FOLDER: writes the archive, the Debian packages and SHA256SUMS into FOLDER, which has the wheel. `make dist` runs it
+# on what `make build lib` built, and sets SOURCE_DATE_EPOCH.
 set -eu
 umask 022
 export LC_ALL=C

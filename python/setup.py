@@ -1,4 +1,4 @@
-"""Builds the extension module over the C library libbplist.a, which `make lib` leaves in the folder that BPLIST_LIBRARY names."""
+"""Builds the extension module over the C library libbplist.a, which is in the folder that BPLIST_LIBRARY names."""
 import os
 import pathlib
 
@@ -32,7 +32,7 @@ setup(
             define_macros=[("Py_LIMITED_API", f"0x{PYTHON[0]:02x}{PYTHON[1]:02x}0000")],
             extra_objects=[str(LIBRARY / "libbplist.a")],
             # With -g0 and -s there is no path in the module, and so it is the same wherever it is built.
-            extra_compile_args=["-std=c11", "-Wall", "-Wextra", "-g0", "-fvisibility=hidden", f"-ffile-prefix-map={HERE}=."],
+            extra_compile_args=["-std=gnu11", "-Wall", "-Wextra", "-g0", "-fvisibility=hidden", f"-ffile-prefix-map={HERE}=."],
             extra_link_args=["-s", "-Wl,--no-undefined-version"],
             py_limited_api=True,
         )

@@ -1,10 +1,14 @@
 #!/usr/bin/env python3
-"""bench_library.py LIBRARY
+"""bench_library.py LIBRARY WHEEL [WORD..]
 
-Times opening a property list of 1 MB and one of 32 MB and reading three values: from Python by `bplist` and by plistlib, and from C
-by libbplist and by libplist, where gcc and libplist's headers are there (Debian: `libplist-dev`). LIBRARY is the folder in which
-`make lib` leaves the library. Each row is a process of its own, which tells the time from opening the file to the third value and
-its peak of memory; the time is the best of ten runs, all rows in turn, and the peak the greatest. All rows must read the same values.
+Times reading property lists: from Python by the package `bplist` of WHEEL and by plistlib, and from C by libbplist and by
+libplist, if gcc and libplist's headers are installed (Debian: `libplist-dev`). LIBRARY is the folder in which `make lib` leaves
+the library. With words, only the files whose name has one of them are timed.
+
+Each row is a process of its own, which tells the time from opening the file to the end of what it does, and its peak of memory:
+it reads three values; or builds the whole tree; or walks over all values as they are read on access. plistlib always builds the
+tree. The time is the best of ten runs, all rows in turn, and the peak the greatest. In brackets is the time as a part of
+plistlib's. All rows must read the same three values.
 """
 import dataclasses
 import datetime
@@ -17,11 +21,11 @@ import subprocess
 import sys
 import tempfile
 import time
+import zipfile
 
 ROOT = pathlib.Path(__file__).resolve().parent.parent
 ROUNDS = 10
 DOMAINS = 64
-USERS = {"1 MB": 22, "32 MB": 600}
 LETTERS = "abcdefghijklmnopqrstuvwxyz0123456789 /.-_"
 
 
@@ -61,15 +65,46 @@ def preferences(users):
     }
 
 
-def paths(users):
+def archive(views):
+    """What NSKeyedArchiver writes of so many views."""
+    objects = ["$null", {"$classname": "NSView", "$classes": ["NSView", "NSResponder", "NSObject"]}]
+    for view in range(views):
+        objects.append(
+            {
+                "$class": plistlib.UID(1),
+                "NSSuperview": plistlib.UID(2 + view // 8),
+                "NSNextResponder": plistlib.UID(2 + view // 8),
+                "NSFrame": f"{{{{{view % 40}, {view % 30}}}, {{{view % 900}, 21}}}}",
+                "NSvFlags": 256 + view % 20,
+                "NSAlpha": 1 / (1 + view % 10),
+                "NSSubviews": [plistlib.UID(2 + child) for child in range(8 * view, 8 * view + 8) if child < views],
+            }
+        )
+    return {"$archiver": "NSKeyedArchiver", "$version": 100_000, "$top": {"root": plistlib.UID(2)}, "$objects": objects}
+
+
+def preference_paths(users):
     """Where the three values are: near the beginning, in the middle and near the end."""
     places = [(0, 3, "Count01"), (users // 2, 31, "Title02"), (users - 1, 63, "Recent18/2")]
     return [f"/user{user:04}/com.example.app{domain:04}/{rest}" for user, domain, rest in places]
 
 
-def make(users, path):
-    """Writes the file. It is made in a process of its own, since it takes much memory."""
-    pathlib.Path(path).write_bytes(plistlib.dumps(preferences(int(users)), fmt=plistlib.FMT_BINARY, sort_keys=False))
+# Of each file what makes its value, and the paths of the three values.
+FILES = {
+    "preferences, 1 MB": (lambda: preferences(22), preference_paths(22)),
+    "preferences, 32 MB": (lambda: preferences(600), preference_paths(600)),
+    "100,000 keys": (
+        lambda: {f"key{i:06}": i for i in range(100_000)},
+        ["/key000010", "/key050000", "/key099990"],
+    ),
+    "1,000,000 integers": (lambda: list(range(1_000_000)), ["/10", "/500000", "/999990"]),
+    "archive, 44 kB": (lambda: archive(390), ["/$version", "/$objects/5/NSFrame", "/$objects/300/NSvFlags"]),
+}
+
+
+def make(name, path):
+    """Writes a file. It is made in a process of its own, since it takes much memory."""
+    pathlib.Path(path).write_bytes(plistlib.dumps(FILES[name][0](), fmt=plistlib.FMT_BINARY, sort_keys=False))
 
 
 def follow(value, path):
@@ -78,31 +113,51 @@ def follow(value, path):
     return value
 
 
-def by_plistlib(file, wanted):
+def by_plistlib(file):
     with open(file, "rb") as opened:
-        top = plistlib.load(opened)
-    return top, [follow(top, path) for path in wanted]
+        return plistlib.load(opened)
 
 
-def by_bplist(file, wanted):
-    plist = sys.modules["bplist"].open(file)
-    return plist, [plist.at(path) for path in wanted]
+def by_values(file):
+    return sys.modules["bplist"].open(file)
+
+
+def by_tree(file):
+    return sys.modules["bplist"].to_python(file)
+
+
+def by_walk(file):
+    """Goes over all values of a file, and builds none of the containers."""
+    bplist = sys.modules["bplist"]
+    plist = bplist.open(file)
+    left = [plist.value]
+    while left:
+        value = left.pop()
+        if isinstance(value, bplist.Dict):
+            for _key, member in value.items():
+                left.append(member)
+        elif isinstance(value, (bplist.Array, bplist.Set)):
+            left.extend(value)
+    return plist
+
+
+READERS = {"plistlib": by_plistlib, "values": by_values, "tree": by_tree, "walk": by_walk}
 
 
 def peak():
-    """The peak of this process's memory in KiB. A child's ru_maxrss counts the memory of the process that started it; this does not."""
+    """The peak of this process's memory in KiB. A child's ru_maxrss would count its parent's memory too."""
     status = pathlib.Path("/proc/self/status").read_text(encoding="utf-8")
     return next(int(line.split()[1]) for line in status.splitlines() if line.startswith("VmHWM:"))
 
 
 def read(name, file, *wanted):
     """What a row of Python does: as tests/bench_reading.c."""
-    if name == "bplist":
+    if name != "plistlib":
         __import__("bplist")
-    reader = {"bplist": by_bplist, "plistlib": by_plistlib}[name]
     begun = time.perf_counter()
     # What was opened is kept, so that letting it go is not timed.
-    _opened, values = reader(file, wanted)
+    opened = READERS[name](file)
+    values = [opened.at(path) if hasattr(opened, "at") else follow(opened, path) for path in wanted]
     taken = time.perf_counter() - begun
     print(*values, f"{taken:.6f} {peak()}", sep="\n")
 
@@ -140,9 +195,14 @@ def compiled(folder, source, *flags):
 
 def rows(folder, library, file, wanted):
     here = [sys.executable, "-B", __file__, "--read"]
-    environment = dict(os.environ, PYTHONPATH=str(ROOT / "python"), BPLIST_LIBRARY=str(library / "libbplist.so.0"))
-    yield Row("Python, plistlib", [*here, "plistlib", file, *wanted], environment)
-    yield Row("Python, bplist", [*here, "bplist", file, *wanted], environment)
+    environment = dict(os.environ, PYTHONPATH=os.path.join(folder, "package"))
+    for name, what in (
+        ("Python, plistlib", "plistlib"),
+        ("Python, three values", "values"),
+        ("Python, whole tree", "tree"),
+        ("Python, lazy walk", "walk"),
+    ):
+        yield Row(name, [*here, what, file, *wanted], environment)
     for name, program in (
         ("C, libplist", compiled(folder, "bench_libplist.c", "-lplist-2.0")),
         ("C, libbplist", compiled(folder, "bench_bplist.c", library / "libbplist.a")),
@@ -151,25 +211,33 @@ def rows(folder, library, file, wanted):
             yield Row(name, [program, file, *wanted], environment)
 
 
+def time_file(name, folder, library):
+    file = os.path.join(folder, "file")
+    subprocess.run([sys.executable, "-B", __file__, "--make", name, file], check=True)
+    timed = list(rows(folder, library, file, FILES[name][1]))
+    for _ in range(ROUNDS):
+        for row in timed:
+            row.run()
+    print(f"{name}: {os.path.getsize(file):,} bytes")
+    for row in timed:
+        part = row.seconds / timed[0].seconds
+        print(f"  {row.name:22} {row.seconds * 1000:9.1f} ms ({part:.3f}) {row.memory / 1024:7.1f} MiB")
+        if row.values != timed[0].values:
+            sys.exit(f"{row.name} reads {row.values} and not {timed[0].values}")
+
+
 def main():
-    if len(sys.argv) < 2:
-        sys.exit(__doc__)
     modes = {"--make": make, "--read": read}
-    if sys.argv[1] in modes:
+    if sys.argv[1:2] and sys.argv[1] in modes:
         return modes[sys.argv[1]](*sys.argv[2:])
+    if len(sys.argv) < 3:
+        sys.exit(__doc__)
+    library, wheel, *words = sys.argv[1:]
     with tempfile.TemporaryDirectory(prefix="bplist") as folder:
-        file = os.path.join(folder, "file")
-        for name, users in USERS.items():
-            subprocess.run([sys.executable, __file__, "--make", str(users), file], check=True)
-            timed = list(rows(folder, pathlib.Path(sys.argv[1]).resolve(), file, paths(users)))
-            for _ in range(ROUNDS):
-                for row in timed:
-                    row.run()
-            print(f"{name}: {os.path.getsize(file):,} bytes")
-            for row in timed:
-                print(f"  {row.name:20} {row.seconds * 1000:9.1f} ms {row.memory / 1024:7.1f} MiB")
-                if row.values != timed[0].values:
-                    sys.exit(f"{row.name} reads {row.values} and not {timed[0].values}")
+        zipfile.ZipFile(wheel).extractall(os.path.join(folder, "package"))
+        for name in FILES:
+            if not words or any(word in name for word in words):
+                time_file(name, folder, pathlib.Path(library).resolve())
 
 
 if __name__ == "__main__":

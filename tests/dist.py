@@ -1,19 +1,20 @@
 #!/usr/bin/env python3
 """dist.py PROGRAM LIBRARY
 
-Makes a release of PROGRAM and of the C library in the folder LIBRARY, as `make dist` does, and tests the files of the release,
-not those of the tree.
+Makes a release of PROGRAM and of the C library in the folder LIBRARY, as `make dist` does, and tests the files of the
+release, not those of the tree.
 
 - Made again in another folder, with another umask, time zone and language, each file is the same to the byte.
 - Archive, packages and wheel are put into folders of their own: the archive is unpacked, dpkg installs the packages below a
-  root that has nothing but an entry of libc6, and pip installs the wheel in a venv, without an index. `make install` installs
-  below a folder too.
+  root that has nothing but an entry of libc6, and pip installs the wheel in a venv, without an index. `make install`
+  installs below a folder too.
 - In each the session of README.md gives what README.md says, `man` shows the manual page, and the example compiles by
   bplist.pc and runs; in the venv the Python code of README.md runs.
 - What is removed leaves no file and no folder.
 - lintian finds no error, and no file names a folder of the build. README.md says the glibc that the symbols ask for.
 
-The last line printed is `N passed, M failed`, with `, 1 skipped` if a tool is missing. The exit status is 1 if one failed.
+If a tool is missing, nothing is tested. The last line printed is `N passed, M failed`, with `, 1 skipped` then. The exit
+status is 1 if one failed.
 """
 import dataclasses
 import filecmp
@@ -27,16 +28,20 @@ import tempfile
 import zipfile
 
 import readme
+from tools import closing, lacks
 
 ROOT = pathlib.Path(__file__).resolve().parent.parent
 VERSION = (ROOT / "VERSION").read_text(encoding="utf-8").strip()
 ARCHIVE = f"bplint-{VERSION}-x86_64-linux"
 PACKAGES = ["bplint", "libbplist0", "libbplist-dev"]
 MULTIARCH = "lib/x86_64-linux-gnu"
-TOOLS = ["dh", "fakeroot", "gcc", "lintian", "man", "objdump", "pkg-config", "rt"]
+TOOLS = ["dh", "fakeroot", "gcc", "lintian", "man", "objdump", "pkg-config"]
 STRICT = ["-std=c11", "-Wall", "-Wextra", "-Werror", "-pedantic", "-O2"]
-# Another writer of the same commit.
+# The date of the release, in the past as that of a commit is, and what another maker of it may have set.
+DATE = {"SOURCE_DATE_EPOCH": 1700000000}
 ELSEWHERE = {"TZ": "Asia/Tokyo", "LC_ALL": "C.UTF-8"}
+# No part of a release is made from these.
+UNREAD = [".git", "conformance", "crates", "dist", "docs", "rust", "tests"]
 
 
 @dataclasses.dataclass
@@ -50,14 +55,12 @@ class Installed:
     pkg_config: list = dataclasses.field(default_factory=list)
 
 
-def run(*words, folder=None, **environment):
+def run(*words, folder=None, umask=-1, **environment):
     """What a command prints. CalledProcessError if its status is not 0."""
     given = {**os.environ, **{name: str(value) for name, value in environment.items()}}
-    ran = subprocess.run(
-        [str(word) for word in words], cwd=folder, env=given, stdout=subprocess.PIPE, stderr=subprocess.STDOUT, text=True
-    )
-    ran.check_returncode()
-    return ran.stdout
+    words = [str(word) for word in words]
+    output = {"stdout": subprocess.PIPE, "stderr": subprocess.STDOUT, "text": True}
+    return subprocess.run(words, cwd=folder, env=given, umask=umask, check=True, **output).stdout
 
 
 def below(folder):
@@ -69,20 +72,9 @@ def files_below(folder):
     return [path for path in folder.rglob("*") if path.is_file() and not path.is_symlink()]
 
 
-def copied_tree(folder):
-    """What `make dist` reads of this tree, in another folder."""
-    listed = run("git", "ls-files", "-z", "--cached", "--others", "--exclude-standard", folder=ROOT)
-    for name in listed.split("\0"):
-        if name and not name.startswith(("crates/", "tests/")) and (ROOT / name).is_file():
-            (folder / name).parent.mkdir(parents=True, exist_ok=True)
-            shutil.copy(ROOT / name, folder / name)
-    return folder
-
-
-def glibc_versions(library):
-    """The versions of glibc that the symbols of a program or library ask for."""
-    found = re.findall(r"GLIBC_(\d+)\.(\d+)", run("objdump", "-T", library))
-    return [(int(major), int(minor)) for major, minor in found]
+def newest(pattern, text):
+    """The greatest of the versions that a pattern finds."""
+    return max((tuple(map(int, version.split("."))) for version in re.findall(pattern, text)), default=())
 
 
 class Tests:
@@ -100,18 +92,15 @@ class Tests:
         else:
             self.passed += 1
 
-    def make(self, tree, *words, **environment):
+    def make(self, tree, *words, **given):
         # What is built stays as it is: `make` would ask rt whether it is new.
-        run("make", "-s", "-C", tree, "-o", "build", "-o", "lib", *self.built, *words, **environment)
+        run("make", "-s", "-C", tree, "-o", "build", "-o", "lib", *self.built, *words, **given)
 
     def make_twice(self):
-        self.make(ROOT, "dist", f"DIST={self.dist}")
-        again = self.folder / "again"
-        date = run("git", "log", "-1", "--format=%ct", folder=ROOT).strip()
-        usual = os.umask(0o077)
-        tree = copied_tree(self.folder / "tree")
-        self.make(tree, "dist", f"DIST={again}", SOURCE_DATE_EPOCH=date, **ELSEWHERE)
-        os.umask(usual)
+        tree, again = self.folder / "tree", self.folder / "again"
+        shutil.copytree(ROOT, tree, ignore=lambda folder, _: UNREAD if folder == str(ROOT) else ["__pycache__"])
+        self.make(ROOT, "dist", f"DIST={self.dist}", **DATE)
+        self.make(tree, "dist", f"DIST={again}", umask=0o077, **DATE, **ELSEWHERE)
         names = sorted(below(self.dist))
         wheels = [name for name in names if name.startswith(f"bplist-{VERSION}-") and name.endswith(".whl")]
         wanted = [f"{ARCHIVE}.tar.gz", "SHA256SUMS", *(f"{name}_{VERSION}_amd64.deb" for name in PACKAGES), *wheels[:1]]
@@ -210,19 +199,20 @@ class Tests:
         self.count(f"folders of the build below {unpacked.name}", ", ".join(map(str, naming)))
 
     def glibc(self):
-        says = re.search(r"glibc (\d+\.\d+)", (ROOT / "README.md").read_text(encoding="utf-8"))
-        asked = "{}.{}".format(*max(version for path in self.linked for version in glibc_versions(path)))
-        self.count("glibc", "" if says and says[1] == asked else f"{asked}, and README.md says {says and says[1]}")
+        """The newest glibc that the symbols ask for, and that README.md names."""
+        asked = newest(r"GLIBC_([\d.]+)", "".join(run("objdump", "-T", path) for path in self.linked))
+        says = newest(r"glibc (\d+\.\d+)", (ROOT / "README.md").read_text(encoding="utf-8"))
+        self.count("glibc", "" if says == asked else f"{asked}, and README.md says {says}")
 
 
 def main():
     if len(sys.argv) != 3:
         print(__doc__, file=sys.stderr)
         return 2
-    missing = [tool for tool in TOOLS if not shutil.which(tool)]
-    if missing:
-        print(f"skipped the release: {', '.join(missing)} not here\n0 passed, 0 failed, 1 skipped")
-        return 0
+    for tool in TOOLS:
+        if lacks(tool):
+            print(f"skipped, {tool} is not installed: the release\n{closing(0, 0, 1)}")
+            return 0
     program, library = (pathlib.Path(word).resolve() for word in sys.argv[1:])
     with tempfile.TemporaryDirectory() as folder:
         tests = Tests(program, library, pathlib.Path(folder))
@@ -231,7 +221,7 @@ def main():
                 part()
             except subprocess.CalledProcessError as error:
                 tests.count(part.__name__, f"{error}\n{error.stdout}")
-    print(f"{tests.passed} passed, {tests.failed} failed")
+    print(closing(tests.passed, tests.failed, 0))
     return 1 if tests.failed else 0
 
 

@@ -2,8 +2,8 @@
 """help.py PROGRAM
 
 Compares what `--help` of PROGRAM and of its subcommands names with the manual page, the completions and docs/RULES.md: the
-subcommands, the flags of each, and what `explain` says of each rule. The last line printed is
-`N passed, M failed`. The exit status is 1 where one failed.
+subcommands, the flags of each and their letters, and what `explain` says of each rule by its word and its number. The last
+line printed is `N passed, M failed`. The exit status is 1 where one failed.
 """
 import pathlib
 import re
@@ -31,9 +31,10 @@ def flags(text):
     return set(re.findall(r"--[a-z]+", text)) - COMMON
 
 
-def flags_of(program, verb):
+def letters_of(program, verb):
+    """The flags that the help of a subcommand lists, each with its letter, which is empty if there is none."""
     options = output(program, verb, "--help").split("Options:")[1].split("\n\n")[0]
-    return set(re.findall(r"^ +(?:-[a-zA-Z], )?(--[a-z]+)", options, re.MULTILINE)) - COMMON
+    return {(flag, letter) for letter, flag in re.findall(r"^ +(?:-([a-zA-Z]), )?(--[a-z]+)", options, re.MULTILINE)}
 
 
 def manual():
@@ -53,25 +54,38 @@ def manual_flags(text):
     return found
 
 
-def bash_flags(text):
+def manual_letters(text):
+    """The flags that have a letter in the options of the manual page."""
+    options = text.split(".SH OPTIONS")[1].split(".SH ANSWERS")[0]
+    return {(flag, letter) for letter, flag in re.findall(r"^\.BR? -([a-zA-Z])\W.*?(--[a-z]+)", options, re.MULTILINE)}
+
+
+def bash_words(text):
+    """The flags and letters of each subcommand."""
     found = {}
     for names, listed in re.findall(r"^ +([a-z| ]+)\) flags=\"([^\"]*)\"", text, re.MULTILINE):
         for name in names.split("|"):
-            found[name.strip()] = flags(listed)
+            found[name.strip()] = set(listed.split())
     return found
 
 
-def zsh_flags(text):
+def zsh_letters(text):
+    """The flags of each subcommand, with their letters."""
     cases = text.split("case $verb in")[1].split("esac")[0]
-    return {name: flags(body) for name, body in re.findall(r"^    ([a-z]+)\)\n(.*?);;", cases, re.MULTILINE | re.DOTALL)}
-
-
-def fish_flags(text):
     found = {}
-    for names, flag in re.findall(r"__fish_seen_subcommand_from ([a-z ]+)' -l ([a-z]+)", text):
+    for name, body in re.findall(r"^    ([a-z]+)\)\n(.*?);;", cases, re.MULTILINE | re.DOTALL):
+        lettered = {(flag, letter) for letter, flag in re.findall(r"\{-([a-zA-Z]),(--[a-z]+)\}", body)}
+        found[name] = lettered | {(flag, "") for flag in flags(body) - {flag for flag, _ in lettered} - COMMON}
+    return found
+
+
+def fish_letters(text):
+    """The flags of each subcommand, with their letters."""
+    found = {}
+    for names, letter, flag in re.findall(r"__fish_seen_subcommand_from ([a-z ]+)'(?: -s ([a-zA-Z]))? -l ([a-z]+)", text):
         for name in names.split():
-            found.setdefault(name, set()).add(f"--{flag}")
-    return {name: held - COMMON for name, held in found.items()}
+            found.setdefault(name, set()).add((f"--{flag}", letter))
+    return found
 
 
 def rules_table():
@@ -100,21 +114,30 @@ class Tally:
         print(f"{what}\n    wanted {wanted}\n    got    {got}")
 
 
+def words_of(letters):
+    """The flags and their letters as words of a line."""
+    return {flag for flag, _ in letters} | {f"-{letter}" for _, letter in letters if letter}
+
+
 def compare_flags(tally, program):
     verbs = subcommands(program)
-    wanted = {verb: flags_of(program, verb) for verb in verbs}
+    letters = {verb: letters_of(program, verb) for verb in verbs}
+    named = {verb: {flag for flag, _ in held} - COMMON for verb, held in letters.items()}
+    spelled = {verb: words_of(held) for verb, held in letters.items()}
     bash = (ROOT / "completions/bplint.bash").read_text(encoding="utf-8")
     zsh = (ROOT / "completions/_bplint").read_text(encoding="utf-8")
     fish = (ROOT / "completions/bplint.fish").read_text(encoding="utf-8")
-    for where, found in (
-        ("man/bplint.1", manual_flags(manual())),
-        ("bplint.bash", bash_flags(bash)),
-        ("_bplint", zsh_flags(zsh)),
-        ("bplint.fish", fish_flags(fish)),
+    for where, wanted, found in (
+        ("man/bplint.1", named, manual_flags(manual())),
+        ("bplint.bash", spelled, bash_words(bash)),
+        ("_bplint", letters, zsh_letters(zsh)),
+        ("bplint.fish", letters, fish_letters(fish)),
     ):
         for verb, held in wanted.items():
             tally.compare(f"flags of {verb} in {where}", held, found.get(verb, set()))
         tally.compare(f"subcommands in {where}", set(), set(found) - set(wanted))
+    lettered = {pair for held in letters.values() for pair in held if pair[1]} | {("--version", "V")}
+    tally.compare("letters in man/bplint.1", lettered, manual_letters(manual()))
     words = re.search(r'-W "([a-z ]+) help --help --version"', bash)[1]
     tally.compare("subcommands in bplint.bash", set(verbs), set(words.split()))
     tally.compare("subcommands in _bplint", set(verbs), set(re.findall(r"^    '([a-z]+):", zsh, re.MULTILINE)) - {"help"})
@@ -128,6 +151,7 @@ def compare_rules(tally, program):
     for number, word, demand, breach in table:
         wanted = f"rule {number} {word}: {demand}\nbroken by: {breach}\n"
         tally.compare(f"explain {word}", wanted, output(program, "explain", word))
+        tally.compare(f"explain {number}", wanted, output(program, "explain", str(number)))
     tally.compare("rules in man/bplint.1", [row[:3] for row in table], manual_rules(manual()))
     words = " ".join(word for _, word, *_ in table)
     for name in ("bplint.bash", "_bplint", "bplint.fish"):

@@ -1,6 +1,7 @@
 /* Stands before the C library's allocator and refuses one growth: the one whose number, from 1, is in REFUSED_GROWTH.
-   Where it does, it writes a zero byte to the file descriptor in REFUSED_GROWTH_TOLD. With the number -1 it refuses none, and
-   writes a zero byte for each. A program may ask it how many blocks are taken. */
+   If it does, it writes a zero byte to the file descriptor in REFUSED_GROWTH_TOLD. With the number -1 it refuses none, and
+   writes a zero byte for each. A program may ask it how many blocks are taken, and may set the number itself, counted from
+   then on. */
 #include <errno.h>
 #include <stddef.h>
 #include <stdlib.h>
@@ -48,6 +49,9 @@ static void *counted(void *block)
 }
 
 long blocks_taken(void) { return taken; }
+void refuse_growth(long number) { left = number; }
+/* How many growths come before the one that is refused, it included: 0 where it was refused. */
+long growths_left(void) { return left; }
 void *malloc(size_t size) { return refuses() ? NULL : counted(__libc_malloc(size)); }
 void *calloc(size_t count, size_t size) { return refuses() ? NULL : counted(__libc_calloc(count, size)); }
 

@@ -191,6 +191,8 @@ class Folder:
             write_content(path, held)
         elif kind == "folder":
             path.mkdir()
+        elif kind == "link":
+            path.symlink_to(held)
         elif kind == "fifo":
             os.mkfifo(path)
             self.feed(lambda: os.open(path, os.O_WRONLY), content(held))

@@ -5,7 +5,12 @@ import sys
 
 # The Debian package of each program that some tests need. `.ci/run` installs those of tests/packages, where it may.
 PACKAGES = {
+    "cargo": "cargo",
+    "dh": "debhelper",
+    "fakeroot": "fakeroot",
     "gcc": "gcc",
+    "lintian": "lintian",
+    "man": "man-db",
     "nm": "binutils",
     "objdump": "binutils",
     "pkg-config": "pkg-config",
@@ -20,7 +25,7 @@ def is_gate():
 
 
 def lacks(program):
-    """Whether the program is not installed, so that the tests which need it are skipped. In the gate that ends the script."""
+    """Whether the program is not installed, so that the tests that need it are skipped. In the gate this ends the script."""
     if shutil.which(program):
         return False
     if is_gate():

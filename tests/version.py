@@ -15,6 +15,7 @@ SAYS = [
     ("CHANGELOG.md", r"^## (\S+)"),
     ("man/bplint.1", r'^\.TH BPLINT 1 "[-0-9]+" "bplint (\S+)"'),
     ("include/bplist.h", r'^#define BPLIST_VERSION "(\S+)"'),
+    ("rust/bplist/Cargo.toml", r'^version = "(\S+)"'),
 ]
 NUMBERS = ["MAJOR", "MINOR", "PATCH"]
 

@@ -1,6 +1,7 @@
 """The C extension: the library's calls as the package uses them. `bplist` is what programs use."""
 import collections.abc
 import datetime
+import plistlib
 import typing
 
 VERSION: str
@@ -21,7 +22,7 @@ class Handle:
     def close(self) -> None: ...
     def _sizes(self, number: int, /) -> tuple[int, int | None]: ...
     def _text(self, number: int, length: int, /) -> str: ...
-    def _tree(self, number: int, /) -> typing.Any: ...
+    def _tree(self, number: int, limit: int, /) -> typing.Any: ...
     def _value(self, number: int, /) -> typing.Any: ...
 
 class Container:
@@ -55,8 +56,8 @@ def bind(
     set_: type[Container],
     dict_: type[Container],
     date: type[float],
-    uid: collections.abc.Callable[[int], typing.Any],
-    epoch: datetime.datetime,
-    timedelta: type[datetime.timedelta],
+    uid: type[plistlib.UID],
+    moment: type[datetime.datetime],
+    uid_data: str | None,
     /,
 ) -> None: ...

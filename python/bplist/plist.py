@@ -16,6 +16,9 @@ NODES = 10_000_000
 #: How many bytes `text` gives unless it is told otherwise.
 TEXT = 1_048_576
 
+# The greatest number that the library gives for a size.
+MOST_NODES = 2**64 - 1
+
 Octets = typing.Union[bytes, bytearray, memoryview]
 Path = typing.Union[str, os.PathLike]
 
@@ -137,9 +140,10 @@ class Plist(_bplist.Handle):
         return self._text(self._top, length)
 
     def plain(self, limit: int = NODES) -> typing.Any:
-        """The whole tree as plistlib would load it: dict, list and leaves; a set is a list. A shared container is one object.
+        """The whole tree as plistlib would load it: dict, list and leaves; a set is a list. An object that is a member of
+        several containers is one object of Python.
 
-        The number of nodes is looked up first: `TooLarge` above the limit.
+        `TooLarge` if there are more nodes than the limit; no more are built.
         """
         return self._plain(self._top, limit)
 
@@ -147,7 +151,4 @@ class Plist(_bplist.Handle):
         return self._sizes(number)[0]
 
     def _plain(self, number: int, limit: int) -> typing.Any:
-        nodes = self._nodes(number)
-        if nodes > limit:
-            raise TooLarge(nodes, limit)
-        return self._tree(number)
+        return self._tree(number, max(0, min(limit, MOST_NODES)))

@@ -113,7 +113,7 @@ class Array(Container, SequenceBase):
 
     def __getitem__(self, index):
         if isinstance(index, slice):
-            return [self._member(i) for i in range(*index.indices(len(self)))]
+            return list(map(self._member, range(*index.indices(len(self)))))
         at = index + len(self) if index < 0 else index
         if not 0 <= at < len(self):
             raise IndexError("array index out of range")
@@ -181,4 +181,12 @@ class Dict(Container, MappingBase):
 
 collections.abc.Sequence.register(Array)
 collections.abc.Mapping.register(Dict)
-_bplist.bind(Array, Set, Dict, Date, plistlib.UID, datetime.datetime(2001, 1, 1), datetime.timedelta)
+_bplist.bind(
+    Array,
+    Set,
+    Dict,
+    Date,
+    plistlib.UID,
+    datetime.datetime,
+    "data" if vars(plistlib.UID(7)) == {"data": 7} else None,
+)

@@ -3,8 +3,8 @@
    A call of the library is made with the GIL held, and so no other call comes between. Calls that go over the whole file let
    the GIL go; on an open handle they stand between `handle_begin` and `handle_end`, and all others wait for them.
 
-   Each function that returns an object gives its caller a reference, and returns NULL with an exception set. Those that return
-   an int return 0, or -1 with an exception set. */
+   Each function that returns an object gives its caller a reference to it, or returns NULL with an exception set. Those that
+   return an int return 0, or -1 with an exception set. */
 #ifndef EXTENSION_H
 #define EXTENSION_H
 
@@ -25,9 +25,10 @@ enum {
     /* The class of dates that datetime can't hold, and that of UIDs. */
     FAR_DATE,
     UID,
-    /* The first moment of 2001, and the class of spans of time. */
-    EPOCH,
-    TIMEDELTA,
+    /* datetime.datetime. */
+    DATETIME,
+    /* The name of the one attribute of a UID, or None if UIDs have others. */
+    UID_DATA,
     HELD
 };
 
@@ -77,8 +78,13 @@ int raise_fault(const char *name, const char *arguments, ...);
 int raise_refused(const Source *source, const bplist_verdict *verdict);
 /* Raises for a file that is no longer what it was when it was opened. */
 int raise_changed(void);
-/* Raises unless the status is BPLIST_OK. */
-int expect(bplist_status status);
+/* Raises for a status that is not BPLIST_OK. */
+int raise_status(bplist_status status);
+
+static inline int expect(bplist_status status)
+{
+    return status == BPLIST_OK ? 0 : raise_status(status);
+}
 
 /* source.c */
 
@@ -97,10 +103,18 @@ void handle_close(Handle *self);
 /* Waits, with the GIL let go, until no call goes on that has let it go. */
 void handle_wait(Handle *self);
 /* Waits likewise, and raises if the property list is closed. */
-int handle_ready(Handle *self);
+static inline int handle_ready(Handle *self)
+{
+    if (self->is_busy)
+        handle_wait(self);
+    return self->source.owner ? 0 : raise_status(BPLIST_CLOSED);
+}
+
 /* Lets the GIL go for a call on this property list. NULL, with an exception set, if it is closed. */
 PyThreadState *handle_begin(Handle *self);
 void handle_end(Handle *self, PyThreadState *thread);
+/* How large the value of an object is. Lets the GIL go. */
+int handle_sizes(Handle *self, uint32_t object, bplist_sizes *out);
 /* What an object shows of itself. Its body lies in the file. */
 int handle_face(Handle *self, uint32_t object, bplist_body *out);
 /* The members of a container from number `from` on: how many were written, at least one and at most `room`, or -1. */
@@ -115,7 +129,12 @@ extern PyType_Spec handle_spec;
 /* container.c */
 
 extern PyType_Spec container_spec;
-/* The class of containers of a kind, or NULL for leaves. */
+static inline int is_container(uint32_t kind)
+{
+    return kind >= BPLIST_ARRAY;
+}
+
+/* The class of containers of a kind. */
 PyObject *class_of(State *state, uint32_t kind);
 PyObject *container_new(PyObject *class, Handle *plist, uint32_t object, uint64_t count);
 
@@ -127,6 +146,11 @@ extern PyType_Spec members_spec;
 PyObject *members_from(PyObject *container, PyObject *arguments);
 PyObject *members_pairs(PyObject *container, PyObject *none);
 
+/* date.c */
+
+/* The date so many seconds after the first moment of 2001, or the seconds themselves if datetime can't hold it. */
+PyObject *date_of(State *state, double seconds);
+
 /* leaf.c */
 
 /* The value of an object that is no container. */
@@ -134,7 +158,8 @@ PyObject *leaf_of(Handle *self, uint32_t object, const bplist_body *body);
 
 /* tree.c */
 
-/* The value of an object as a tree of dict, list and leaves. Each object is built once. */
-PyObject *tree_of(Handle *self, uint32_t object);
+/* The value of an object as a tree of dict, list and leaves. Each object is built once. Raises if there are more nodes than
+   `limit`, and builds no more than that. */
+PyObject *tree_of(Handle *self, uint32_t object, uint64_t limit);
 
 #endif

@@ -68,9 +68,10 @@ int raise_refused(const Source *source, const bplist_verdict *verdict)
         return raise_fault("Refused", "(IOK)", verdict->rule, Py_None, (unsigned long long)verdict->place);
     }
     circle = circle_of(source, verdict->circle);
-    if (circle == NULL)
-        return -1;
-    return raise_fault("Refused", "(IION)", verdict->rule, verdict->object, Py_None, circle);
+    if (circle)
+        raise_fault("Refused", "(IIOO)", verdict->rule, verdict->object, Py_None, circle);
+    Py_XDECREF(circle);
+    return -1;
 }
 
 int raise_changed(void)
@@ -78,17 +79,16 @@ int raise_changed(void)
     return raise_fault("Error", "(s)", "the file was changed while it was open");
 }
 
-int expect(bplist_status status)
+int raise_status(bplist_status status)
 {
-    switch (status) {
-    case BPLIST_OK:
-        return 0;
-    case BPLIST_MEMORY:
+    char text[200];
+    uint64_t count = 0;
+
+    if (status == BPLIST_MEMORY)
         return raise_fault("OutOfMemory", "(s)", "the library was refused memory");
-    case BPLIST_CLOSED:
+    if (status == BPLIST_CLOSED)
         return raise_fault("Closed", "(s)", "the property list was closed");
-    default:
-        PyErr_Format(PyExc_SystemError, "status %u", status);
-        return -1;
-    }
+    /* An open file has no other as long as it stays as it is. No text is longer. */
+    bplist_status_text(status, text, sizeof text, &count);
+    return raise_fault("Error", "(s#)", text, (Py_ssize_t)count);
 }

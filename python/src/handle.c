@@ -12,12 +12,6 @@ void handle_wait(Handle *self)
     }
 }
 
-int handle_ready(Handle *self)
-{
-    handle_wait(self);
-    return self->source.owner ? 0 : expect(BPLIST_CLOSED);
-}
-
 PyThreadState *handle_begin(Handle *self)
 {
     if (handle_ready(self) < 0)
@@ -75,7 +69,8 @@ PyObject *handle_open(State *state, PyObject *class, PyObject *owner, PyObject *
 
     if (self == NULL)
         return NULL;
-    if (source_of(state, owner, &self->source) < 0 || (certificate != Py_None && source_of(state, certificate, &given) < 0)) {
+    if (source_of(state, owner, &self->source) < 0
+        || (certificate != Py_None && source_of(state, certificate, &given) < 0)) {
         self->source.owner = NULL;
         Py_DECREF(self);
         return NULL;
@@ -101,6 +96,18 @@ void handle_close(Handle *self)
     self->source.length = 0;
     bplist_close(&self->handle);
     Py_CLEAR(self->source.owner);
+}
+
+int handle_sizes(Handle *self, uint32_t object, bplist_sizes *out)
+{
+    bplist_status status;
+    PyThreadState *thread = handle_begin(self);
+
+    if (thread == NULL)
+        return -1;
+    status = bplist_size(&self->handle, self->source.file, self->source.length, object, out);
+    handle_end(self, thread);
+    return expect(status);
 }
 
 int handle_face(Handle *self, uint32_t object, bplist_body *out)
@@ -132,10 +139,10 @@ Py_ssize_t handle_members(Handle *self, uint32_t object, uint64_t from, uint32_t
 PyObject *handle_value(Handle *self, uint32_t object)
 {
     bplist_body body;
-    PyObject *class;
 
     if (handle_face(self, object, &body) < 0)
         return NULL;
-    class = class_of(self->state, body.kind);
-    return class ? container_new(class, self, object, body.count) : leaf_of(self, object, &body);
+    if (is_container(body.kind))
+        return container_new(class_of(self->state, body.kind), self, object, body.count);
+    return leaf_of(self, object, &body);
 }

@@ -1,12 +1,23 @@
 /* The values of objects that are no containers. */
 #include "extension.h"
 
+#include <endian.h>
 #include <string.h>
 
+/* The number of these bytes, the greatest first. */
 static uint64_t number_of(const uint8_t *bytes, uint64_t length)
 {
     uint64_t number = 0;
+    uint32_t four;
 
+    if (length == sizeof number) {
+        memcpy(&number, bytes, sizeof number);
+        return be64toh(number);
+    }
+    if (length == sizeof four) {
+        memcpy(&four, bytes, sizeof four);
+        return be32toh(four);
+    }
     for (uint64_t i = 0; i < length; i++)
         number = number << 8 | bytes[i];
     return number;
@@ -44,51 +55,45 @@ static PyObject *joined(bplist_integer halves)
     return number;
 }
 
-static PyObject *integer_of(Handle *self, uint32_t object)
+/* An integer: one of 1, 2 or 4 bytes has no sign, one of 8 or 16 has. */
+static PyObject *integer_of(Handle *self, uint32_t object, const uint8_t *bytes, uint64_t length)
 {
     bplist_integer number;
 
+    if (length <= sizeof number.low) {
+        number.low = number_of(bytes, length);
+        return PyLong_FromLongLong((long long)number.low);
+    }
     if (expect(bplist_int(&self->handle, self->source.file, self->source.length, object, &number)) < 0)
         return NULL;
-    if (number.high == 0)
-        return PyLong_FromUnsignedLongLong(number.low);
-    if (number.high == UINT64_MAX && number.low >> 63)
-        return PyLong_FromLongLong((long long)number.low);
     return joined(number);
 }
 
-static PyObject *uid_of(Handle *self, uint32_t object)
+/* A UID without a call of its __init__, which takes longer than all else. */
+static PyObject *bare_uid(State *state, PyObject *number)
 {
-    uint32_t number;
-    PyObject *given, *uid;
+    PyObject *uid = instance_of(state->held[UID]);
 
-    if (expect(bplist_uid(&self->handle, self->source.file, self->source.length, object, &number)) < 0)
-        return NULL;
-    given = PyLong_FromUnsignedLong(number);
-    uid = given ? PyObject_CallFunctionObjArgs(self->state->held[UID], given, NULL) : NULL;
-    Py_XDECREF(given);
+    if (uid && PyObject_SetAttr(uid, state->held[UID_DATA], number) < 0)
+        Py_CLEAR(uid);
     return uid;
 }
 
-/* The date so many seconds after the first moment of 2001: the seconds themselves where datetime can't hold it. */
-static PyObject *date_of(State *state, double seconds)
+static PyObject *uid_of(State *state, const uint8_t *bytes, uint64_t length)
 {
-    PyObject *days = PyLong_FromLong(0);
-    PyObject *given = PyFloat_FromDouble(seconds);
-    PyObject *delta = days && given ? PyObject_CallFunctionObjArgs(state->held[TIMEDELTA], days, given, NULL) : NULL;
-    PyObject *date = delta ? PyNumber_Add(state->held[EPOCH], delta) : NULL;
+    PyObject *uid, *number = PyLong_FromUnsignedLongLong(number_of(bytes, length));
 
-    if (date == NULL && (PyErr_ExceptionMatches(PyExc_OverflowError) || PyErr_ExceptionMatches(PyExc_ValueError))) {
-        PyErr_Clear();
-        date = PyObject_CallFunctionObjArgs(state->held[FAR_DATE], given, NULL);
-    }
-    Py_XDECREF(days);
-    Py_XDECREF(given);
-    Py_XDECREF(delta);
-    return date;
+    if (number == NULL)
+        return NULL;
+    if (state->held[UID_DATA] == Py_None)
+        uid = PyObject_CallFunctionObjArgs(state->held[UID], number, NULL);
+    else
+        uid = bare_uid(state, number);
+    Py_DECREF(number);
+    return uid;
 }
 
-/* The text of UTF-16, the greater byte first. A lone surrogate has a codec's handler called, and so perhaps code of anybody: the
+/* The text of UTF-16, the greater byte first. For a lone surrogate the codec calls its handler, which may be anybody's code: the
    bytes are kept meanwhile. */
 static PyObject *wide_of(PyObject *owner, const char *bytes, Py_ssize_t length)
 {
@@ -114,9 +119,9 @@ PyObject *leaf_of(Handle *self, uint32_t object, const bplist_body *body)
     case BPLIST_TRUE:
         Py_RETURN_TRUE;
     case BPLIST_INT:
-        return integer_of(self, object);
+        return integer_of(self, object, bytes, body->length);
     case BPLIST_UID:
-        return uid_of(self, object);
+        return uid_of(self->state, bytes, body->length);
     case BPLIST_REAL:
         return PyFloat_FromDouble(real_of(bytes, body->length));
     case BPLIST_DATE:

@@ -57,17 +57,10 @@ static PyObject *value_at(PyObject *object, PyObject *path)
 
 static PyObject *sizes_of(PyObject *object, PyObject *number)
 {
-    Handle *self = (Handle *)object;
     uint32_t asked;
     bplist_sizes sizes;
-    bplist_status status;
-    PyThreadState *thread;
 
-    if (number_of(number, &asked) < 0 || (thread = handle_begin(self)) == NULL)
-        return NULL;
-    status = bplist_size(&self->handle, self->source.file, self->source.length, asked, &sizes);
-    handle_end(self, thread);
-    if (expect(status) < 0)
+    if (number_of(number, &asked) < 0 || handle_sizes((Handle *)object, asked, &sizes) < 0)
         return NULL;
     if (sizes.has_text)
         return Py_BuildValue("(KK)", (unsigned long long)sizes.nodes, (unsigned long long)sizes.text);
@@ -92,7 +85,8 @@ static PyObject *text_of(PyObject *object, PyObject *arguments)
         return PyErr_NoMemory();
     thread = handle_begin(self);
     if (thread) {
-        status = bplist_text(&self->handle, self->source.file, self->source.length, number, buffer, (size_t)length, &written);
+        status = bplist_text(&self->handle, self->source.file, self->source.length, number, buffer, (size_t)length,
+                             &written);
         handle_end(self, thread);
         if (expect(status) == 0)
             text = PyUnicode_DecodeASCII(buffer, (Py_ssize_t)written.length, NULL);
@@ -130,11 +124,14 @@ static PyObject *certificate_of(PyObject *object, void *closure)
     return bytes;
 }
 
-static PyObject *tree_of_number(PyObject *object, PyObject *number)
+static PyObject *tree_of_number(PyObject *object, PyObject *arguments)
 {
-    uint32_t asked;
+    unsigned int number;
+    unsigned long long limit;
 
-    return number_of(number, &asked) < 0 ? NULL : tree_of((Handle *)object, asked);
+    if (!PyArg_ParseTuple(arguments, "IK", &number, &limit))
+        return NULL;
+    return tree_of((Handle *)object, number, limit);
 }
 
 static PyObject *value_of_number(PyObject *object, PyObject *number)
@@ -179,7 +176,7 @@ static PyMethodDef methods[] = {
     {"close", close_handle, METH_NOARGS, "close()\n--\n\nCloses the property list. A second time nothing happens."},
     {"_sizes", sizes_of, METH_O, "The number of nodes of an object's tree, and the length of its old-style text or None."},
     {"_text", text_of, METH_VARARGS, "The old-style text of an object, which has this length."},
-    {"_tree", tree_of_number, METH_O, "The tree of an object."},
+    {"_tree", tree_of_number, METH_VARARGS, "The tree of an object, of at most so many nodes."},
     {"_value", value_of_number, METH_O, "The value of an object: a leaf, or a container that is read on access."},
     {NULL, NULL, 0, NULL},
 };

@@ -16,6 +16,12 @@ typedef struct Empty {
 
 typedef struct Tree {
     Handle *handle;
+    /* The object at the top, and how many nodes it may have. */
+    uint32_t object;
+    uint64_t limit;
+    /* How many nodes were met. They are all, unless a container was met twice: then the library was asked. */
+    uint64_t nodes;
+    int is_measured;
     /* By the numbers of objects what was built of them, with a reference to each, or NULL. */
     PyObject **made;
     /* The stack of containers that are to be filled. What they hold is referred to by `made`. */
@@ -23,6 +29,21 @@ typedef struct Tree {
     size_t height;
     size_t room;
 } Tree;
+
+/* Raises if the tree has more nodes than it may have. Asks the library, once. */
+static int tree_measure(Tree *tree)
+{
+    bplist_sizes sizes;
+
+    if (tree->is_measured)
+        return 0;
+    tree->is_measured = 1;
+    if (handle_sizes(tree->handle, tree->object, &sizes) < 0)
+        return -1;
+    if (sizes.nodes <= tree->limit)
+        return 0;
+    return raise_fault("TooLarge", "(KK)", (unsigned long long)sizes.nodes, (unsigned long long)tree->limit);
+}
 
 static int tree_push(Tree *tree, const Empty *container)
 {
@@ -56,6 +77,17 @@ static PyObject *tree_empty(Tree *tree, uint32_t object, const bplist_body *body
     return container.value;
 }
 
+/* What was built of an object that is met again. */
+static PyObject *tree_again(Tree *tree, PyObject *made)
+{
+    int is_container = PyList_CheckExact(made) || PyDict_CheckExact(made);
+
+    if (is_container && tree_measure(tree) < 0)
+        return NULL;
+    Py_INCREF(made);
+    return made;
+}
+
 /* The value of an object. */
 static PyObject *tree_value(Tree *tree, uint32_t object)
 {
@@ -66,14 +98,13 @@ static PyObject *tree_value(Tree *tree, uint32_t object)
         raise_changed();
         return NULL;
     }
-    value = tree->made[object];
-    if (value == NULL) {
-        if (handle_face(tree->handle, object, &body) < 0)
-            return NULL;
-        value = class_of(tree->handle->state, body.kind) ? tree_empty(tree, object, &body) : leaf_of(tree->handle, object, &body);
-        tree->made[object] = value;
-    }
+    if (tree->made[object])
+        return tree_again(tree, tree->made[object]);
+    if (handle_face(tree->handle, object, &body) < 0)
+        return NULL;
+    value = is_container(body.kind) ? tree_empty(tree, object, &body) : leaf_of(tree->handle, object, &body);
     Py_XINCREF(value);
+    tree->made[object] = value;
     return value;
 }
 
@@ -119,6 +150,9 @@ static int fill(Tree *tree, const Empty *container)
             return -1;
         if ((uint64_t)read > end - from || (container->kind == BPLIST_DICT && read % 2 != 0))
             return raise_changed();
+        tree->nodes += (uint64_t)read;
+        if (tree->nodes > tree->limit && tree_measure(tree) < 0)
+            return -1;
         if (fill_block(tree, container, from, objects, read) < 0)
             return -1;
         from += (uint64_t)read;
@@ -135,20 +169,34 @@ static void tree_free(Tree *tree)
     PyMem_Free(tree->empty);
 }
 
-PyObject *tree_of(Handle *self, uint32_t object)
+/* Builds the tree of an object: one that is made, and then filled container by container. */
+static PyObject *tree_build(Tree *tree)
 {
-    Tree tree = {self, PyMem_Calloc(self->objects, sizeof(PyObject *)), NULL, 0, 0};
-    PyObject *top;
+    PyObject *top = tree_value(tree, tree->object);
 
-    if (tree.made == NULL)
-        return PyErr_NoMemory();
-    top = tree_value(&tree, object);
-    while (top && tree.height > 0) {
-        Empty container = tree.empty[--tree.height];
+    while (top && tree->height > 0) {
+        Empty container = tree->empty[--tree->height];
 
-        if (fill(&tree, &container) < 0)
+        if (fill(tree, &container) < 0)
             Py_CLEAR(top);
     }
+    return top;
+}
+
+PyObject *tree_of(Handle *self, uint32_t object, uint64_t limit)
+{
+    Tree tree = {.handle = self, .object = object, .limit = limit, .nodes = 1, .is_measured = 0};
+    PyObject *top;
+    int is_collecting;
+
+    tree.made = PyMem_Calloc(self->objects, sizeof *tree.made);
+    if (tree.made == NULL)
+        return PyErr_NoMemory();
+    /* Nothing of the tree is garbage yet, and the collector would go over it again and again. */
+    is_collecting = PyGC_Disable();
+    top = tree_build(&tree);
+    if (is_collecting)
+        PyGC_Enable();
     tree_free(&tree);
     return top;
 }

@@ -1,4 +1,4 @@
-"""Tests of the package over libbplist: `python3 -m unittest` in python/, with BPLIST_LIBRARY where the library is not installed.
+"""Tests of the package as it is installed: `python3 -m unittest discover python/tests`.
 
 The files are those of the repository's tables (tests/vectors) and of other writers (tests/sample_files.py).
 """
@@ -8,19 +8,25 @@ import datetime
 import gc
 import io
 import math
-import mmap
 import os
 import pathlib
+import pickle
 import plistlib
 import random
 import runpy
+import signal
+import struct
+import subprocess
 import sys
 import tempfile
 import threading
+import time
 import unittest
+import weakref
 from unittest import mock
 
 import bplist
+from bplist import __main__ as command
 
 ROOT = pathlib.Path(__file__).resolve().parents[2]
 sys.path.insert(0, str(ROOT / "tests"))
@@ -65,12 +71,16 @@ class Tables(unittest.TestCase):
                 continue
             line = sample.line.decode()
             with self.subTest(sample.name):
-                if line.startswith("ok "):
+                verdict = bplist.lint_bytes(sample.octets)
+                self.assertEqual(verdict.ok, line.startswith("ok "))
+                if verdict.ok:
+                    self.assertEqual(line.split()[:5], f"ok reached {verdict.reached} height {verdict.height}".split())
                     with bplist.loads(sample.octets) as plist:
                         self.assertEqual(plist.closed, False)
                     continue
+                self.see_fault(verdict.fault, line.split())
                 with self.assertRaises(bplist.Refused) as caught:
-                    bplist.loads(sample.octets)
+                    bplist.to_python(sample.octets)
                 self.see_fault(caught.exception, line.split())
 
     def see_fault(self, fault, words):
@@ -104,14 +114,15 @@ class Tables(unittest.TestCase):
         with tempfile.TemporaryDirectory() as folder:
             for sample in written_files(folder):
                 for is_sorted in (False, True):
-                    with self.subTest(sample.name), bplist.loads(sample.octets, sorted=is_sorted) as plist:
+                    with self.subTest(sample.name), bplist.loads(sample.octets, sorted_keys=is_sorted) as plist:
                         self.assertEqual(plistlib.loads(sample.octets), sample.value)
                         self.assertEqual(plist.plain(), sample.value)
                         self.assertEqual(plain_of(plist.value), sample.value)
 
     def test_rules(self):
         """The sentence of a rule is the one of docs/RULES.md."""
-        section = (ROOT / "docs/RULES.md").read_text(encoding="utf-8").split("## The rules in plain words")[1].split("\n## ")[0]
+        rules = (ROOT / "docs/RULES.md").read_text(encoding="utf-8")
+        section = rules.split("## The rules in plain words")[1].split("\n## ")[0]
         cells = [line.strip("| ").split(" | ") for line in section.split("\n") if line[:3].strip("| ").isdigit()]
         self.assertEqual(len(cells), 32)
         for number, word, sentence, *_ in cells:
@@ -201,14 +212,22 @@ class Values(unittest.TestCase):
             self.plist.at("/\ud800")
 
     def test_sizes(self):
-        """The number of nodes is looked up before anything is built."""
+        """A tree of more nodes than the limit is refused, and its number of nodes is said."""
+        shared = bplist.loads(doubling(8, b"\x09"))
+        for plist, tree in ((self.plist, self.tree), (shared, plain_of(shared.value))):
+            size = plist.size
+            for limit in (size, 10**30):
+                self.assertEqual(plist.plain(limit=limit), tree)
+            for limit in (size - 1, 1, 0):
+                with self.assertRaises(bplist.TooLarge) as caught:
+                    plist.plain(limit=limit)
+                self.assertEqual((caught.exception.size, caught.exception.limit), (size, limit))
         self.assertEqual(self.plist.at("/list").size, 8)
-        self.assertEqual(self.plist.plain(limit=self.plist.size), self.tree)
-        limit = self.plist.size - 1
-        with mock.patch("bplist.plist._Builder", side_effect=AssertionError("something was built")):
-            with self.assertRaises(bplist.TooLarge) as caught:
-                self.plist.plain(limit=limit)
-        self.assertEqual((caught.exception.size, caught.exception.limit), (limit + 1, limit))
+        self.assertEqual(self.plist.at("/list").plain(limit=8), self.tree["list"])
+
+    def test_shared_is_one_object(self):
+        plain = bplist.loads(doubling(8, b"\x51a")).plain()
+        self.assertIs(plain[0], plain[1])
 
     def test_text(self):
         with bplist.loads(plistlib.dumps({"a": ["b", b"\x01"]}, fmt=plistlib.FMT_BINARY)) as plist:
@@ -221,7 +240,7 @@ class Values(unittest.TestCase):
     def test_certificates(self):
         file = plistlib.dumps(self.tree, fmt=plistlib.FMT_BINARY)
         for is_sorted in (False, True):
-            with bplist.loads(file, sorted=is_sorted) as plist:
+            with bplist.loads(file, sorted_keys=is_sorted) as plist:
                 certificate = plist.certificate
             with bplist.loads(file, certificate=certificate) as plist:
                 self.assertEqual(plist.certificate, certificate)
@@ -253,6 +272,23 @@ class Edges(unittest.TestCase):
         self.assertIsInstance(far, bplist.Date)
         self.assertGreater(far, 1e300)
         self.assertTrue(math.isnan(self.value_of(b"\x33\x7f\xf8" + bytes(6))))
+
+    def test_dates(self):
+        """A date is what plistlib reckons, to the microsecond: also at the ends of datetime's range, and beyond them."""
+        epoch = datetime.datetime(2001, 1, 1)
+        given = random.Random(3)
+        first, last = (moment - epoch for moment in (datetime.datetime.min, datetime.datetime.max))
+        cases = [given.uniform(first.total_seconds(), last.total_seconds()) for _ in range(3000)]
+        cases += [float(round(case)) for case in cases] + [given.uniform(-1e-5, 1e-5) for _ in range(1000)]
+        cases += [days * 86400.0 for days in range(-800, 1600)] + [n / 64 + 1e-6 * (n % 5 - 2) / 2 for n in range(-640, 640)]
+        for end in (first.total_seconds(), last.total_seconds()):
+            cases += [end + step for step in (-86400, -1, -1e-3, 0, 1e-3, 1, 86400)]
+        for case in cases:
+            value = self.value_of(b"\x33" + struct.pack(">d", case))
+            try:
+                self.assertEqual(value, epoch + datetime.timedelta(seconds=case), case)
+            except OverflowError:
+                self.assertEqual((type(value), value), (bplist.Date, case))
 
     def test_long_integers(self):
         self.assertEqual(self.value_of(b"\x14" + b"\x7f" + b"\xff" * 15), 2**127 - 1)
@@ -287,7 +323,8 @@ class Edges(unittest.TestCase):
 
     def test_sets_are_equal(self):
         """Sets are equal where their members are, in the order of the file; a set equals no array and no list."""
-        sets = [plist_of(top, b"\x09", b"\x08").value for top in (b"\xc2\x01\x02", b"\xc2\x01\x02", b"\xc2\x02\x01", b"\xc1\x01")]
+        tops = [b"\xc2\x01\x02", b"\xc2\x01\x02", b"\xc2\x02\x01", b"\xc1\x01"]
+        sets = [plist_of(top, b"\x09", b"\x08").value for top in tops]
         self.assertEqual(sets[0], sets[1])
         self.assertNotEqual(sets[0], sets[2])
         self.assertNotEqual(sets[0], sets[3])
@@ -302,9 +339,11 @@ class Edges(unittest.TestCase):
             bplist.loads(file + (10).to_bytes(8, "big"))
         self.assertEqual((caught.exception.rule, caught.exception.circle), ("Circle", (0,)))
 
+
+class Deep(unittest.TestCase):
     def test_deep(self):
-        """A chain of arrays deeper than Python recurses."""
-        links = 20_000
+        """A chain of arrays far deeper than Python and C recurse."""
+        links = 1_000_000
         body = b"".join(b"\xa1" + n.to_bytes(4, "big") for n in range(1, links + 1)) + b"\x09"
         offsets = b"".join((8 + 5 * n).to_bytes(4, "big") for n in range(links + 1))
         trailer = bytes(6) + b"\x04\x04" + (links + 1).to_bytes(8, "big") + bytes(8) + (8 + len(body)).to_bytes(8, "big")
@@ -332,33 +371,71 @@ class Files(unittest.TestCase):
         plist.close()
         self.assertTrue(plist.closed)
 
+    def is_mapped(self):
+        """Whether this process has the file mapped."""
+        return os.path.basename(self.path) in pathlib.Path("/proc/self/maps").read_text(encoding="utf-8")
+
+    def test_load(self):
+        with open(self.path, "rb") as file, bplist.load(file) as plist:
+            self.assertEqual(plist.at("/a/1"), 2)
+        data = pathlib.Path(self.path).read_bytes()
+        for octets in (data, bytearray(data), memoryview(data)):
+            with bplist.loads(octets) as plist:
+                self.assertEqual(plist.at("/a/1"), 2)
+        with self.assertRaises(TypeError):
+            bplist.loads("no bytes")
+
+    def test_to_python(self):
+        """The one call for those who come from plistlib takes a path or bytes."""
+        for source in (self.path, pathlib.Path(self.path), pathlib.Path(self.path).read_bytes()):
+            self.assertEqual(bplist.to_python(source), {"a": [1, 2]})
+        with self.assertRaises(bplist.TooLarge):
+            bplist.to_python(self.path, limit=4)
+
     def test_mapped(self):
-        """A file is mapped and not read; the mapping ends with the handle, and not before."""
-        plist = bplist.open(self.path)
-        mapped = plist._octets.given
-        self.assertIsInstance(mapped, mmap.mmap)
+        """A file is read, and mapped only if that is asked for; the mapping ends with the property list, and not before."""
+        with bplist.open(self.path):
+            self.assertFalse(self.is_mapped())
+        plist = bplist.open(self.path, map=True)
         self.assertEqual(plist.at("/a/0"), 1)
-        self.assertFalse(mapped.closed)
+        self.assertTrue(self.is_mapped())
         plist.close()
-        self.assertTrue(mapped.closed)
+        self.assertFalse(self.is_mapped())
         with self.assertRaises(bplist.Closed):
             plist.at("/a/0")
+
+    def test_not_mapped(self):
+        """What can't be mapped is read: an empty file, and a pipe."""
+        reading, writing = os.pipe()
+        os.write(writing, pathlib.Path(self.path).read_bytes())
+        os.close(writing)
+        with bplist.open(f"/proc/self/fd/{reading}", map=True) as plist:
+            self.assertEqual(plist.at("/a/1"), 2)
+        os.close(reading)
+        with open(self.path, "wb"), self.assertRaises(bplist.Refused):
+            bplist.open(self.path, map=True)
 
     def test_refused_is_let_go(self):
         """The mapping of a file that is refused ends at once."""
         with open(self.path, "r+b") as file:
             file.write(b"B")
-        mapped = []
-        made = bplist.plist._octets
+        with self.assertRaises(bplist.Refused):
+            bplist.open(self.path, map=True)
+        self.assertFalse(self.is_mapped())
 
-        def kept(path):
-            octets = made(path)
-            mapped.append(octets.given)
-            return octets
+    def cut_short(self, words):
+        """How an interpreter ends that reads a file which is cut short while it is open."""
+        with open(self.path, "wb") as file:
+            plistlib.dump(list(range(10_000)), file, fmt=plistlib.FMT_BINARY)
+        code = f"plist = bplist.open({self.path!r}{words}); os.truncate({self.path!r}, 0); print(plist.value[9999])"
+        code = f"import bplist, os; {code}"
+        return subprocess.run([sys.executable, "-c", code], capture_output=True, check=False)
 
-        with mock.patch("bplist.plist._octets", kept), self.assertRaises(bplist.Refused):
-            bplist.open(self.path)
-        self.assertTrue(mapped[0].closed)
+    def test_cut_short(self):
+        """By default nothing happens to a reader of a file that is cut short. A mapped one ends the interpreter."""
+        ran = self.cut_short("")
+        self.assertEqual((ran.returncode, ran.stdout, ran.stderr), (0, b"9999\n", b""))
+        self.assertEqual(self.cut_short(", map=True").returncode, -signal.SIGBUS)
 
     def test_lint(self):
         verdict = bplist.lint(self.path)
@@ -372,25 +449,33 @@ class Files(unittest.TestCase):
 
     def test_collected(self):
         """A container keeps its file open; without one the file is closed."""
-        members = bplist.open(self.path).value["a"]
+        members = bplist.open(self.path, map=True).value["a"]
         gc.collect()
         self.assertEqual(list(members), [1, 2])
-        plist = members._plist
-        closer = plist._closer
-        del members, plist
+        del members
+        self.assertFalse(self.is_mapped())
+
+    def test_circle_of_references(self):
+        """A property list that refers to a container of its own is collected."""
+        plist = bplist.open(self.path)
+        plist.kept = [plist.value, iter(plist.value["a"])]
+        kept = weakref.ref(plist)
+        del plist
         gc.collect()
-        self.assertFalse(closer.alive)
+        self.assertIsNone(kept())
 
     def test_threads(self):
         """Threads that share a property list, one of which closes it: an answer, or Closed."""
         plist = bplist.open(self.path)
+        wanted = (1, 5, {"a": [1, 2]}, plist.certificate)
         strange = []
 
         def read():
             try:
                 for _ in range(300):
-                    if plist.at("/a/0") != 1:
-                        strange.append("another value")
+                    seen = plist.at("/a/0"), plist.size, plist.plain(), plist.certificate
+                    if seen != wanted:
+                        strange.append(seen)
             except bplist.Closed:
                 pass
 
@@ -408,7 +493,7 @@ class Files(unittest.TestCase):
 
         def read():
             for _ in range(50):
-                with bplist.open(self.path, sorted=True) as plist:
+                with bplist.open(self.path, sorted_keys=True) as plist:
                     seen.append((plist.at("/a/1"), plist.size))
 
         threads = [threading.Thread(target=read) for _ in range(4)]
@@ -417,6 +502,36 @@ class Files(unittest.TestCase):
         for thread in threads:
             thread.join()
         self.assertEqual(seen, [(2, 5)] * 200)
+
+    def test_others_run(self):
+        """Other threads run while a file is linted, sorted or checked."""
+        file = plistlib.dumps({f"key{i:06}": i for i in range(50_000)}, fmt=plistlib.FMT_BINARY)
+        ticks, done = [], threading.Event()
+
+        def tick():
+            while not done.is_set():
+                ticks.append(None)
+                time.sleep(0)
+
+        certificate = bplist.loads(file).certificate
+        calls = {
+            "lint": lambda: bplist.lint_bytes(file),
+            "sort": lambda: bplist.loads(file, sorted_keys=True),
+            "check": lambda: bplist.loads(file, certificate=certificate),
+        }
+        thread = threading.Thread(target=tick)
+        # No thread that holds the GIL gives it up by itself.
+        self.addCleanup(sys.setswitchinterval, sys.getswitchinterval())
+        sys.setswitchinterval(100)
+        thread.start()
+        try:
+            for name, call in calls.items():
+                begun = len(ticks)
+                call()
+                self.assertGreater(len(ticks), begun, name)
+        finally:
+            done.set()
+            thread.join()
 
     def walk(self, folder, path):
         """The lines of the example on a folder and a path, sorted."""
@@ -464,6 +579,92 @@ class Files(unittest.TestCase):
             self.assertEqual((ended.exception.code, said.getvalue().count("\n")), (2, 1))
 
 
+class Command(unittest.TestCase):
+    def setUp(self):
+        self.folder = tempfile.TemporaryDirectory()
+        self.addCleanup(self.folder.cleanup)
+        self.path = os.path.join(self.folder.name, "file")
+        with open(self.path, "wb") as file:
+            plistlib.dump({"a": [1, "two"], "b\n": b"\x00"}, file, fmt=plistlib.FMT_BINARY)
+
+    def run_command(self, *words):
+        """Status, output and errors of a call."""
+        said, complained = io.StringIO(), io.StringIO()
+        with contextlib.redirect_stdout(said), contextlib.redirect_stderr(complained):
+            try:
+                status = command.main(words)
+            except SystemExit as ended:
+                status = ended.code
+        return status, said.getvalue(), complained.getvalue()
+
+    def test_lint(self):
+        broken = os.path.join(self.folder.name, "broken")
+        with open(broken, "wb") as file:
+            file.write(b"bplist00")
+        self.assertEqual(self.run_command("lint", self.path), (0, f"{self.path}: ok\n", ""))
+        status, said, _ = self.run_command("lint", self.path, broken)
+        self.assertEqual(status, 1)
+        self.assertTrue(said.splitlines()[1].startswith(f"{broken}: fault TooShort object none place 8: "), said)
+
+    def test_ls(self):
+        self.assertEqual(self.run_command("ls", self.path), (0, "'a': <Array of 2, object 3>\n'b\\n': b'\\x00'\n", ""))
+        self.assertEqual(self.run_command("ls", self.path, "/a"), (0, "0: 1\n1: 'two'\n", ""))
+        self.assertEqual(self.run_command("ls", self.path, "/a/1"), (0, "'two'\n", ""))
+
+    def test_show(self):
+        self.assertEqual(self.run_command("show", self.path), (0, "{'a': [1, 'two'], 'b\\n': b'\\x00'}\n", ""))
+        self.assertEqual(self.run_command("show", self.path, "/a/0"), (0, "1\n", ""))
+
+    def test_faults(self):
+        """What goes wrong is one line and a status."""
+        rows = [("/none", 1, "missing"), ("/a/2", 1, "missing"), ("/a/0/0", 1, "missing")]
+        rows += [("a", 2, "path text"), ("/\ud800", 2, "surrogate")]
+        for path, wanted, words in rows:
+            status, said, complained = self.run_command("show", self.path, path)
+            self.assertEqual((status, said, complained.count("\n")), (wanted, "", 1))
+            self.assertIn(words, complained)
+        status, _, complained = self.run_command("ls", self.path + " of no name")
+        self.assertEqual((status, complained.count("\n")), (2, 1))
+
+    def test_module(self):
+        ran = subprocess.run([sys.executable, "-m", "bplist", "show", self.path, "/a/1"], capture_output=True, check=False)
+        self.assertEqual((ran.returncode, ran.stdout, ran.stderr), (0, b"'two'\n", b""))
+
+
+class Package(unittest.TestCase):
+    def test_version(self):
+        self.assertEqual(bplist.__version__, (ROOT / "VERSION").read_text(encoding="utf-8").strip())
+
+    def test_not_made_by_hand(self):
+        """Property lists and containers come from the package's calls alone."""
+        for made in (bplist.Plist, bplist.Dict, bplist.Array, bplist.Set):
+            with self.assertRaises(TypeError):
+                made()
+            with self.assertRaises(TypeError):
+                made.__new__(made)
+            with self.assertRaises(TypeError):
+                object.__new__(made)
+
+    def test_faults_are_copied(self):
+        """An exception can be handed to another process."""
+        refused = [bplist.Refused(15, 3, 21), bplist.Refused(23, 0, None, (0, 1))]
+        for fault in (*refused, bplist.PathError(2), bplist.TooLarge(5, 4)):
+            copied = pickle.loads(pickle.dumps(fault))
+            self.assertEqual((type(copied), copied.args, str(copied)), (type(fault), fault.args, str(fault)))
+
+    def test_stubs(self):
+        """The stub of the extension names what the extension has."""
+        stub = (pathlib.Path(bplist.__file__).parent / "_bplist.pyi").read_text(encoding="utf-8")
+        extension = sys.modules["bplist._bplist"]
+        for name, held in vars(extension).items():
+            if name.startswith("__"):
+                continue
+            self.assertRegex(stub, rf"(?m)^((def|class) )?{name}\b", name)
+            for method in vars(held) if isinstance(held, type) else ():
+                if not method.startswith("__"):
+                    self.assertRegex(stub, rf"(?m)^    def {method}\b", f"{name}.{method}")
+
+
 class Changes(unittest.TestCase):
     def test_changed_files(self):
         """Ten thousand changes of one byte: a value or an exception of the package."""
@@ -475,9 +676,27 @@ class Changes(unittest.TestCase):
             try:
                 with bplist.loads(file) as plist:
                     if plist.size < 10_000:
-                        plain_of(plist.value)
+                        # Not compared as they are: a number that is none equals no other.
+                        self.assertEqual(repr(plist.plain()), repr(plain_of(plist.value)))
             except bplist.Refused:
                 pass
+
+    def test_changed_while_mapped(self):
+        """A thousand changes of a mapped file while it is open: what is read means nothing, and no read leaves the file."""
+        given = random.Random(2)
+        file = plistlib.dumps(Values.tree, fmt=plistlib.FMT_BINARY)
+        with tempfile.NamedTemporaryFile() as named:
+            for _ in range(1000):
+                named.seek(0)
+                named.write(file)
+                named.flush()
+                with bplist.open(named.name, map=True) as plist:
+                    named.seek(given.randrange(len(file)))
+                    named.write(given.randbytes(1))
+                    named.flush()
+                    for read in (plist.plain, lambda: plain_of(plist.value), plist.text):
+                        with contextlib.suppress(bplist.Error, ValueError, TypeError, KeyError, RecursionError):
+                            read()
 
 
 if __name__ == "__main__":

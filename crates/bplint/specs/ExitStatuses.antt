@@ -5,10 +5,11 @@ use Rattle.clap.specs.declared.error.kind.ErrorKind.TheVariants as kinds
 use Rattle.bplint.specs.declared.args.Shown.{Shown}
 use Rattle.bplint.specs.declared.args.Shown.TheVariants.{Map, Members, Text, Values}
 use Rattle.bplint_lines.specs.declared.fault.RunFault.{RunFault}
+use Rattle.bplint_lines.specs.declared.raw_fault.RawFault.{RawFault}
 use Rattle.bplint_lines.specs.declared.said.Said.{Said}
 use Rattle.bplint_lines.specs.declared.said.Said.TheVariants.{All, SomeMissing}
 use Rattle.bplint_lines.specs.Answers.{Leaves, LeavesBy}
-use Rattle.bplint_lines.specs.FaultLines.{report_of}
+use Rattle.bplint_lines.specs.RawFaults.{raw_report_of}
 use Rattle.bplint_engine.specs.Get.{LinesSay, found_line}
 use Rattle.bplint_engine.specs.Lint.{LintSays}
 use Rattle.bplint_engine.specs.Ls.{listed}
@@ -24,10 +25,10 @@ LeavesShown f (Members path) old new result = Leaves (LinesSay (listed path.now)
 LeavesShown f Map old new result = (most : ℕ) × LeavesBy (MapSays f) most old new result
 
 -- the exit status of an answer; that of refused memory may stand for another fault's, since its line takes memory
-abbrev pub EndsWith : Result Said RunFault → ℕ → Type 0
+abbrev pub EndsWith : Result Said RawFault → ℕ → Type 0
 EndsWith (Ok All) status = status ≡ 0
 EndsWith (Ok SomeMissing) status = status ≡ 1
-EndsWith (Err fault) status = (status ≡ (report_of fault).1) ⊎ (status ≡ 4)
+EndsWith (Err fault) status = (status ≡ (raw_report_of fault).1) ⊎ (status ≡ 4)
 
 -- the exit status of a command line that clap refuses: help and version were asked for, memory was refused, or it is wrong
 abbrev pub IsRefusedWith : ErrorKind → ℕ → Type 0

@@ -1,5 +1,5 @@
 -- The names of files as lines show them. Source: profile.
-use Rattle.std.specs.Prelude.{◌∷◌, ◌++◌, ◌/◌, ◌%◌, ℕ, false, List, [], codes, encode_utf8, if◌then◌else◌}
+use Rattle.std.specs.Prelude.{◌∷◌, ◌++◌, ◌/◌, ◌%◌, ◌&&◌, ℕ, false, List, [], codes, encode_utf8, if◌then◌else◌, nat_le, nat_lt}
 use Rattle.std.specs.Char.{is_control}
 use Rattle.std.specs.Fmt.{digit_glyph}
 use Rattle.std.specs.List.{flat_map}
@@ -10,6 +10,12 @@ abbrev pub shown_char : ℕ → List ℕ
 shown_char c =
     if is_control c then codes "\\x" ++ digit_glyph false (c / 16) ∷ digit_glyph false (c % 16) ∷ [] else encode_utf8 c
 
--- what the lines of a file begin with: its name, `:` and a space
-abbrev pub prefix_text : List ℕ → List ℕ
-prefix_text name = flat_map shown_char (chars name) ++ codes ": "
+-- a name as lines show it
+abbrev pub shown_text : List ℕ → List ℕ
+shown_text name = flat_map shown_char (chars name)
+
+-- a byte of a name that is not UTF-8: printable ASCII as it is, else `\x` and two hexadecimal digits
+abbrev pub shown_octet : ℕ → List ℕ
+shown_octet b =
+    if nat_le 32 b && nat_lt b 127 then b ∷ []
+    else codes "\\x" ++ digit_glyph false (b / 16) ∷ digit_glyph false (b % 16) ∷ []

@@ -1,5 +1,6 @@
 -- Inputs that are read whole, and why an input is refused. Source: profile.
-use Rattle.std.specs.Prelude.{◌≡◌, ◌≤◌, ◌⊎◌, ℕ, List, [], vec_len}
+use Rattle.std.specs.Prelude.{◌≡◌, ◌≤◌, ◌⊎◌, ℕ, Bool, List, [], codes, take, vec_len}
+use Rattle.std.specs.Str.{bytes_eq}
 use Rattle.bplint.specs.declared.input.Operand.{Operand}
 use Rattle.bplint.specs.declared.input.Operand.TheVariants.{File, Whole}
 use Rattle.bplist_octets.specs.declared.source.ReadFault.TheVariants.{Device, TooManyTurns}
@@ -22,6 +23,10 @@ IsReadFault fault = elim fault [ Read _ ↦ Unit {0} | _ ↦ ⊥ ]
 abbrev pub IsReadWhole : Operand → Type 0
 IsReadWhole (Whole text) = vec_len text ≤ 67108864
 IsReadWhole (File _) = ⊥
+
+-- a file begins as binary property lists of all versions do
+abbrev pub starts_with_bplist : List ℕ → Bool
+starts_with_bplist f = bytes_eq (codes "bplist") (take 6 f)
 
 -- the input has so many bytes
 abbrev pub HasLength : ℕ → Operand → Type 0

@@ -1,5 +1,3 @@
 pub mod ExitStatuses
 pub mod FileNames
 pub mod Inputs
-pub mod CommandLines
-pub mod Usage

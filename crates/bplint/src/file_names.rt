@@ -1,23 +1,44 @@
 //! File names as lines show them.
-ghost use Rattle.std.specs.Prelude.{◌≡◌, IfOk, string_bytes};
-ghost use Rattle.bplint.specs.FileNames.{prefix_text};
+ghost use Rattle.std.specs.Prelude.{◌≡◌, ◌++◌, IfOk, string_bytes};
+ghost use Rattle.std.specs.List.{flat_map};
+ghost use Rattle.bplint.specs.FileNames.{shown_octet, shown_text};
 
 use std::alloc::{AllocError, Global};
 
-/// What a line of several files begins with: the name, in which `\xHH` stands for a control character so that a line
-/// stays a line, and `: `.
-pub fn prefix_of(alloc: Global, name: &str) -> Result<String, AllocError>
-    ensures { IfOk result (λ prefix. string_bytes prefix ≡ prefix_text name.now) }
+/// A name, in which `\xHH` stands for a control character so that a line stays a line.
+pub fn shown_name(alloc: Global, name: &str) -> Result<String, AllocError>
+    ensures { IfOk result (λ shown. string_bytes shown ≡ shown_text name.now) }
 {
-    let mut prefix = String::new(alloc);
+    let mut shown = String::new(alloc);
     for c in name.chars() {
         if c.is_control() {
             let code = c as u32;
-            write!(prefix, "\\x{code:02x}")?;
+            write!(shown, "\\x{code:02x}")?;
         } else {
-            prefix.push(c)?;
+            shown.push(c)?;
         }
     }
-    prefix.push_str(": ")?;
-    Ok(prefix)
+    Ok(shown)
+}
+
+/// A name that is not UTF-8, in which `\xHH` stands for each byte that is no printable ASCII character.
+pub fn shown_octets(alloc: Global, name: &[u8]) -> Result<String, AllocError>
+    ensures { IfOk result (λ shown. string_bytes shown ≡ flat_map shown_octet name.now) }
+{
+    let mut shown = String::new(alloc);
+    for octet in name {
+        add_octet(&mut shown, *octet)?;
+    }
+    Ok(shown)
+}
+
+/// Adds a byte of a name that is not UTF-8.
+fn add_octet(shown: &mut String, octet: u8) -> Result<(), AllocError>
+    ensures { IfOk result (λ _. string_bytes shown.new ≡ string_bytes shown.old ++ shown_octet octet) }
+{
+    if 0x20 <= octet && octet < 0x7f {
+        shown.push(octet as char)
+    } else {
+        write!(shown, "\\x{octet:02x}")
+    }
 }

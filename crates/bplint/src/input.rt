@@ -1,12 +1,13 @@
 //! Inputs: FILE and CERT, each read by place or whole.
-ghost use Rattle.std.specs.Prelude.{◌≡◌, ◌⊎◌, ◌≤◌, ◌<◌, [], IfErr, IfOk, IfSome, MatchResult, codes, false, length, true, vec_len};
+ghost use Rattle.std.specs.Prelude.{◌≡◌, ◌⊎◌, ◌≤◌, ◌<◌, [], IfErr, IfOk, IfSome, MatchOption, MatchResult, None, Ok, codes, length, true, vec_len};
 ghost use Rattle.std.specs.Str.{bytes_eq};
-ghost use Rattle.bplint.specs.Inputs.{IsInputFault, IsNothing, IsReadFault, HasLength, IsReadWhole, IsShort, IsWholeFault, KeepsWhole, OfWhole};
+ghost use Rattle.bplint.specs.Inputs.{IsInputFault, IsNothing, IsReadFault, HasLength, IsReadWhole, IsShort, IsWholeFault, KeepsWhole, OfWhole, starts_with_bplist};
 ghost use Rattle.bplint_engine.specs.Check.{IsDecoded};
-ghost use Rattle.bplint_engine.specs.Said.{takes_cert};
+ghost use Rattle.bplint_engine.specs.Hexadecimal.{spelled};
 
-use crate::args::Run;
-use bplint_engine::Verb;
+use crate::args::Operands;
+use crate::unread::Unread;
+use bplint_engine::undo_hex;
 use bplint_lines::RunFault;
 use bplist_cert::{CertRefusal, Certificate, Refusal};
 use bplist_octets::{FileSource, ReadFault, Source};
@@ -23,7 +24,7 @@ pub const SPARE_READS: usize = 64;
 /// Reads to the end of the input. An interrupted read is tried again.
 ///
 /// `bytes` and `too_long` speak of a reader whose `remaining` the kit knows. Of a `File` and of standard input it is `None`.
-fn read_whole<R: Read>(alloc: Global, reader: &mut R) -> Result<Vec<u8>, RunFault>
+pub fn read_whole<R: Read>(alloc: Global, reader: &mut R) -> Result<Vec<u8>, RunFault>
     ensures bounded { IfOk result (λ v. vec_len v ≤ WHOLE_LIMIT) }
     ensures bytes { IfOk result (λ v. IfSome (R.remaining reader.old) (λ xs. v.items ≡ xs)) }
     ensures too_long { IfErr result (λ fault. fault ≡ RunFault.InputTooLong
@@ -67,7 +68,7 @@ pub enum Operand {
 pub struct Inputs {
     /// FILE.
     pub file: Operand,
-    /// CERT, empty where the verb has none.
+    /// CERT, empty where none was named.
     pub cert: Operand,
 }
 
@@ -79,6 +80,25 @@ impl Operand {
         match self {
             Operand::Whole(text) => text.len() as u64,
             Operand::File(file) => file.len(),
+        }
+    }
+
+    /// Whether the input begins as binary property lists of all versions do.
+    pub fn is_bplist(&mut self) -> Result<bool, RunFault>
+        ensures whole { OfWhole (λ text. MatchResult result (λ yes. yes ≡ starts_with_bplist text) (λ _. ⊥)) self.old }
+        ensures kept { KeepsWhole self.old self.new }
+        ensures faults { IfErr result IsReadFault }
+    {
+        match self {
+            Operand::Whole(text) => Ok(text.starts_with(b"bplist")),
+            Operand::File(file) => {
+                let mut front = [0; 6];
+                if file.len() < 6 {
+                    return Ok(false);
+                }
+                file.read_at(0, &mut front)?;
+                Ok(front == *b"bplist")
+            }
         }
     }
 
@@ -97,6 +117,14 @@ impl Operand {
                 Err(Refusal::Read(fault)) => Err(RunFault::Read(fault)),
             },
         }
+    }
+
+    /// The bytes that the input spells as hexadecimal text.
+    fn undo_hex(self, alloc: Global) -> Result<Operand, RunFault>
+        ensures { OfWhole (λ text. IfOk result (OfWhole (λ bytes. spelled text ≡ Ok bytes))) self }
+    {
+        let text = self.into_bytes(alloc)?;
+        Ok(Operand::Whole(undo_hex(alloc, &text)?))
     }
 
     /// All bytes of the input, by one read where it is read by place.
@@ -121,8 +149,37 @@ fn read_all(alloc: Global, file: FileSource) -> Result<Vec<u8>, RunFault>
     Ok(bytes)
 }
 
+/// Opens what is named, and undoes hexadecimal text.
+///
+/// FILE is opened before CERT, and both before a text is looked at.
+pub fn open_inputs<'a, R: Files<File = File> + Input>(
+    rt: &R,
+    alloc: Global,
+    operands: &Operands<'a>,
+) -> Result<Inputs, Unread<'a>> {
+    let hex = operands.hex;
+    let (file_name, cert_name) = (operands.file, operands.cert.unwrap_or(""));
+    let file = open_operand(rt, alloc, file_name, hex).map_err(|fault| Unread::new(
+        file_name, fault,
+    ))?;
+    let cert = open_certificate(rt, alloc, operands.cert, hex).map_err(|fault| Unread::new(
+        cert_name, fault,
+    ))?;
+    if !hex {
+        return Ok(Inputs { file, cert });
+    }
+    Ok(Inputs {
+        file: file
+            .undo_hex(alloc)
+            .map_err(|fault| Unread::new(file_name, fault))?,
+        cert: cert
+            .undo_hex(alloc)
+            .map_err(|fault| Unread::new(cert_name, fault))?,
+    })
+}
+
 /// Opens FILE. Standard input, hexadecimal text, and what has no length to be trusted are read whole.
-pub fn open_operand<R: Files<File = File> + Input>(
+fn open_operand<R: Files<File = File> + Input>(
     rt: &R,
     alloc: Global,
     name: &str,
@@ -173,26 +230,25 @@ fn read_file<R: Files<File = File>>(rt: &R, alloc: Global, name: &str) -> Result
     read_whole(alloc, &mut file)
 }
 
-/// Opens CERT, where the verb has one, as [`open_operand`] does: `-` is a file of that name. It may have no more bytes than an
+/// Opens CERT, where one is named, as [`open_operand`] does: `-` is a file of that name. It may have no more bytes than an
 /// input that is read whole.
-pub fn open_certificate<R: Files<File = File>>(
+fn open_certificate<R: Files<File = File>>(
     rt: &R,
     alloc: Global,
-    run: &Run<'_>,
+    name: Option<&str>,
+    hex: bool,
 ) -> Result<Operand, RunFault>
-    ensures none { takes_cert run.now.command.verb ≡ false → MatchResult result IsNothing (λ _. ⊥) }
-    ensures hex { run.now.command.hex ≡ true → IfOk result IsReadWhole }
+    ensures none { name.entry ≡ None → MatchResult result IsNothing (λ _. ⊥) }
+    ensures hex { hex ≡ true → IfOk result IsReadWhole }
     ensures short { IfOk result IsShort }
     ensures faults { IfErr result IsInputFault }
 {
-    match run.command.verb {
-        Verb::Lint | Verb::Certify => Ok(Operand::Whole(Vec::new(alloc))),
-        Verb::Check | Verb::Get | Verb::Print => {
-            let cert = open_file(rt, alloc, run.cert, run.command.hex)?;
-            if cert.len() > WHOLE_LIMIT as u64 {
-                return Err(RunFault::InputTooLong);
-            }
-            Ok(cert)
-        }
+    let Some(name) = name else {
+        return Ok(Operand::Whole(Vec::new(alloc)));
+    };
+    let cert = open_file(rt, alloc, name, hex)?;
+    if cert.len() > WHOLE_LIMIT as u64 {
+        return Err(RunFault::InputTooLong);
     }
+    Ok(cert)
 }

@@ -1,4 +1,5 @@
 mod CertifyAnswers
+mod ReadCharacters
 mod DecodedCertificates
 mod EqualAnswers
 mod LowerFaults
@@ -7,6 +8,7 @@ mod HexAnswers
 mod LeftBytes
 mod LintAnswers
 mod MemberLines
+mod NameSteps
 mod OneAnswer
 mod OneCertify
 mod OneCheck
@@ -18,5 +20,11 @@ mod OnePrint
 mod PathAnswers
 mod PathQueries
 mod PrintAnswers
+mod Puts
+mod RawForms
 mod RefusedCertificates
+mod SentAnswers
 mod SentTexts
+mod SinkLines
+mod TreeLines
+mod TreeSteps

@@ -1,29 +1,20 @@
 -- The key lists of a certificate of least heights are one.
-use Rattle.std.proofs.Common.{◌≡◌, ℕ, zero, suc, ◌+◌, ◌-◌, ◌*◌, ◌<◌, ◌≤◌, List, [], ◌∷◌, slice_index, slice_index_or, length, inl, inr, Bool, true, false, cond, nat_lt, Less, Option, Some, None, is_some, unwrap_or, refl, sym, ap, ◌∙◌, subst, arith}
-use Rattle.std.specs.List.{AllZip}
-use Rattle.std.specs.Option.{option_and_then}
-use Rattle.std.proofs.lemmas.Bool.{cases_lt, cases_order, false≢true}
+use Rattle.std.proofs.Common.{◌≡◌, ℕ, zero, suc, ◌+◌, ◌-◌, ◌<◌, ◌≤◌, List, [], ◌∷◌, slice_index, slice_index_or, length, inl, inr, cond, map, Less, Option, Some, None, is_some, unwrap_or, refl, sym, ap, ◌∙◌, subst, arith}
+use Rattle.std.specs.List.{AllZip, range_with_len}
+use Rattle.std.proofs.lemmas.Bool.{cases_lt, cases_order}
 use Rattle.std.proofs.lemmas.List.{ext_get_or}
 use Rattle.std.proofs.lemmas.List.Elements.{All-get_or, All-from_recursion}
 use Rattle.std.proofs.lemmas.List.FromFn.{get_or-map-range_with_len}
 use Rattle.bplist_octets.specs.Octets.{part}
 use Rattle.bplist_objects.specs.declared.frame.Frame.{Frame}
-use Rattle.bplist_objects.specs.declared.head.Head.{Head}
-use Rattle.bplist_objects.specs.declared.kind.Kind.{Kind}
-use Rattle.bplist_objects.specs.declared.kind.Kind.TheVariants as kinds
-use Rattle.bplist_objects.specs.Announced.{HasHead}
-use Rattle.bplist_objects.specs.Heads.{Content, content_of, Spells}
-use Rattle.bplist_objects.specs.Numbers.{nums_at}
+use Rattle.bplist_objects.specs.Heads.{Content, Spells}
 use Rattle.bplist_objects.specs.Units.{compare_units}
 use Rattle.bplist_objects.proofs.Fronts.{one_head}
 use Rattle.bplist_objects.proofs.Parts.{get_or-part}
-use Rattle.bplist_objects.proofs.HeadTies.{spells_body}
-use Rattle.bplist_objects.proofs.References.{length-nums_at}
 use Rattle.bplist_objects.proofs.UnitOrder.{compare_units-less_less, compare_units-not_less}
 use Rattle.bplist_cert.specs.Lists.{Lists, lists}
 use Rattle.bplist_cert.specs.Sorted.{IsSorted, IsAccepted}
 use Rattle.bplist_cert.specs.Valid.{IsVouchedBy, SpellsText, IsValid}
-use Rattle.bplist_cert.proofs.AcceptedCertificates.{vouched_shape}
 use Rattle.bplist_cert.proofs.AllNumbers.{onto}
 use Rattle.bplist_lint.specs.Upgraded.{pairs, pairs_below, together, IsUpgraded}
 use Rattle.bplist_lint.proofs.ListSteps.{pairs_given, pairs_one}
@@ -140,10 +131,6 @@ module _ (f : List ℕ) (F : Frame) where
   one_sorted : (ks xs ys : List ℕ) → IsSorted f F ks xs → IsSorted f F ks ys → xs ≡ ys
   one_sorted ks xs ys s t =
       one_rising s.units (length ks) xs ys (rising s.units ks xs s refl) (rising s.units ks ys t (one_texts ks t.units s.units t.texts s.texts))
-
-vouched_by : (h : ℕ) → nat_lt 0 h ≡ true → 1 ≤ h
-vouched_by zero e = absurd (false≢true e)
-vouched_by (suc h) e = omega arith
 
 -- an object that has positions is a vouched dictionary
 module _ (f : List ℕ) (F : Frame) (heights : List ℕ) where

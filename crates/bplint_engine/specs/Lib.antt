@@ -6,8 +6,13 @@ pub mod Hexadecimal
 pub mod Least
 pub mod Lint
 pub mod Ls
+pub mod Names
 pub mod Output
 pub mod PathTexts
 pub mod Print
+pub mod Raw
 pub mod Said
+pub mod Streams
 pub mod Prelude
+pub mod Tree
+pub mod TreeWalks

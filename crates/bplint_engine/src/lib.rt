@@ -13,7 +13,7 @@
 //! | lint, check, get, certify, print over a source | [`run_on`], [`Command`], [`Verb`] |
 //! | the same with a certificate that was decoded | [`run_certified`] |
 //! | the same over bytes or hexadecimal texts | [`run_over`], [`undo_hex`] |
-//! | show and ls, without a certificate | [`show_on`], [`show_text_on`], [`list_on`] |
+//! | show and ls, without a certificate | [`show_on`], [`show_text_on`], [`show_raw_on`], [`list_on`], [`list_all_on`] |
 //!
 //! Answers are those of bplint_lines, `Said` and `RunFault`. Clause `exact` of each call says which bytes went out. The
 //! definitions of what commands say are in specs/Said.antt; the laws `one_answer` and `one_answer_over` say that a command has
@@ -22,6 +22,7 @@
 
 mod certified_file;
 mod certify;
+mod characters;
 mod check;
 mod command;
 mod delivery;
@@ -31,15 +32,23 @@ mod laws;
 mod lint;
 mod ls;
 mod member_lines;
+mod names;
 mod output;
 mod path_queries;
 mod print;
+mod raw;
+mod raw_form;
+mod raw_parts;
 mod run;
 mod show;
+mod tree;
+mod tree_walk;
 
 pub use command::{Command, Verb};
 pub use hexadecimal::undo_hex;
 pub use laws::{one_answer, one_answer_over};
 pub use ls::list_on;
+pub use raw::show_raw_on;
 pub use run::{run_certified, run_on, run_over};
 pub use show::{show_on, show_text_on};
+pub use tree::list_all_on;

@@ -130,7 +130,7 @@ fn lines_at<S: Source>(
 }
 
 /// Which members a value shows to have in a file of this length, and how many. A leaf has none.
-fn members_of(shown: &Face, length: u64) -> Option<(Members, u64)>
+pub(crate) fn members_of(shown: &Face, length: u64) -> Option<(Members, u64)>
     requires { HasRoom length shown.now }
     ensures exact { (w : Value) → shown.now ≡ face_of w
         → MatchOption result (IsLeaf w) (λ found. IsContainer found.0 found.1 w) }

@@ -111,7 +111,7 @@ fn add_pair<S: Source>(
 }
 
 /// The face of member `i` of an object with this head.
-fn member_face<S: Source>(
+pub(crate) fn member_face<S: Source>(
     alloc: Global,
     checked: &mut Checked<S>,
     head: &Head,

@@ -4,3 +4,4 @@ pub mod FaultLines
 pub mod Faults
 pub mod MemberNames
 pub mod OutputLines
+pub mod RawFaults

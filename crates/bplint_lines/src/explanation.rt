@@ -6,27 +6,25 @@ ghost use Rattle.bplint_lines.specs.Answers.{read_failed};
 ghost use Rattle.bplint_lines.specs.Explanation.{rule_line, rule_of};
 
 use crate::fault::RunFault;
+use crate::file_lines::file_lines;
 use crate::object_path::{ObjectPath, head_in, key_front, path_to};
 use crate::output_lines::kind_name;
 use crate::rule_lines::rule_line_of;
 use bplist_ascii::text_of_units;
 use bplist_objects::{Fault, Frame, Kind, ObjectFault, ObjectNo, Rule, offset_of, trailer_of};
-use bplist_octets::{SliceSource, Source, sized};
+use bplist_octets::{SliceSource, Source};
 use std::alloc::{AllocError, Global};
 
 /// How many bytes before a place are shown, and how many from it on.
 const CONTEXT: u64 = 8;
 
-/// How many bytes a trailer has.
-const TRAILER: u64 = 32;
-
 /// The lines under a fault's line, each indented by two blanks and with its line feed; of a fault by which no rule is
 /// broken there are none.
 ///
-/// The first line has the rule's number and what it asks. The others have the numbers of this file: length and trailer,
-/// kind, count and place of the object, of a wrong key its number and text, the path that leads to the object (of a
-/// circle to its first object), and the bytes round the place, which stands in brackets. They are those of the
-/// certificate `cert` for rules whose places count there.
+/// The first line has the rule's number and what it asks. The others have the numbers of this file: length and trailer, or
+/// what a file without the header looks like; kind, count and place of the object; of a wrong key its number and text; the
+/// path that leads to the object (of a circle to its first object); and the bytes round the place, which stands in
+/// brackets. They are those of the certificate `cert` for rules whose places count there.
 pub fn explain<S: Source>(
     alloc: Global,
     src: &mut S,
@@ -72,7 +70,7 @@ fn fault_lines<S: Source>(
 ) -> Result<String, RunFault>
     ensures reads { OnlyReads (read_failed result) (S.means src.old) (S.means src.new) }
 {
-    let mut text = file_line(alloc, src)?;
+    let mut text = file_lines(alloc, src)?;
     if let Some(object) = fault.object {
         if let Some(frame) = frame_in(src)? {
             text.push_str(&object_lines(alloc, src, &frame, object, fault)?)?;
@@ -110,25 +108,6 @@ fn frame_in<S: Source>(src: &mut S) -> Result<Option<Frame>, RunFault>
         Err(ObjectFault::Fault(_)) => Ok(None),
         Err(ObjectFault::Read(fault)) => Err(RunFault::Read(fault)),
     }
-}
-
-/// The length of a file, and the numbers of its trailer where it has room for one.
-fn file_line<S: Source>(alloc: Global, src: &mut S) -> Result<String, RunFault>
-    ensures reads { OnlyReads (read_failed result) (S.means src.old) (S.means src.new) }
-{
-    let length = src.len();
-    if length < TRAILER {
-        return Ok(format!(in alloc; "  file: {length} bytes\n")?);
-    }
-    let mut octets = [0u8; 32];
-    src.read_at(length - TRAILER, &mut octets)?;
-    let (offset_size, ref_size) = (octets[6], octets[7]);
-    let objects = sized(&octets[8..16]);
-    let top = sized(&octets[16..24]);
-    let table = sized(&octets[24..32]);
-    Ok(format!(in alloc;
-        "  file: {length} bytes, offset size {offset_size}, reference size {ref_size}, objects {objects}, top {top}, table at {table}\n"
-    )?)
 }
 
 /// The lines for an object of a broken rule: what it is, of a wrong key which one, and the path to it.

@@ -11,6 +11,7 @@
 //! | what | calls |
 //! |---|---|
 //! | a fault's line and exit status | [`RunFault`]: `line`, `status` |
+//! | the same of raw bytes | [`RawFault`] |
 //! | what a fault is about | [`explain`] |
 //! | what a rule asks, and the rule of a word | [`rule_text`], [`rule_of_word`] |
 //! | the lines of answers | [`add_lint`], [`add_check`], [`add_face`], [`add_missing`], [`kind_name`] |
@@ -22,9 +23,11 @@
 
 mod explanation;
 mod fault;
+mod file_lines;
 mod member_names;
 mod object_path;
 mod output_lines;
+mod raw_fault;
 mod rule_lines;
 mod said;
 
@@ -32,5 +35,6 @@ pub use explanation::explain;
 pub use fault::RunFault;
 pub use member_names::{add_index, add_index_name, add_key_name};
 pub use output_lines::{add_check, add_face, add_lint, add_missing, kind_name};
+pub use raw_fault::RawFault;
 pub use rule_lines::{rule_of_word, rule_text};
 pub use said::Said;

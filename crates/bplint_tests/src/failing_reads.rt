@@ -1,5 +1,5 @@
-//! One failing read at each turn of a command: in the first run read number 0 fails, in the next one read number 1, and so on
-//! up to the first run in which none fails. The command tells the fault of that read.
+//! One failing read at each turn of a command: in the first run read number 0 fails, in the next one read number 1, and so
+//! on up to the first run in which none fails. The command tells the fault of that read.
 
 ghost use Rattle.bplint_engine.specs.Commands.{PrintsOnePath};
 

@@ -1,11 +1,11 @@
 //! What the rules ask, in plain words.
-ghost use Rattle.std.specs.Prelude.{◌≡◌};
+ghost use Rattle.std.specs.Prelude.{◌≡◌, ◌<◌, ℕ, List, [], get_or, length, map};
 ghost use Rattle.bplist_objects.specs.RuleTexts.{text_of};
 
 use crate::rule::{Rule, rule_number};
 
 /// What each rule asks, as one sentence, and something that breaks it, in the order of the rules' numbers.
-const TEXTS: [(&str, &str); 32] = [
+static TEXTS: [(&str, &str); 32] = [
     (
         "A file has at most 4294967295 bytes.",
         "a file of 4294967296 bytes, place 4294967296",
@@ -138,5 +138,17 @@ pub fn texts_of(rule: Rule) -> (&'static str, &'static str)
     ensures asked { result.0.now ≡ (text_of rule).0 }
     ensures broken { result.1.now ≡ (text_of rule).1 }
 {
-    TEXTS[rule_number(rule) as usize - 1]
+    row_at(&TEXTS, rule_number(rule) as usize - 1)
+}
+
+/// A row of a table. The table is lent, since a constant would be copied whole into the function that indexes it.
+fn row_at(
+    rows: &'static [(&'static str, &'static str)],
+    index: usize,
+) -> (&'static str, &'static str)
+    requires { index < length rows.now }
+    ensures asked { result.0.now ≡ (get_or {A = List ℕ × List ℕ} (map (λ row. (row.0.now, row.1.now)) rows.now) index ([], [])).0 }
+    ensures broken { result.1.now ≡ (get_or {A = List ℕ × List ℕ} (map (λ row. (row.0.now, row.1.now)) rows.now) index ([], [])).1 }
+{
+    rows[index]
 }

@@ -82,6 +82,13 @@ fn key_list(
     }
 }
 
+fn lists_two_keys(certificate: &Certificate) -> bool {
+    match &certificate.keys {
+        Some(keys) => keys.positions.len() == 2,
+        None => false,
+    }
+}
+
 /// A key list never has two keys of equal texts, also where the second becomes equal after the check.
 #[test]
 fn keys_that_become_equal(rt: HostRuntime) -> Result<(), Fail> {
@@ -92,16 +99,10 @@ fn keys_that_become_equal(rt: HostRuntime) -> Result<(), Fail> {
     for reads in 0..100 {
         match key_list(alloc, &row, &other, reads)? {
             Some(Ok(certificate)) => {
-                let sorted = certificate
-                    .keys
-                    .is_some_and(|keys| keys.positions.len() == 2);
-                assert!(rt; sorted, "after {reads} reads");
+                assert!(rt; lists_two_keys(&certificate), "after {reads} reads");
             }
             Some(Err(fault)) => {
-                assert!(rt;
-                    matches!(fault, UpgradeFault::Changed),
-                    "after {reads} reads"
-                );
+                assert_eq!(rt; fault, UpgradeFault::Changed, "after {reads} reads");
                 changes = changes.saturating_add(1);
             }
             None => {}

@@ -1,6 +1,14 @@
 use Rattle.std.proofs.lemmas.Result.{err_from_is_err_and}
-use Rattle.bplint_engine.proofs.PrintAnswers.{print_refused, end_failed, printed}
+use Rattle.bplint_engine.specs.Print.{NodeSays}
+use Rattle.bplint_engine.proofs.PrintAnswers.{cursor_stopped, print_refused, end_failed, printed}
 use Rattle.bplint_engine.proofs.print.print_node.Goals as goal
+
+pub returns-in_err-measures-clause-exact : goal.returns-in_err-measures-clause-exact
+returns-in_err-measures-clause-exact g c =
+    λ honest vouched w holds. let file = c.args.checked.now in
+    let p = err_from_is_err_and c.from_residual.result c.from_residual.ensures.1 in
+    rw (p.1, p.2) (cursor_stopped (NodeSays file.source.octets file.frame c.args.limit c.args.node.object.0 w) c.args.limit
+    (g.W.Write.contents c.args.out.now) c.in_err-measures.field-0.0 (c.in_err-measures.ensures.exact honest))
 
 pub returns-in_err-print_into-clause-exact : goal.returns-in_err-print_into-clause-exact
 returns-in_err-print_into-clause-exact g c =

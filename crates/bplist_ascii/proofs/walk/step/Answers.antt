@@ -20,6 +20,9 @@ returns-in_err-node-clause-fails g c =
     read_fails left c.in_err-node.field-0.0 (adds_nothing (g.W.Write.contents c.args.out.now) c.args.sink.now c.args.walk.now.room) refl
     (c.in_err-node.ensures.reference honest r.object r.held.0 s.0 s.1 (r.shown s.0 s.1)))
 
+pub returns-in_err-node-clause-bounded : goal.returns-in_err-node-clause-bounded
+returns-in_err-node-clause-bounded g c = on_err c.from_residual.result (adds_fit (adds_nothing (g.W.Write.contents c.args.out.now) c.args.sink.now c.args.walk.now.room))
+
 pub returns-in_default-clause-heads : goal.returns-in_default-clause-heads
 returns-in_default-clause-heads g c = on_ok_weaker c.write.result (λ adds. c.requires.heads) c.write.ensures.adds
 

@@ -1,0 +1,9 @@
+use Rattle.bplint.proofs.runs.shown_on.Goals as goal
+
+pub returns-in-Values : goal.returns-in-Values
+returns-in-Values g c = λ honest.
+    let said = rw c.deref.ensures.value at c.show_on.ensures.exact honest in
+    rw c.in-Values.is said
+
+pub returns-in-Text : goal.returns-in-Text
+returns-in-Text g c = λ honest. rw c.in-Text.is (c.show_text_on.ensures.exact honest)

@@ -1,0 +1,212 @@
+//! `lint` over one FILE, several, or all below a folder.
+ghost use Rattle.std.specs.Prelude.{◌≤◌};
+
+use crate::args::{Job, Lint, Operands, Request};
+use crate::endings::end;
+use crate::file_names::{shown_name, shown_octets};
+use crate::folders::{Entry, entry_at, is_folder, paths_in};
+use crate::input::{Inputs, open_inputs};
+use crate::output::{LineOut, NoOut};
+use crate::runs::{Ending, answer};
+use crate::tally::Tally;
+use crate::unread::Unread;
+use bplint_engine::{Command, Verb};
+use bplint_lines::RunFault;
+use std::alloc::{AllocError, Global};
+use std::fs::{File, Files};
+
+/// Lints what a line names, each file to its end, and gives the greatest exit status of them. The line of counts comes last
+/// if it is asked for, and with `--recursive` if standard error is a terminal.
+pub fn lint_files<R: Files<File = File> + Input + Print + Eprint>(
+    rt: &R,
+    alloc: Global,
+    lint: &Lint<'_>,
+    on_terminal: bool,
+) -> u8
+    ensures { result ≤ 4 }
+{
+    let mut linter = Linter {
+        rt,
+        alloc,
+        lint,
+        request: request_in(alloc, lint),
+        tally: Tally::new(),
+    };
+    for name in &lint.files {
+        linter.lint_operand(name);
+    }
+    if lint.summary || (lint.recursive && on_terminal) {
+        linter.print_counts();
+    }
+    linter.tally.status()
+}
+
+/// What `lint` asks of each file.
+fn request_in<'a>(alloc: Global, lint: &Lint<'_>) -> Request<'a> {
+    Request::Command(Job {
+        command: Command {
+            verb: Verb::Lint,
+            paths: Vec::new(alloc),
+            limit: 0,
+            hex: lint.hex,
+            sorted: false,
+        },
+        explain: lint.explain,
+    })
+}
+
+/// A run of `lint`.
+#[derive(Drop)]
+struct Linter<'a, R> {
+    rt: &'a R,
+    alloc: Global,
+    lint: &'a Lint<'a>,
+    request: Request<'a>,
+    tally: Tally,
+}
+
+impl<'a, R: Files<File = File> + Input + Print + Eprint> Linter<'a, R> {
+    /// Lints a FILE, or all below it where it is a folder and that is asked for.
+    fn lint_operand(&mut self, name: &str) {
+        if self.lint.recursive && name != "-" && is_folder(self.rt, name) {
+            self.lint_folder(name);
+            return;
+        }
+        match self.open(name) {
+            Ok(inputs) => self.lint_inputs(name, inputs),
+            Err(unread) => self.end_unread(unread),
+        }
+    }
+
+    /// Lints the files below a folder, in the order of their names.
+    fn lint_folder(&mut self, folder: &str) {
+        let mut pending = Vec::new(self.alloc);
+        self.enter(folder, &mut pending);
+        for _ in 0..u64::MAX {
+            let Some(path) = pending.pop() else {
+                return;
+            };
+            self.look_at(&path, &mut pending);
+        }
+    }
+
+    /// Puts all that stands in a folder on top of what is still to be looked at.
+    fn enter(&mut self, folder: &str, pending: &mut Vec<Vec<u8>>) {
+        let entered = match paths_in(self.rt, self.alloc, folder) {
+            Ok(mut paths) => pending.append(&mut paths).map_err(|_| RunFault::Memory),
+            Err(fault) => Err(fault),
+        };
+        if let Err(fault) = entered {
+            self.end_unread(Unread {
+                name: folder,
+                fault,
+            });
+        }
+    }
+
+    /// Looks at what stands under a path below a folder.
+    fn look_at(&mut self, path: &[u8], pending: &mut Vec<Vec<u8>>) {
+        let Ok(name) = std::str::from_utf8(path) else {
+            self.end_unnamed(path);
+            return;
+        };
+        match entry_at(self.rt, name) {
+            Ok(Entry::Folder) => self.enter(name, pending),
+            Ok(Entry::File) => self.lint_found(name),
+            Ok(Entry::Other) => self.tally.pass_over(),
+            Err(fault) => self.end_unread(Unread { name, fault }),
+        }
+    }
+
+    /// Lints a file that was found in a folder, if it begins as binary property lists do.
+    fn lint_found(&mut self, name: &str) {
+        let mut inputs = match self.open(name) {
+            Ok(inputs) => inputs,
+            Err(unread) => return self.end_unread(unread),
+        };
+        match inputs.file.is_bplist() {
+            Ok(true) => self.lint_inputs(name, inputs),
+            Ok(false) => self.tally.pass_over(),
+            Err(fault) => self.end_unread(Unread { name, fault }),
+        }
+    }
+
+    fn open<'n>(&self, name: &'n str) -> Result<Inputs, Unread<'n>> {
+        let operands = Operands {
+            file: name,
+            cert: None,
+            hex: self.lint.hex,
+        };
+        open_inputs(self.rt, self.alloc, &operands)
+    }
+
+    /// Lints an input, and prints its line behind the prefix where it holds a value.
+    fn lint_inputs(&mut self, name: &str, inputs: Inputs) {
+        let Ok(prefix) = self.prefix_of(name) else {
+            return self.end("", Ending::with(self.alloc, RunFault::Memory));
+        };
+        let ending = if self.lint.quiet {
+            answer(self.alloc, &self.request, inputs, &mut NoOut)
+        } else {
+            let mut out = LineOut::new(self.rt, self.alloc, &prefix);
+            answer(self.alloc, &self.request, inputs, &mut out)
+        };
+        self.end(&prefix, ending);
+    }
+
+    /// What the lines of a file begin with: nothing, where it is the only FILE.
+    fn prefix_of(&self, name: &str) -> Result<String, AllocError> {
+        if self.lint.files.len() == 1 && !self.lint.recursive {
+            return Ok(String::new(self.alloc));
+        }
+        let shown = shown_name(self.alloc, name)?;
+        format!(in self.alloc; "{shown}: ")
+    }
+
+    /// Ends the run over what could not be read.
+    fn end_unread(&mut self, unread: Unread<'_>) {
+        let Ok(prefix) = self.prefix_of(unread.name) else {
+            return self.end("", Ending::with(self.alloc, RunFault::Memory));
+        };
+        let ending = unread.ending(self.rt, self.alloc, self.lint.explain);
+        self.end(&prefix, ending);
+    }
+
+    /// Ends the run over a path that is no text, which cannot be opened.
+    fn end_unnamed(&mut self, path: &[u8]) {
+        let Ok(prefix) = unnamed_prefix(self.alloc, path) else {
+            return self.end("", Ending::with(self.alloc, RunFault::Memory));
+        };
+        let mut ending = Ending::with(self.alloc, RunFault::Open);
+        if self.lint.explain
+            && ending
+                .under
+                .push_str("  file: its name is not UTF-8\n")
+                .is_err()
+        {
+            ending = Ending::with(self.alloc, RunFault::Memory);
+        }
+        self.end(&prefix, ending);
+    }
+
+    /// Prints how a run ended, and counts it.
+    fn end(&mut self, prefix: &str, ending: Ending) {
+        let status = end(self.rt, self.alloc, prefix, ending);
+        self.tally.count(status);
+    }
+
+    /// Prints the counts.
+    fn print_counts(&mut self) {
+        match self.tally.line(self.alloc) {
+            Ok(line) => {
+                let _ = self.rt.eprintln(line);
+            }
+            Err(_) => self.end("", Ending::with(self.alloc, RunFault::Memory)),
+        }
+    }
+}
+
+fn unnamed_prefix(alloc: Global, path: &[u8]) -> Result<String, AllocError> {
+    let shown = shown_octets(alloc, path)?;
+    format!(in alloc; "{shown}: ")
+}

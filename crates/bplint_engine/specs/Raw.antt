@@ -1,0 +1,107 @@
+-- What `show --raw` says: the bytes of data, the UTF-8 of a text, the digits of an integer or a UID, the word of a truth value.
+-- Source: profile.
+use Rattle.std.specs.Prelude.{◌≡◌, ◌≢◌, ℕ, ◌∷◌, List, [], codes, Bool, true, false, if◌then◌else◌, Option, None, Some, Result, Ok, Err, MatchOption, MatchResult, map, encode_utf8_all, ⊤}
+use Rattle.std.specs.Char.Utf16.{has_unpaired_surrogate, utf16_lossy_chars}
+use Rattle.std.specs.Fmt.{decimal, signed_decimal}
+use Rattle.std.specs.Io.KnownBytes.{Keeps}
+use Rattle.bplist_octets.specs.Octets.{part}
+use Rattle.bplist_objects.specs.declared.frame.Frame.{Frame}
+use Rattle.bplist_objects.specs.declared.kind.Kind.TheVariants.{Bytes as data_kind}
+use Rattle.bplist_objects.specs.File.{FileHolds}
+use Rattle.bplist_objects.specs.Frame.{IsFrame}
+use Rattle.bplist_objects.specs.Safe.{IsSafeBody}
+use Rattle.bplist_objects.specs.Units.{IsTextKind, units_of}
+use Rattle.bplist_objects.specs.Value.{Value, leaf, bytes, text, int, uid, boolean}
+use Rattle.bplist_cursor.specs.declared.faces.Face.{Face}
+use Rattle.bplist_cursor.specs.declared.faces.Face.TheVariants as faces
+use Rattle.bplist_cursor.specs.Leads.{LeadTo}
+use Rattle.bplist_cursor.specs.Look.{look}
+use Rattle.bplist_cursor.specs.Path.{IsPathOf}
+use Rattle.bplint_lines.specs.declared.fault.RunFault.{RunFault}
+use Rattle.bplint_lines.specs.declared.fault.RunFault.TheVariants as faults
+use Rattle.bplint_lines.specs.declared.raw_fault.RawFault.{RawFault}
+use Rattle.bplint_lines.specs.declared.raw_fault.RawFault.TheVariants.{Run, NoRawForm}
+use Rattle.bplint_lines.specs.declared.said.Said.{Said}
+use Rattle.bplint_lines.specs.declared.said.Said.TheVariants.{All, SomeMissing}
+use Rattle.bplint_lines.specs.Answers.{Answer, gives, refuses}
+use Rattle.bplint_engine.specs.declared.raw_form.Raw.{Raw}
+use Rattle.bplint_engine.specs.declared.raw_form.Raw.TheVariants.{Data, Text, Word}
+use Rattle.bplint_engine.specs.Get.{found_line}
+use Rattle.bplint_engine.specs.PathTexts.{ForPaths}
+use Rattle.bplint_engine.specs.Streams.{LeavesSomeBy}
+
+-- the UTF-8 of a text with these units, none if a surrogate has no partner
+abbrev pub utf8_text : List ℕ → Option (List ℕ)
+utf8_text units = if has_unpaired_surrogate units then None else Some (encode_utf8_all (utf16_lossy_chars units))
+
+-- the raw bytes of a value, if it has some
+abbrev pub raw_bytes : Value → Option (List ℕ)
+raw_bytes (leaf (bytes l)) = Some l
+raw_bytes (leaf (text units)) = utf8_text units
+raw_bytes (leaf (int i)) = Some (signed_decimal i)
+raw_bytes (leaf (uid x)) = Some (decimal x)
+raw_bytes (leaf (boolean b)) = Some (if b then codes "true" else codes "false")
+raw_bytes _ = None
+
+-- the raw bytes are the answer
+abbrev pub NodeShowsRaw : Value → Answer → Type 0
+NodeShowsRaw w (gives said octets) = (said ≡ All) × (raw_bytes w ≡ Some octets)
+NodeShowsRaw w (refuses _) = ⊥
+
+-- the answer for the value under the path, or that the path leads nowhere
+abbrev pub PathShowsRaw : List (List ℕ) → Value → Answer → Type 0
+PathShowsRaw steps v answer = MatchResult (look 0 v steps) (λ w. NodeShowsRaw w answer)
+    (λ missing. answer ≡ gives SomeMissing (found_line (Err missing)))
+
+-- the answer for one path text, in a file of which Says says yes
+abbrev pub ShowsRaw : (Answer → Type 0) → List ℕ → List ℕ → Answer → Type 0
+ShowsRaw Says f path = ForPaths Says f (path ∷ [])
+    (λ paths v answer. (steps : List (List ℕ)) × (paths ≡ steps ∷ []) × PathShowsRaw steps v answer)
+
+-- the path leads to object n, whose value has no raw bytes
+abbrev pub LeadsToRawless : List ℕ → Frame → List (List ℕ) → Value → ℕ → Type 0
+LeadsToRawless f F steps v n = (w : Value) × LeadTo f F F.top.0 steps n × (look 0 v steps ≡ Ok w) × (raw_bytes w ≡ None)
+
+-- the same of the path of a text, in a file of which Says says yes
+abbrev pub IsRawless : (Answer → Type 0) → List ℕ → List ℕ → ℕ → Type 0
+IsRawless Says f path n = (steps : List (List ℕ)) × (said : Said) × (octets : List ℕ) × (F : Frame) × (v : Value)
+    × IsPathOf path steps × Says (gives said octets) × IsFrame f F × FileHolds f v × LeadsToRawless f F steps v n
+
+-- the answer is a failed read
+abbrev pub raw_read_failed : {X : Type 0} → Result X RawFault → Bool
+raw_read_failed answer = elim answer [ Err (Run (faults.Read _)) ↦ true | _ ↦ false ]
+
+-- what a run of which no bytes are counted leaves with the writer: what another run leaves, or that nothing has raw bytes
+abbrev pub LeavesRawBy : (Answer → Type 0) → (ℕ → Type 0) → Option (List ℕ) → Option (List ℕ) → Result Said RawFault → Type 0
+LeavesRawBy Says Rawless old new (Ok said) = LeavesSomeBy Says old new (Ok said)
+LeavesRawBy Says Rawless old new (Err (Run fault)) = LeavesSomeBy Says old new (Err fault)
+LeavesRawBy Says Rawless old new (Err (NoRawForm n)) = Rawless n.0 × Keeps old new
+
+-- ---- how the bytes are sent
+-- the bytes that are sent
+abbrev pub raw_in : List ℕ → Raw → List ℕ
+raw_in f (Data head) = part f head.body head.count
+raw_in f (Text head) = encode_utf8_all (utf16_lossy_chars (units_of f head))
+raw_in f (Word word) = word.items
+
+-- a body that is sent lies in a file of so many bytes
+abbrev pub IsSafeRaw : ℕ → Raw → Type 0
+IsSafeRaw len (Data head) = (head.kind ≡ data_kind) × IsSafeBody len head
+IsSafeRaw len (Text head) = IsTextKind head.kind × IsSafeBody len head
+IsSafeRaw len (Word word) = ⊤
+
+-- each surrogate of a text that is sent has its partner
+abbrev pub IsPairedRaw : List ℕ → Raw → Type 0
+IsPairedRaw f (Text head) = has_unpaired_surrogate (units_of f head) ≡ false
+IsPairedRaw f _ = ⊤
+
+-- what is sent are the raw bytes of the value, or it has none
+abbrev pub IsRawOf : List ℕ → Value → Option Raw → Type 0
+IsRawOf f w found = MatchOption found (raw_bytes w ≡ None) (λ raw. (raw_bytes w ≡ Some (raw_in f raw)) × IsPairedRaw f raw)
+
+-- the word or the digits of what a value shows, if these are its raw bytes
+abbrev pub raw_word : Face → Option (List ℕ)
+raw_word (faces.Bool b) = Some (if b then codes "true" else codes "false")
+raw_word (faces.Int i) = Some (signed_decimal i)
+raw_word (faces.Uid x) = Some (decimal x)
+raw_word _ = None

@@ -1,0 +1,68 @@
+-- What `ls --recursive` says: a value's line and those of all that it has, one line each. Source: profile.
+use Rattle.std.specs.Prelude.{◌≡◌, ◌∷◌, ◌++◌, ℕ, ◌+◌, ◌<◌, ◌≤◌, List, [], map, Result, Ok, Err, MatchResult}
+use Rattle.std.specs.List.{enumerate_from, flat_map}
+use Rattle.bplist_objects.specs.Value.{Value, leaf, array, set, dict, Values, no_values, value, Pairs, no_pairs, pair}
+use Rattle.bplist_cursor.specs.Look.{look}
+use Rattle.bplist_cursor.specs.Members.{entries, members}
+use Rattle.bplist_cursor.specs.Nodes.{nodes}
+use Rattle.bplint_lines.specs.declared.fault.RunFault.TheVariants.{TooLong}
+use Rattle.bplint_lines.specs.declared.said.Said.TheVariants.{All, SomeMissing}
+use Rattle.bplint_lines.specs.Answers.{Answer, gives, refuses}
+use Rattle.bplint_lines.specs.MemberNames.{bracketed, index_name, key_name}
+use Rattle.bplint_engine.specs.Get.{found_line}
+use Rattle.bplint_engine.specs.Ls.{named_line}
+use Rattle.bplint_engine.specs.PathTexts.{ForPaths}
+
+-- the members of a value, each with the name that `ls` gives it; a leaf has none
+abbrev pub named_members : List ℕ → Value → List (List ℕ × Value)
+named_members name (leaf l) = []
+named_members name (array vs) = map (λ e. (index_name name e.0, e.1)) (enumerate_from 0 (members vs))
+named_members name (set vs) = map (λ e. (bracketed e.0, e.1)) (enumerate_from 0 (members vs))
+named_members name (dict ps) = map (λ e. (key_name name e.0 e.1.0, e.1.1)) (enumerate_from 0 (entries ps))
+
+abbrev mutual
+  -- the lines of a value with this name: its own, and then those of its members in their order
+  pub tree_lines : List ℕ → Value → List (List ℕ)
+  tree_lines name (leaf l) = named_line name (leaf l) ∷ []
+  tree_lines name (array vs) = named_line name (array vs) ∷ array_lines name 0 vs
+  tree_lines name (set vs) = named_line name (set vs) ∷ set_lines 0 vs
+  tree_lines name (dict ps) = named_line name (dict ps) ∷ dict_lines name 0 ps
+
+  -- the lines of an array's members, numbered from i on
+  pub array_lines : List ℕ → ℕ → Values → List (List ℕ)
+  array_lines name i no_values = []
+  array_lines name i (value v vs) = tree_lines (index_name name i) v ++ array_lines name (i + 1) vs
+
+  -- the lines of a set's members
+  pub set_lines : ℕ → Values → List (List ℕ)
+  set_lines i no_values = []
+  set_lines i (value v vs) = tree_lines (bracketed i) v ++ set_lines (i + 1) vs
+
+  -- the lines of the values of a dictionary's keys
+  pub dict_lines : List ℕ → ℕ → Pairs → List (List ℕ)
+  dict_lines name i no_pairs = []
+  dict_lines name i (pair units v ps) = tree_lines (key_name name i units) v ++ dict_lines name (i + 1) ps
+
+-- lines one after the other
+abbrev pub joined_lines : List (List ℕ) → List ℕ
+joined_lines lines = flat_map (λ line. line) lines
+
+-- the value has at most so many nodes, and fewer than 18446744073709551615
+abbrev pub HasNodes : Value → ℕ → Type 0
+HasNodes w limit = (nodes w ≤ limit) × (nodes w < 18446744073709551615)
+
+-- the lines of the value, or that it has too many nodes
+abbrev pub NodeLists : ℕ → List ℕ → Value → Answer → Type 0
+NodeLists limit name w (gives said bytes) = HasNodes w limit × (said ≡ All) × (bytes ≡ joined_lines (tree_lines name w))
+NodeLists limit name w (refuses TooLong) = ¬ HasNodes w limit
+NodeLists limit name w (refuses _) = ⊥
+
+-- the lines of the value under the path with this text, or that the path leads nowhere
+abbrev pub PathLists : ℕ → List ℕ → List (List ℕ) → Value → Answer → Type 0
+PathLists limit text steps v answer = MatchResult (look 0 v steps) (λ w. NodeLists limit text w answer)
+    (λ missing. answer ≡ gives SomeMissing (found_line (Err missing)))
+
+-- the answer of `ls --recursive` for one path text, in a file of which Says says yes
+abbrev pub ListsAll : ℕ → (Answer → Type 0) → List ℕ → List ℕ → Answer → Type 0
+ListsAll limit Says f text = ForPaths Says f (text ∷ [])
+    (λ paths v answer. (steps : List (List ℕ)) × (paths ≡ steps ∷ []) × PathLists limit text steps v answer)

@@ -1,0 +1,131 @@
+//! The names of nodes in a recursive listing.
+ghost use Rattle.std.specs.Prelude.{◌≡◌, ◌↔◌, IfOk, IsTrue, Some, length, slice_get};
+ghost use Rattle.bplint_lines.specs.MemberNames.{bracketed, index_name, key_name};
+ghost use Rattle.bplint_engine.specs.Names.{Extends, IsNameIn, name_in};
+
+use bplint_lines::{add_index, add_index_name, add_key_name};
+use std::alloc::{AllocError, Global};
+use std::marker::Model;
+
+/// Where a name stands among the names.
+#[derive(Clone, Copy, Debug, PartialEq, Eq, Drop)]
+pub(crate) struct Name {
+    /// Its first byte.
+    start: usize,
+    /// The place behind its last.
+    end: usize,
+}
+
+/// The name of a node, and before it the names of the containers that it is in. A name goes on from the one of its container,
+/// or begins behind it.
+///
+/// Contracts see the bytes.
+#[derive(Drop)]
+pub(crate) struct Names {
+    text: Vec<u8>,
+}
+
+impl Model for Names {
+    ghost use Rattle.std.specs.Prelude.{ℕ, List};
+
+    ghost Value = { List ℕ };
+
+    ghost view = { λ names. names.text.items };
+}
+
+impl Names {
+    /// One name.
+    pub(crate) fn new(alloc: Global, top: &str) -> Result<Names, AllocError>
+        ensures { IfOk result (λ names. names ≡ top.now) }
+    {
+        Ok(Names {
+            text: Vec::from_slice(alloc, top.as_bytes())?,
+        })
+    }
+
+    /// All of it as one name.
+    pub(crate) fn whole(&self) -> Name
+        ensures { IsNameIn self.now result × (name_in self.now result ≡ self.now) × (result.«end» ≡ length self.now) }
+    {
+        Name {
+            start: 0,
+            end: self.text.len(),
+        }
+    }
+
+    /// The name.
+    pub(crate) fn get(&self, name: Name) -> &[u8]
+        requires { IsNameIn self.now name }
+        ensures { result.now ≡ name_in self.now name }
+    {
+        &self.text[name.start..name.end]
+    }
+
+    /// The name of member `i` of the array with this name, in place of what stands behind that.
+    pub(crate) fn push_index(
+        &mut self,
+        alloc: Global,
+        array: Name,
+        i: u64,
+    ) -> Result<Name, AllocError>
+        requires { IsNameIn self.old array }
+        ensures { IfOk result (λ name. Extends self.old self.new array name × (name_in self.new name ≡ index_name (name_in self.old array) i)) }
+    {
+        self.text.truncate(array.end);
+        add_index_name(alloc, "", i, &mut self.text)?;
+        Ok(Name {
+            start: array.start,
+            end: self.text.len(),
+        })
+    }
+
+    /// The name of member `i` of the set with this name.
+    pub(crate) fn push_place(
+        &mut self,
+        alloc: Global,
+        set: Name,
+        i: u64,
+    ) -> Result<Name, AllocError>
+        requires { IsNameIn self.old set }
+        ensures { IfOk result (λ name. Extends self.old self.new set name × (name_in self.new name ≡ bracketed i)) }
+    {
+        self.text.truncate(set.end);
+        add_index(alloc, i, &mut self.text)?;
+        Ok(Name {
+            start: set.end,
+            end: self.text.len(),
+        })
+    }
+
+    /// The name of the value of the key with these units, which is number `i` of the dictionary with this name.
+    pub(crate) fn push_key(
+        &mut self,
+        alloc: Global,
+        dict: Name,
+        i: u64,
+        units: &[u16],
+    ) -> Result<Name, AllocError>
+        requires { IsNameIn self.old dict }
+        ensures { IfOk result (λ name. Extends self.old self.new dict name × (name_in self.new name ≡ key_name (name_in self.old dict) i units.now)) }
+    {
+        self.text.truncate(dict.end);
+        add_key_name(alloc, "", i, units, &mut self.text)?;
+        if stands_alone(&self.text[dict.end..]) {
+            return Ok(Name {
+                start: dict.end,
+                end: self.text.len(),
+            });
+        }
+        Ok(Name {
+            start: dict.start,
+            end: self.text.len(),
+        })
+    }
+}
+
+/// Whether a name that was added is a place in brackets.
+fn stands_alone(added: &[u8]) -> bool
+    ensures { IsTrue result ↔ (slice_get added.now 0 ≡ Some 0x5B) }
+{
+    matches!(added.first(), Some(b'['))
+}

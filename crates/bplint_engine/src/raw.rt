@@ -1,0 +1,106 @@
+//! The raw bytes of a value in a file, with no certificate at hand.
+ghost use Rattle.std.specs.Prelude.{◌≡◌, None, IsTrue};
+ghost use Rattle.bplint_engine.specs.Prelude.{OnlyReads, Holds, Value, IsVouchedBy, OnlyReadsFile, LintSays, read_failed};
+ghost use Rattle.bplint_engine.specs.Raw.{LeadsToRawless, LeavesRawBy, IsRawless, NodeShowsRaw, PathShowsRaw, ShowsRaw, raw_bytes, raw_read_failed};
+
+use crate::certified_file::checked_by_lint;
+use crate::delivery::send_output;
+use crate::path_queries::path_in;
+use crate::print::missing_output;
+use crate::raw_form::raw_of;
+use crate::raw_parts::send_raw;
+use bplint_lines::{RawFault, RunFault, Said};
+use bplist_cert::Checked;
+use bplist_cursor::{Found, Node, Path, locate};
+use bplist_octets::Source;
+use std::alloc::Global;
+use std::io::Write;
+
+/// Writes the raw bytes of the value under this path text, with no line feed, and hands the source back.
+///
+/// Of data these are its bytes, of a text its UTF-8, of an integer or a UID its digits, and of a truth value its word. They go
+/// out in parts, and data and texts are never held whole. A path that leads nowhere gets its line as with `Get`.
+///
+/// The answer is the first fault: `Path` for a wrong path text; `Fault` or `Circle` as `Lint` answers it; `NoRawForm` for a
+/// value of another kind, and for a text with a surrogate without its other half. Nothing went out then. `Write` and `Changed`
+/// are those of [`crate::run_on`]; after `Read` and `Memory` a first part of the bytes may be out.
+pub fn show_raw_on<S: Source, W: Write>(
+    alloc: Global,
+    src: S,
+    path: &str,
+    out: &mut W,
+) -> (Result<Said, RawFault>, S)
+    ensures source { OnlyReads (raw_read_failed result.0) (S.means src) (S.means result.1) }
+    ensures exact { IsTrue (S.means src).honest
+        → ∥ LeavesRawBy (ShowsRaw (LintSays (S.means src).octets) (S.means src).octets path.now)
+        (IsRawless (LintSays (S.means src).octets) (S.means src).octets path.now)
+        (W.contents out.old) (W.contents out.new) result.0 ∥₁ }
+{
+    let path = match path_in(alloc, path) {
+        Ok(path) => path,
+        Err(fault) => return (Err(RawFault::Run(fault)), src),
+    };
+    match checked_by_lint(alloc, src) {
+        Ok(checked) => raw_checked(alloc, checked, &path, out),
+        Err((fault, src)) => (Err(RawFault::Run(fault)), src),
+    }
+}
+
+/// Writes the raw bytes of what a checked file has under a path, and hands its source back.
+fn raw_checked<S: Source, W: Write>(
+    alloc: Global,
+    checked: Checked<S>,
+    path: &Path,
+    out: &mut W,
+) -> (Result<Said, RawFault>, S)
+    ensures source { OnlyReads (raw_read_failed result.0) checked.source (S.means result.1) }
+    ensures exact { IsTrue checked.source.honest → (v : Value)
+        → Holds checked.source.octets checked.frame checked.frame.top.0 v
+        → LeavesRawBy (PathShowsRaw path.now v) (LeadsToRawless checked.source.octets checked.frame path.now v)
+        (W.contents out.old) (W.contents out.new) result.0 }
+{
+    let mut checked = checked;
+    let answer = raw_path(alloc, &mut checked, path, out);
+    (answer, checked.into_parts().0)
+}
+
+/// Writes the raw bytes of what a checked file has under a path.
+fn raw_path<S: Source, W: Write>(
+    alloc: Global,
+    checked: &mut Checked<S>,
+    path: &Path,
+    out: &mut W,
+) -> Result<Said, RawFault>
+    ensures reads { OnlyReadsFile (raw_read_failed result) checked.old checked.new }
+    ensures exact { IsTrue checked.old.source.honest → (v : Value)
+        → Holds checked.old.source.octets checked.old.frame checked.old.frame.top.0 v
+        → LeavesRawBy (PathShowsRaw path.now v) (LeadsToRawless checked.old.source.octets checked.old.frame path.now v)
+        (W.contents out.old) (W.contents out.new) result }
+{
+    match locate(checked, path)? {
+        Found::At(node) => raw_node(alloc, checked, node, out),
+        Found::Missing { step, why } => { Ok(send_output(missing_output(alloc, step, why), out)?) }
+    }
+}
+
+/// Writes the raw bytes of a node's value.
+fn raw_node<S: Source, W: Write>(
+    alloc: Global,
+    checked: &mut Checked<S>,
+    node: Node,
+    out: &mut W,
+) -> Result<Said, RawFault>
+    ensures reads { OnlyReadsFile (raw_read_failed result) checked.old checked.new }
+    ensures exact { IsTrue checked.old.source.honest → IsVouchedBy checked.old.certificate.heights node.object.0 → (w : Value)
+        → Holds checked.old.source.octets checked.old.frame node.object.0 w
+        → LeavesRawBy (NodeShowsRaw w) (λ n. (n ≡ node.object.0) × (raw_bytes w ≡ None))
+        (W.contents out.old) (W.contents out.new) result }
+{
+    match raw_of(alloc, checked, node)? {
+        Some(raw) => {
+            send_raw(alloc, checked, &raw, out)?;
+            Ok(Said::All)
+        }
+        None => Err(RawFault::NoRawForm(node.object)),
+    }
+}

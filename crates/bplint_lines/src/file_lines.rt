@@ -1,0 +1,141 @@
+//! The lines for a file as a whole: its length and the numbers of its trailer, or what it looks like instead.
+ghost use Rattle.bplist_octets.specs.Meaning.{OnlyReads};
+ghost use Rattle.bplint_lines.specs.Answers.{read_failed};
+
+use crate::fault::RunFault;
+use bplist_octets::{Source, sized};
+use std::alloc::{AllocError, Global};
+
+/// How many bytes a trailer has.
+const TRAILER: u64 = 32;
+
+/// How many bytes at the beginning of a file are looked at for what it looks like.
+const FRONT: usize = 256;
+
+/// How many bytes are read at once where all have to be looked at.
+const BLOCK: usize = 4096;
+
+/// The length of a file. Behind the header `bplist00` the line has the numbers of the trailer too, if the file has room for
+/// one. For any other file the next line says what it looks like, if that is known.
+pub(crate) fn file_lines<S: Source>(alloc: Global, src: &mut S) -> Result<String, RunFault>
+    ensures reads { OnlyReads (read_failed result) (S.means src.old) (S.means src.new) }
+{
+    let length = src.len();
+    let mut octets = [0u8; FRONT];
+    let front = &mut octets[..length.min(FRONT as u64) as usize];
+    src.read_at(0, front)?;
+    if front.starts_with(b"bplist00") {
+        return trailer_line(alloc, src);
+    }
+    let mut lines = format!(in alloc; "  file: {length} bytes\n")?;
+    if let Some(look) = look_of(alloc, src, front)? {
+        write!(lines, "  looks like: {look}\n")?;
+    }
+    Ok(lines)
+}
+
+/// The length of a file, and the numbers of its trailer where it has room for one.
+fn trailer_line<S: Source>(alloc: Global, src: &mut S) -> Result<String, RunFault>
+    ensures reads { OnlyReads (read_failed result) (S.means src.old) (S.means src.new) }
+{
+    let length = src.len();
+    if length < TRAILER {
+        return Ok(format!(in alloc; "  file: {length} bytes\n")?);
+    }
+    let mut octets = [0u8; 32];
+    src.read_at(length - TRAILER, &mut octets)?;
+    let (offset_size, ref_size) = (octets[6], octets[7]);
+    let objects = sized(&octets[8..16]);
+    let top = sized(&octets[16..24]);
+    let table = sized(&octets[24..32]);
+    Ok(format!(in alloc;
+        "  file: {length} bytes, offset size {offset_size}, reference size {ref_size}, objects {objects}, top {top}, table at {table}\n"
+    )?)
+}
+
+/// What a file without the header looks like that begins with `front`, if that is known. The length of an empty file says
+/// enough.
+fn look_of<S: Source>(
+    alloc: Global,
+    src: &mut S,
+    front: &[u8],
+) -> Result<Option<&'static str>, RunFault>
+    ensures reads { OnlyReads (read_failed result) (S.means src.old) (S.means src.new) }
+{
+    if front.is_empty() {
+        return Ok(None);
+    }
+    if are_zeros(front) {
+        return Ok(if is_all_zeros(src)? {
+            Some("zeros alone")
+        } else {
+            None
+        });
+    }
+    Ok(look_by_front(alloc, front)?)
+}
+
+fn are_zeros(octets: &[u8]) -> bool {
+    octets.iter().all(|octet| *octet == 0)
+}
+
+/// Whether all bytes of a file are zeros, which are read up to the first block that has another.
+fn is_all_zeros<S: Source>(src: &mut S) -> Result<bool, RunFault>
+    ensures reads { OnlyReads (read_failed result) (S.means src.old) (S.means src.new) }
+{
+    let length = src.len();
+    let mut buffer = [0u8; BLOCK];
+    let mut done = 0u64;
+    while done < length {
+        let block = &mut buffer[..(length - done).min(BLOCK as u64) as usize];
+        src.read_at(done, block)?;
+        if !are_zeros(block) {
+            return Ok(false);
+        }
+        done += block.len() as u64;
+    }
+    Ok(true)
+}
+
+/// What a file looks like that begins so.
+fn look_by_front(alloc: Global, front: &[u8]) -> Result<Option<&'static str>, AllocError> {
+    if front.starts_with(b"bplist15") {
+        return Ok(Some("bplist15, another binary format"));
+    }
+    if front.starts_with(b"bplist16") {
+        return Ok(Some("bplist16, another binary format"));
+    }
+    if front.starts_with(&[0x1f, 0x8b]) {
+        return Ok(Some("a file that gzip packed"));
+    }
+    let text = one_byte_text(alloc, front)?;
+    Ok(look_of_text(text.trim_ascii_start()))
+}
+
+/// A text in UTF-8 or UTF-16, with or without a byte order mark, with one byte for each ASCII character.
+fn one_byte_text(alloc: Global, front: &[u8]) -> Result<Vec<u8>, AllocError> {
+    match front {
+        [0xef, 0xbb, 0xbf, text @ ..] => text.to_vec(alloc),
+        [0xfe, 0xff, text @ ..] => every_second(alloc, text, 1),
+        [0xff, 0xfe, text @ ..] => every_second(alloc, text, 0),
+        [0, _, 0, _, ..] => every_second(alloc, front, 1),
+        [_, 0, _, 0, ..] => every_second(alloc, front, 0),
+        text => text.to_vec(alloc),
+    }
+}
+
+fn every_second(alloc: Global, octets: &[u8], first: usize) -> Result<Vec<u8>, AllocError> {
+    octets.iter().skip(first).step_by(2).copied().collect(alloc)
+}
+
+/// What a text looks like that begins so. The word `plist` tells a property list from other XML.
+fn look_of_text(text: &[u8]) -> Option<&'static str> {
+    let has_plist = text.windows(5).any(|word| word == b"plist".as_slice());
+    match text {
+        [b'<', b'?' | b'!' | b'p', ..] if has_plist => Some("an XML property list"),
+        [b'<', b'?', b'x', b'm', b'l', ..] => Some("XML text"),
+        [b'{', ..] => Some("an old-style text property list, or JSON"),
+        [b'(' | b'"', ..] | [b'/', b'/' | b'*', ..] => Some("an old-style text property list"),
+        _ => None,
+    }
+}

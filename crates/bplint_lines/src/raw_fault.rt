@@ -1,0 +1,65 @@
+//! Why raw bytes are not shown, the line that says so, and the exit status.
+ghost use Rattle.std.specs.Prelude.{◌≡◌, IfOk, string_bytes};
+ghost use Rattle.bplist_cursor.specs.declared.faults.CursorFault.TheVariants as cursor;
+ghost use Rattle.bplint_lines.specs.declared.fault.RunFault.TheVariants.{Changed, Memory, Read};
+ghost use Rattle.bplint_lines.specs.declared.raw_fault.RawFault.TheVariants.{Run};
+ghost use Rattle.bplint_lines.specs.RawFaults.{raw_report_of};
+
+use crate::fault::RunFault;
+use bplist_cursor::CursorFault;
+use bplist_objects::ObjectNo;
+use std::alloc::{AllocError, Global};
+
+/// Why the raw bytes of a value are not shown.
+#[derive(Debug, Drop)]
+pub enum RawFault {
+    /// A fault that other commands have too.
+    Run(RunFault),
+    /// The object of the value, which has no raw bytes.
+    NoRawForm(ObjectNo),
+}
+
+impl From<RunFault> for RawFault {
+    ghost from_gives = { λ fault raw. raw ≡ Run fault };
+
+    fn from(fault: RunFault) -> RawFault {
+        RawFault::Run(fault)
+    }
+}
+
+impl From<CursorFault> for RawFault {
+    ghost from_gives = { λ refusal raw. raw ≡ Run (elim refusal [
+      | cursor.Read failed ↦ Read failed
+      | cursor.Changed ↦ Changed
+      | cursor.Memory ↦ Memory
+    ]) };
+
+    fn from(refusal: CursorFault) -> RawFault {
+        RawFault::Run(RunFault::from(refusal))
+    }
+}
+
+impl RawFault {
+    /// The exit status.
+    pub fn status(&self) -> u8
+        ensures { result ≡ (raw_report_of self.now).1 }
+    {
+        match self {
+            RawFault::Run(fault) => fault.status(),
+            RawFault::NoRawForm(_) => 1,
+        }
+    }
+
+    /// The printed line, without its line feed. Only memory can be refused.
+    pub fn line(&self, alloc: Global) -> Result<String, AllocError>
+        ensures { IfOk result (λ text. string_bytes text ≡ (raw_report_of self.now).0) }
+    {
+        match self {
+            RawFault::Run(fault) => fault.line(alloc),
+            RawFault::NoRawForm(object) => {
+                let number = object.0;
+                format!(in alloc; "form NoRawForm object {number}")
+            }
+        }
+    }
+}

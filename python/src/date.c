@@ -1,0 +1,77 @@
+/* Dates: seconds since the first moment of 2001, in UTC. */
+#include "extension.h"
+
+#define SECOND INT64_C(1000000)
+#define DAY (86400 * SECOND)
+/* The days of datetime before 2001, and those from then on. */
+#define BEFORE 730485
+#define BEHIND 2921574
+/* From 1 March of the year 0 to 1 January of the year 1. */
+#define FROM_MARCH 306
+
+/* Microseconds to the nearest, halves to the even one, as datetime.timedelta has them. */
+static int64_t micros_of(double seconds)
+{
+    int64_t whole = (int64_t)seconds;
+    double part = (seconds - (double)whole) * (double)SECOND;
+    int64_t micros = (int64_t)part;
+    double rest = part - (double)micros;
+
+    if (rest > 0.5 || (rest == 0.5 && micros % 2 != 0))
+        micros++;
+    if (rest < -0.5 || (rest == -0.5 && micros % 2 != 0))
+        micros--;
+    return whole * SECOND + micros;
+}
+
+/* The moment that is so many microseconds after the first of the year 1, in the form in which datetime pickles it: reading that
+   takes a fifth of the time that reading numbers takes. Years are counted from March here, so that the leap day is the last of
+   its year, and in eras of 400 years, which have 146097 days. */
+static void pickled(int64_t micros, unsigned char out[10])
+{
+    int days = (int)(micros / DAY) + FROM_MARCH;
+    int of_era = days % 146097;
+    int year = (of_era - of_era / 1460 + of_era / 36524 - of_era / 146096) / 365;
+    int of_year = of_era - (365 * year + year / 4 - year / 100);
+    int months = (5 * of_year + 2) / 153;
+    int month = months < 10 ? months + 3 : months - 9;
+    int seconds = (int)(micros % DAY / SECOND);
+    int rest = (int)(micros % SECOND);
+
+    year += days / 146097 * 400 + (month <= 2);
+    out[0] = (unsigned char)(year >> 8);
+    out[1] = (unsigned char)year;
+    out[2] = (unsigned char)month;
+    out[3] = (unsigned char)(of_year - (153 * months + 2) / 5 + 1);
+    out[4] = (unsigned char)(seconds / 3600);
+    out[5] = (unsigned char)(seconds / 60 % 60);
+    out[6] = (unsigned char)(seconds % 60);
+    out[7] = (unsigned char)(rest >> 16);
+    out[8] = (unsigned char)(rest >> 8);
+    out[9] = (unsigned char)rest;
+}
+
+static PyObject *moment(PyObject *class, int64_t micros)
+{
+    unsigned char bytes[10];
+    PyObject *given, *date;
+
+    pickled(micros, bytes);
+    given = PyBytes_FromStringAndSize((const char *)bytes, sizeof bytes);
+    date = given ? PyObject_CallFunctionObjArgs(class, given, NULL) : NULL;
+    Py_XDECREF(given);
+    return date;
+}
+
+PyObject *date_of(State *state, double seconds)
+{
+    int64_t micros;
+
+    /* A day too many at either end: only what is far beyond, or is no number, has no microseconds here. */
+    if (seconds > -86400.0 * (BEFORE + 1) && seconds < 86400.0 * (BEHIND + 1)) {
+        micros = micros_of(seconds) + BEFORE * DAY;
+        if (micros >= 0 && micros < (BEFORE + BEHIND) * DAY)
+            return moment(state->held[DATETIME], micros);
+    }
+    return PyObject_CallFunction(state->held[FAR_DATE], "d", seconds);
+}
