@@ -1,5 +1,5 @@
 -- The names of files as lines show them. Source: profile.
-use Rattle.std.specs.Prelude.{◌∷◌, ◌++◌, ◌/◌, ◌%◌, ◌&&◌, ℕ, false, List, [], codes, encode_utf8, if◌then◌else◌, nat_le, nat_lt}
+use Rattle.std.specs.Prelude.{◌∷◌, ◌++◌, ◌/◌, ◌%◌, ◌&&◌, ℕ, Bool, false, List, [], codes, encode_utf8, if◌then◌else◌, nat_le, nat_lt}
 use Rattle.std.specs.Char.{is_control}
 use Rattle.std.specs.Fmt.{digit_glyph}
 use Rattle.std.specs.List.{flat_map}
@@ -14,8 +14,10 @@ shown_char c =
 abbrev pub shown_text : List ℕ → List ℕ
 shown_text name = flat_map shown_char (chars name)
 
+-- the byte is a printable ASCII character
+abbrev pub is_printable : ℕ → Bool
+is_printable b = nat_le 32 b && nat_lt b 127
+
 -- a byte of a name that is not UTF-8: printable ASCII as it is, else `\x` and two hexadecimal digits
 abbrev pub shown_octet : ℕ → List ℕ
-shown_octet b =
-    if nat_le 32 b && nat_lt b 127 then b ∷ []
-    else codes "\\x" ++ digit_glyph false (b / 16) ∷ digit_glyph false (b % 16) ∷ []
+shown_octet b = if is_printable b then b ∷ [] else codes "\\x" ++ digit_glyph false (b / 16) ∷ digit_glyph false (b % 16) ∷ []

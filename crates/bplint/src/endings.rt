@@ -16,10 +16,11 @@ pub const WRONG_LINE: u8 = 2;
 pub fn end<R: Eprint>(rt: &R, alloc: Global, prefix: &str, ending: Ending) -> u8
     ensures { EndsWith ending.answer result }
 {
-    match ending.answer {
+    let Ending { answer, under } = ending;
+    match answer {
         Ok(Said::All) => 0,
         Ok(Said::SomeMissing) => 1,
-        Err(fault) => match lines_of(alloc, prefix, &fault, &ending.under) {
+        Err(fault) => match lines_of(alloc, prefix, &fault, &under) {
             Ok(lines) => {
                 let _ = rt.eprint(lines);
                 fault.status()

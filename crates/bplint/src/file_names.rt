@@ -1,7 +1,7 @@
 //! File names as lines show them.
 ghost use Rattle.std.specs.Prelude.{◌≡◌, ◌++◌, IfOk, string_bytes};
 ghost use Rattle.std.specs.List.{flat_map};
-ghost use Rattle.bplint.specs.FileNames.{shown_octet, shown_text};
+ghost use Rattle.bplint.specs.FileNames.{is_printable, shown_octet, shown_text};
 
 use std::alloc::{AllocError, Global};
 
@@ -36,9 +36,15 @@ pub fn shown_octets(alloc: Global, name: &[u8]) -> Result<String, AllocError>
 fn add_octet(shown: &mut String, octet: u8) -> Result<(), AllocError>
     ensures { IfOk result (λ _. string_bytes shown.new ≡ string_bytes shown.old ++ shown_octet octet) }
 {
-    if 0x20 <= octet && octet < 0x7f {
+    if is_printable(octet) {
         shown.push(octet as char)
     } else {
         write!(shown, "\\x{octet:02x}")
     }
+}
+
+fn is_printable(octet: u8) -> bool
+    ensures { result ≡ is_printable octet }
+{
+    0x20 <= octet && octet < 0x7f
 }
