@@ -2,11 +2,11 @@
 """listing.py PROGRAM
 
 Tries `bplint ls --recursive` and `bplint show --raw`. On each file of tests/vectors that holds a value and on those of
-tests/real_files.py, the lines of `ls -R` are those of a plain walk over the file's bytes, of a walk with `ls` from container to
-container, and of a walk over what plistlib loads; the limit is tried at the number of nodes and one below. `show --raw` gives
-the bytes of data and texts, and the digits and words of numbers and truth values. At the end `ls -R` is git's textconv in a
-repository with two versions of a file. One file counts as one test. Without plistutil its files are skipped. The last line
-printed is `N passed, M failed`, with `, K skipped` where some were.
+tests/real_files.py, the lines of `ls -R` are those of a plain walk over the file's bytes, of a walk with `ls` from container
+to container, and of a walk over what plistlib loads; the limit is tried at the number of nodes and one below. `show --raw`
+gives the bytes of data and texts, and the digits and words of numbers and truth values. At the end `ls -R` is git's
+textconv in a repository with two versions of a file. One file counts as one test. Without plistutil its files are skipped.
+The last line printed is `N passed, M failed`, with `, K skipped` where some were.
 """
 import os
 import pathlib
@@ -289,7 +289,8 @@ def try_textconv(program, folder):
 
     def git(*words):
         named = ["git", "-c", "user.name=n", "-c", "user.email=e@example.org", *words]
-        return subprocess.run(named, cwd=work, env=environment, capture_output=True, text=True, timeout=60, check=True).stdout
+        ran = subprocess.run(named, cwd=work, env=environment, capture_output=True, text=True, timeout=60, check=True)
+        return ran.stdout
 
     git("init", "-q")
     git("config", "diff.bplist.textconv", f"'{program}' ls -R")

@@ -14,7 +14,7 @@ use Rattle.bplint_lines.specs.MemberNames.{bracketed, index_name, key_name}
 use Rattle.bplint_engine.specs.declared.member_lines.Members.{Members}
 use Rattle.bplint_engine.specs.declared.member_lines.Members.TheVariants.{Array, Set, Dict}
 use Rattle.bplint_engine.specs.Ls.{IsContainer, IsLeaf, listed, named_line}
-use Rattle.bplint_engine.specs.Tree.{array_lines, dict_lines, named_members, set_lines, tree_lines}
+use Rattle.bplint_engine.specs.Tree.{array_lines, dict_lines, joined_lines, named_members, set_lines, tree_lines}
 use Rattle.bplint_engine.proofs.MemberLines.{array_member, dict_member, set_member}
 
 -- the lines of members with their names
@@ -46,6 +46,11 @@ listed_by_members name (leaf l) h = absurd (h tt)
 listed_by_members name (array vs) h = sym (flat_map-map (λ m. named_line m.0 m.1) (λ e. (index_name name e.0, e.1)) (enumerate_from 0 (members vs)))
 listed_by_members name (set vs) h = sym (flat_map-map (λ m. named_line m.0 m.1) (λ e. (bracketed e.0, e.1)) (enumerate_from 0 (members vs)))
 listed_by_members name (dict ps) h = sym (flat_map-map (λ m. named_line m.0 m.1) (λ e. (key_name name e.0 e.1.0, e.1.1)) (enumerate_from 0 (entries ps)))
+
+-- of a leaf there is its own line
+pub listed_leaf : (name : List ℕ) (w : Value) → IsLeaf w → listed name (Ok w) ≡ joined_lines (tree_lines name w)
+listed_leaf name (leaf l) is = sym (append-nil (named_line name (leaf l)))
+listed_leaf name _ is = absurd is
 
 -- ---- how many lines there are
 mutual
@@ -83,10 +88,10 @@ length-entries (pair u v ps) = ap suc (length-entries ps)
 
 -- as many members as the container has
 pub length-named : (kind : Members) (n : ℕ) (name : List ℕ) (w : Value) → IsContainer kind n w → length (named_members name w) ≡ n
-length-named Array n name (array vs) is = length-map (λ e. (index_name name e.0, e.1)) (enumerate_from 0 (members vs)) ∙ length-enumerate_from 0 (members vs) ∙ is
-length-named Set n name (set vs) is = length-map (λ e. (bracketed e.0, e.1)) (enumerate_from 0 (members vs)) ∙ length-enumerate_from 0 (members vs) ∙ is
+length-named Array n name (array vs) is = length-map (enumerate_from 0 (members vs)) (λ e. (index_name name e.0, e.1)) ∙ length-enumerate_from 0 (members vs) ∙ is
+length-named Set n name (set vs) is = length-map (enumerate_from 0 (members vs)) (λ e. (bracketed e.0, e.1)) ∙ length-enumerate_from 0 (members vs) ∙ is
 length-named Dict n name (dict ps) is =
-    length-map (λ e. (key_name name e.0 e.1.0, e.1.1)) (enumerate_from 0 (entries ps)) ∙ length-enumerate_from 0 (entries ps) ∙ length-entries ps ∙ is
+    length-map (enumerate_from 0 (entries ps)) (λ e. (key_name name e.0 e.1.0, e.1.1)) ∙ length-enumerate_from 0 (entries ps) ∙ length-entries ps ∙ is
 length-named _ n name _ is = absurd is
 
 -- ---- one member

@@ -1,5 +1,5 @@
 -- What is left to list, step by step.
-use Rattle.std.proofs.Common.{◌≡◌, ◌<◌, ◌≤◌, ◌+◌, ◌++◌, ◌∷◌, [], ◌∙◌, ℕ, suc, List, drop, length, take, Some, Option, Result, Ok, Err, ap, append_assoc, append-nil, arith, refl, subst, sym}
+use Rattle.std.proofs.Common.{IsTrue, ◌≡◌, ◌<◌, ◌≤◌, ◌+◌, ◌++◌, ◌∷◌, [], ◌∙◌, ℕ, suc, List, drop, length, take, Some, Option, Result, Ok, Err, ap, append_assoc, append-nil, arith, refl, subst, sym}
 use Rattle.std.specs.Prelude.{MatchResult, reverse, slice_get}
 use Rattle.std.specs.List.{flat_map}
 use Rattle.std.proofs.lemmas.List.{drop-append-le, length-append, length-take, length-take-le, reverse-append, take_all, take-take}
@@ -229,3 +229,20 @@ module _ (checked : CheckedFile) where
       let part = fails (omega (arith, long, few, room, length-append lines rest)) in
       fails_behind old old new (joined_lines lines) (joined_lines rest) (joined_lines left) fault (takes_nothing old a.sink)
       (subst (λ s. Fails old new s (joined_lines lines) fault) sink part) (ap joined_lines is ∙ joined_more lines rest)
+
+  -- ---- one step, by what it says of a file that is the same
+  pub step_more : (file : CheckedFile) → file ≡ checked → (old mid new : Option (List ℕ)) (a b d c : Listing) (os : List Opened) (lines : List (List ℕ))
+      → reverse b.stack.items ≡ os → d.sink ≡ b.sink → d.room ≡ b.room → GoesOn checked old mid a b lines → IsTrue checked.source.honest
+      → (IsTrue file.source.honest → (left : List (List ℕ)) → StackLeft file b.names os left → GoesOn file mid new d c left) → GoesOn checked old new a c lines
+  step_more file same old mid new a b d c os lines turned sink room p honest step =
+      let stands = subst (λ x. StackLeft x b.names os p.rest) (sym same) (subst (λ l. StackLeft checked b.names l p.rest) turned p.stands) in
+      goes_more old mid new a b d c lines sink room p
+      (subst (λ x. GoesOn x mid new d c p.rest) same (step (subst (λ x. IsTrue x.source.honest) (sym same) honest) p.rest stands))
+
+  pub step_fail : (file : CheckedFile) → file ≡ checked → (old mid new : Option (List ℕ)) (a b d : Listing) (os : List Opened) (lines : List (List ℕ)) (fault : RunFault)
+      → reverse b.stack.items ≡ os → d.sink ≡ b.sink → d.room ≡ b.room → GoesOn checked old mid a b lines → IsTrue checked.source.honest
+      → (IsTrue file.source.honest → (left : List (List ℕ)) → StackLeft file b.names os left → length left ≤ d.room → Fails mid new d.sink (joined_lines left) fault)
+      → length lines ≤ a.room → Fails old new a.sink (joined_lines lines) fault
+  step_fail file same old mid new a b d os lines fault turned sink room p honest step few =
+      let stands = subst (λ x. StackLeft x b.names os p.rest) (sym same) (subst (λ l. StackLeft checked b.names l p.rest) turned p.stands) in
+      goes_fail old mid new a b d lines fault sink room p (step (subst (λ x. IsTrue x.source.honest) (sym same) honest) p.rest stands) few

@@ -17,7 +17,7 @@
 //!
 //! Answers are those of bplint_lines, `Said` and `RunFault`. Clause `exact` of each call says which bytes went out. The
 //! definitions of what commands say are in specs/Said.antt; the laws `one_answer` and `one_answer_over` say that a command has
-//! one answer.
+//! one answer, and `tree_of_ls` that the lines of a recursive listing are those of `ls` at each container.
 #![tactic(auto)]
 
 mod certified_file;
@@ -46,7 +46,7 @@ mod tree_walk;
 
 pub use command::{Command, Verb};
 pub use hexadecimal::undo_hex;
-pub use laws::{one_answer, one_answer_over};
+pub use laws::{one_answer, one_answer_over, tree_of_ls};
 pub use ls::list_on;
 pub use raw::show_raw_on;
 pub use run::{run_certified, run_on, run_over};

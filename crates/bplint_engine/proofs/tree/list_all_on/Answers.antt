@@ -26,8 +26,8 @@ returns-in-Ok-checked_by_lint-clause-exact g c = λ honest.
     let least = c.in-Ok-checked_by_lint.ensures.exact honest in
     merely (lists_all c.args.limit (LintSays f) f c.args.path.now _ _ _ _ _ c.in-Ok.ensures (lint_yes f _ _ least) (lint_there f _ _ least) (left honest))
 
-pub returns-clause-exact : goal.returns-clause-exact
-returns-clause-exact g c = λ honest.
+pub returns-in-Err-checked_by_lint-clause-exact : goal.returns-in-Err-checked_by_lint-clause-exact
+returns-in-Err-checked_by_lint-clause-exact g c = λ honest.
     let f = (g.S.Source.means c.args.src).octets in
     let path = c.args.path.now in
     merely (

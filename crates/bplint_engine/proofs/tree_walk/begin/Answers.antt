@@ -8,7 +8,8 @@ use Rattle.bplint_engine.specs.Tree.{joined_lines, named_members, tree_lines}
 use Rattle.bplint_engine.proofs.MemberLines.{unread_excused}
 use Rattle.bplint_engine.proofs.Puts.{fails_behind, stopped_behind}
 use Rattle.bplint_engine.proofs.SinkLines.{line_fails, line_stopped}
-use Rattle.bplint_engine.proofs.TreeSteps.{begun_container, begun_leaf}
+use Rattle.bplint_engine.proofs.TreeSteps.{begun_container}
+use Rattle.bplint_engine.specs.declared.tree_walk.Opened.{Opened}
 use Rattle.bplint_engine.proofs.tree_walk.begin.Goals as goal
 
 pub returns-in_err-members-clause-exact : goal.returns-in_err-members-clause-exact
@@ -34,4 +35,11 @@ returns-in_err-push-clause-exact g c = λ honest w held.
     rw is (λ few. line_stopped _ _ name w Memory line.0 tt)
 
 pub returns-clause-exact : goal.returns-clause-exact
-returns-clause-exact g c = ?
+returns-clause-exact g c = λ honest w held left stands.
+    let file = c.args.checked.now in
+    let line = c.in_ok-members.ensures.exact honest w held in
+    let is = rw c.in-Some.is at line.1 in
+    let heads = (rw c.in_ok-members.ensures.reads at c.in_ok-head.ensures.exact) honest held.0 in
+    let o : Opened = record { head = c.in_ok-head.head; members = c.in-Some.members; count = c.in-Some.count; next = 0; name = c.args.at.name } in
+    begun_container file _ _ c.args.listing.now _ o w left (c.args.at.node.object.0, held.0, held.1, heads) is refl c.requires.name.1
+    line.0 c.in_ok-members.ensures.room c.in_ok-members.ensures.names (c.in_ok-push.ensures.items ∙ ap (λ l. l ++ o ∷ []) c.in_ok-members.ensures.stack) stands

@@ -1,14 +1,7 @@
 use Rattle.std.proofs.Common.{rules, ◌≡◌, Err}
-use Rattle.std.proofs.lemmas.Result.{err_from_is_err_and}
 use Rattle.bplint_lines.specs.declared.fault.RunFault.TheVariants.{Write}
-use Rattle.bplint_engine.proofs.Puts.{fails_begun, flush_cut, flushed}
+use Rattle.bplint_engine.proofs.Puts.{flush_cut, flushed}
 use Rattle.bplint_engine.proofs.tree_walk.write_tree.Goals as goal
-
-pub returns-in_err-list-clause-exact : goal.returns-in_err-list-clause-exact
-returns-in_err-list-clause-exact g c = λ honest w held few begins.
-    let p = err_from_is_err_and c.from_residual.result c.from_residual.ensures.1 in
-    let fails = rw c.whole.ensures.1 at c.in_err-list.ensures.exact in
-    rw (p.1, p.2) (fails_begun _ _ _ _ _ begins (fails honest w held few))
 
 pub returns-in_err-flush-clause-exact : goal.returns-in_err-flush-clause-exact
 returns-in_err-flush-clause-exact g c = λ honest w held few begins.
