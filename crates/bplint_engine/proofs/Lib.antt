@@ -8,7 +8,6 @@ mod HexAnswers
 mod LeftBytes
 mod LintAnswers
 mod MemberLines
-mod NameSteps
 mod OneAnswer
 mod OneCertify
 mod OneCheck

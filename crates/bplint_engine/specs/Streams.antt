@@ -13,7 +13,7 @@ abbrev pub begun : Sending
 begun = record { sent = 0; held = [] }
 
 module _ (old new : Option (List ℕ)) (before : Sending) where
-  -- why bytes were not put into a sink: a write failed, or a read failed or a growth was refused when a first part of them was in
+  -- why bytes were not put into a sink: a write failed, or, with a first part of them in, a read failed or memory was refused
   abbrev pub Fails : List ℕ → RunFault → Type 0
   Fails bytes (faults.Write sent) = TakesPart old new before bytes sent
   Fails bytes (faults.Read _) = SendsSome old new (before.held ++ bytes)
@@ -22,13 +22,15 @@ module _ (old new : Option (List ℕ)) (before : Sending) where
 
 -- bytes were put into a sink, or why not
 abbrev pub Puts : Option (List ℕ) → Option (List ℕ) → Sending → Sending → List ℕ → Result (Unit {0}) RunFault → Type 0
-Puts old new before after bytes result = MatchResult result (λ _. Takes old new before after bytes) (Fails old new before bytes)
+Puts old new before after bytes result =
+    MatchResult result (λ _. Takes old new before after bytes) (Fails old new before bytes)
 
 -- bytes went out, or why not
 abbrev pub SendsAll : Option (List ℕ) → Option (List ℕ) → List ℕ → Result (Unit {0}) RunFault → Type 0
 SendsAll old new bytes result = MatchResult result (λ _. Appends old new bytes) (Fails old new begun bytes)
 
--- what a run leaves with the writer where a first part of the answer, however long, may be out after a failed read or refused memory
+-- what a run leaves with the writer, where after a failed read or refused memory a first part of the answer of any length may
+-- be out
 abbrev pub LeavesSomeBy : (Answer → Type 0) → Option (List ℕ) → Option (List ℕ) → Result Said RunFault → Type 0
 LeavesSomeBy Says old new result = (most : ℕ) × LeavesBy Says most old new result
 

@@ -16,8 +16,8 @@
 //! | show and ls, without a certificate | [`show_on`], [`show_text_on`], [`show_raw_on`], [`list_on`], [`list_all_on`] |
 //!
 //! Answers are those of bplint_lines, `Said` and `RunFault`. Clause `exact` of each call says which bytes went out. The
-//! definitions of what commands say are in specs/Said.antt; the laws `one_answer` and `one_answer_over` say that a command has
-//! one answer, and `tree_of_ls` that the lines of a recursive listing are those of `ls` at each container.
+//! definitions of what commands say are in specs/Said.antt. The laws `one_answer` and `one_answer_over` say that a command
+//! has one answer, and `tree_of_ls` that the lines of a recursive listing are those of `ls` at each container.
 #![tactic(auto)]
 
 mod certified_file;

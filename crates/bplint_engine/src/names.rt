@@ -16,8 +16,8 @@ pub(crate) struct Name {
     end: usize,
 }
 
-/// The name of a node, and before it the names of the containers that it is in. A name goes on from the one of its container,
-/// or begins behind it.
+/// The name of a node, and before it the names of the containers that it is in. A name goes on from the one of its
+/// container, or begins behind it.
 ///
 /// Contracts see the bytes.
 #[derive(Drop)]
@@ -69,7 +69,8 @@ impl Names {
         i: u64,
     ) -> Result<Name, AllocError>
         requires { IsNameIn self.old array }
-        ensures { IfOk result (λ name. Extends self.old self.new array name × (name_in self.new name ≡ index_name (name_in self.old array) i)) }
+        ensures { IfOk result (λ name. Extends self.old self.new array name
+            × (name_in self.new name ≡ index_name (name_in self.old array) i)) }
     {
         self.text.truncate(array.end);
         add_index_name(alloc, "", i, &mut self.text)?;
@@ -106,7 +107,8 @@ impl Names {
         units: &[u16],
     ) -> Result<Name, AllocError>
         requires { IsNameIn self.old dict }
-        ensures { IfOk result (λ name. Extends self.old self.new dict name × (name_in self.new name ≡ key_name (name_in self.old dict) i units.now)) }
+        ensures { IfOk result (λ name. Extends self.old self.new dict name
+            × (name_in self.new name ≡ key_name (name_in self.old dict) i units.now)) }
     {
         self.text.truncate(dict.end);
         add_key_name(alloc, "", i, units, &mut self.text)?;

@@ -18,12 +18,12 @@ use std::io::Write;
 
 /// Writes the raw bytes of the value under this path text, with no line feed, and hands the source back.
 ///
-/// Of data these are its bytes, of a text its UTF-8, of an integer or a UID its digits, and of a truth value its word. They go
-/// out in parts, and data and texts are never held whole. A path that leads nowhere gets its line as with `Get`.
+/// Of data these are its bytes, of a text its UTF-8, of an integer or a UID its digits, and of a truth value its word. Data
+/// and texts go out in parts and are never held whole. A path that leads nowhere gets its line as with `Get`.
 ///
 /// The answer is the first fault: `Path` for a wrong path text; `Fault` or `Circle` as `Lint` answers it; `NoRawForm` for a
-/// value of another kind, and for a text with a surrogate without its other half. Nothing went out then. `Write` and `Changed`
-/// are those of [`crate::run_on`]; after `Read` and `Memory` a first part of the bytes may be out.
+/// value of another kind, and for a text with a surrogate without its other half. Nothing went out then. `Write` and
+/// `Changed` are those of [`crate::run_on`]; after `Read` and `Memory` a first part of the bytes may be out.
 pub fn show_raw_on<S: Source, W: Write>(
     alloc: Global,
     src: S,
@@ -91,8 +91,8 @@ fn raw_node<S: Source, W: Write>(
     out: &mut W,
 ) -> Result<Said, RawFault>
     ensures reads { OnlyReadsFile (raw_read_failed result) checked.old checked.new }
-    ensures exact { IsTrue checked.old.source.honest → IsVouchedBy checked.old.certificate.heights node.object.0 → (w : Value)
-        → Holds checked.old.source.octets checked.old.frame node.object.0 w
+    ensures exact { IsTrue checked.old.source.honest → IsVouchedBy checked.old.certificate.heights node.object.0
+        → (w : Value) → Holds checked.old.source.octets checked.old.frame node.object.0 w
         → LeavesRawBy (NodeShowsRaw w) (λ n. (n ≡ node.object.0) × (raw_bytes w ≡ None))
         (W.contents out.old) (W.contents out.new) result }
 {

@@ -33,8 +33,8 @@ pub(crate) fn raw_of<S: Source>(
 ) -> Result<Option<Raw>, RunFault>
     ensures reads { OnlyReadsFile (read_failed result) checked.old checked.new }
     ensures safe { IfOk result (λ found. IfSome found (IsSafeRaw (length checked.old.source.octets))) }
-    ensures exact { IsTrue checked.old.source.honest → IsVouchedBy checked.old.certificate.heights node.object.0 → (w : Value)
-        → Holds checked.old.source.octets checked.old.frame node.object.0 w
+    ensures exact { IsTrue checked.old.source.honest → IsVouchedBy checked.old.certificate.heights node.object.0
+        → (w : Value) → Holds checked.old.source.octets checked.old.frame node.object.0 w
         → Gives (IsRawOf checked.old.source.octets w) result }
 {
     let head = node_head(checked, node)?;

@@ -49,7 +49,8 @@ fn put_raw<S: Source, W: Write>(
     requires { IsSafeRaw (length checked.old.source.octets) raw.now }
     ensures reads { OnlyReadsFile (read_failed result) checked.old checked.new }
     ensures exact { IsTrue checked.old.source.honest → IsPairedRaw checked.old.source.octets raw.now
-        → Puts (W.contents out.old) (W.contents out.new) sink.old sink.new (raw_in checked.old.source.octets raw.now) result }
+        → Puts (W.contents out.old) (W.contents out.new) sink.old sink.new
+        (raw_in checked.old.source.octets raw.now) result }
 {
     match raw {
         Raw::Data(head) => put_data(checked, head, sink, out),

@@ -20,10 +20,10 @@ use std::io::Write;
 
 /// Writes a line for the value under this path text and one for each value in it, and hands the source back.
 ///
-/// The value's own line comes first: the path text, a tab, and the line of `Get` for it. Behind the line of a container stand
-/// those of its members in written order, each with all that is in it. They are the lines of [`crate::list_on`] at that
-/// container, so a key has no line of its own, and what is in a member without a path has that member's place in brackets in
-/// front. A path that leads nowhere gets its line as with `Get`.
+/// The value's own line comes first: the path text, a tab, and the line of `Get` for it. Behind the line of a container
+/// stand those of its members in written order, each with all that is in it. They are the lines of [`crate::list_on`] at
+/// that container, so a key has no line of its own, and what is in a member without a path has that member's place in
+/// brackets in front. A path that leads nowhere gets its line as with `Get`.
 ///
 /// Lines go out as they are made. Memory is taken by the number of objects, by the depth, and for one line.
 ///
@@ -82,7 +82,8 @@ fn tree_checked<S: Source, W: Write>(
     ensures source { OnlyReads (read_failed result.0) checked.source (S.means result.1) }
     ensures exact { IsTrue checked.source.honest → (v : Value)
         → Holds checked.source.octets checked.frame checked.frame.top.0 v
-        → LeavesSomeBy (PathLists branch.now.limit branch.now.text.now branch.now.path v) (W.contents out.old) (W.contents out.new) result.0 }
+        → LeavesSomeBy (PathLists branch.now.limit branch.now.text.now branch.now.path v)
+        (W.contents out.old) (W.contents out.new) result.0 }
 {
     let mut checked = checked;
     let answer = tree_path(alloc, &mut checked, branch, out);
@@ -99,7 +100,8 @@ fn tree_path<S: Source, W: Write>(
     ensures reads { OnlyReadsFile (read_failed result) checked.old checked.new }
     ensures exact { IsTrue checked.old.source.honest → (v : Value)
         → Holds checked.old.source.octets checked.old.frame checked.old.frame.top.0 v
-        → LeavesSomeBy (PathLists branch.now.limit branch.now.text.now branch.now.path v) (W.contents out.old) (W.contents out.new) result }
+        → LeavesSomeBy (PathLists branch.now.limit branch.now.text.now branch.now.path v)
+        (W.contents out.old) (W.contents out.new) result }
 {
     match locate(checked, &branch.path)? {
         Found::At(node) => tree_node(alloc, checked, node, branch, out),
@@ -116,8 +118,8 @@ fn tree_node<S: Source, W: Write>(
     out: &mut W,
 ) -> Result<Said, RunFault>
     ensures reads { OnlyReadsFile (read_failed result) checked.old checked.new }
-    ensures exact { IsTrue checked.old.source.honest → IsVouchedBy checked.old.certificate.heights node.object.0 → (w : Value)
-        → Holds checked.old.source.octets checked.old.frame node.object.0 w
+    ensures exact { IsTrue checked.old.source.honest → IsVouchedBy checked.old.certificate.heights node.object.0
+        → (w : Value) → Holds checked.old.source.octets checked.old.frame node.object.0 w
         → LeavesSomeBy (NodeLists branch.now.limit branch.now.text.now w) (W.contents out.old) (W.contents out.new) result }
 {
     let nodes = nodes_at(alloc, checked, node)?;

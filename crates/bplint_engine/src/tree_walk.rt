@@ -218,7 +218,8 @@ fn name_member<S: Source>(
     ensures name { IfOk result (λ at. Extends listing.old.names listing.new.names opened.now.name at.name) }
     ensures exact { IsTrue checked.old.source.honest → (w : Value) → IsHeadFor checked.old opened.now.head w
         → IsContainer opened.now.members opened.now.count w
-        → Gives (IsMemberAt checked.old w (name_in listing.old.names opened.now.name) opened.now.next listing.new.names) result }
+        → Gives (IsMemberAt checked.old w (name_in listing.old.names opened.now.name) opened.now.next listing.new.names)
+        result }
 {
     match opened.members {
         Members::Array => {
@@ -253,7 +254,8 @@ fn name_value<S: Source>(
     ensures name { IfOk result (λ at. Extends listing.old.names listing.new.names opened.now.name at.name) }
     ensures exact { IsTrue checked.old.source.honest → (w : Value) → IsHeadFor checked.old opened.now.head w
         → IsContainer opened.now.members opened.now.count w
-        → Gives (IsMemberAt checked.old w (name_in listing.old.names opened.now.name) opened.now.next listing.new.names) result }
+        → Gives (IsMemberAt checked.old w (name_in listing.old.names opened.now.name) opened.now.next listing.new.names)
+        result }
 {
     let i = opened.next;
     let key = member_face(listing.alloc, checked, &opened.head, 2 * i)?;
@@ -271,8 +273,8 @@ fn name_value<S: Source>(
 fn member_node<S: Source>(checked: &mut Checked<S>, head: &Head, i: u64) -> Result<Node, RunFault>
     requires { IsSafeHead checked.old.frame head.now }
     ensures reads { OnlyReadsFile (read_failed result) checked.old checked.new }
-    ensures exact { IsTrue checked.old.source.honest → (w m : Value) → IsHeadFor checked.old head.now w → member_of w i ≡ Some m
-        → Gives (λ node. IsHeld checked.old node.object.0 m) result }
+    ensures exact { IsTrue checked.old.source.honest → (w m : Value) → IsHeadFor checked.old head.now w
+        → member_of w i ≡ Some m → Gives (λ node. IsHeld checked.old node.object.0 m) result }
 {
     match member_by_head(checked, head, i)? {
         Some(member) => Ok(member),
@@ -299,7 +301,8 @@ impl Listing {
     /// Makes the line of a value with this name that shows this.
     fn make_line(&mut self, name: Name, shown: &Face) -> Result<(), AllocError>
         requires { IsNameIn self.old.names name }
-        ensures line { OnOk result (self.new.line.items ≡ name_in self.old.names name ++ codes "\t" ++ face_line shown.now ++ codes "\n") }
+        ensures line { OnOk result (self.new.line.items
+            ≡ name_in self.old.names name ++ codes "\t" ++ face_line shown.now ++ codes "\n") }
         ensures rest { IsKept self.old self.new }
         ensures names { self.new.names ≡ self.old.names }
     {
