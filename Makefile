@@ -87,8 +87,8 @@ wheel:
 test-wheel: wheel
 	$(PYTHON) -B tests/python_package.py $(DIST)/bplist-*.whl
 
-# What is made depends on the commit and its date alone.
-dist wheel: export SOURCE_DATE_EPOCH ?= $(shell git log -1 --format=%ct)
+# What is made depends on the commit and its date alone; outside a clone it is the date of today.
+dist wheel: export SOURCE_DATE_EPOCH ?= $(or $(shell git log -1 --format=%ct 2>/dev/null),$(shell date +%s))
 
 dist: build lib
 	$(MAKE) wheel

@@ -32,8 +32,8 @@ setup(
             define_macros=[("Py_LIMITED_API", f"0x{PYTHON[0]:02x}{PYTHON[1]:02x}0000")],
             extra_objects=[str(LIBRARY / "libbplist.a")],
             # With -g0 and -s there is no path in the module, and so it is the same wherever it is built.
-            extra_compile_args=["-std=c11", "-Wall", "-Wextra", "-g0", "-fvisibility=hidden", f"-ffile-prefix-map={HERE}=."],
-            extra_link_args=["-s", "-Wl,--no-undefined-version"],
+            extra_compile_args=[*"-std=gnu11 -Wall -Wextra -g0 -fvisibility=hidden".split(), f"-ffile-prefix-map={HERE}=."],
+            extra_link_args=["-s", "-Wl,-z,relro,-z,now"],
             py_limited_api=True,
         )
     ],

@@ -4,10 +4,10 @@
 Makes docs/DEFINITIONS.md from crates/*/specs: what a reader has to believe, in the order in which it is read. The page has
 the definitions that the theorem leads to with their text, then those that its other clauses add, and then, by name, those
 of all other public calls. With --write the page is written. Without, it is compared with the one that is there, one test a
-section; and two more tests ask that no public contract leads to a definition that computes what the grammar says, and that
-each file of the theorem has its place in the reading order. The last line printed is `N passed, M failed`. With --count the
-table of the page is printed, or how many definitions and lines the contracts of these calls lead to, with types as
-`Checked` for their methods.
+section; and three more tests ask that no public contract leads to a definition that computes what the grammar says, that
+each file of the theorem has its place in the reading order, and that README.md has the theorem as it stands in the sources.
+The last line printed is `N passed, M failed`. With --count the table of the page is printed, or how many definitions and
+lines the contracts of these calls lead to, with types as `Checked` for their methods.
 """
 import itertools
 import pathlib
@@ -401,6 +401,16 @@ def misplaced(reading):
     return f"these files have no place in the reading order: {'; '.join(found)}" if found else ""
 
 
+def unquoted(reading):
+    """What README.md does not say of the theorem as the sources do: the clauses, the record, how much is to be believed."""
+    record = next(one for one in reading.seen if one.name == "IsAnswered")
+    _, many, lines = reading.table()[0]
+    wanted = [*reading.clauses.values(), "\n".join(record.lines).rstrip(), f"{many} definitions of {lines} lines"]
+    text = (HERE / "README.md").read_text()
+    found = [one.split(" {")[0].splitlines()[0] for one in wanted if one not in text]
+    return f"README.md does not say of the theorem what the sources say: {'; '.join(found)}" if found else ""
+
+
 def main():
     if "--count" in sys.argv[1:]:
         return count(set(sys.argv[2:]))
@@ -412,10 +422,10 @@ def main():
     text = page.read_text() if page.exists() else ""
     stale = [part for part, wanted in sections.items() if wanted not in text]
     failed = [f"docs/DEFINITIONS.md is not what specs/ says: run tests/definitions.py --write ({part})" for part in stale]
-    failed += [lines for lines in (computing(reading), misplaced(reading)) if lines]
+    failed += [lines for lines in (computing(reading), misplaced(reading), unquoted(reading)) if lines]
     for one in failed:
         print(one)
-    print(f"{len(sections) + 2 - len(failed)} passed, {len(failed)} failed")
+    print(f"{len(sections) + 3 - len(failed)} passed, {len(failed)} failed")
     return 1 if failed else 0
 
 

@@ -37,8 +37,11 @@ PACKAGES = ["bplint", "libbplist0", "libbplist-dev"]
 MULTIARCH = "lib/x86_64-linux-gnu"
 TOOLS = ["dh", "fakeroot", "gcc", "lintian", "man", "objdump", "pkg-config"]
 STRICT = ["-std=c11", "-Wall", "-Wextra", "-Werror", "-pedantic", "-O2"]
-# Another writer of the same commit.
+# The date of the release, in the past as that of a commit is, and what another maker of it may have set.
+DATE = {"SOURCE_DATE_EPOCH": 1700000000}
 ELSEWHERE = {"TZ": "Asia/Tokyo", "LC_ALL": "C.UTF-8"}
+# No part of a release is made from these.
+UNREAD = [".git", "conformance", "crates", "dist", "docs", "rust", "tests"]
 
 
 @dataclasses.dataclass
@@ -69,16 +72,6 @@ def files_below(folder):
     return [path for path in folder.rglob("*") if path.is_file() and not path.is_symlink()]
 
 
-def copied_tree(folder):
-    """What `make dist` reads of this tree, in another folder."""
-    listed = run("git", "ls-files", "-z", "--cached", "--others", "--exclude-standard", folder=ROOT)
-    for name in listed.split("\0"):
-        if name and not name.startswith(("crates/", "tests/")) and (ROOT / name).is_file():
-            (folder / name).parent.mkdir(parents=True, exist_ok=True)
-            shutil.copy(ROOT / name, folder / name)
-    return folder
-
-
 def newest(pattern, text):
     """The greatest of the versions that a pattern finds."""
     return max((tuple(map(int, version.split("."))) for version in re.findall(pattern, text)), default=())
@@ -104,11 +97,10 @@ class Tests:
         run("make", "-s", "-C", tree, "-o", "build", "-o", "lib", *self.built, *words, **given)
 
     def make_twice(self):
-        self.make(ROOT, "dist", f"DIST={self.dist}")
-        again = self.folder / "again"
-        date = run("git", "log", "-1", "--format=%ct", folder=ROOT).strip()
-        tree = copied_tree(self.folder / "tree")
-        self.make(tree, "dist", f"DIST={again}", umask=0o077, SOURCE_DATE_EPOCH=date, **ELSEWHERE)
+        tree, again = self.folder / "tree", self.folder / "again"
+        shutil.copytree(ROOT, tree, ignore=lambda folder, _: UNREAD if folder == str(ROOT) else ["__pycache__"])
+        self.make(ROOT, "dist", f"DIST={self.dist}", **DATE)
+        self.make(tree, "dist", f"DIST={again}", umask=0o077, **DATE, **ELSEWHERE)
         names = sorted(below(self.dist))
         wheels = [name for name in names if name.startswith(f"bplist-{VERSION}-") and name.endswith(".whl")]
         wanted = [f"{ARCHIVE}.tar.gz", "SHA256SUMS", *(f"{name}_{VERSION}_amd64.deb" for name in PACKAGES), *wheels[:1]]

@@ -3,7 +3,8 @@
 
 Runs other parsers of binary property lists on all files of tests/vectors and on hostile ones, and compares the tables of
 docs/PARSERS.md with what it finds; with --write it writes them there. Each file is read by a process of its own, with limits
-of processor time and memory. --only runs one parser, and looks at its columns alone. --details writes a line for each run.
+of processor time and memory; for plistlib that is a copy of this one. --only runs one parser, and looks at its columns alone.
+--details writes a line for each run.
 
 A cell of a table counts as one test. The last line printed is `N passed, M failed`, with `, K skipped` if a parser is not
 installed, or answers otherwise and has another version than the page names. The exit status is 1 if one failed.
@@ -14,6 +15,7 @@ import concurrent.futures
 import dataclasses
 import os
 import pathlib
+import platform
 import re
 import resource
 import signal
@@ -28,6 +30,10 @@ from suite import RULES, Case, all_cases, short_value
 
 HERE = pathlib.Path(__file__).resolve().parent
 READERS = HERE / "parsers"
+sys.path.insert(0, str(READERS))
+import read_python  # noqa: E402
+
+OF_THIS_PYTHON = "plistlib"
 PAGE = HERE.parent / "docs/PARSERS.md"
 SECONDS = 10
 PATIENCE = 120
@@ -101,9 +107,8 @@ def dd_plist(folder):
 def parsers(folder):
     """The parsers in the order of the page, whose readers are built in this folder."""
     python = str(READERS / "read_python.py")
-    version = told("python3", "-c", "import platform; print(platform.python_version())")
     return [
-        Parser("plistlib", version, (), ("python3", "-I", "-S", "-B", python, "plistlib")),
+        Parser(OF_THIS_PYTHON, platform.python_version(), (), (python, "plistlib")),
         libplist(folder),
         Parser("plistutil", debian("libplist-utils"), (), ("plistutil", "-i"), library=False),
         crate(folder),
@@ -130,8 +135,8 @@ def without_dates(value):
 
 
 def same_value(wanted, got):
-    """Whether a reader found the value. It may read a set as an array, a UID as the dictionary that XML has for it, a date to
-    the second, and a date that is far away as any."""
+    """Whether a reader found the value. It may read a set as an array, a UID as the dictionary that XML has for it, a date
+    to the second, and a date that is far away as any."""
     got = re.sub(f"dict\\({b'CF$UID'.hex()}=int (\\d+)\\)", r"uid \1", got)
     if wanted in (got, "large"):
         return True
@@ -155,16 +160,36 @@ def failure(parser, ran):
     return "other error" if ran.returncode == 2 and parser.library else "refuses"
 
 
+def forked(words, memory, output):
+    """Runs read_python.py in a copy of this process, which spares it to start Python for each file."""
+    with tempfile.TemporaryFile() as errors:
+        child = os.fork()
+        if child == 0:
+            limited(memory)
+            os.dup2(output.fileno(), 1)
+            os.dup2(errors.fileno(), 2)
+            sys.argv = list(words)
+            status = read_python.main()
+            sys.stdout.flush()
+            sys.stderr.flush()
+            os._exit(status)
+        _, status = os.waitpid(child, 0)
+        errors.seek(0)
+        return subprocess.CompletedProcess(words, os.waitstatus_to_exitcode(status), b"", errors.read())
+
+
+def started(words, memory, output):
+    """Runs a command, whose output goes to a file, since it may be long."""
+    return subprocess.run(words, stdin=subprocess.DEVNULL, stdout=output, stderr=subprocess.PIPE, timeout=PATIENCE,
+                          check=False, preexec_fn=lambda: limited(memory))
+
+
 def outcome(parser, case, path):
-    """What the parser does with the file, in a word, and the beginning of what it says. Its output goes to a file, since it
-    may be long."""
-    command = [*parser.command, str(path)]
-    if case.basis == "time" and parser.library:
-        command.append("parse")
+    """What the parser does with the file, in a word, and the beginning of what it says."""
+    words = [*parser.command, str(path), *(["parse"] if case.basis == "time" and parser.library else [])]
     with tempfile.TemporaryFile() as output:
         try:
-            ran = subprocess.run(command, stdin=subprocess.DEVNULL, stdout=output, stderr=subprocess.PIPE, timeout=PATIENCE,
-                                 check=False, preexec_fn=lambda: limited(parser.memory))
+            ran = (forked if parser.name == OF_THIS_PYTHON else started)(words, parser.memory, output)
         except subprocess.TimeoutExpired:
             return "time", ""
         output.seek(0)
@@ -195,6 +220,8 @@ def timed_cases():
 def run_all(parser, cases, folder, jobs):
     if parser.build:
         subprocess.run(parser.build, check=True)
+    if parser.name == OF_THIS_PYTHON:
+        return [(case, *outcome(parser, case, folder / str(number))) for number, case in enumerate(cases)]
     with concurrent.futures.ThreadPoolExecutor(jobs) as pool:
         futures = [pool.submit(outcome, parser, case, folder / str(number)) for number, case in enumerate(cases)]
         return [(case, *future.result()) for case, future in zip(cases, futures)]
@@ -272,11 +299,11 @@ def between(name):
 def written_column(page, name, parser):
     """A parser's column in a table of the page."""
     held = between(name).search(page)
-    lines = [line.strip("| ").split(" | ") for line in held[2].split("\n")] if held else [[]]
+    lines = [[cell.strip() for cell in line.split("|")[1:-1]] for line in held[2].split("\n")] if held else [[]]
     if parser not in lines[0]:
         return {}
     at = lines[0].index(parser)
-    return {line[0]: line[at] for line in lines[2:]}
+    return {line[0]: line[at] for line in lines[2:] if line[at]}
 
 
 def versions(page):

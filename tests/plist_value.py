@@ -6,7 +6,7 @@
     array(VALUE,..)  set(VALUE,..)  dict(HEX=VALUE,..)
 
 A real is the 16 hexadecimal digits of its double, or `nan`. A date counts whole seconds from 2001, or is `far` outside the
-years 1 to 9999. A text is its UTF-8 in hexadecimal, an unpaired surrogate as three bytes. Keys, and the members of a set,
+years 1 to 9999. A text is its UTF-8 in hexadecimal, an unpaired surrogate as three bytes. Pairs, and the members of a set,
 are in the order of their spelling. A value of more than NODES nodes, or deeper than DEPTH, is `large`.
 """
 import math
@@ -123,8 +123,8 @@ class Plist:
         if kind == SET:
             return f"set({','.join(sorted(values))})"
         half = len(values) // 2
-        pairs = sorted(zip((key.removeprefix("text ") for key in values[:half]), values[half:]))
-        return f"dict({','.join(f'{key}={value}' for key, value in pairs)})"
+        pairs = (f"{key.removeprefix('text ')}={value}" for key, value in zip(values[:half], values[half:]))
+        return f"dict({','.join(sorted(pairs))})"
 
     def reached(self):
         """The objects that the top reaches. Raises Broken if one breaks the format, or references go in a circle."""

@@ -92,7 +92,8 @@ def verdict_of(row):
 def usable(row):
     words = row.argv.split(" ")
     verbs = ("lint", "certify", "check", "get", "show", "ls", "print")
-    plain = "=" not in row.file and "--hex" not in words and not row.file.startswith(("@absent", "@sparse"))
+    of_text = any(re.fullmatch("--hex|-[a-z]*x[a-z]*", word) for word in words)
+    plain = "=" not in row.file and not of_text and not row.file.startswith(("@absent", "@sparse"))
     return plain and words[0] in verbs and "FILE" in words
 
 
@@ -300,9 +301,15 @@ def plain_name(name):
     return re.sub(r"[^A-Za-z0-9_.-]", "_", name)
 
 
+def is_binary(octets):
+    """Whether a file begins like a binary property list, but for two bytes. Many readers also take other formats."""
+    same = sum(octet == wanted for octet, wanted in zip(octets, b"bplist00"))
+    return same >= min(len(octets), 8) - 2
+
+
 def all_cases():
-    """Every file of the tables but those with a hole, and one of each family, by name."""
-    files = {**{octets: held for octets, held in family_files()}, **vector_files()}
+    """Every file of the tables that begins like a binary property list, but those with a hole; and one of each family."""
+    files = {octets: held for octets, held in [*family_files(), *vector_files().items()] if is_binary(octets)}
     taken = collections.Counter()
     cases = []
     for octets, (name, verdict) in files.items():

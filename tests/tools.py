@@ -5,6 +5,7 @@ import sys
 
 # The Debian package of each program that some tests need. `.ci/run` installs those of tests/packages, where it may.
 PACKAGES = {
+    "cargo": "cargo",
     "dh": "debhelper",
     "fakeroot": "fakeroot",
     "gcc": "gcc",

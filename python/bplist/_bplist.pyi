@@ -1,6 +1,7 @@
 """The C extension: the library's calls as the package uses them. `bplist` is what programs use."""
 import collections.abc
 import datetime
+import plistlib
 import typing
 
 VERSION: str
@@ -55,7 +56,8 @@ def bind(
     set_: type[Container],
     dict_: type[Container],
     date: type[float],
-    uid: collections.abc.Callable[[int], typing.Any],
+    uid: type[plistlib.UID],
     moment: type[datetime.datetime],
+    uid_data: str | None,
     /,
 ) -> None: ...

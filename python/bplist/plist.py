@@ -2,7 +2,6 @@
 from __future__ import annotations
 
 import builtins
-import dataclasses
 import os
 import stat
 import typing
@@ -23,8 +22,7 @@ Octets = typing.Union[bytes, bytearray, memoryview]
 Path = typing.Union[str, os.PathLike]
 
 
-@dataclasses.dataclass(frozen=True)
-class Verdict:
+class Verdict(typing.NamedTuple):
     """What the linter says of a file.
 
     fault: None if the file holds a value, else the first broken rule. Of a sound file objects is the number of objects in

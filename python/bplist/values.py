@@ -181,4 +181,12 @@ class Dict(Container, MappingBase):
 
 collections.abc.Sequence.register(Array)
 collections.abc.Mapping.register(Dict)
-_bplist.bind(Array, Set, Dict, Date, plistlib.UID, datetime.datetime)
+_bplist.bind(
+    Array,
+    Set,
+    Dict,
+    Date,
+    plistlib.UID,
+    datetime.datetime,
+    "data" if vars(plistlib.UID(7)) == {"data": 7} else None,
+)

@@ -24,9 +24,9 @@ static int64_t micros_of(double seconds)
     return whole * SECOND + micros;
 }
 
-/* The moment that is so many microseconds after the first of the year 1, in the form in which datetime pickles it: reading that
-   takes a fifth of the time that reading numbers takes. Years are counted from March here, so that the leap day is the last of
-   its year, and in eras of 400 years, which have 146097 days. */
+/* The moment that is so many microseconds after the first of the year 1, in the form in which datetime pickles it: reading
+   that takes a fifth of the time that reading numbers takes. Years are counted from March here, so that the leap day is the
+   last of its year, and in eras of 400 years, which have 146097 days. */
 static void pickled(int64_t micros, unsigned char out[10])
 {
     int days = (int)(micros / DAY) + FROM_MARCH;

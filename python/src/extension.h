@@ -27,6 +27,8 @@ enum {
     UID,
     /* datetime.datetime. */
     DATETIME,
+    /* The name of the one attribute of a UID, or None if UIDs have others. */
+    UID_DATA,
     HELD
 };
 
@@ -127,7 +129,12 @@ extern PyType_Spec handle_spec;
 /* container.c */
 
 extern PyType_Spec container_spec;
-/* The class of containers of a kind, or NULL for leaves. */
+static inline int is_container(uint32_t kind)
+{
+    return kind >= BPLIST_ARRAY;
+}
+
+/* The class of containers of a kind. */
 PyObject *class_of(State *state, uint32_t kind);
 PyObject *container_new(PyObject *class, Handle *plist, uint32_t object, uint64_t count);
 

@@ -139,10 +139,10 @@ Py_ssize_t handle_members(Handle *self, uint32_t object, uint64_t from, uint32_t
 PyObject *handle_value(Handle *self, uint32_t object)
 {
     bplist_body body;
-    PyObject *class;
 
     if (handle_face(self, object, &body) < 0)
         return NULL;
-    class = class_of(self->state, body.kind);
-    return class ? container_new(class, self, object, body.count) : leaf_of(self, object, &body);
+    if (is_container(body.kind))
+        return container_new(class_of(self->state, body.kind), self, object, body.count);
+    return leaf_of(self, object, &body);
 }

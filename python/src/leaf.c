@@ -1,12 +1,23 @@
 /* The values of objects that are no containers. */
 #include "extension.h"
 
+#include <endian.h>
 #include <string.h>
 
+/* The number of these bytes, the greatest first. */
 static uint64_t number_of(const uint8_t *bytes, uint64_t length)
 {
     uint64_t number = 0;
+    uint32_t four;
 
+    if (length == sizeof number) {
+        memcpy(&number, bytes, sizeof number);
+        return be64toh(number);
+    }
+    if (length == sizeof four) {
+        memcpy(&four, bytes, sizeof four);
+        return be32toh(four);
+    }
     for (uint64_t i = 0; i < length; i++)
         number = number << 8 | bytes[i];
     return number;
@@ -58,17 +69,32 @@ static PyObject *integer_of(Handle *self, uint32_t object, const uint8_t *bytes,
     return joined(number);
 }
 
-static PyObject *uid_of(State *state, const uint8_t *bytes, uint64_t length)
+/* A UID without a call of its __init__, which takes longer than all else. */
+static PyObject *bare_uid(State *state, PyObject *number)
 {
-    PyObject *number = PyLong_FromUnsignedLongLong(number_of(bytes, length));
-    PyObject *uid = number ? PyObject_CallFunctionObjArgs(state->held[UID], number, NULL) : NULL;
+    PyObject *uid = instance_of(state->held[UID]);
 
-    Py_XDECREF(number);
+    if (uid && PyObject_SetAttr(uid, state->held[UID_DATA], number) < 0)
+        Py_CLEAR(uid);
     return uid;
 }
 
-/* The text of UTF-16, the greater byte first. For a lone surrogate the codec calls its handler, which may be anybody's code: the
-   bytes are kept meanwhile. */
+static PyObject *uid_of(State *state, const uint8_t *bytes, uint64_t length)
+{
+    PyObject *uid, *number = PyLong_FromUnsignedLongLong(number_of(bytes, length));
+
+    if (number == NULL)
+        return NULL;
+    if (state->held[UID_DATA] == Py_None)
+        uid = PyObject_CallFunctionObjArgs(state->held[UID], number, NULL);
+    else
+        uid = bare_uid(state, number);
+    Py_DECREF(number);
+    return uid;
+}
+
+/* The text of UTF-16, the greater byte first. For a lone surrogate the codec calls its handler, which may be anybody's code:
+   the bytes are kept meanwhile. */
 static PyObject *wide_of(PyObject *owner, const char *bytes, Py_ssize_t length)
 {
     int order = 1;

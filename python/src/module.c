@@ -98,8 +98,8 @@ static PyObject *bind(PyObject *module, PyObject *arguments)
     PyTypeObject *type = &PyType_Type;
     PyObject *given[HELD];
 
-    if (!PyArg_ParseTuple(arguments, "O!O!O!OOO", type, &given[ARRAY], type, &given[SET], type, &given[DICT],
-                          &given[FAR_DATE], &given[UID], &given[DATETIME]))
+    if (!PyArg_ParseTuple(arguments, "O!O!O!OO!OO", type, &given[ARRAY], type, &given[SET], type, &given[DICT],
+                          &given[FAR_DATE], type, &given[UID], &given[DATETIME], &given[UID_DATA]))
         return NULL;
     for (int i = ARRAY; i <= DICT; i++)
         if (!is_below(given[i], state->held[CONTAINER]))
@@ -120,7 +120,7 @@ static PyMethodDef functions[] = {
     {"map_file", map_file, METH_VARARGS, "Maps so many bytes of an open file into memory."},
     {"rule_name", rule_name, METH_O, "The word of a rule."},
     {"rule_text", rule_text, METH_O, "What a rule asks."},
-    {"bind", bind, METH_VARARGS, "Says which classes of Python to use."},
+    {"bind", bind, METH_VARARGS, "Says which classes to use, and the one attribute of UIDs."},
     {NULL, NULL, 0, NULL},
 };
 

@@ -102,10 +102,7 @@ static PyObject *tree_value(Tree *tree, uint32_t object)
         return tree_again(tree, tree->made[object]);
     if (handle_face(tree->handle, object, &body) < 0)
         return NULL;
-    if (class_of(tree->handle->state, body.kind))
-        value = tree_empty(tree, object, &body);
-    else
-        value = leaf_of(tree->handle, object, &body);
+    value = is_container(body.kind) ? tree_empty(tree, object, &body) : leaf_of(tree->handle, object, &body);
     Py_XINCREF(value);
     tree->made[object] = value;
     return value;

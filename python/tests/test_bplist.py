@@ -63,6 +63,13 @@ def plist_of(*objects):
     return bplist.loads(b"bplist00" + b"".join(objects) + bytes(places) + trailer)
 
 
+def value_of(spelled):
+    """The value of the one object of a file, which has these bytes."""
+    table = 8 + len(spelled)
+    trailer = bytes(6) + b"\x01\x01" + (1).to_bytes(8, "big") + bytes(8) + table.to_bytes(8, "big")
+    return bplist.loads(b"bplist00" + spelled + b"\x08" + trailer).value
+
+
 class Tables(unittest.TestCase):
     def test_verdicts(self):
         """Each file of the tables is opened, or refused with rule, object and place."""
@@ -251,14 +258,8 @@ class Values(unittest.TestCase):
 
 
 class Edges(unittest.TestCase):
-    def value_of(self, object, count=1):
-        """The value of the top object of a file of so many objects, the first of which has these bytes."""
-        table = 8 + len(object)
-        trailer = bytes(6) + b"\x01\x01" + count.to_bytes(8, "big") + bytes(8) + table.to_bytes(8, "big")
-        return bplist.loads(b"bplist00" + object + b"\x08" * count + trailer).value
-
     def test_lone_surrogate(self):
-        self.assertEqual(self.value_of(b"\x61\xd8\x00"), "\ud800")
+        self.assertEqual(value_of(b"\x61\xd8\x00"), "\ud800")
 
     def test_keys_of_lone_surrogates(self):
         file = b"bplist00" + b"\xd1\x01\x02" + b"\x61\xdc\x00" + b"\x09" + b"\x08\x0b\x0e"
@@ -268,36 +269,19 @@ class Edges(unittest.TestCase):
             self.assertIs(plist.value["\udc00"], True)
 
     def test_far_dates(self):
-        far = self.value_of(b"\x33" + b"\x7f\xef" + b"\xff" * 6)
+        far = value_of(b"\x33" + b"\x7f\xef" + b"\xff" * 6)
         self.assertIsInstance(far, bplist.Date)
         self.assertGreater(far, 1e300)
-        self.assertTrue(math.isnan(self.value_of(b"\x33\x7f\xf8" + bytes(6))))
-
-    def test_dates(self):
-        """A date is what plistlib reckons, to the microsecond: also at the ends of datetime's range, and beyond them."""
-        epoch = datetime.datetime(2001, 1, 1)
-        given = random.Random(3)
-        first, last = (moment - epoch for moment in (datetime.datetime.min, datetime.datetime.max))
-        cases = [given.uniform(first.total_seconds(), last.total_seconds()) for _ in range(3000)]
-        cases += [float(round(case)) for case in cases] + [given.uniform(-1e-5, 1e-5) for _ in range(1000)]
-        cases += [days * 86400.0 for days in range(-800, 1600)] + [n / 64 + 1e-6 * (n % 5 - 2) / 2 for n in range(-640, 640)]
-        for end in (first.total_seconds(), last.total_seconds()):
-            cases += [end + step for step in (-86400, -1, -1e-3, 0, 1e-3, 1, 86400)]
-        for case in cases:
-            value = self.value_of(b"\x33" + struct.pack(">d", case))
-            try:
-                self.assertEqual(value, epoch + datetime.timedelta(seconds=case), case)
-            except OverflowError:
-                self.assertEqual((type(value), value), (bplist.Date, case))
+        self.assertTrue(math.isnan(value_of(b"\x33\x7f\xf8" + bytes(6))))
 
     def test_long_integers(self):
-        self.assertEqual(self.value_of(b"\x14" + b"\x7f" + b"\xff" * 15), 2**127 - 1)
-        self.assertEqual(self.value_of(b"\x14" + b"\x80" + bytes(15)), -(2**127))
-        self.assertEqual(self.value_of(b"\x12\xff\xff\xff\xff"), 2**32 - 1)
-        self.assertEqual(self.value_of(b"\x13" + b"\xff" * 8), -1)
+        self.assertEqual(value_of(b"\x14" + b"\x7f" + b"\xff" * 15), 2**127 - 1)
+        self.assertEqual(value_of(b"\x14" + b"\x80" + bytes(15)), -(2**127))
+        self.assertEqual(value_of(b"\x12\xff\xff\xff\xff"), 2**32 - 1)
+        self.assertEqual(value_of(b"\x13" + b"\xff" * 8), -1)
 
     def test_null(self):
-        self.assertIsNone(self.value_of(b"\x00"))
+        self.assertIsNone(value_of(b"\x00"))
 
     def test_shared_beyond_all_memory(self):
         """A file of 298 bytes whose tree has 2^65 - 1 nodes: opened, sized and walked to its leaf."""
@@ -338,6 +322,25 @@ class Edges(unittest.TestCase):
         with self.assertRaises(bplist.Refused) as caught:
             bplist.loads(file + (10).to_bytes(8, "big"))
         self.assertEqual((caught.exception.rule, caught.exception.circle), ("Circle", (0,)))
+
+
+class Dates(unittest.TestCase):
+    def test_dates(self):
+        """A date is what plistlib reckons, to the microsecond: also at the ends of datetime's range, and beyond them."""
+        epoch = datetime.datetime(2001, 1, 1)
+        given = random.Random(3)
+        first, last = (moment - epoch for moment in (datetime.datetime.min, datetime.datetime.max))
+        cases = [given.uniform(first.total_seconds(), last.total_seconds()) for _ in range(3000)]
+        cases += [float(round(case)) for case in cases] + [given.uniform(-1e-5, 1e-5) for _ in range(1000)]
+        cases += [days * 86400.0 for days in range(-800, 1600)] + [n / 64 + 1e-6 * (n % 5 - 2) / 2 for n in range(-640, 640)]
+        for end in (first.total_seconds(), last.total_seconds()):
+            cases += [end + step for step in (-86400, -1, -1e-3, 0, 1e-3, 1, 86400)]
+        for case in cases:
+            value = value_of(b"\x33" + struct.pack(">d", case))
+            try:
+                self.assertEqual(value, epoch + datetime.timedelta(seconds=case), case)
+            except OverflowError:
+                self.assertEqual((type(value), value), (bplist.Date, case))
 
 
 class Deep(unittest.TestCase):

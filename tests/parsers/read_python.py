@@ -67,8 +67,9 @@ class Spelling:
         if isinstance(value, (set, frozenset)):
             return f"set({','.join(sorted(self.spell(member, depth + 1) for member in value))})"
         if isinstance(value, dict):
-            pairs = [(self.spell(k, depth + 1).removeprefix("text "), self.spell(v, depth + 1)) for k, v in value.items()]
-            return f"dict({','.join(f'{key}={member}' for key, member in sorted(pairs))})"
+            spelled = ((self.spell(key, depth + 1), self.spell(member, depth + 1)) for key, member in value.items())
+            pairs = sorted(key.removeprefix("text ") + "=" + member for key, member in spelled)
+            return f"dict({','.join(pairs)})"
         return f"other {type(value).__name__}"
 
 

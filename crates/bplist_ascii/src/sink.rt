@@ -47,7 +47,7 @@ impl Sender {
         Ok(())
     }
 
-    /// Counts what a write did: how many bytes the writer took, none where an interrupted write is to be tried again. A write
+    /// Counts what a write did: how many bytes the writer took, none if an interrupted write is to be tried again. A write
     /// that took nothing is a fault, and so is one that failed otherwise, or was interrupted once too often.
     fn taken(&mut self, written: io::Result<usize>) -> Result<usize, WriteFault>
         requires { IfOk written (λ n. self.old.sent + n < 2 ^ 64) }

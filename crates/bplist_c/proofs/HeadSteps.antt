@@ -66,6 +66,24 @@ module _ (checked : CheckedFile) (n : ℕ) where
           let f = known.said vouched spells.shape (spells.has, spelled) in absurd (cc);
     }
 
+  module _ {X : Type 0} (Says : Head → Result X Status → Type 0) where
+    -- what is said of the head that was found is said of the object
+    pub by_head : (h : Head) (answer : Result X Status) → IsHead checked n (Ok h) → Says h answer → OnObject checked n IsHeadOf Says answer
+    by_head h answer known says = record {
+      none = λ no. let e = known.none no in absurd (cc);
+      said = λ vouched head is.
+          let f = known.said vouched head is in
+          let same : h ≡ head = cc in
+          subst (λ (x : Head). Says x answer) same says;
+    }
+
+    -- no head was found
+    pub no_head : (why : Status) → IsHead checked n (Err why) → OnObject checked n IsHeadOf Says (Err why)
+    no_head why known = record {
+      none = λ no. let e = known.none no in let same : why ≡ statuses.NoObject = cc in ap Err same;
+      said = λ vouched head is. let f = known.said vouched head is in absurd (cc);
+    }
+
 -- numbers that can't but be in order are
 stable_le : (a b : ℕ) → ((a ≤ b → ⊥) → ⊥) → a ≤ b
 stable_le a b h = elim (cases_lt b a) [

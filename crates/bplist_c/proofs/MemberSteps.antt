@@ -1,8 +1,10 @@
 -- The members that are read into a buffer.
-use Rattle.std.proofs.Common.{arith, ◌≡◌, ◌<◌, ◌≤◌, ◌+◌, ◌*◌, ◌-◌, ◌/◌, ◌%◌, ◌^◌, ◌∙◌, ◌++◌, min, ℕ, List, Option, Some, None, Ok, inl, inr, length, drop, slice_index, slice_get, refl, sym, ap, subst}
+use Rattle.std.proofs.Common.{arith, ◌≡◌, ◌<◌, ◌≤◌, ◌+◌, ◌*◌, ◌-◌, ◌/◌, ◌%◌, ◌^◌, ◌∙◌, ◌++◌, min, ℕ, take, List, Option, Some, None, Ok, inl, inr, length, drop, slice_index, slice_get, refl, sym, ap, subst}
 use Rattle.std.specs.List.{AllByRecursion}
 use Rattle.std.proofs.lemmas.Bool.{cases_lt}
-use Rattle.std.proofs.lemmas.Option.{slice_get-get_or, slice_get_past}
+use Rattle.std.proofs.Math.Nat.{mul-le-mul_left}
+use Rattle.std.proofs.lemmas.List.{get_or-append_right, get_or-take, get_or_append_left, length-take-le}
+use Rattle.std.proofs.lemmas.Option.{same_Some, slice_get-get_or, slice_get_past}
 use Rattle.bplist_objects.specs.declared.frame.Frame.{Frame}
 use Rattle.bplist_objects.specs.declared.head.Head.{Head}
 use Rattle.bplist_objects.specs.declared.kind.Kind.{Kind}
@@ -10,10 +12,11 @@ use Rattle.bplist_objects.specs.declared.kind.Kind.TheVariants as kinds
 use Rattle.bplist_objects.specs.Frame.{IsFrame}
 use Rattle.bplist_objects.specs.Heads.{Content, Spells, content_at, refs}
 use Rattle.bplist_objects.specs.Safe.{ref_count}
-use Rattle.bplist_objects.specs.Scan.{ref}
+use Rattle.bplist_objects.specs.Scan.{nth_number, ref}
 use Rattle.bplist_objects.proofs.FrameTies.{numbered}
 use Rattle.bplist_objects.proofs.ProperLeaves.{refs_below}
 use Rattle.bplist_objects.proofs.References.{each_ref, nth-refs}
+use Rattle.bplist_cursor.specs.declared.found.Node.{Node}
 use Rattle.bplist_cursor.specs.Members.{IsNumberOf, member_reference, named, node_of}
 use Rattle.bplist_cursor.proofs.Membership.{no_node, node_of_number}
 use Rattle.bplist_c.specs.Members.{AreSpelled, MembersSay}
@@ -21,7 +24,7 @@ use Rattle.bplist_c.specs.Members.{AreSpelled, MembersSay}
 -- the object of a node that is named, and none
 named_object : (o : Option ℕ) (m : ℕ) → Some (node_of m) ≡ named o → o ≡ Some m
 named_object None m e = cc e
-named_object (Some x) m e = let same : m ≡ x = cc e in ap Some (sym same)
+named_object (Some x) m e = ap (λ (node : Node). Some node.object.0) (sym (same_Some (node_of m) (node_of x) e))
 
 none_named : (o : Option ℕ) → None ≡ named o → o ≡ None
 none_named None e = refl
@@ -37,6 +40,65 @@ number_of_member kinds.Dict count i l = elim (cases_lt (i % 2) 1) [
 ]
 number_of_member _ count i l = absurd (omega (arith, l))
 
+-- members whose references stand one behind the other
+in_order : (kind : Kind) (count i number : ℕ) → (kind ≡ kinds.Dict → ⊥) → IsNumberOf kind count i number → number ≡ i
+in_order kinds.Dict count i number other is = absurd (other refl)
+in_order _ count i number other is = is
+
+module _ (f : List ℕ) (F : Frame) (head : Head) (from : ℕ) where
+  -- these are the references from number `start` on
+  abbrev pub AreRow : ℕ → List ℕ → Type 0
+  AreRow start row = (k : ℕ) → k < length row → slice_index row k ≡ nth_number f head.body F.ref_size (start + k)
+
+  pub row_spelled : (row objects : List ℕ) → (head.kind ≡ kinds.Dict → ⊥) → length objects ≡ length row → AreRow from row
+      → ((k : ℕ) → k < length objects → slice_index objects k ≡ slice_index row k % 2 ^ 32) → AreSpelled f F head from objects
+  row_spelled row objects other len read each = λ k number l is.
+      each k l ∙ ap (λ x. x % 2 ^ 32) (read k (omega (arith, l, len))
+      ∙ ap (nth_number f head.body F.ref_size) (sym (in_order head.kind head.count (from + k) number other is)))
+
+  -- the member is a key where its number is even, and a value where it is odd
+  abbrev pub AreInTurn : List ℕ → List ℕ → List ℕ → ℕ → Type 0
+  AreInTurn keys values objects count = (k : ℕ) → k < count
+      → ((from % 2 + k) % 2 ≡ 0 → slice_index objects k ≡ slice_index keys ((from % 2 + k) / 2) % 2 ^ 32)
+      × ((from % 2 + k) % 2 ≡ 1 → slice_index objects k ≡ slice_index values ((from % 2 + k) / 2) % 2 ^ 32)
+
+  pub pairs_spelled : (keys values objects : List ℕ) (pairs : ℕ) → head.kind ≡ kinds.Dict → length keys ≡ pairs → length values ≡ pairs
+      → from % 2 + length objects ≤ 2 * pairs → AreRow (from / 2) keys → AreRow (head.count + from / 2) values
+      → AreInTurn keys values objects (length objects) → AreSpelled f F head from objects
+  pairs_spelled keys values objects pairs e some many room read_keys read_values turns = λ k number l is.
+      let d : IsNumberOf kinds.Dict head.count (from + k) number = subst (λ kind. IsNumberOf kind head.count (from + k) number) e is in
+      let j = (from % 2 + k) / 2 in
+      elim (cases_lt ((from % 2 + k) % 2) 1) [
+        | inl low ↦
+            let even : (from % 2 + k) % 2 ≡ 0 = omega (arith, low) in
+            let same : number ≡ from / 2 + j = d.0 (from / 2 + j) (omega (arith, even)) in
+            (turns k l).0 even ∙ ap (λ x. x % 2 ^ 32) (read_keys j (omega (arith, l, some, room)) ∙ ap (nth_number f head.body F.ref_size) (sym same))
+        | inr high ↦
+            let odd : (from % 2 + k) % 2 ≡ 1 = omega (arith, high) in
+            let same : number ≡ head.count + (from / 2 + j) = d.1 (from / 2 + j) (omega (arith, odd)) in
+            let at : head.count + from / 2 + j ≡ number = omega (arith, same) in
+            (turns k l).1 odd ∙ ap (λ x. x % 2 ^ 32) (read_values j (omega (arith, l, many, room)) ∙ ap (nth_number f head.body F.ref_size) at)
+      ]
+
+  -- the first of these are members from one on
+  abbrev pub AreSpelledTo : ℕ → List ℕ → Type 0
+  AreSpelledTo count objects = (k number : ℕ) → k < count → IsNumberOf head.kind head.count (from + k) number
+      → slice_index objects k ≡ ref f F head number % 2 ^ 32
+
+  -- a block behind them makes them more
+  pub spelled_more : (objects block rest : List ℕ) (done now : ℕ) → done ≤ length objects → length block ≡ now → AreSpelledTo done objects
+      → AreSpelled f F head (from + done) block → AreSpelledTo (done + now) (take done objects ++ (block ++ rest))
+  spelled_more objects block rest done now within len before here = λ k number l is.
+      let front : length (take done objects) ≡ done = length-take-le done objects within in
+      elim (cases_lt k done) [
+        | inl a ↦ get_or_append_left (take done objects) (block ++ rest) 0 k (omega (arith, front, a)) ∙ get_or-take done objects k 0 a ∙ before k number a is
+        | inr b ↦
+            let at : from + done + (k - done) ≡ from + k = omega (arith, b) in
+            get_or-append_right (take done objects) (block ++ rest) done k 0 front b
+            ∙ get_or_append_left block rest 0 (k - done) (omega (arith, len, l, b))
+            ∙ here (k - done) number (omega (arith, len, l, b)) (subst (λ i. IsNumberOf head.kind head.count i number) (sym at) is)
+      ]
+
 module _ (f : List ℕ) (F : Frame) (n : ℕ) (content : Content) (head : Head) (framed : IsFrame f F) (spells : Spells f F n content)
     (means : content ≡ content_at f F head) where
   -- a reference fits 32 bits
@@ -45,7 +107,8 @@ module _ (f : List ℕ) (F : Frame) (n : ℕ) (content : Content) (head : Head) 
       let all = subst (λ c. AllByRecursion (λ m. m < F.objects) (refs c)) means (refs_below f F n content spells) in
       let low = each_ref f F (λ m. m < F.objects) head.kind head.count head.body all r l in
       let ties = numbered framed in
-      omega (arith, low, ties.large, ties.whole, ties.offset_size.0)
+      let entries : F.objects * 1 ≤ F.objects * F.offset_size = mul-le-mul_left F.objects ties.offset_size.0 in
+      omega (arith, low, ties.large, ties.whole, entries)
 
   -- an object that is read is the one of its member
   member_read : (objects : List ℕ) (from k : ℕ) → k < length objects → from + k < ref_count head.kind head.count → AreSpelled f F head from objects

@@ -26,19 +26,24 @@ pub fitting : (items old new : List ℕ) (was count : ℕ) → length items ≤ 
     → Puts (Ok items) old new was count 0
 fitting items old new was count fits counted put = (counted, rw (le-leb (length items) (length old) fits) (refl, put))
 
+-- a part that was read into the front of the buffer, as much as there is and as fits, is put
+pub part_put : (us : List ℕ) (from start now : ℕ) (read old : List ℕ) (was : ℕ) → start ≡ min from (length us)
+    → now ≡ min (length us - start) (length old) → read ≡ part us start now → Puts (Ok (part us from (length old))) old (read ++ drop now old) was now 0
+part_put us from start now read old was e d is =
+    let items = part us from (length old) in
+    let left = length-drop from us in
+    let begin : (start ≡ from) ⊎ (now ≡ 0) = elim (cases_lt (length us) from) [
+      | inl past ↦ inr (omega (arith, past, e, d))
+      | inr within ↦ inl (omega (arith, within, e))
+    ] in
+    let same : read ≡ items = is ∙ same_part us start from now begin ∙ as_fit (drop from us) now (length old) (omega (arith, left, e, d)) in
+    let size : length items ≡ now = length-take (length old) (drop from us) ∙ omega (arith, left, e, d) in
+    fitting items old (read ++ drop now old) was now (omega (arith, size, d)) (sym size) (rw size (ap (λ us. us ++ drop now old) same))
+
 -- units that were read into the front of the buffer, as many as there are and as fit, are put
 pub units_put : (f : List ℕ) (head : Head) (from start now : ℕ) (read old : List ℕ) (was : ℕ) → IsTextKind head.kind → IsSafeBody (length f) head
     → start ≡ min from head.count → now ≡ min (head.count - start) (length old) → read ≡ part (units_of f head) start now
     → Puts (Ok (part (units_of f head) from (length old))) old (read ++ drop now old) was now 0
 units_put f head from start now read old was text safe e d is =
-    let us = units_of f head in
-    let items = part us from (length old) in
-    let all : length us ≡ head.count = length-units_at f head.kind head.count head.body text (omega (arith, safe.body, safe.within)) in
-    let left = length-drop from us in
-    let begin : (start ≡ from) ⊎ (now ≡ 0) = elim (cases_lt head.count from) [
-      | inl past ↦ inr (omega (arith, past, e, d))
-      | inr within ↦ inl (omega (arith, within, e))
-    ] in
-    let same : read ≡ items = is ∙ same_part us start from now begin ∙ as_fit (drop from us) now (length old) (omega (arith, all, left, e, d)) in
-    let size : length items ≡ now = length-take (length old) (drop from us) ∙ omega (arith, all, left, e, d) in
-    fitting items old (read ++ drop now old) was now (omega (arith, size, d)) (sym size) (rw size (ap (λ us. us ++ drop now old) same))
+    let all : length (units_of f head) ≡ head.count = length-units_at f head.kind head.count head.body text (omega (arith, safe.body, safe.within)) in
+    part_put (units_of f head) from start now read old was (omega (arith, all, e)) (omega (arith, all, d)) is

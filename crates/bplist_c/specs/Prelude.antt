@@ -35,7 +35,7 @@ pub use Rattle.bplist_c.specs.Members.{AreSpelled, MembersSay}
 pub use Rattle.bplist_c.specs.Objects.{OnObject, body_of, bytes_of_body, int_answer, kind_number, uid_answer, units_answer}
 pub use Rattle.bplist_c.specs.Sessions.{IsFileOf, IsRefused, IsSame, IsSessionOf, OnHandle, checked_of}
 pub use Rattle.bplist_c.specs.Sizes.{sizes_by}
-pub use Rattle.bplist_c.specs.Statuses.{Puts, Tells, items_of, number_of, status_texts}
+pub use Rattle.bplist_c.specs.Statuses.{Puts, Tells, items_of, number_of, sentence_of}
 pub use Rattle.bplist_c.specs.Texts.{IsTextOf, TellsText, printed_as, text_length}
 pub use Rattle.bplist_c.specs.Verdicts.{ShowsLint, circle_answer, refused_told}
 pub use Rattle.bplist_c.specs.declared.object.BplistBody.{BplistBody}

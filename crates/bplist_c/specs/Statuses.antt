@@ -1,19 +1,40 @@
 -- What C is told of an answer. Source: profile.
-use Rattle.std.specs.Prelude.{◌≡◌, ℕ, suc, nat_le, if◌then◌else◌, List, ◌++◌, length, drop, map, Result, MatchResult, Ok, Err, Vec}
+use Prim.Native.String.{String}
+use Rattle.std.specs.Prelude.{◌≡◌, ℕ, suc, nat_le, if◌then◌else◌, List, [], ◌∷◌, ◌++◌, codes, length, drop, get_or, Result, MatchResult, Ok, Err, Vec}
 use Rattle.std.specs.Global.{Global}
 use denote.Enum.Declared.{tag_of}
 use Rattle.bplist_c.specs.declared.status.Status.{Status}
 use Rattle.bplist_c.specs.declared.status.Status.TheVariants as statuses
-use Rattle.bplist_c.specs.declared.status.TheConstants.{STATUS_TEXTS}
 use Rattle.bplist_c.specs.contracts.status.Status.{the_type}
 
 -- the number of a status in the header: its place among the statuses, from 1
 abbrev pub number_of : Status → ℕ
 number_of status = suc (tag_of the_type status)
 
--- the sentences of the statuses, in the order of their numbers from 0
-abbrev pub status_texts : List (List ℕ)
-status_texts = map (λ text. text.now) STATUS_TEXTS
+-- the sentences of the statuses from 1 on, in the order of their numbers
+abbrev pub sentences : List String
+sentences =
+    "The file or the certificate breaks a rule."
+    ∷ "A growth of memory was refused."
+    ∷ "The handle is closed."
+    ∷ "The handle is open already."
+    ∷ "The file is not the one that was opened."
+    ∷ "The file has no object with that number, or its top object does not reach it."
+    ∷ "The object is of another kind than the call asks for."
+    ∷ "The object has no such member."
+    ∷ "The dictionary has no such key."
+    ∷ "The step of the path is not an index of the array."
+    ∷ "The value is neither a dictionary nor an array."
+    ∷ "The path is not a JSON Pointer."
+    ∷ "The path is not UTF-8."
+    ∷ "The buffer is too short."
+    ∷ "The value has no old-style text."
+    ∷ "There is no rule with that number."
+    ∷ "There is no status with that number." ∷ []
+
+-- the sentence of a status
+abbrev pub sentence_of : Status → List ℕ
+sentence_of status = codes (get_or sentences (tag_of the_type status) "")
 
 -- status 0 and the answer, or why there is none and an unchanged output
 abbrev pub Tells : {X : Type 0} → Result X Status → X → X → ℕ → Type 0

@@ -1,6 +1,6 @@
 //! The members of containers: the objects that they refer to.
 
-ghost use Rattle.std.specs.Prelude.{◌≡◌, ◌≢◌, ◌+◌, ◌*◌, ◌≤◌, ◌<◌, ℕ, List, Result, length, ok_or, slice_index};
+ghost use Rattle.std.specs.Prelude.{◌≡◌, ◌≢◌, ◌+◌, ◌*◌, ◌%◌, ◌^◌, ◌≤◌, ◌<◌, ℕ, List, Result, length, ok_or, slice_index};
 ghost use Rattle.bplist_c.specs.Prelude.{Spells, IsSafeHead, member_reference, nth_number, ref_count, Dict, AreSpelled, MembersSay, Status as status, NoMember, OnObject, IsFileOf, IsSame, OnHandle, Puts, Tells};
 
 use crate::handle::BplistHandle;
@@ -36,8 +36,8 @@ fn member_of(checked: &mut Checked<SliceSource<'_>>, object: u32, i: u64) -> Res
     }
 }
 
-/// Fills `into` with the numbers of the references from number `from` on, as they are written: in a dictionary the keys stand
-/// before the values.
+/// Fills `into` with the numbers of the references from number `from` on, as they are written: in a dictionary the keys
+/// stand before the values.
 fn read_row(checked: &Checked<SliceSource<'_>>, head: &Head, from: u64, into: &mut [u64])
     requires head { IsSafeHead checked.now.frame head.now }
     requires within { from + length into.old ≤ ref_count head.now.kind head.now.count }
@@ -52,6 +52,13 @@ fn read_row(checked: &Checked<SliceSource<'_>>, head: &Head, from: u64, into: &m
     }
 }
 
+/// The number of a reference, which 32 bits hold.
+fn in_32_bits(number: u64) -> u32
+    ensures { result ≡ number % 2 ^ 32 }
+{
+    (number % (1 << 32)) as u32
+}
+
 /// Fills a block with the members of an array or a set from number `from` on.
 fn fill_in_order(checked: &Checked<SliceSource<'_>>, head: &Head, from: u64, into: &mut [u32])
     requires kind { head.now.kind ≢ Dict }
@@ -60,11 +67,12 @@ fn fill_in_order(checked: &Checked<SliceSource<'_>>, head: &Head, from: u64, int
     requires within { from + length into.old ≤ ref_count head.now.kind head.now.count }
     ensures { AreSpelled checked.now.source.octets checked.now.frame head.now from into.new }
 {
+    let _octets = checked.octets();
     let mut block = [0u64; BLOCK];
     let block = &mut block[..into.len()];
     read_row(checked, head, from, block);
     for k in 0..into.len() {
-        into[k] = (block[k] % (1 << 32)) as u32;
+        into[k] = in_32_bits(block[k]);
     }
 }
 
@@ -73,22 +81,25 @@ fn fill_in_pairs(checked: &Checked<SliceSource<'_>>, head: &Head, from: u64, int
     requires kind { head.now.kind ≡ Dict }
     requires head { IsSafeHead checked.now.frame head.now }
     requires few { length into.old ≤ 64 }
+    requires fits { 2 * head.now.count < 2 ^ 64 }
     requires within { from + length into.old ≤ 2 * head.now.count }
     ensures { AreSpelled checked.now.source.octets checked.now.frame head.now from into.new }
 {
-    let first = from / 2;
-    let pairs = ((from + into.len() as u64).div_ceil(2) - first) as usize;
-    let (mut keys, mut values) = ([0u64; PAIRS], [0u64; PAIRS]);
-    read_row(checked, head, first, &mut keys[..pairs]);
-    read_row(checked, head, head.count + first, &mut values[..pairs]);
+    let (first, odd) = (from / 2, (from % 2) as usize);
+    let pairs = (odd + into.len()).div_ceil(2);
+    let mut keys = [0u64; PAIRS];
+    let keys = &mut keys[..pairs];
+    read_row(checked, head, first, keys);
+    let mut values = [0u64; PAIRS];
+    let values = &mut values[..pairs];
+    read_row(checked, head, head.count + first, values);
     for k in 0..into.len() {
-        let i = (from % 2) as usize + k;
-        let member = if i % 2 == 0 {
-            keys[i / 2]
+        let i = odd + k;
+        if i % 2 == 0 {
+            into[k] = in_32_bits(keys[i / 2]);
         } else {
-            values[i / 2]
-        };
-        into[k] = (member % (1 << 32)) as u32;
+            into[k] = in_32_bits(values[i / 2]);
+        }
     }
 }
 
@@ -96,6 +107,7 @@ fn fill_in_pairs(checked: &Checked<SliceSource<'_>>, head: &Head, from: u64, int
 fn fill_block(checked: &Checked<SliceSource<'_>>, head: &Head, from: u64, into: &mut [u32])
     requires head { IsSafeHead checked.now.frame head.now }
     requires few { length into.old ≤ 64 }
+    requires fits { ref_count head.now.kind head.now.count < 2 ^ 64 }
     requires within { from + length into.old ≤ ref_count head.now.kind head.now.count }
     ensures { AreSpelled checked.now.source.octets checked.now.frame head.now from into.new }
 {
@@ -108,6 +120,7 @@ fn fill_block(checked: &Checked<SliceSource<'_>>, head: &Head, from: u64, into: 
 /// Fills `into` with the members from number `from` on, block by block.
 fn fill(checked: &Checked<SliceSource<'_>>, head: &Head, from: u64, into: &mut [u32])
     requires head { IsSafeHead checked.now.frame head.now }
+    requires fits { ref_count head.now.kind head.now.count < 2 ^ 64 }
     requires within { from + length into.old ≤ ref_count head.now.kind head.now.count }
     ensures { AreSpelled checked.now.source.octets checked.now.frame head.now from into.new }
 {
@@ -139,6 +152,7 @@ fn put_members(
         Ok(head) => head,
         Err(status) => return status.number(),
     };
+    let (_octets, _frame) = (checked.octets(), checked.frame());
     let all = refs_of(&head);
     let from = from.min(all);
     let now = (all - from).min(buffer.len() as u64);

@@ -1,7 +1,7 @@
 //! What a call returns, and how it tells its answer.
 
-ghost use Rattle.std.specs.Prelude.{◌≡◌, Ok};
-ghost use Rattle.bplist_c.specs.Prelude.{number_of, Puts, Tells, items_of};
+ghost use Rattle.std.specs.Prelude.{◌≡◌, ◌<◌, ◌⊎◌, MatchOption, Ok};
+ghost use Rattle.bplist_c.specs.Prelude.{number_of, Puts, Tells, items_of, sentence_of};
 
 /// Why a call has no answer, in the order of the numbers of the header.
 #[derive(Clone, Copy, Debug, PartialEq, Eq, Drop)]
@@ -42,34 +42,64 @@ pub(crate) enum Status {
     NoStatus,
 }
 
-/// What each status means, in the order of their numbers from 0.
-pub(crate) static STATUS_TEXTS: [&str; 18] = [
-    "The answer is in the outputs.",
-    "The file or the certificate breaks a rule.",
-    "A growth of memory was refused.",
-    "The handle is closed.",
-    "The handle is open already.",
-    "The file is not the one that was opened.",
-    "The file has no object with that number, or its top object does not reach it.",
-    "The object is of another kind than the call asks for.",
-    "The object has no such member.",
-    "The dictionary has no such key.",
-    "The step of the path is not an index of the array.",
-    "The value is neither a dictionary nor an array.",
-    "The path is not a JSON Pointer.",
-    "The path is not UTF-8.",
-    "The buffer is too short.",
-    "The value has no old-style text.",
-    "There is no rule with that number.",
-    "There is no status with that number.",
-];
-
 impl Status {
     /// The number that C is told.
     pub(crate) fn number(self) -> u32
         ensures { result ≡ number_of self }
     {
         self as u32 + 1
+    }
+
+    /// The status that C is told by this number, if there is one.
+    pub(crate) fn of_number(number: u32) -> Option<Status>
+        ensures { MatchOption result ((number ≡ 0) ⊎ (17 < number)) (λ status. number_of status ≡ number) }
+    {
+        match number {
+            1 => Some(Status::Fault),
+            2 => Some(Status::Memory),
+            3 => Some(Status::Closed),
+            4 => Some(Status::Opened),
+            5 => Some(Status::OtherFile),
+            6 => Some(Status::NoObject),
+            7 => Some(Status::OtherKind),
+            8 => Some(Status::NoMember),
+            9 => Some(Status::NoKey),
+            10 => Some(Status::NoIndex),
+            11 => Some(Status::NotSteppable),
+            12 => Some(Status::PathText),
+            13 => Some(Status::NotUtf8),
+            14 => Some(Status::Short),
+            15 => Some(Status::NoText),
+            16 => Some(Status::NoRule),
+            17 => Some(Status::NoStatus),
+            _ => None,
+        }
+    }
+
+    /// What the status means, as one sentence.
+    pub(crate) fn sentence(self) -> &'static str
+        ensures { result.now ≡ sentence_of self }
+    {
+        match self {
+            Status::Fault => "The file or the certificate breaks a rule.",
+            Status::Memory => "A growth of memory was refused.",
+            Status::Closed => "The handle is closed.",
+            Status::Opened => "The handle is open already.",
+            Status::OtherFile => "The file is not the one that was opened.",
+            Status::NoObject =>
+                "The file has no object with that number, or its top object does not reach it.",
+            Status::OtherKind => "The object is of another kind than the call asks for.",
+            Status::NoMember => "The object has no such member.",
+            Status::NoKey => "The dictionary has no such key.",
+            Status::NoIndex => "The step of the path is not an index of the array.",
+            Status::NotSteppable => "The value is neither a dictionary nor an array.",
+            Status::PathText => "The path is not a JSON Pointer.",
+            Status::NotUtf8 => "The path is not UTF-8.",
+            Status::Short => "The buffer is too short.",
+            Status::NoText => "The value has no old-style text.",
+            Status::NoRule => "There is no rule with that number.",
+            Status::NoStatus => "There is no status with that number.",
+        }
     }
 }
 

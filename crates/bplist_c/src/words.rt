@@ -1,9 +1,9 @@
 //! Names and texts of rules and statuses, and the version.
 
-ghost use Rattle.std.specs.Prelude.{◌≡◌, ◌+◌, ◌*◌, ◌^◌, ◌<◌, ◌⊎◌, MatchOption, Option, ok_or, option_map, slice_get};
-ghost use Rattle.bplist_c.specs.Prelude.{NoRule, NoStatus, Rule as rule_type, number_of_rule, text_of, word_of, Puts, status_texts};
+ghost use Rattle.std.specs.Prelude.{◌≡◌, ◌≢◌, ◌+◌, ◌*◌, ◌^◌, ◌<◌, ◌⊎◌, MatchOption, Ok, Option, codes, ok_or, option_map};
+ghost use Rattle.bplist_c.specs.Prelude.{NoRule, NoStatus, Rule as rule_type, Status as status_type, number_of, sentence_of, number_of_rule, text_of, word_of, Puts};
 
-use crate::status::{STATUS_TEXTS, Status, put_all};
+use crate::status::{Status, put_all};
 use bplist_objects::{rule_name, rule_of_number, texts_of};
 
 /// Major, minor and patch number of the version, as the header has them.
@@ -48,13 +48,20 @@ pub extern "C" fn bplist_rule_text(rule: u32, text: &mut [u8], count: &mut u64) 
     }
 }
 
-/// What a status means, as one sentence.
+/// What a status means, as one sentence, by its number.
 #[unsafe(no_mangle)]
 pub extern "C" fn bplist_status_text(status: u32, text: &mut [u8], count: &mut u64) -> u32
-    ensures { Puts (ok_or (slice_get status_texts status) NoStatus) text.old text.new count.old count.new result }
+    ensures answered { status ≡ 0
+        → Puts (Ok (codes "The answer is in the outputs.")) text.old text.new count.old count.new result }
+    ensures other { status ≢ 0 → (found : Option status_type)
+        × MatchOption found ((status ≡ 0) ⊎ (17 < status)) (λ s. number_of s ≡ status)
+        × Puts (ok_or (option_map sentence_of found) NoStatus) text.old text.new count.old count.new result }
 {
-    match STATUS_TEXTS.get(status as usize) {
-        Some(sentence) => put_all(sentence.as_bytes(), text, count),
+    if status == 0 {
+        return put_all("The answer is in the outputs.".as_bytes(), text, count);
+    }
+    match Status::of_number(status) {
+        Some(status) => put_all(status.sentence().as_bytes(), text, count),
         None => Status::NoStatus.number(),
     }
 }

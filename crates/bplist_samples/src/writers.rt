@@ -1,4 +1,5 @@
 //! A writer that fails.
+ghost use Rattle.std.specs.Prelude.{◌≡◌, IfOk};
 
 use arrayvec::ArrayVec;
 use std::io::{self, ErrorKind, Write};
@@ -13,7 +14,9 @@ pub enum Trouble {
 }
 
 impl Trouble {
-    fn answer(self) -> io::Result<usize> {
+    fn answer(self) -> io::Result<usize>
+        ensures { IfOk result (λ count. count ≡ 0) }
+    {
         match self {
             Trouble::Interrupted => Err(io::Error::from(ErrorKind::Interrupted)),
             Trouble::WouldBlock => Err(io::Error::from(ErrorKind::WouldBlock)),

@@ -74,10 +74,34 @@ impl<'a> Value<'a> {
         })
     }
 
+    /// True or false, if the value is one of them.
+    pub fn as_bool(&self) -> Option<bool> {
+        match self {
+            Value::Bool(value) => Some(*value),
+            _ => None,
+        }
+    }
+
     /// The integer, if the value is one.
     pub fn as_int(&self) -> Option<i128> {
         match self {
             Value::Int(number) => Some(*number),
+            _ => None,
+        }
+    }
+
+    /// The floating-point number, if the value is one.
+    pub fn as_real(&self) -> Option<f64> {
+        match self {
+            Value::Real(number) => Some(*number),
+            _ => None,
+        }
+    }
+
+    /// The point in time, if the value is one.
+    pub fn as_date(&self) -> Option<Date> {
+        match self {
+            Value::Date(date) => Some(*date),
             _ => None,
         }
     }
@@ -98,10 +122,26 @@ impl<'a> Value<'a> {
         }
     }
 
+    /// The number of the UID, if the value is one.
+    pub fn as_uid(&self) -> Option<u32> {
+        match self {
+            Value::Uid(number) => Some(*number),
+            _ => None,
+        }
+    }
+
     /// The array, if the value is one.
     pub fn as_array(&self) -> Option<Array<'a>> {
         match self {
             Value::Array(array) => Some(*array),
+            _ => None,
+        }
+    }
+
+    /// The set, if the value is one.
+    pub fn as_set(&self) -> Option<Set<'a>> {
+        match self {
+            Value::Set(set) => Some(*set),
             _ => None,
         }
     }

@@ -36,15 +36,15 @@ fn leaves() {
     let plist = Plist::open(&file).unwrap();
     let values: Vec<Value> = plist.root().as_array().unwrap().iter().collect();
     assert!(matches!(values[0], Value::Null));
-    assert!(matches!(values[1], Value::Bool(true)));
+    assert_eq!(values[1].as_bool(), Some(true));
     assert_eq!(values[2].as_int(), Some(255));
     assert_eq!(values[3].as_int(), Some(-2));
     assert_eq!(values[4].as_int(), Some(u64::MAX.into()));
-    assert!(matches!(values[5], Value::Real(number) if number == 1.5));
-    assert!(matches!(values[6], Value::Real(number) if number == -1.5));
-    let Value::Date(date) = values[7] else {
-        panic!("{:?}", values[7])
-    };
+    assert_eq!(
+        (values[5].as_real(), values[6].as_real()),
+        (Some(1.5), Some(-1.5))
+    );
+    let date = values[7].as_date().unwrap();
     assert_eq!(date.seconds(), -2.0);
     assert_eq!(
         date.to_system_time(),
@@ -60,10 +60,11 @@ fn leaves() {
         text.units().collect::<Vec<u16>>(),
         [0xe9, 0xd83d, 0xde00, 0xd83d]
     );
-    assert!(matches!(values[11], Value::Uid(256)));
-    let Value::Set(set) = values[12] else {
-        panic!("{:?}", values[12])
-    };
+    assert_eq!(
+        (values[11].as_uid(), values[11].as_int()),
+        (Some(256), None)
+    );
+    let set = values[12].as_set().unwrap();
     assert!(matches!(set.iter().next(), Some(Value::Null)));
 }
 

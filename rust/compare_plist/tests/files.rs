@@ -12,14 +12,16 @@ const STACK: usize = 1 << 30;
 
 /// Whether both crates take the file. They must see the same value in it then.
 fn is_compared(name: &str, file: &[u8]) -> bool {
-    let Ok(ours) = Plist::open(file) else {
-        return false;
+    let ours = match Plist::open(file) {
+        Ok(plist) => plist,
+        Err(_) => return false,
     };
     if ours.nodes().unwrap() > MOST_NODES {
         return false;
     }
-    let Ok(theirs) = plist::Value::from_reader(io::Cursor::new(file)) else {
-        return false;
+    let theirs = match plist::Value::from_reader(io::Cursor::new(file)) {
+        Ok(value) => value,
+        Err(_) => return false,
     };
     assert!(
         same(ours.root(), &theirs),
