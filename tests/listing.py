@@ -12,13 +12,13 @@ import os
 import pathlib
 import plistlib
 import re
-import shutil
 import subprocess
 import sys
 import tempfile
 
 import map as file_map
 import real_files
+from tools import closing, lacks
 
 LIMIT = 1_000_000
 LISTED = 200_000
@@ -308,7 +308,7 @@ def try_textconv(program, folder):
 def all_files(folder):
     yield from file_map.table_files()
     for name, writer, value in real_files.all_files():
-        missing = writer is real_files.by_plistutil and shutil.which("plistutil") is None
+        missing = writer is real_files.by_plistutil and lacks("plistutil")
         yield name, None if missing else writer(value, folder)
 
 
@@ -344,7 +344,7 @@ def main():
             except (AssertionError, subprocess.SubprocessError) as trouble:
                 failed += 1
                 print(f"{name}: {str(trouble)[:600]}")
-    print(f"{passed} passed, {failed} failed" + (f", {skipped} skipped" if skipped else ""))
+    print(closing(passed, failed, skipped))
     return 1 if failed else 0
 
 

@@ -15,12 +15,13 @@ were.
 import os
 import pathlib
 import re
-import shutil
 import subprocess
 import sys
 import tempfile
 import unittest
 import zipfile
+
+from tools import closing, lacks
 
 ROOT = pathlib.Path(__file__).resolve().parent.parent
 TESTS = ROOT / "python/tests"
@@ -82,8 +83,8 @@ class Wheel:
         environment = dict(os.environ, **environment)
         ran = subprocess.run(words, stdout=subprocess.PIPE, stderr=subprocess.STDOUT, text=True, cwd=self.folder,
                              timeout=SECONDS, env=environment, check=False)
-        closing = CLOSING.search(ran.stdout)
-        passed, failed = map(int, closing.groups()) if closing else (0, 1)
+        said = CLOSING.search(ran.stdout)
+        passed, failed = map(int, said.groups()) if said else (0, 1)
         if ran.returncode != 0:
             print(f"{name}: status {ran.returncode}\n{ran.stdout}")
             failed = max(failed, 1)
@@ -94,7 +95,7 @@ class Wheel:
         self.run("tests of the package", self.python, "-X", "dev", "-B", __file__, "--run")
 
     def refuse_growths(self):
-        if not shutil.which("gcc"):
+        if lacks("gcc"):
             return self.skip("refused growths of the package", "gcc is not here")
         preload = self.folder / "refuse_growth.so"
         subprocess.run(["gcc", "-shared", "-fPIC", "-O2", "-o", preload, ROOT / "tests/refuse_growth.c"], check=True)
@@ -102,7 +103,7 @@ class Wheel:
         self.run("refused growths", *program, LD_PRELOAD=str(preload), PYTHONMALLOC="malloc_debug")
 
     def look_at_memory(self):
-        if not shutil.which("valgrind"):
+        if lacks("valgrind"):
             return self.skip("memory of the package", "valgrind is not here")
         tool = ["valgrind", "-q", "--error-exitcode=99"]
         self.run("valgrind", *tool, self.python, "-B", __file__, "--run", "Values", "Edges", PYTHONMALLOC="malloc")
@@ -120,7 +121,7 @@ def main():
         wheel.run_package()
         wheel.refuse_growths()
         wheel.look_at_memory()
-    print(f"{wheel.passed} passed, {wheel.failed} failed" + (f", {wheel.skipped} skipped" if wheel.skipped else ""))
+    print(closing(wheel.passed, wheel.failed, wheel.skipped))
     return 1 if wheel.failed else 0
 
 
