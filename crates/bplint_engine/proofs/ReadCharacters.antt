@@ -1,6 +1,6 @@
 -- Texts that are read in parts, each of which ends between two characters.
-use Rattle.std.proofs.Common.{◌≡◌, ◌<◌, ◌≤◌, ◌+◌, ◌-◌, ◌&&◌, ◌||◌, ◌++◌, ℕ, zero, suc, List, [], ◌∷◌, Bool, true, false, Option, map, length, take, drop, slice_index, ap, sym, ◌∙◌, refl, subst, arith, append_assoc, append-nil, cond}
-use Rattle.std.proofs.Common.{take-append-drop, get_or-drop, Some, None}
+use Rattle.std.proofs.Common.{◌≡◌, ◌<◌, ◌≤◌, ◌+◌, ◌-◌, ◌&&◌, ◌||◌, ◌++◌, ℕ, suc, List, [], ◌∷◌, Bool, true, false, Option, map, length, take, drop, slice_index, ap, sym, ◌∙◌, refl, arith, append_assoc, append-nil, cond}
+use Rattle.std.proofs.Common.{take-append-drop, get_or-drop, Some}
 use Rattle.std.proofs.lemmas.Bool.Decides.{nat_tests}
 use Rattle.std.specs.Prelude.{get_or}
 use Rattle.std.proofs.lemmas.List.{drop-drop, drop_all, get_or_append_left, get_or_past, map-append, take-append-le, take-take}
@@ -10,7 +10,7 @@ use Rattle.bplist_objects.proofs.Parts.{get_or-part}
 use Rattle.bplist_objects.proofs.Units.{length-part}
 use Rattle.std.specs.Prelude.{not, is_some, unwrap_or, encode_utf8_all}
 use Rattle.std.specs.List.{list_any}
-use Rattle.std.specs.Char.Utf16.{has_unpaired_surrogate, is_high_surrogate, is_low_surrogate, lone_unit_char, surrogate_pair_char, utf16_chars, utf16_lossy_chars}
+use Rattle.std.specs.Char.Utf16.{has_unpaired_surrogate, is_high_surrogate, is_low_surrogate, lone_unit_char, surrogate_pair_char, utf16_chars}
 use Rattle.bplist_octets.specs.Octets.{part}
 use Rattle.bplint_engine.specs.Streams.{IsCut}
 

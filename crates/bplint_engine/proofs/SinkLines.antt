@@ -1,5 +1,5 @@
 -- The first line of a value that is listed.
-use Rattle.std.proofs.Common.{◌≡◌, ◌<◌, ◌≤◌, ◌++◌, ◌∷◌, ◌∙◌, [], ℕ, List, arith, length, ap, refl, sym}
+use Rattle.std.proofs.Common.{◌≡◌, ◌<◌, ◌≤◌, ◌++◌, ℕ, List, arith, length, ap}
 use Rattle.std.specs.Prelude.{Option}
 use Rattle.bplist_objects.specs.Value.{Value}
 use Rattle.bplist_ascii.specs.Sending.{Sending, Takes}

@@ -1,19 +1,18 @@
 -- What is left to list, step by step.
-use Rattle.std.proofs.Common.{IsTrue, ◌≡◌, ◌<◌, ◌≤◌, ◌+◌, ◌++◌, ◌∷◌, [], ◌∙◌, ℕ, suc, List, drop, length, take, Some, Option, Result, Ok, Err, ap, append_assoc, append-nil, arith, refl, subst, sym}
+use Rattle.std.proofs.Common.{IsTrue, ◌≡◌, ◌≤◌, ◌+◌, ◌++◌, ◌∷◌, [], ◌∙◌, ℕ, List, drop, length, take, Some, Option, Result, Ok, Err, ap, append_assoc, append-nil, arith, refl, subst, sym}
 use Rattle.std.specs.Prelude.{MatchResult, reverse, slice_get}
-use Rattle.std.specs.List.{flat_map}
 use Rattle.std.proofs.lemmas.List.{drop-append-le, length-append, length-take, length-take-le, reverse-append, take_all, take-take}
 use Rattle.std.proofs.lemmas.Grind.{flat_map-append}
 use Rattle.bplist_objects.specs.declared.frame.Frame.{Frame}
 use Rattle.bplist_objects.specs.Value.{Value, leaf, array, set, dict}
 use Rattle.bplist_cert.specs.CheckedFile.{CheckedFile}
-use Rattle.bplist_ascii.specs.Sending.{Sending, Takes}
+use Rattle.bplist_ascii.specs.Sending.{Takes}
 use Rattle.bplist_ascii.proofs.SinkSteps.{takes_more, takes_nothing}
 use Rattle.bplint_lines.specs.declared.fault.RunFault.{RunFault}
 use Rattle.bplint_engine.specs.declared.tree_walk.Listing.{Listing}
 use Rattle.bplint_engine.specs.declared.tree_walk.Opened.{Opened}
 use Rattle.bplint_engine.specs.Ls.{IsContainer, IsHeadFor, IsLeaf, named_line}
-use Rattle.bplint_engine.specs.Names.{Extends, IsNameIn, name_in}
+use Rattle.bplint_engine.specs.Names.{name_in}
 use Rattle.bplint_engine.specs.Streams.{Fails}
 use Rattle.bplint_engine.specs.Tree.{joined_lines, named_members, tree_lines}
 use Rattle.bplint_engine.specs.TreeWalks.{AreOpen, GoesOn, IsOpen, OpenedLeft, StackLeft}

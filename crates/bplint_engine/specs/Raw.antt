@@ -1,6 +1,6 @@
 -- What `show --raw` says: the bytes of data, the UTF-8 of a text, the digits of an integer or a UID, the word of a truth
 -- value. Source: profile.
-use Rattle.std.specs.Prelude.{◌≡◌, ◌≢◌, ℕ, ◌∷◌, List, [], codes, Bool, true, false, if◌then◌else◌, Option, None, Some, Result, Ok, Err, MatchOption, MatchResult, map, encode_utf8_all, ⊤}
+use Rattle.std.specs.Prelude.{◌≡◌, ℕ, ◌∷◌, List, [], codes, Bool, true, false, if◌then◌else◌, Option, None, Some, Result, Ok, Err, MatchOption, MatchResult, encode_utf8_all, ⊤}
 use Rattle.std.specs.Char.Utf16.{has_unpaired_surrogate, utf16_lossy_chars}
 use Rattle.std.specs.Fmt.{decimal, signed_decimal}
 use Rattle.std.specs.Io.KnownBytes.{Keeps}
@@ -17,7 +17,6 @@ use Rattle.bplist_cursor.specs.declared.faces.Face.TheVariants as faces
 use Rattle.bplist_cursor.specs.Leads.{LeadTo}
 use Rattle.bplist_cursor.specs.Look.{look}
 use Rattle.bplist_cursor.specs.Path.{IsPathOf}
-use Rattle.bplint_lines.specs.declared.fault.RunFault.{RunFault}
 use Rattle.bplint_lines.specs.declared.fault.RunFault.TheVariants as faults
 use Rattle.bplint_lines.specs.declared.raw_fault.RawFault.{RawFault}
 use Rattle.bplint_lines.specs.declared.raw_fault.RawFault.TheVariants.{Run, NoRawForm}

@@ -1,5 +1,5 @@
 -- Bytes that go through a sink, and the cuts of units of UTF-16 between characters. Source: profile.
-use Rattle.std.specs.Prelude.{◌≡◌, ℕ, ◌+◌, ◌-◌, ◌&&◌, List, [], ◌++◌, false, slice_index, Option, Result, MatchResult}
+use Rattle.std.specs.Prelude.{◌≡◌, ℕ, ◌-◌, ◌&&◌, List, [], ◌++◌, false, slice_index, Option, Result, MatchResult}
 use Rattle.std.specs.Char.Utf16.{is_high_surrogate, is_low_surrogate}
 use Rattle.std.specs.Io.KnownBytes.{Appends}
 use Rattle.bplist_ascii.specs.Sending.{Sending, SendsSome, Takes, TakesPart}

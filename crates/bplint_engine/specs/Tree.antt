@@ -1,5 +1,5 @@
 -- What `ls --recursive` says: a value's line and those of all that it has, one line each. Source: profile.
-use Rattle.std.specs.Prelude.{◌≡◌, ◌∷◌, ◌++◌, ℕ, ◌+◌, ◌<◌, ◌≤◌, List, [], map, Result, Ok, Err, MatchResult}
+use Rattle.std.specs.Prelude.{◌≡◌, ◌∷◌, ◌++◌, ℕ, ◌+◌, ◌<◌, ◌≤◌, List, [], map, Err, MatchResult}
 use Rattle.std.specs.List.{enumerate_from, flat_map}
 use Rattle.bplist_objects.specs.Value.{Value, leaf, array, set, dict, Values, no_values, value, Pairs, no_pairs, pair}
 use Rattle.bplist_cursor.specs.Look.{look}

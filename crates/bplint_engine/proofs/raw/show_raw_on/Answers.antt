@@ -1,9 +1,9 @@
-use Rattle.std.proofs.Common.{◌≡◌, ◌∷◌, [], ℕ, List, refl}
+use Rattle.std.proofs.Common.{◌≡◌, ◌∷◌, [], ℕ, List}
 use Rattle.std.proofs.lemmas.Grind.{merely}
 use Rattle.bplist_objects.specs.Value.{Value}
 use Rattle.bplint_lines.specs.Answers.{Answer}
 use Rattle.bplint_engine.specs.Lint.{LintSays}
-use Rattle.bplint_engine.specs.Raw.{IsRawless, LeadsToRawless, PathShowsRaw, ShowsRaw}
+use Rattle.bplint_engine.specs.Raw.{PathShowsRaw, ShowsRaw}
 use Rattle.bplint_engine.proofs.LeftBytes.{kept_self, refused}
 use Rattle.bplint_engine.proofs.PathAnswers.{file_refused, lint_there, lint_yes, path_refused}
 use Rattle.bplint_engine.proofs.SentAnswers.{raw_says}

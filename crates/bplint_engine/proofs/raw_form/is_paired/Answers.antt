@@ -1,10 +1,10 @@
-use Rattle.std.proofs.Common.{◌≡◌, ◌+◌, ◌++◌, arith, length, ap, sym, ◌∙◌}
+use Rattle.std.proofs.Common.{◌≡◌, ◌++◌, arith, length, ap, sym, ◌∙◌}
 use Rattle.std.specs.Prelude.{not}
 use Rattle.std.specs.Char.Utf16.{has_unpaired_surrogate, utf16_chars}
 use Rattle.bplist_octets.specs.Octets.{part}
 use Rattle.bplist_objects.specs.Units.{units_of}
 use Rattle.bplist_objects.proofs.Units.{length-units_at}
-use Rattle.bplint_engine.proofs.ReadCharacters.{have_lone, lone_in_part, none_lone_on, read_end, read_on, read_start}
+use Rattle.bplint_engine.proofs.ReadCharacters.{have_lone, lone_in_part, none_lone_on, read_end, read_on}
 use Rattle.bplint_engine.proofs.raw_form.is_paired.Goals as goal
 
 pub returns-then-is_err-clause-exact : goal.returns-then-is_err-clause-exact

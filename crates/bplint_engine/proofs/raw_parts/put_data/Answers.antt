@@ -1,4 +1,4 @@
-use Rattle.std.proofs.Common.{rules, arith, ◌++◌, ◌≡◌, ◌+◌, Err, IsTrue, length, take, drop, refl, sym, ap, ◌∙◌, subst, take-append-drop}
+use Rattle.std.proofs.Common.{rules, arith, ◌++◌, ◌≡◌, ◌+◌, Err, length, take, drop, refl, sym, ap, ◌∙◌, subst, take-append-drop}
 use Rattle.std.proofs.lemmas.List.{take_all, length-take, length-take-le}
 use Rattle.std.proofs.lemmas.Result.{err_from_is_err_and}
 use lib.Seq.{take-add}

@@ -1,12 +1,9 @@
-use Rattle.std.proofs.Common.{rules, arith, ◌≡◌, ◌++◌, ◌∷◌, ◌∙◌, [], Err, List, ℕ, length, ap, refl, sym}
+use Rattle.std.proofs.Common.{rules, ◌≡◌, ◌++◌, ◌∷◌, ◌∙◌, [], Err, ap, refl}
 use Rattle.std.proofs.lemmas.Result.{err_from_is_err_and}
 use Rattle.bplist_cursor.proofs.Membership.{held_members}
 use Rattle.bplint_lines.specs.declared.fault.RunFault.TheVariants.{Memory}
-use Rattle.bplint_engine.specs.Ls.{named_line}
 use Rattle.bplint_engine.specs.Names.{name_in}
-use Rattle.bplint_engine.specs.Tree.{joined_lines, named_members, tree_lines}
 use Rattle.bplint_engine.proofs.MemberLines.{unread_excused}
-use Rattle.bplint_engine.proofs.Puts.{fails_behind, stopped_behind}
 use Rattle.bplint_engine.proofs.SinkLines.{line_fails, line_stopped}
 use Rattle.bplint_engine.proofs.TreeSteps.{begun_container}
 use Rattle.bplint_engine.specs.declared.tree_walk.Opened.{Opened}

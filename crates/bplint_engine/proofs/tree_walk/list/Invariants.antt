@@ -1,4 +1,4 @@
-use Rattle.std.proofs.Common.{◌≡◌, ◌≤◌, ◌+◌, ◌*◌, IsTrue, length}
+use Rattle.std.proofs.Common.{◌≡◌, ◌+◌, ◌*◌, IsTrue, length}
 use Rattle.std.specs.Prelude.{reverse}
 use Rattle.bplist_objects.specs.Value.{Value}
 use Rattle.bplist_cursor.specs.Found.{IsHeld}

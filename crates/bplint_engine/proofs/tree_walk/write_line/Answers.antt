@@ -1,4 +1,4 @@
-use Rattle.std.proofs.Common.{rules, ◌≡◌, ◌++◌, ◌∙◌, Err, ap, codes}
+use Rattle.std.proofs.Common.{rules, ◌≡◌, Err}
 use Rattle.std.proofs.lemmas.Result.{err_from_is_err_and}
 use Rattle.bplint_lines.specs.declared.fault.RunFault.TheVariants.{Memory}
 use Rattle.bplint_engine.specs.Ls.{named_line}
