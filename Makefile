@@ -79,7 +79,8 @@ link-lib:
 # From the library as it is built. pip leaves folders in the one that it builds in, so that it gets a copy.
 wheel:
 	mkdir -p $(DIST) && rm -f $(DIST)/bplist-*.whl
-	@umask 022; copy=$$(mktemp -d) && trap 'rm -rf "$$copy"' EXIT && cp -rL python include VERSION "$$copy" && \
+	@umask 022; copy=$$(mktemp -d) && trap 'rm -rf "$$copy"' EXIT && cp -r python include VERSION "$$copy" && \
+	  cp LICENSE "$$copy/python" && \
 	  BPLIST_LIBRARY=$(abspath $(LIBRARY)) PYTHONDONTWRITEBYTECODE=1 $(PYTHON) -m pip -q --disable-pip-version-check wheel \
 	  --no-index --no-deps --no-build-isolation --no-cache-dir -w $(DIST) "$$copy/python"
 
