@@ -3,11 +3,12 @@
 
 Runs other parsers of binary property lists on all files of tests/vectors and on hostile ones, and compares the tables of
 docs/PARSERS.md with what it finds; with --write it writes them there. Each file is read by a process of its own, with limits
-of processor time and memory; for plistlib that is a copy of this one. --only runs one parser, and looks at its columns alone.
---details writes a line for each run.
+of processor time and memory; for plistlib that is a copy of this one. --only runs one parser, and looks at its columns
+alone. --details writes a line for each run.
 
-A cell of a table counts as one test. The last line printed is `N passed, M failed`, with `, K skipped` if a parser is not
-installed, or answers otherwise and has another version than the page names. The exit status is 1 if one failed.
+A cell of a table counts as one test. If files were added since the page was measured, it may have grown. The last line
+printed is `N passed, M failed`, with `, K skipped` if a parser is not installed, or answers otherwise and has another
+version than the page names. The exit status is 1 if one failed.
 """
 import argparse
 import collections
@@ -311,12 +312,21 @@ def versions(page):
     return dict(rows[1:])
 
 
-def compare(page, parser, held):
+def agrees(written, found, added):
+    """Whether a cell is as the page has it. If files were added since it was measured, it may have grown by as many."""
+    before, after = ([int(number) for number in re.findall(r"\d+", cell or "0")] + [0] for cell in (written, found))
+    grown = [b - a for a, b in zip(before, after)]
+    return written == found or (added > 0 and min(grown) >= 0 and sum(grown) <= added)
+
+
+def compare(page, parser, held, count):
+    """How many cells of a parser's columns are as the page has them, and how many are not, with so many files."""
+    added = count - int(re.search(r"measured on (\d+) files", page)[1])
     passed = failed = 0
     for name, rows in held.items():
         written = written_column(page, name, parser)
         for row in rows.keys() | written.keys():
-            same = rows.get(row) == written.get(row)
+            same = agrees(written.get(row), rows.get(row), added)
             passed, failed = passed + same, failed + (not same)
             if not same:
                 print(f"{parser}, {name}, {row}: the page says {written.get(row)}, and {rows.get(row)} was found")
@@ -344,8 +354,11 @@ def arguments():
     return parser.parse_args()
 
 
-def write_page(found, unsound, sound):
+def write_page(found, unsound, sound, count):
+    """Writes the tables. The number of files is that of a run of all parsers."""
     page = PAGE.read_text(encoding="utf-8")
+    if found.keys() == versions(page).keys():
+        page = re.sub(r"measured on \d+ files", f"measured on {count} files", page)
     for name, text in made_tables(page, found, unsound, sound).items():
         page = between(name).sub(lambda held, text=text: held[1] + text + held[3], page)
     PAGE.write_text(page, encoding="utf-8")
@@ -372,7 +385,7 @@ def main():
             found[parser.name] = cells(runs, unsound, sound, cases)
             if given.details:
                 details(given.details, parser, runs)
-            yes, no = compare(page, parser.name, found[parser.name])
+            yes, no = compare(page, parser.name, found[parser.name], len(cases))
             passed = passed + yes
             if parser.version == versions(page).get(parser.name):
                 failed += no
@@ -380,7 +393,7 @@ def main():
                 print(f"{parser.name} has version {parser.version}, and the page has {versions(page).get(parser.name)}")
                 skipped += no
     if given.write and found:
-        write_page(found, unsound, sound)
+        write_page(found, unsound, sound, len(cases))
     print(f"{passed} passed, {failed} failed" + (f", {skipped} skipped" if skipped else ""))
     return 1 if failed else 0
 
