@@ -7,3 +7,6 @@ returns-in-Values g c = λ honest.
 
 pub returns-in-Text : goal.returns-in-Text
 returns-in-Text g c = λ honest. rw c.in-Text.is (c.show_text_on.ensures.exact honest)
+
+pub returns-in-Tree : goal.returns-in-Tree
+returns-in-Tree g c = λ honest. rw c.in-Tree.is (c.list_all_on.ensures.exact honest)
