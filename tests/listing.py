@@ -185,10 +185,13 @@ def plistlib_lines(value, name=""):
             yield from plistlib_lines(member, f"{name}/{i}")
 
 
-def loaded(octets, reached):
-    """What plistlib loads, None where it does not take the file."""
+def loaded(octets, tree, nodes):
+    """What plistlib loads, None where it does not take the file, or reads a count of 16 bytes as one of a byte."""
+    long_counts = any(octets[place] & 15 == 15 and octets[place + 1] == 0x14 for place in tree.plist.places)
+    if nodes >= LISTED or long_counts:
+        return None
     try:
-        return plistlib.loads(octets) if reached < LISTED else None
+        return plistlib.loads(octets)
     except (plistlib.InvalidFileException, RecursionError, ValueError, OverflowError, MemoryError):
         return None
 
@@ -244,7 +247,7 @@ def try_listing(program, path, octets):
         with_paths = [f"{name}\t{tree.line(n)}" for name, n, has_path in rows if has_path]
         of_ls = [line for line in walked if not line.startswith("[")]
         assert of_ls == with_paths, f"walk with ls: {first_difference(of_ls, with_paths)}"
-    value = loaded(octets, nodes)
+    value = loaded(octets, tree, nodes)
     if value is not None:
         wanted = list(plistlib_lines(value))
         assert without_reals(lines) == wanted, f"plistlib: {first_difference(wanted, without_reals(lines))}"
