@@ -88,7 +88,9 @@ class Tests:
         installed = self.folder / "installed"
         (installed / "lib").mkdir(parents=True)
         shutil.copy(LIBRARY / "libbplist.a", installed / "lib")
-        template = (ROOT / "bplist.pc.in").read_text().replace("@PREFIX@", str(installed))
+        template = (ROOT / "bplist.pc.in").read_text()
+        for word, text in [("PREFIX", f"{installed}"), ("LIBDIR", "${prefix}/lib"), ("INCLUDEDIR", "${prefix}/include")]:
+            template = template.replace(f"@{word}@", text)
         for version, status in [("0.2.0", 101), ("0.3.0", 0)]:
             (installed / "bplist.pc").write_text(template.replace("@VERSION@", version))
             ran = self.cargo("bplist", "test", "--test", "faults", PKG_CONFIG_PATH=str(installed))
