@@ -98,7 +98,7 @@ FILES = {
         ["/key000010", "/key050000", "/key099990"],
     ),
     "1,000,000 integers": (lambda: list(range(1_000_000)), ["/10", "/500000", "/999990"]),
-    "archive, 44 kB": (lambda: archive(390), ["/$version", "/$objects/5/NSFrame", "/$objects/300/NSvFlags"]),
+    "archive, 31 kB": (lambda: archive(390), ["/$version", "/$objects/5/NSFrame", "/$objects/300/NSvFlags"]),
 }
 
 
