@@ -5,8 +5,6 @@ use Rattle.std.specs.Io.KnownBytes.{Appends}
 use Rattle.bplist_ascii.specs.Sending.{Sending, SendsSome, Takes, TakesPart}
 use Rattle.bplint_lines.specs.declared.fault.RunFault.{RunFault}
 use Rattle.bplint_lines.specs.declared.fault.RunFault.TheVariants as faults
-use Rattle.bplint_lines.specs.declared.said.Said.{Said}
-use Rattle.bplint_lines.specs.Answers.{Answer, LeavesBy}
 
 -- a sink that has sent nothing and holds nothing back
 abbrev pub begun : Sending
@@ -28,11 +26,6 @@ Puts old new before after bytes result =
 -- bytes went out, or why not
 abbrev pub SendsAll : Option (List ℕ) → Option (List ℕ) → List ℕ → Result (Unit {0}) RunFault → Type 0
 SendsAll old new bytes result = MatchResult result (λ _. Appends old new bytes) (Fails old new begun bytes)
-
--- what a run leaves with the writer, where after a failed read or refused memory a first part of the answer of any length may
--- be out
-abbrev pub LeavesSomeBy : (Answer → Type 0) → Option (List ℕ) → Option (List ℕ) → Result Said RunFault → Type 0
-LeavesSomeBy Says old new result = (most : ℕ) × LeavesBy Says most old new result
 
 -- no pair of surrogates stands round this place
 abbrev pub IsCut : List ℕ → ℕ → Type 0

@@ -1,10 +1,10 @@
 //! Laws of the definitions: each is the contract of a function that does nothing.
 
 ghost use Rattle.std.specs.Prelude.{◌≡◌, ◌⊎◌, ◌↔◌, ◌≤◌, ◌<◌, ℕ, List, codes};
-ghost use Rattle.std.specs.List.{Any};
+ghost use Rattle.std.specs.List.{Any, sum_by};
 ghost use Rattle.bplist_objects.specs.declared.frame.Frame.{Frame as frame};
 ghost use Rattle.bplint_map.specs.Layout.{AreInOrder, IsRegion, objects_at, parts};
-ghost use Rattle.bplint_map.specs.Rows.{AreFindings, IsByPlace, rows};
+ghost use Rattle.bplint_map.specs.Rows.{AreFindings, IsByPlace, looked_at, rows, size};
 ghost use Rattle.bplint_map.specs.declared.rows.Finding.{Finding as finding};
 ghost use Rattle.bplint_map.specs.declared.rows.Row.{Row as row};
 
@@ -12,6 +12,11 @@ ghost use Rattle.bplint_map.specs.declared.rows.Row.{Row as row};
 pub fn rows_are_in_order()
     ensures { (f : List ℕ) (F : frame) (findings : ℕ → finding) (left : ℕ) (order : List ℕ) → AreFindings f F findings
         → IsByPlace f F order → AreInOrder (rows f F findings left order) }
+{}
+
+/// `map` looks at every body if the objects have no more bytes together than it may look at.
+pub fn bodies_are_looked_at()
+    ensures { (left : ℕ) (rows : List row) → sum_by size rows ≤ left → looked_at left rows ≡ rows }
 {}
 
 /// Gaps are all bytes from place 8 up to the offset table that lie in no object, and no others.
