@@ -31,9 +31,11 @@ module _ (f : List ℕ) (F : Frame) where
 
   -- distinct objects of S fit between header and table
   abbrev pub HaveRoom : (ℕ → Type 0) → Type 0
-  HaveRoom S = (ns : List ℕ) (r : ℕ) → AreDistinct ns → AllByRecursion S ns → TakeOctets ns r → r + 8 ≤ F.table
+  HaveRoom S =
+      (ns : List ℕ) (r : ℕ) → AreDistinct ns → AllByRecursion S ns → TakeOctets ns r → r + 8 ≤ F.table
 
   -- rule 31 is broken: up to and including object n, objects of S take too much
   abbrev pub IsOverfull : (ℕ → Type 0) → ℕ → Type 0
   IsOverfull S n =
-      (ns : List ℕ) × (r : ℕ) × AreDistinct ns × AllByRecursion (λ m. S m × (m ≤ n)) ns × TakeOctets ns r × (F.table < r + 8)
+      (ns : List ℕ) × (r : ℕ) × AreDistinct ns × AllByRecursion (λ m. S m × (m ≤ n)) ns
+      × TakeOctets ns r × (F.table < r + 8)

@@ -22,7 +22,8 @@ pub record IsSafeFrame (len : ℕ) (frame : Frame) : Type 0 where
 
 -- how many references a head has
 abbrev pub ref_count : Kind → ℕ → ℕ
-ref_count kind count = elim kind [ kinds.Array ↦ count | kinds.Set ↦ count | kinds.Dict ↦ 2 * count | _ ↦ 0 ]
+ref_count kind count =
+    elim kind [ kinds.Array ↦ count | kinds.Set ↦ count | kinds.Dict ↦ 2 * count | _ ↦ 0 ]
 
 -- the parts of an object with this head lie before the table
 pub record IsSafeHead (frame : Frame) (head : Head) : Type 0 where
