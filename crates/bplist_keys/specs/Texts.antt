@@ -16,7 +16,6 @@ HasTextShape f F m = (head : Head) × (HasShape f F m head × IsTextKind head.ki
 abbrev pub HasUnits : List ℕ → Frame → ℕ → List ℕ → Type 0
 HasUnits f F m units = (head : Head) × HasShape f F m head × IsTextKind head.kind × (units ≡ units_of f head)
 
--- the units of object m as a function, for contracts inside crates: its head's, or none (the lemma `units_are` ties the
--- two)
+-- the units of object m as a function, for contracts inside crates; the lemma `units_are` ties it to `HasUnits`
 abbrev pub text_units : List ℕ → Frame → ℕ → List ℕ
 text_units f F m = option_map_or (units_of f) (head_found f F m) []

@@ -17,7 +17,7 @@
 //!
 //! | module | what is in it |
 //! |---|---|
-//! | named_keys | [`NamedKeys`], a mark for each object that is named as a key; [`name_keys`] sets those of a dictionary |
+//! | named_keys | [`NamedKeys`], a mark for each object that is named as a key; [`name_keys`], which sets them |
 //! | failure | [`Failure`], a failed read or refused memory |
 //! | offsets | [`Offsets`], a source that has the places of its objects; [`OffsetTable`] holds all places |
 //! | offset_reader | [`OffsetReader`], an [`Offsets`] that reads blocks of the offset table when asked |

@@ -1,4 +1,5 @@
--- The value that a file holds. Source: the format comment of CFBinaryPList.c; the bound on the sum of extents is profile.
+-- The value that a file holds. Source: the format comment of CFBinaryPList.c; the bound on the sum of extents is
+-- profile.
 use Rattle.std.specs.Prelude.{ℕ, List}
 use Rattle.bplist_objects.specs.declared.frame.Frame.{Frame}
 use Rattle.bplist_objects.specs.Frame.{IsFrame}

@@ -48,8 +48,7 @@ module _ (f : List ℕ) (F : Frame) where
   abbrev pub content_at : Head → Content
   content_at head = content_of head.kind head.count head.body
 
-  -- object n has a head whose body means this content: ASCII is below 128, a UID at most 4294967295, references are
-  -- objects
+  -- object n's body means this content; Ascii is below 128, a UID at most 4294967295, references are objects
   pub record Spells (n : ℕ) (content : Content) : Type 0 where
     pub shape : Head
     pub has : HasShape n shape

@@ -12,8 +12,7 @@ AreDistinct xs = AllPairs (λ x y. x ≢ y) xs
 
 module _ (f : List ℕ) (F : Frame) where
   abbrev mutual
-    -- object n holds this value: it spells the leaf, or its references hold the members, and its keys are different
-    -- texts
+    -- object n holds this value: it spells the leaf, or its references hold the members; keys are different texts
     pub Holds : ℕ → Value → Type 0
     Holds n (leaf l) = Spells f F n (Content.leaf l)
     Holds n (array vs) = (ms : List ℕ) × Spells f F n (Content.array ms) × HoldEach ms vs

@@ -11,8 +11,7 @@ use Rattle.bplist_objects.specs.Numbers.{num_at}
 use Rattle.bplist_objects.specs.Frame.{off}
 use Rattle.bplist_objects.specs.Announced.{item_size}
 
--- how markers give a count: each from least to greatest its own, or all of a high half their low half, where 15 says it
--- follows
+-- how markers give a count: by a function of the marker, or as the low half of this high half (15: it follows)
 pub data Markers : Type 0 where
   plain : (low high : ℕ) → (ℕ → ℕ) → Markers
   counted : (high : ℕ) → Markers

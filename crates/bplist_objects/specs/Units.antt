@@ -1,4 +1,5 @@
--- The units of a text, and the order of lists of units. Source: the format comment of CFBinaryPList.c; the order: profile.
+-- The units of a text, and the order of lists of units. Source: the format comment of CFBinaryPList.c; the order is
+-- profile.
 use Rattle.std.specs.Prelude.{ℕ, List, []}
 use Rattle.std.specs.declared.cmp.Ordering.{Ordering}
 use Rattle.std.specs.Ordering.{nat_cmp}

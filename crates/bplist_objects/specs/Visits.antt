@@ -32,8 +32,7 @@ size_of_kind marker kind =
 abbrev pub size_said : ℕ → Option ℕ
 size_said marker = option_and_then (size_of_kind marker) (kind_at marker)
 
--- a visit of object n finds its end, if rules 14 to 20 are kept and it has no references, or a head that needs a second
--- look
+-- a visit of object n finds its end (it keeps rules 14 to 20 and has no references) or a head still to be checked
 abbrev pub IsVisited : List ℕ → Frame → ℕ → Visit → Type 0
 IsVisited f F n (visits.Done last) =
     (head : Head) × HasHead f F n head × (head.«end» ≡ last) × (ref_count head.kind head.count ≡ 0)

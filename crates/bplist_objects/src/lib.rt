@@ -17,11 +17,11 @@
 //! | rule | [`Rule`], the 32 rules of files, certificates and path texts, with their words and numbers |
 //! | rule_texts | [`texts_of`], a sentence and an example for each rule |
 //! | fault | [`Fault`], a broken rule with its object and place; [`ObjectFault`], which is a fault or a failed read |
-//! | frame | [`Frame`], the five numbers of the trailer: [`trailer_of`] by rules 1 to 12, [`frame_of`] by rules 1 to 13 |
+//! | frame | [`Frame`], the trailer's five numbers: [`trailer_of`] by rules 1 to 12, [`frame_of`] by rules 1 to 13 |
 //! | offset_table | entries of the offset table: [`offset_of`], [`read_offsets`], [`high_entry`] |
 //! | kind | [`Kind`], the kinds of objects, and their markers |
 //! | count | an object's count, in its marker or after it |
-//! | head | [`Head`], what marker and count say: [`shape_of`], or [`shape_at`] if the place is known, by rules 14 to 17 |
+//! | head | [`Head`], what marker and count say, by rules 14 to 17: [`shape_of`], and [`shape_at`] for a known place |
 //! | body | heads by rules 14 to 20: [`head_of`], [`head_at`]; [`check_body`] |
 //! | refs | the references of a container: [`refs_of`], [`ref_at`], [`read_refs`] |
 //! | leaf | the values of leaves: [`int_of`], [`uid_of`], [`octets_at`] |
@@ -30,10 +30,10 @@
 //! | plist | the same calls over a [`Framed`], with names that end in `_in`, as [`shape_in`]; [`ref_place`] |
 //! | visit | [`visit_in`], the first look at an object, which is enough for most leaves |
 //! | numbers, scan | numbers of a source, read and searched block by block; [`first_high_in`] |
-//! | laws, leaf_laws | what the definitions imply, as contracts of functions without a body |
+//! | laws, leaf_laws | what the definitions imply, as contracts of functions that do nothing |
 //!
 //! The laws tie the definitions to each other: an object has at most one head, one content and one value
-//! (`one_announced_head`, `one_head`, `one_value`). Rules 14 to 20 are kept if and only if there is a head
+//! (`one_announced_head`, `one_head`, `one_value`). Rules 14 to 17 are kept if and only if there is a head
 //! (`kept_iff_head`). There is only one first fault (`one_first_fault`).
 #![tactic(auto)]
 
