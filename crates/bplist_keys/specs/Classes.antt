@@ -22,7 +22,7 @@ module _ (f : List ℕ) (F : Frame) where
   abbrev pub IsNamedBy : Head → ℕ → ℕ → Type 0
   IsNamedBy head many m = (k : ℕ) × (k < many) × (m ≡ ref f F head k)
 
-  -- this dictionary's keys have these classes: 0 if no text, and two are equal if and only if the units are
+  -- this dictionary's keys have these classes: 0 if and only if no text, equal ones if and only if the units are
   pub record AreClassed (classes : List ℕ) (head : Head) : Type 0 where
     pub only : (k : ℕ) → k < head.count → 0 < slice_index classes (ref f F head k) → HasTextShape f F (ref f F head k)
     pub all : (k : ℕ) → k < head.count → HasTextShape f F (ref f F head k) → 0 < slice_index classes (ref f F head k)

@@ -11,7 +11,7 @@ use Rattle.bplist_keys.specs.Weights.{AreWeighed}
 use Rattle.bplist_keys.specs.WeightOrder.{AreOrdered}
 
 module _ (f : List ℕ) (F : Frame) (named : List Bool) (numbers : List ℕ) where
-  -- only the named texts have a number above 0, and two numbers are equal if and only if the units are
+  -- the named texts, and only they, have a number above 0; two numbers are equal if and only if the units are
   pub record AreClasses : Type 0 where
     pub given : (m : ℕ) → (0 < slice_index numbers m) ↔ (IsMarked named m × HasTextShape f F m)
     pub same : (a b : ℕ) (us vs : List ℕ) → 0 < slice_index numbers a → 0 < slice_index numbers b

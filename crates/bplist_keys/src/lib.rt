@@ -1,6 +1,6 @@
-//! Gives numbers to the texts that dictionaries name as keys, so that keys can be compared as numbers. It does not
-//! decide which objects are read: `bplist_lint` uses classes for rule 22, and `upgrade` uses ranks for sorted key
-//! lists.
+//! Gives numbers to the texts that dictionaries name as keys, so that keys can be compared as numbers: `lint` compares
+//! classes (rule 22), and `upgrade` sorts key lists by ranks. The crate makes no faults: `bplist_lint` and
+//! `bplist_cert` make those of rules 21 and 22 from what it finds.
 //!
 //! ```
 //! let mut named = NamedKeys::new(alloc, frame.objects)?;
@@ -22,7 +22,7 @@
 //! | offsets | [`Offsets`], a source that has the places of its objects; [`OffsetTable`] holds all places |
 //! | offset_reader | [`OffsetReader`], an [`Offsets`] that reads blocks of the offset table when asked |
 //! | text | [`object_text`], the head of a key; [`text_order`], the order of two texts |
-//! | ranks | [`classes_of`], numbers that are equal if the units are; [`ranks_of`], numbers in the order of the units |
+//! | ranks | [`classes_of`], numbers that are equal if and only if the units are; [`ranks_of`], numbers in order |
 //! | class_table | [`ClassTable`], which finds the first key of a dictionary that is wrong by rules 21 and 22 |
 //! | weight, key_weights | fingerprints and first units, which are compared before the units |
 //! | ordered, merge_sort, numbers | the sort, and the numbers of sorted objects |

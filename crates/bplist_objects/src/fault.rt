@@ -28,7 +28,7 @@ pub enum ObjectFault {
     Read(ReadFault),
 }
 
-/// The fault that object `n` breaks this rule at this place.
+/// Returns the error that object `n` breaks this rule at this place.
 pub(crate) fn broken(rule: Rule, n: ObjectNo, place: u64) -> ObjectFault
     ensures { result ≡ is_fault (record { rule = rule; object = Some n; place = place }) }
 {

@@ -40,7 +40,7 @@ pub fn keeps_iff_frame()
 {}
 
 /// Marker and count announce a head and the object keeps rules 14 to 17 if and only if the object has that head. It
-/// also keeps rules 18 to 20 if and only if it spells what the body under that head means.
+/// keeps rules 14 to 20 if and only if it also spells what the body of that head means.
 pub fn kept_iff_head()
     ensures shape { (f : List ℕ) (F : frame) → IsFrame f F → (n : ℕ) → n < F.objects
         → (a : head) → (HasHead f F n a × KeepsAll (KeepsByObject f F n) shape_rules) ↔ HasShape f F n a }
