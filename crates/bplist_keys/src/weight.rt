@@ -15,7 +15,8 @@ const FACTOR: u32 = 16_777_619;
 /// What texts are compared by before their units.
 #[derive(Clone, Copy, Debug, PartialEq, Eq)]
 pub(crate) enum Weight {
-    /// A number made of all units. Texts with different fingerprints differ, in no particular order.
+    /// A number computed from all units. Texts with different fingerprints differ, but fingerprints are not in the
+    /// order of texts.
     Fingerprint,
     /// The first two units. Texts with different prefixes have the order of these.
     Prefix,
