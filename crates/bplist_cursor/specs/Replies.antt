@@ -11,7 +11,7 @@ use Rattle.bplist_cursor.specs.Look.{look}
 use Rattle.bplist_cursor.specs.Members.{members}
 use Rattle.bplist_cursor.specs.Nodes.{cap, nodes}
 
--- a leaf itself, or a container's kind and count
+-- the value of a leaf, or the kind and count of a container
 abbrev pub face : Value → Face
 face (leaf null) = faces.Null
 face (leaf (boolean b)) = faces.Bool b
@@ -29,7 +29,7 @@ face (dict ps) = faces.Dict (length (keys ps))
 abbrev pub keys_reply : Value → Reply
 keys_reply v = elim v [ dict ps ↦ replies.Keys (keys ps) | _ ↦ replies.NoKeys ]
 
--- a value's reply to a query
+-- the reply of a value to a query
 abbrev pub reply : Value → Query → Reply
 reply v (queries.Get steps) = elim (look 0 v steps) [ Ok w ↦ replies.Face (face w) | Err (k, why) ↦ replies.Missing k why ]
 reply v (queries.Keys steps) = elim (look 0 v steps) [ Ok w ↦ keys_reply w | Err (k, why) ↦ replies.Missing k why ]

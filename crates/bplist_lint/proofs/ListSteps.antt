@@ -1,4 +1,4 @@
--- Steps of the making of key lists one behind the other.
+-- Steps of making key lists, one after the other.
 use Rattle.std.proofs.Common.{◌≡◌, ◌↔◌, Bool, ◌≢◌, inl, inr, ℕ, zero, suc, ◌+◌, ◌-◌, ◌*◌, ◌<◌, ◌≤◌, rules, true, false, List, [], ◌++◌, length, take, drop, set, slice_index, Option, Some, None, is_some, unwrap_or, nat_lt, cond, refl, sym, ◌∙◌, ap, subst, arith, lt-ltb}
 use Rattle.std.proofs.Math.Seq.{drop-append_seam, take-length}
 use Rattle.std.proofs.lemmas.Bool.{cases_eq, ltb-true}
@@ -124,7 +124,7 @@ module _ (f : List ℕ) (F : Frame) (heights : List ℕ) where
   }
 
   module _ (n : ℕ) (starts positions : List ℕ) (l : Listed f F heights n starts positions) where
-    -- an object that is not vouched for
+    -- the next object is not vouched for
     pub listed_over : slice_index heights n ≡ 0 → Listed f F heights (n + 1) starts positions
     listed_over none =
         let off_n : nat_lt 0 (slice_index heights n) ≡ false = rw none refl in
@@ -204,7 +204,7 @@ module _ (f : List ℕ) (F : Frame) (heights : List ℕ) where
               let more : count * (2 * suc r) ≡ count * 2 + count * (2 * r) = omega arith in
               omega arith
 
-      -- a dictionary, with its key list behind the positions
+      -- a dictionary, with its key list after the positions
       pub listed_dict : head.kind ≡ kinds.Dict → 1 ≤ F.ref_size → (after : List ℕ) → IsListed f F head positions after → Listed f F heights (n + 1) (set starts n (length positions)) after
       listed_dict dict low after is =
           let d = dict_pairs head dict in
