@@ -1,4 +1,4 @@
--- What a run leaves that sends its answer in parts.
+-- What a run leaves with the writer if it sends its answer in parts.
 use Rattle.std.proofs.Common.{◌≡◌, ◌++◌, inr, ℕ, List, [], ◌∷◌, Option, Result, Ok, Err, length, arith, ap, refl, subst, sym}
 use Rattle.std.specs.Prelude.{IfOk, IfErr}
 use Rattle.std.proofs.lemmas.List.{length-append}
@@ -31,11 +31,11 @@ use Rattle.bplint_engine.proofs.LeftBytes.{begins_nothing, kept_self, said_as}
 use Rattle.bplint_engine.proofs.LowerFaults.{cursor_fault}
 use Rattle.bplint_engine.proofs.PrintAnswers.{cursor_stopped}
 
--- a first part went out, which is no longer than all
+-- a first part was written, which is no longer than the whole
 most_of_some : (old new : Option (List ℕ)) (bytes : List ℕ) → SendsSome old new bytes → AtMost old new (length bytes)
 most_of_some old new bytes (gone, rest, added, is) = let long = ap length is in (gone, omega (arith, long, length-append gone rest), added)
 
--- an answer was cut
+-- only a first part of an answer was written
 pub some_failed : (Says : Answer → Type 0) (said : Said) (bytes : List ℕ) (old new : Option (List ℕ)) (fault : RunFault) → Says (gives said bytes)
     → Fails old new begun bytes fault → LeavesSomeBy Says old new (Err fault)
 some_failed Says said bytes old new (faults.Write sent) says part = (0, (said, bytes, says, part))
@@ -43,7 +43,7 @@ some_failed Says said bytes old new (faults.Read _) says some = (length bytes, (
 some_failed Says said bytes old new faults.Memory says some = (length bytes, (most_of_some old new bytes some, inr (said, bytes, says, some)))
 some_failed Says said bytes old new _ says h = absurd h
 
--- a read failed or memory was refused before anything went out
+-- a read failed or memory was refused before anything was written
 pub excused_leaves : (Says : Answer → Type 0) (old : Option (List ℕ)) (fault : RunFault) → IsExcused fault → LeavesSomeBy Says old old (Err fault)
 excused_leaves Says old (faults.Read _) h = (0, begins_nothing Says 0 old old (kept_self old))
 excused_leaves Says old faults.Memory h = (0, begins_nothing Says 0 old old (kept_self old))
@@ -52,7 +52,7 @@ excused_leaves Says old _ h = absurd h
 pub cursor_leaves : (Says : Answer → Type 0) (old : Option (List ℕ)) (fault : CursorFault) → IsCursorExcused fault → LeavesSomeBy Says old old (Err (cursor_fault fault))
 cursor_leaves Says old fault h = (0, cursor_stopped Says 0 old fault h)
 
--- another way to say the answer
+-- the same under another description of the answer
 pub some_as : (P Q : Answer → Type 0) (old new : Option (List ℕ)) (result : Result Said RunFault) → ((a : Answer) → P a → Q a)
     → LeavesSomeBy P old new result → LeavesSomeBy Q old new result
 some_as P Q old new result to left = (left.0, said_as P Q left.0 old new result to left.1)
@@ -71,7 +71,7 @@ missing_made P step why (Ok output) to told _ = to (gives output.said output.byt
 missing_made P step why (Err fault) to _ memory = subst (IsRefusal P) (sym memory) tt
 
 -- ---- whole files
--- Says says yes of the file, and what is under the path was shown raw
+-- Says accepts the file, and what is under the path was shown raw
 pub raw_says : (Says : Answer → Type 0) (f text : List ℕ) (steps : List (List ℕ)) (F : Frame) (old new : Option (List ℕ)) (result : Result Said RawFault)
     → AllZip IsPathOf (text ∷ []) (steps ∷ []) → IsYes Says → IsThere f F
     → ((v : Value) → Holds f F F.top.0 v → LeavesRawBy (PathShowsRaw steps v) (LeadsToRawless f F steps v) old new result)
@@ -82,7 +82,7 @@ raw_says Says f text steps F old new result are (said, octets, says) (v, frame, 
     (λ n h. (steps, said, octets, F, v, are.0, says, frame, holds, h))
     (left v held)
 
--- the same of what was listed
+-- the same for what was listed
 pub lists_all : (limit : ℕ) (Says : Answer → Type 0) (f text : List ℕ) (steps : List (List ℕ)) (F : Frame) (old new : Option (List ℕ)) (result : Result Said RunFault)
     → AllZip IsPathOf (text ∷ []) (steps ∷ []) → IsYes Says → IsThere f F
     → ((v : Value) → Holds f F F.top.0 v → LeavesSomeBy (PathLists limit text steps v) old new result)

@@ -6,23 +6,23 @@ use Rattle.bplint_lines.specs.declared.fault.RunFault.{RunFault}
 use Rattle.bplint_lines.specs.declared.fault.RunFault.TheVariants as faults
 use Rattle.bplint_lines.specs.declared.said.Said.{Said}
 
--- bytes to write and what they say, or a fault
+-- bytes to write and whether each path led to a value, or a fault
 pub data Answer : Type 0 where
   gives : Said → List ℕ → Answer
   refuses : RunFault → Answer
 
--- the answer is a failed read
+-- true if the result is a failed read
 abbrev pub read_failed : {X : Type 0} → Result X RunFault → Bool
 read_failed answer = elim answer [ Err (faults.Read _) ↦ true | _ ↦ false ]
 
 module _ (Says : Answer → Type 0) (most : ℕ) (old new : Option (List ℕ)) where
-  -- nothing went out, or a first part of the answer of at most `most` bytes
+  -- nothing was written, or a first part of the answer of at most `most` bytes
   abbrev pub BeginsAnswer : Type 0
   BeginsAnswer =
       AtMost old new most × (Keeps old new ⊎ ((said : Said) × (bytes : List ℕ) × Says (gives said bytes) × SendsSome old new bytes))
 
-  -- what a run leaves with the writer: all of its answer, a first part after `Write`, at most one after `Read` and `Memory`,
-  -- nothing after another fault
+  -- what a run leaves with the writer: its whole answer, a first part after `Write`, up to `most` bytes after `Read`
+  -- and `Memory`, nothing after any other fault
   abbrev pub LeavesBy : Result Said RunFault → Type 0
   LeavesBy (Ok said) = (bytes : List ℕ) × Says (gives said bytes) × Appends old new bytes
   LeavesBy (Err (faults.Write sent)) = (said : Said) × (bytes : List ℕ) × Says (gives said bytes) × SendsPart old new 0 bytes sent
@@ -30,6 +30,6 @@ module _ (Says : Answer → Type 0) (most : ℕ) (old new : Option (List ℕ)) w
   LeavesBy (Err faults.Memory) = BeginsAnswer
   LeavesBy (Err fault) = Says (refuses fault) × Keeps old new
 
-  -- the same as a bare fact
+  -- the same as a mere fact
   abbrev pub Leaves : Result Said RunFault → Type 0
   Leaves result = ∥ LeavesBy result ∥₁

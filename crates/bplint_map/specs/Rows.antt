@@ -1,4 +1,4 @@
--- The objects of a file in byte order, and what is found of each by itself. Source: profile.
+-- The objects of a file in byte order, and what each breaks by itself. Source: profile.
 use Rattle.std.specs.Prelude.{ℕ, ◌-◌, ◌<◌, if◌then◌else◌, nat_le, List, [], ◌∷◌}
 use Rattle.std.specs.List.{range_with_len}
 use Rattle.std.specs.List.Sorted.{IsPermutation, IsSorted}
@@ -15,7 +15,7 @@ use Rattle.bplint_map.specs.declared.rows.Row.{Row}
 use Rattle.bplint_map.specs.Layout.{row_end}
 
 module _ (f : List ℕ) (F : Frame) where
-  -- what rules 14 to 20 say of object n by itself: none is broken, or one of a body, or one of marker and count
+  -- what rules 14 to 20 say of object n by itself: none is broken, or one about the body, or one about marker and count
   abbrev pub IsFinding : ℕ → Finding → Type 0
   IsFinding n (Whole head) = HasShape f F n head × KeepsAll (KeepsByObject f F n) object_rules
   IsFinding n (Wrong head fault) = HasShape f F n head × IsObjectFault f F n object_rules fault
@@ -29,13 +29,13 @@ module _ (f : List ℕ) (F : Frame) where
   abbrev pub placed : ℕ → ObjectOffset
   placed n = record { place = off f F n; number = n }
 
-  -- all objects, sorted by their places, and those of one place by their numbers
+  -- all objects, sorted by place and then by number
   abbrev pub IsByPlace : List ℕ → Type 0
   IsByPlace order = IsPermutation (range_with_len 0 F.objects) order
       × IsSorted (λ n m. ordering_then (nat_cmp (off f F n) (off f F m)) (nat_cmp n m)) order
 
-  -- the rows of these objects, with so many bytes left to look at: an object of no more bytes is looked at, which takes as many; of
-  -- any other no broken rule of its body is shown
+  -- the rows of these objects with `left` bytes left to read: a body of at most that length is read, and leaves fewer;
+  -- a longer one is not read, and its row shows no broken rule of the body
   abbrev pub rows : (ℕ → Finding) → ℕ → List ℕ → List Row
   rows findings left [] = []
   rows findings left (n ∷ ns) = let own : Row = record { number = n; place = off f F n; finding = findings n } in
