@@ -8,12 +8,11 @@ import os
 import pathlib
 import sys
 
-from edits import ROOT, kit
+ROOT = pathlib.Path(__file__).resolve().parents[2]
+sys.path.insert(0, str(ROOT / "tests"))
+
+from helpers.kit import Kit  # noqa: E402
 
 if __name__ == "__main__":
     os.chdir(ROOT)
-    rt = kit()
-    rt.rtlib.guarded()
-    crate = next(it for it in rt.rtlib.crates_below(str(ROOT)) if it.name == "bplist_c")
-    pathlib.Path(crate.folder, "out").mkdir(exist_ok=True)
-    sys.exit(crate.build_static([]))
+    sys.exit(Kit(ROOT).build_static("bplist_c"))

@@ -22,10 +22,7 @@ holes, and a call takes its callee by its contract. An edit that is not refused 
 are. The crates below must be built as they stand: over others a verdict would say nothing, so that none is given.
 """
 import concurrent.futures
-import copy
 import dataclasses
-import importlib.machinery
-import importlib.util
 import os
 import pathlib
 import re
@@ -34,6 +31,10 @@ import sys
 import tempfile
 
 ROOT = pathlib.Path(__file__).resolve().parents[2]
+sys.path.insert(0, str(ROOT / "tests"))
+
+from helpers.kit import Kit  # noqa: E402
+
 EDITS = ROOT / "tests/edits"
 ROOM = 5 << 30  # the memory that a check may take
 REFUSED = ("false", "open", "answer")  # the verdicts by which an edit passes
@@ -44,14 +45,6 @@ ANSWER = re.compile(r"\./proofs/(\S+)/(?:Answers|Invariants|Proof)\.antt:\d+:\d+
 UNPROVED = re.compile(r"fn (\S+): no proof: (.*)")
 MADE = re.compile(r"\./proofs/\S+/Proof\.antt:\d+:\d+: error")
 NAMES = re.compile(r"has no field|is not in scope|has no `|is no name|was not admitted")
-
-
-def kit():
-    """The kit's `rt` as a module, for its way to check an edited copy of a crate."""
-    loader = importlib.machinery.SourceFileLoader("rt", os.path.realpath(shutil.which("rt")))
-    module = importlib.util.module_from_spec(importlib.util.spec_from_loader("rt", loader))
-    loader.exec_module(module)
-    return module
 
 
 @dataclasses.dataclass
@@ -203,7 +196,7 @@ def line(edit, goals):
     return f"{edit.name}: {edit.function or edit.file}: {verdict(goals)}: {by}"
 
 
-def tried(rt, crate, edits):
+def tried(kit, crate, edits):
     """Each edit with its goals. A check leaves goals out, and does not try a function that calls one which another edit
     spoils: those edits are tried again, with no hole, together as long as that decides some of them, and then each alone."""
     with tempfile.TemporaryDirectory(prefix="edits-") as kept:
@@ -212,7 +205,7 @@ def tried(rt, crate, edits):
         groups = [(it, True) for it in rounds(edits)]
         while groups:
             group, is_short = groups.pop(0)
-            lines = check(rt, crate, group, kept, is_short)
+            lines = check(kit, crate, group, kept, is_short)
             goals = {edit.name: list(edit.goals(lines)) for edit in group}
             left = [it for it in group if (is_short or len(group) > 1) and verdict(goals[it.name]) not in REFUSED]
             is_smaller = left and (is_short or len(left) < len(group))
@@ -220,25 +213,22 @@ def tried(rt, crate, edits):
             yield from ((it, goals[it.name]) for it in group if it not in left)
 
 
-def check(rt, crate, edits, kept, is_short):
+def check(kit, crate, edits, kept, is_short):
     """The lines of a check of the crate with these edits, over what the folder keeps. A short one proves nothing else."""
     flags = ["--jobs", "1", "--allow-holes"]
     for edit in edits:
         flags += ["--only", edit.path] if edit.path else []
     is_short = is_short and all(edit.function for edit in edits)
     with tempfile.TemporaryDirectory(prefix="edits-") as room:
-        spare = copy.copy(crate)
+        spare = crate
         if is_short:
-            spare.folder = room
-            for part in rt.rtlib.PARTS:
-                if os.path.isdir(f"{crate.folder}/{part}"):
-                    shutil.copytree(f"{crate.folder}/{part}", f"{room}/{part}")
+            spare = kit.copied(crate, room)
             set_aside(crate.name, pathlib.Path(room), edits)
-        lines = rt.checked(spare, turned(edits, pathlib.Path(crate.folder)), flags, kept).stdout.split("\n")
+        lines = kit.checked(spare, turned(edits, pathlib.Path(crate.folder)), flags, kept)
     # Where no hole is left, as in a check of one function, the line `only=` is not there.
     is_read = any(line.startswith(("only=", "note: no hole is left, ")) for line in lines)
     if is_short and (not is_read or any(MADE.match(line) for line in lines)):
-        return check(rt, crate, edits, kept, False)
+        return check(kit, crate, edits, kept, False)
     if not is_read:
         errors = [it for it in lines if "error" in it]
         raise ValueError("\n".join([f"{crate.name}: these edits were not read:", *errors[:5]]))
@@ -265,22 +255,14 @@ def edits_of(crate, names, is_gate):
     return edits
 
 
-def is_built(rt, library):
-    """Whether a library is built of its files as they stand: as its stamp says, or where `rt ci` left none the times."""
-    rlib = pathlib.Path(library.rlib)
-    if library.is_built() or not rlib.is_dir():
-        return library.is_built()
-    return max(os.path.getmtime(it) for it in rt.rtlib.files_of(library.folder)) <= rlib.stat().st_mtime
-
-
-def try_crate(rt, crate, names, is_gate):
+def try_crate(kit, crate, names, is_gate):
     """Tries a crate's edits, prints a line for each, and says how many there are and how many failed."""
     for library in crate.below():
-        if not is_built(rt, library):
+        if not kit.is_built(library):
             below = f"{library.name} below it is not built as it stands: run `rt lib` in crates/{library.name}"
             raise ValueError(f"{crate.name}: {below}")
     edits, failed = edits_of(crate, names, is_gate), 0
-    for edit, goals in tried(rt, crate, edits) if edits else ():
+    for edit, goals in tried(kit, crate, edits) if edits else ():
         failed += verdict(goals) not in REFUSED
         print(line(edit, goals), flush=True)
     return len(edits), failed
@@ -296,9 +278,8 @@ def main(words):
     is_gate = not words
     words = [it for it in words if it != "--all"]
     os.chdir(ROOT)
-    rt = kit()
-    rt.rtlib.guarded()
-    crates = [it for it in rt.rtlib.crates_below(str(ROOT)) if words[:1] in ([], [it.name])]
+    kit = Kit(ROOT)
+    crates = [it for it in kit.crates if words[:1] in ([], [it.name])]
     crates = [it for it in crates if any(folder.is_dir() for folder in folders_of(it))]
     if not crates:
         sys.exit(__doc__)
@@ -307,7 +288,7 @@ def main(words):
     with concurrent.futures.ThreadPoolExecutor(at_once()) as pool:
         try:
             names = [it.removesuffix(".edit") for it in words[1:]]
-            counts = list(pool.map(lambda it: try_crate(rt, it, names, is_gate), crates))
+            counts = list(pool.map(lambda it: try_crate(kit, it, names, is_gate), crates))
         except ValueError as error:
             sys.exit(str(error))
     total, failed = (sum(it) for it in zip(*counts))
