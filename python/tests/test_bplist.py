@@ -1,6 +1,6 @@
 """Tests of the package as it is installed: `python3 -m unittest discover python/tests`.
 
-The files are those of the repository's tables (tests/vectors) and of other writers (tests/sample_files.py).
+The files are those of the repository's tables (tests/vectors) and of other writers (tests/helpers/writers.py).
 """
 import collections.abc
 import contextlib
@@ -31,8 +31,8 @@ from bplist import __main__ as command
 ROOT = pathlib.Path(__file__).resolve().parents[2]
 sys.path.insert(0, str(ROOT / "tests"))
 
-from run_vectors import doubling  # noqa: E402
-from sample_files import table_files, written_files  # noqa: E402
+from helpers.contents import doubling  # noqa: E402
+from helpers.sample_files import table_files, written_files  # noqa: E402
 
 # What plistlib reads wrong: a count of 16 bytes as one of 1 byte.
 READ_WRONG = ".w4."
