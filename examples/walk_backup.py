@@ -1,8 +1,8 @@
 #!/usr/bin/env python3
 """walk_backup.py FOLDER [PATH]
 
-Goes through a folder, as that of a device's backup. Of each file that begins as binary property lists do it prints a line: of an
-unsound one the reason, of a sound one the value at PATH (a JSON Pointer; "" is the top). What can't be read has a line too.
+Walks through a folder, such as the backup of a device, and prints a line for each binary property list: what is wrong with it, or
+the value at PATH (a JSON Pointer; "" is the top). It also prints a line for each file or folder that it cannot read.
 """
 import os
 import pathlib
@@ -14,7 +14,7 @@ HEADER = b"bplist00"
 
 
 def say(name, words):
-    """Prints a line on a file, whose name may have bytes that are no text."""
+    """Prints a line about a file. Its name may contain bytes that are not UTF-8."""
     print(os.fsencode(name).decode(errors="backslashreplace"), words, sep=": ")
 
 
@@ -30,7 +30,7 @@ def files(folder):
 
 
 def begins_right(file):
-    """Whether this is a file, and begins as binary property lists do."""
+    """Whether this is a regular file that begins like a binary property list."""
     if not file.is_file():
         return False
     with file.open("rb") as opened:
