@@ -48,7 +48,6 @@ impl Notes {
         })
     }
 
-    /// Returns the note of text `m`.
     fn of(&self, m: u32) -> Note
         ensures { result ≡ note_at self.now.notes.items m }
     {

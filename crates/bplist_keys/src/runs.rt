@@ -39,7 +39,6 @@ fn size_of(kind: Kind) -> u64
     }
 }
 
-/// Returns the slot of a distance.
 fn slot_of(apart: u64) -> usize
     ensures { result < 127 }
 {

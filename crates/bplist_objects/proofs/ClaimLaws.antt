@@ -1,4 +1,4 @@
--- Where claims fail.
+-- The number at which a claim fails.
 use Rattle.std.proofs.Common.{◌≡◌, ℕ, suc, ◌<◌, ◌≤◌, ◌⊎◌, inl, inr, arith}
 use Rattle.bplist_objects.specs.Claims.{FailsAt}
 use Rattle.bplist_objects.proofs.Lists.{Either, one_number, last_too, all_or_first}

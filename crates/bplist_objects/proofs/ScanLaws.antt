@@ -21,7 +21,7 @@ high_there f place size count bound i h =
     let fails = fails_there (λ k. nth_number f place size k < bound) count i h in
     omega (arith, fails)
 
--- a block of the numbers is where the numbers are
+-- if all the numbers are inside the source, a block of them is too
 pub block_within : (place count size len done now : ℕ) → place + count * size ≤ len → done + now ≤ count → (place + done * size) + now * size ≤ len
 block_within place count size len done now room h =
     let all : (done + now) * size ≤ count * size = mul-le-mul_right size h in

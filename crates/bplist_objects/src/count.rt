@@ -10,7 +10,6 @@ use crate::numbers::{octet_in, wide_in};
 use crate::rule::Rule;
 use bplist_octets::Source;
 
-/// Returns 2 to the power `w`.
 fn power_of_2(w: u8) -> u8
     requires { w ≤ 4 }
     ensures { result ≡ 2 ^ w }

@@ -68,7 +68,6 @@ fn check_header<S: Source>(src: &mut S) -> Result<(), ObjectFault>
     Ok(())
 }
 
-/// A power of 256.
 fn power_of_256(k: u8) -> u64
     requires { k < 8 }
     ensures { result ≡ 256 ^ k }

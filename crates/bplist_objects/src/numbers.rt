@@ -55,7 +55,6 @@ pub(crate) fn wide_in<S: Source>(src: &mut S, place: u64, size: u8) -> Result<u1
     Ok(wide(read))
 }
 
-/// Returns the byte at a place.
 pub(crate) fn octet_in<S: Source>(src: &mut S, place: u64) -> Result<u8, ReadFault>
     requires within { place < length (S.means src.old).octets }
     ensures reads { OnlyReads (is_err result) (S.means src.old) (S.means src.new) }
@@ -66,7 +65,6 @@ pub(crate) fn octet_in<S: Source>(src: &mut S, place: u64) -> Result<u8, ReadFau
     Ok(octets[0])
 }
 
-/// Returns the `n` bytes from `place` on.
 pub(crate) fn part_of(l: &[u8], place: usize, n: usize) -> &[u8]
     requires { place + n ≤ length l.now }
     ensures part { result.now ≡ part l.now place n }

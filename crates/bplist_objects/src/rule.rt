@@ -1,4 +1,4 @@
-//! The rules of files and certificates, 1 to 32.
+//! Rules 1 to 32 of files, certificates and path texts, with their words and numbers.
 
 ghost use Rattle.std.specs.Prelude.{◌≡◌, ◌⊎◌, ◌<◌, MatchOption};
 ghost use Rattle.bplist_objects.specs.Prelude.{number_of, word_of};
