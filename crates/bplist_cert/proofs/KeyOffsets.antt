@@ -46,7 +46,7 @@ module _ (f : List ℕ) (F : Frame) (head : Head) (done : ℕ) (refs : List ℕ)
           let text = by (k - done) (omega (arith, lt, from)) in
           (text.0, subst (λ m. IsText f F m text.0) here text.1)
 
-  -- the first object of the block that is no text is the first such key of all
+  -- the first object of the block that is not a text is the first such key of all
   pub keyless_there : done + length refs ≤ head.count → (i : ℕ) → IsFirstOther f F refs i → IsFirstKeyless f F head (done + i)
   keyless_there few i first = (
     omega (arith, few, first.within),

@@ -28,7 +28,7 @@ enum Look {
     Exact,
 }
 
-/// What a walk over the vouched objects needs beside the source. Passed by value, so that its parts stay in registers.
+/// What a walk over the vouched objects needs besides the source. Passed by value, so that its parts stay in registers.
 #[derive(Clone, Copy, Drop)]
 struct Walk<'a> {
     certificate: &'a Certificate,

@@ -7,7 +7,7 @@ use Rattle.bplist_cursor.specs.OldStyle.{value_text}
 
 module _ (f : List ℕ) (F : Frame) where
   abbrev mutual
-    -- object n holds this value, which has no text. x is the first object, in writing order, whose kind has none
+    -- object n holds this value, which has no text; x is the first object, in writing order, whose kind has none
     pub IsFormless : ℕ → Value → ℕ → Type 0
     IsFormless n (array vs) x = (ms : List ℕ) × Spells f F n (Content.array ms) × IsFirstFormless ms vs x
     IsFormless n (dict ps) x = (ks ms : List ℕ) × Spells f F n (Content.dict ks ms) × IsFirstFormlessOf ms ps x

@@ -39,9 +39,9 @@ impl Path {
     /// Parses a path text by RFC 6901. The empty text has no steps. Any other begins with `/`, and each `/` begins a
     /// step. In a step, `~0` means `~` and `~1` means `/`.
     ///
-    /// Errors: `Text` if the text does not spell a path. A non-empty text that does not begin with `/` is wrong at byte
-    /// 0. Any other is wrong at its first `~` that is not followed by `0` or `1`. `Memory` if an allocation for the
-    /// steps was refused.
+    /// Errors: `Text` if the text does not spell a path. The place is byte 0 if a non-empty text does not begin with
+    /// `/`, else that of the first `~` that is not followed by `0` or `1`. `Memory` if an allocation for the steps was
+    /// refused.
     pub fn parse(alloc: Global, text: &str) -> Result<Path, PathFault>
         ensures steps { IfOk result (IsPathOf text.now) }
         ensures wrong { IfErr result (OnText (IsNoPath text.now)) }

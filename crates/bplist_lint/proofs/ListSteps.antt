@@ -98,7 +98,7 @@ module _ (f : List ℕ) (F : Frame) (heights : List ℕ) where
           let dict : o.content ≡ content_of f F kinds.Dict shape.count shape.body = o.spells.means ∙ ap (λ kind. content_of f F kind shape.count shape.body) is.0 in
           (v, (nums_at f shape.body F.ref_size shape.count, nums_at f (shape.body + shape.count * F.ref_size) F.ref_size shape.count, subst (Spells f F n) dict o.spells, length-nums_at f shape.body F.ref_size shape.count ∙ is.1))
 
-  -- and there are no others
+  -- there are no other pairs
   pub pairs_one : IsValid f F heights → (many : ℕ → Option ℕ) → ((n k : ℕ) → (many n ≡ Some k) ↔ HasPairs f F heights n k) → (n : ℕ) → many n ≡ pairs f F heights n
   pairs_one valid many are n = go (many n) (pairs f F heights n) refl refl
     where
@@ -181,7 +181,7 @@ module _ (f : List ℕ) (F : Frame) (heights : List ℕ) where
       same_head : (other : Head) → HasHead f F n other → head ≡ other
       same_head other has = HasHead-unique f F n head other shape.has has
 
-      -- an object that is no dictionary
+      -- an object that is not a dictionary
       pub listed_other : (head.kind ≡ kinds.Dict → ⊥) → Listed f F heights (n + 1) (set starts n 0) positions
       listed_other no_dict =
           let o = other_pairs head no_dict in

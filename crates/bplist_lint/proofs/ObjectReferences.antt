@@ -121,7 +121,7 @@ module _ (f : List ℕ) (F : Frame) (n : ℕ) where
     pub part_none : ((h : Head) → HasShape f F n h → ⊥) → (i : ℕ) (block : List ℕ) → IsPart (refs_in view f F n) i block 0
     part_none never i block = let none = ap length (none_in_view (no_refs_shape never)) in (omega (arith, none), λ k low. absurd (omega (arith, low)))
 
-  -- what has references is no text and no UID
+  -- what has references is neither a text nor a UID
   proper_container : (kind : Kind) (count body : ℕ) → 0 < ref_count kind count → IsTrue (is_proper f kind count body)
   proper_container kinds.Ascii count body some = absurd (omega (arith, some))
   proper_container kinds.Uid count body some = absurd (omega (arith, some))

@@ -23,7 +23,7 @@
 //! | linter | the passes of the linter, in their order | [`lint`], [`lint_with_kind`] |
 //! | offset_rule | rule 13, of all places | |
 //! | walk | the one walk over the reached objects: rules 14 to 20 and 31 | |
-//! | tally | what the reached objects come to | |
+//! | tally | sums over the reached objects | |
 //! | reach | which objects are reached, if the walk met a fault | |
 //! | reach_rules | the first fault by rules 14 to 20 and 31 | |
 //! | bit_set | the sets of places that the search in reach uses | |
