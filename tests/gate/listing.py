@@ -19,7 +19,7 @@ import tempfile
 sys.path.insert(0, str(pathlib.Path(__file__).resolve().parents[1]))
 
 from helpers.harness import closing  # noqa: E402
-from helpers.objects import Plist  # noqa: E402
+from helpers.layout import Layout  # noqa: E402
 from helpers.printed import key_step, line_of, quoted, units_of  # noqa: E402
 from helpers.sample_files import table_files  # noqa: E402
 from helpers.writers import written  # noqa: E402
@@ -52,7 +52,7 @@ class Tree:
     """The values of a file that holds one, by plain reading of its bytes."""
 
     def __init__(self, octets):
-        self.plist = Plist(octets)
+        self.plist = Layout(octets)
         self.heads = {}
 
     def head(self, n):
