@@ -1,5 +1,5 @@
--- What `show --raw` says: the bytes of data, the UTF-8 of a text, the digits of an integer or UID, the word of a truth
--- value. Source: profile.
+-- What `show --raw` says: bytes of data, UTF-8 of a text, digits of an integer or UID, `true` or `false`. Source:
+-- profile.
 use Rattle.std.specs.Prelude.{◌≡◌, ℕ, ◌∷◌, List, [], codes, Bool, true, false, if◌then◌else◌, Option, None, Some, Result, Ok, Err, MatchOption, MatchResult, encode_utf8_all, ⊤}
 use Rattle.std.specs.Char.Utf16.{has_unpaired_surrogate, utf16_lossy_chars}
 use Rattle.std.specs.Fmt.{decimal, signed_decimal}

@@ -29,8 +29,7 @@ Puts old new before after bytes result =
 abbrev pub SendsAll : Option (List ℕ) → Option (List ℕ) → List ℕ → Result (Unit {0}) RunFault → Type 0
 SendsAll old new bytes result = MatchResult result (λ _. Appends old new bytes) (Fails old new begun bytes)
 
--- what a run leaves with the writer; before a failed read or refused memory it may have written a first part of any
--- length
+-- what a run leaves with the writer: before a failed read or refused memory, maybe a first part of any length
 abbrev pub LeavesSomeBy : (Answer → Type 0) → Option (List ℕ) → Option (List ℕ) → Result Said RunFault → Type 0
 LeavesSomeBy Says old new result = (most : ℕ) × LeavesBy Says most old new result
 

@@ -21,8 +21,7 @@ module _ (Says : Answer → Type 0) (most : ℕ) (old new : Option (List ℕ)) w
   BeginsAnswer =
       AtMost old new most × (Keeps old new ⊎ ((said : Said) × (bytes : List ℕ) × Says (gives said bytes) × SendsSome old new bytes))
 
-  -- what a run leaves with the writer: its whole answer, a first part after `Write`, up to `most` bytes after `Read`
-  -- and `Memory`, nothing after any other fault
+  -- what a run leaves: its answer, a part after `Write`, at most `most` bytes after `Read` and `Memory`, or nothing
   abbrev pub LeavesBy : Result Said RunFault → Type 0
   LeavesBy (Ok said) = (bytes : List ℕ) × Says (gives said bytes) × Appends old new bytes
   LeavesBy (Err (faults.Write sent)) = (said : Said) × (bytes : List ℕ) × Says (gives said bytes) × SendsPart old new 0 bytes sent

@@ -35,7 +35,8 @@ behind_two (Err e) old one two new a b line text first second third is = tt
 behind_two (Ok x) old one two new a b line text first second third is =
     rw (is, third, second, first) (ap (λ l. l ++ line) (append_assoc old a b) ∙ append_assoc old (a ++ b) line)
 
--- the row of an object comes before the rows of the later objects, with so many bytes left to read before and after it
+-- the row of an object comes before the rows of the later objects, with these numbers of bytes left to read before and
+-- after it
 abbrev pub IsRowOf : List ℕ → Frame → ObjectOffset → ℕ → ℕ → Row → Type 0
 IsRowOf f F o left left' found = o ≡ placed f F o.number → (findings : ℕ → Finding) → AreFindings f F findings
     → (behind : List ℕ) → rows f F findings left (o.number ∷ behind) ≡ found ∷ rows f F findings left' behind

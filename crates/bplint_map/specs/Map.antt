@@ -34,8 +34,7 @@ map_text f F verdict findings order =
     let back = region (codes "table") F.table end ∷ region (codes "trailer") end (length f) ∷ [] in
     codes "place\tend\tobject\tkind\tcount\theight\n" ++ flat_map (part_line verdict) (front ++ back)
 
--- if the file keeps rules 1 to 13, `map` writes what the linter says and what each object breaks, in byte order;
--- otherwise it returns the first of these rules that is broken
+-- `map` writes the verdict and what each object breaks, in byte order, or returns the first fault of rules 1 to 13
 abbrev pub MapSays : List ℕ → Answer → Type 0
 MapSays f (gives said bytes) =
     (F : Frame) × (verdict : Verdict) × (findings : ℕ → Finding) × (order : List ℕ) × IsFrame f F × IsVerdict f verdict

@@ -8,7 +8,7 @@
 //! | call | answer |
 //! |---|---|
 //! | `size PATH` | the number of nodes, or `missing STEP WHY` |
-//! | `keys PATH` | `keys`, and each key as the hexadecimal of its units, `-` for the empty one; or `nokeys`, or `missing STEP WHY` |
+//! | `keys PATH` | `keys`, and the units of each key in hexadecimal, `-` for none; or `nokeys`, or `missing STEP WHY` |
 //! | `nodes N` | the number of nodes, or `none` |
 //! | `form N` | `length` and the length, `noform`, or `none` |
 //! | `member N I` | the number of the member's object, or `none` |
