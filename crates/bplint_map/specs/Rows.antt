@@ -34,8 +34,8 @@ module _ (f : List ℕ) (F : Frame) where
   IsByPlace order = IsPermutation (range_with_len 0 F.objects) order
       × IsSorted (λ n m. ordering_then (nat_cmp (off f F n) (off f F m)) (nat_cmp n m)) order
 
-  -- the rows of these objects with `left` bytes left to read: a body of at most that length is read, and leaves fewer;
-  -- a longer one is not read, and its row shows no broken rule of the body
+  -- the rows of these objects with `left` bytes left to read: an object of at most that length is read, and leaves
+  -- fewer; the row of a longer one shows no broken rule of its body
   abbrev pub rows : (ℕ → Finding) → ℕ → List ℕ → List Row
   rows findings left [] = []
   rows findings left (n ∷ ns) = let own : Row = record { number = n; place = off f F n; finding = findings n } in

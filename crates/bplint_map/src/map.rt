@@ -147,8 +147,8 @@ fn put_rows<P: Framed, W: Write>(
     Ok(())
 }
 
-/// The total number of bytes of bodies that are read. The limit keeps files with overlapping objects from taking longer
-/// than others.
+/// The total length of the objects whose bodies are read. The limit keeps files with overlapping objects from taking
+/// longer than others.
 fn looked_at_most(frame: &Frame) -> u64
     ensures { frame.now.table < 2 ^ 32 → result ≡ 16 * frame.now.table }
 {
