@@ -86,7 +86,7 @@ wheel:
 
 # The package's tests, over the wheel in a folder of its own.
 test-wheel: wheel
-	$(PYTHON) -B tests/python_package.py $(DIST)/bplist-*.whl
+	$(PYTHON) -B tests/gate/python_package.py $(DIST)/bplist-*.whl
 
 # What is made depends on the commit and its date alone; outside a clone it is the date of today.
 dist wheel: export SOURCE_DATE_EPOCH ?= $(or $(shell git log -1 --format=%ct 2>/dev/null),$(shell date +%s))
@@ -99,11 +99,11 @@ gate test:
 	.ci/run
 
 edits: build lib
-	python3 -B tests/edits.py --all
+	python3 -B tests/gate/edits.py --all
 
 bench: build lib wheel
-	python3 -B tests/bench.py $(BPLINT)
-	$(PYTHON) -B tests/bench_library.py $(LIBRARY) $(DIST)/bplist-*.whl
+	python3 -B tests/benchmarks/bench.py $(BPLINT)
+	$(PYTHON) -B tests/benchmarks/bench_library.py $(LIBRARY) $(DIST)/bplist-*.whl
 
 install: build lib
 	@made=$$(for folder in $(FOLDERS); do \

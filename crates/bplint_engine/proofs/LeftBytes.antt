@@ -1,4 +1,4 @@
--- What is left with a writer.
+-- What a run leaves with the writer.
 use Rattle.std.proofs.Common.{◌⊎◌, inl, inr, ℕ, List, [], append-nil, sym, ◌∙◌, Option, None, Some, Result, Ok, Err, refl, arith}
 use Rattle.std.specs.Io.KnownBytes.{Appends, Keeps}
 use Rattle.bplist_ascii.specs.Sending.{AtMost}
@@ -22,7 +22,7 @@ pub kept_self : (old : Option (List ℕ)) → Keeps old old
 kept_self None = tt
 kept_self (Some xs) = refl
 
--- what was refused before anything was written
+-- a fault came before anything was written
 pub refused : (Says : Answer → Type 0) (most : ℕ) (old new : Option (List ℕ)) (fault : RunFault) → IsRefusal Says fault → Keeps old new
     → LeavesBy Says most old new (Err fault)
 refused Says most old new (faults.Write _) h kept = absurd h
@@ -30,7 +30,7 @@ refused Says most old new (faults.Read _) h kept = begins_nothing Says most old 
 refused Says most old new faults.Memory h kept = begins_nothing Says most old new kept
 refused Says most old new _ h kept = (h, kept)
 
--- what was made was sent
+-- the output was sent
 pub sent : (Says : Answer → Type 0) (most : ℕ) (old new : Option (List ℕ)) (made : Result Output RunFault) (result : Result Said RunFault)
     → Answers Says made → Sends old new made result → LeavesBy Says most old new result
 sent Says most old new (Ok output) (Ok said) says sends = (output.bytes.items, rw sends.0 says, sends.1)

@@ -29,7 +29,7 @@ use Rattle.bplint_engine.proofs.EqualAnswers.{same_gives}
 use Rattle.bplint_engine.proofs.LeftBytes.{begins_as, kept_self, left_as}
 use Rattle.bplint_engine.proofs.LowerFaults.{cursor_fault}
 
--- an answer was cut
+-- only a first part of an answer was written
 pub some_failed : (Says : Answer → Type 0) (said : Said) (bytes : List ℕ) (old new : Option (List ℕ)) (fault : RunFault) → Says (gives said bytes)
     → Fails old new begun bytes fault → LeavesSomeBy Says old new (Err fault)
 some_failed Says said bytes old new (faults.Write sent) says part = (said, bytes, says, part)
@@ -37,7 +37,7 @@ some_failed Says said bytes old new (faults.Read _) says some = inr (said, bytes
 some_failed Says said bytes old new faults.Memory says some = inr (said, bytes, says, some)
 some_failed Says said bytes old new _ says h = absurd h
 
--- a read failed or memory was refused before anything went out
+-- a read failed or memory was refused before anything was written
 pub excused_leaves : (Says : Answer → Type 0) (old : Option (List ℕ)) (fault : RunFault) → IsExcused fault → LeavesSomeBy Says old old (Err fault)
 excused_leaves Says old (faults.Read _) h = inl (kept_self old)
 excused_leaves Says old faults.Memory h = inl (kept_self old)
@@ -48,7 +48,7 @@ cursor_leaves Says old (cursor_faults.Read _) h = inl (kept_self old)
 cursor_leaves Says old cursor_faults.Changed h = absurd (h refl)
 cursor_leaves Says old cursor_faults.Memory h = inl (kept_self old)
 
--- another way to say the answer
+-- the same under another description of the answer
 pub some_as : (P Q : Answer → Type 0) (old new : Option (List ℕ)) (result : Result Said RunFault) → ((a : Answer) → P a → Q a)
     → LeavesSomeBy P old new result → LeavesSomeBy Q old new result
 some_as P Q old new result to left = left_as P Q old new (BeginsAnswer P old new) (BeginsAnswer Q old new) result to (begins_as P Q old new to) left
@@ -67,7 +67,7 @@ missing_made P step why (Ok output) to told _ = to (gives output.said output.byt
 missing_made P step why (Err fault) to _ memory = subst (IsRefusal P) (sym memory) tt
 
 -- ---- whole files
--- Says says yes of the file, and what is under the path was shown raw
+-- Says accepts the file, and what is under the path was shown raw
 pub raw_says : (Says : Answer → Type 0) (f text : List ℕ) (steps : List (List ℕ)) (F : Frame) (old new : Option (List ℕ)) (result : Result Said RawFault)
     → AllZip IsPathOf (text ∷ []) (steps ∷ []) → IsYes Says → IsThere f F
     → ((v : Value) → Holds f F F.top.0 v → LeavesRawBy (PathShowsRaw steps v) (LeadsToRawless f F steps v) old new result)
@@ -78,7 +78,7 @@ raw_says Says f text steps F old new result are (said, octets, says) (v, frame, 
     (λ n h. (steps, said, octets, F, v, are.0, says, frame, holds, h))
     (left v held)
 
--- the same of what was listed
+-- the same for what was listed
 pub lists_all : (limit : ℕ) (Says : Answer → Type 0) (f text : List ℕ) (steps : List (List ℕ)) (F : Frame) (old new : Option (List ℕ)) (result : Result Said RunFault)
     → AllZip IsPathOf (text ∷ []) (steps ∷ []) → IsYes Says → IsThere f F
     → ((v : Value) → Holds f F F.top.0 v → LeavesSomeBy (PathLists limit text steps v) old new result)

@@ -6,12 +6,12 @@ use Rattle.bplint_lines.specs.declared.fault.RunFault.{RunFault}
 use Rattle.bplint_lines.specs.declared.fault.RunFault.TheVariants as faults
 use Rattle.bplint_lines.specs.declared.said.Said.{Said}
 
--- bytes to write and what they say, or a fault
+-- bytes to write and whether each path led to a value, or a fault
 pub data Answer : Type 0 where
   gives : Said → List ℕ → Answer
   refuses : RunFault → Answer
 
--- the answer is a failed read
+-- true if the result is a failed read
 abbrev pub read_failed : {X : Type 0} → Result X RunFault → Bool
 read_failed answer = elim answer [ Err (faults.Read _) ↦ true | _ ↦ false ]
 
@@ -39,6 +39,6 @@ module _ (Says : Answer → Type 0) (most : ℕ) (old new : Option (List ℕ)) w
   abbrev pub LeavesBy : Result Said RunFault → Type 0
   LeavesBy result = LeavesOr Says old new (AtMost old new most × BeginsAnswer Says old new) result
 
-  -- the same as a bare fact
+  -- the same as a mere fact
   abbrev pub Leaves : Result Said RunFault → Type 0
   Leaves result = ∥ LeavesBy result ∥₁

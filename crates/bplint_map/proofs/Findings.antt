@@ -50,13 +50,13 @@ module _ (f : List ℕ) (F : Frame) (n : ℕ) where
   abbrev found_at : ℕ → Finding → Row
   found_at place found = record { number = n; place = place; finding = found }
 
-  -- the finding of an object that has a head has that head
+  -- a finding has the head of the object
   same_end : (head : Head) (found : Finding) → HasShape f F n head → IsFinding f F n found → (place : ℕ) → row_end (found_at place found) ≡ head.end
   same_end head (Whole x) has is place = ap (λ (h : Head). h.end) (one_shape f F n x head is.0 has)
   same_end head (Wrong x fault) has is place = ap (λ (h : Head). h.end) (one_shape f F n x head is.0 has)
   same_end head (Lost fault) has is place = absurd (no_shape f F n fault head is has)
 
-  -- what is shown of an object whose body is not looked at
+  -- the finding of an object whose body is not read
   abbrev without : Finding → Finding
   without found = elim found [ Wrong head _ ↦ Whole head | other ↦ other ]
 
@@ -66,7 +66,7 @@ module _ (f : List ℕ) (F : Frame) (n : ℕ) where
   without_is head (Lost fault) has is = absurd (no_shape f F n fault head is has)
 
   module _ (findings : ℕ → Finding) (left place : ℕ) (at : place ≡ off f F n) (is : IsFinding f F n (findings n)) (behind : List ℕ) where
-    -- the row of an object that takes so many bytes
+    -- the row of an object of this length
     first_row : (taken : ℕ) → row_end (found_at place (findings n)) - place ≡ taken
         → rows f F findings left (n ∷ behind) ≡ cond (nat_le taken left) (found_at place (findings n) ∷ rows f F findings (left - taken) behind)
         (found_at place (without (findings n)) ∷ rows f F findings left behind)
@@ -77,7 +77,7 @@ module _ (f : List ℕ) (F : Frame) (n : ℕ) where
         (found_at p (findings n) ∷ rows f F findings (left - (row_end (found_at p (findings n)) - p)) behind)
         (found_at p (without (findings n)) ∷ rows f F findings left behind)) (sym at) refl)
 
-    -- an object whose body is looked at
+    -- an object whose body is read
     pub looked : (head : Head) (got : Finding) → HasShape f F n head → IsFinding f F n got → head.end - place ≤ left
         → rows f F findings left (n ∷ behind) ≡ found_at place got ∷ rows f F findings (left - (head.end - place)) behind
     looked head got has given fits =
@@ -86,7 +86,7 @@ module _ (f : List ℕ) (F : Frame) (n : ℕ) where
         ∙ ap (λ b. cond b (found_at place (findings n) ∷ rows f F findings (left - (head.end - place)) behind) (found_at place (without (findings n)) ∷ rows f F findings left behind)) t
         ∙ ap (λ x. found_at place x ∷ rows f F findings (left - (head.end - place)) behind) (one_finding (findings n) got is given)
 
-    -- an object whose body is not looked at
+    -- an object whose body is not read
     pub passed : (head : Head) → HasShape f F n head → left < head.end - place
         → rows f F findings left (n ∷ behind) ≡ found_at place (Whole head) ∷ rows f F findings left behind
     passed head has over =
@@ -107,7 +107,7 @@ module _ (f : List ℕ) (F : Frame) (n : ℕ) where
         ∙ ap (λ b. cond b (found_at place (findings n) ∷ rows f F findings (left - 0) behind) (found_at place (without (findings n)) ∷ rows f F findings left behind)) t
         ∙ (λ i. found_at place (same i) ∷ rows f F findings (kept i) behind)
 
-  -- the row of an object with its place, and how many bytes are left behind it
+  -- the row of an object with its place, and how many bytes are left after it
   pub a_row : (findings : ℕ → Finding) (left : ℕ) (behind : List ℕ) → (found : Finding) × (left' : ℕ)
       × (rows f F findings left (n ∷ behind) ≡ found_at (off f F n) found ∷ rows f F findings left' behind)
       × (IsFinding f F n (findings n) → off f F n < row_end (found_at (off f F n) found) → 8 ≤ off f F n)

@@ -30,7 +30,7 @@ looked_at left (row ∷ rows) =
     if nat_le (size row) left then row ∷ looked_at (left - size row) rows else unlooked row ∷ looked_at left rows
 
 module _ (f : List ℕ) (F : Frame) where
-  -- what rules 14 to 20 say of object n by itself: none is broken, or one of a body, or one of marker and count
+  -- what rules 14 to 20 say of object n by itself: none is broken, or one about the body, or one about marker and count
   abbrev pub IsFinding : ℕ → Finding → Type 0
   IsFinding n (Whole head) = HasShape f F n head × KeepsAll (KeepsByObject f F n) object_rules
   IsFinding n (Wrong head fault) = HasShape f F n head × IsObjectFault f F n object_rules fault
@@ -44,7 +44,7 @@ module _ (f : List ℕ) (F : Frame) where
   abbrev pub placed : ℕ → ObjectOffset
   placed n = record { place = off f F n; number = n }
 
-  -- all objects, sorted by their places, and those of one place by their numbers
+  -- all objects, sorted by place and then by number
   abbrev pub IsByPlace : List ℕ → Type 0
   IsByPlace order = IsPermutation (range_with_len 0 F.objects) order
       × IsSorted (λ n m. ordering_then (nat_cmp (off f F n) (off f F m)) (nat_cmp n m)) order

@@ -1,4 +1,4 @@
-//! Laws of the definitions: each is the contract of a function that does nothing.
+//! Laws about the definitions. Each law is the contract of a function with an empty body.
 
 ghost use Rattle.std.specs.Prelude.{◌≡◌, ◌⊎◌, ◌↔◌, ◌≤◌, ◌<◌, ℕ, List, codes};
 ghost use Rattle.std.specs.List.{Any, sum_by};
@@ -8,7 +8,7 @@ ghost use Rattle.bplint_map.specs.Rows.{AreFindings, IsByPlace, looked_at, rows,
 ghost use Rattle.bplint_map.specs.declared.rows.Finding.{Finding as finding};
 ghost use Rattle.bplint_map.specs.declared.rows.Row.{Row as row};
 
-/// The rows of every map stand in order, as the two other laws ask.
+/// The rows of every map are in order, as the other two laws require.
 pub fn rows_are_in_order()
     ensures { (f : List ℕ) (F : frame) (findings : ℕ → finding) (left : ℕ) (order : List ℕ) → AreFindings f F findings
         → IsByPlace f F order → AreInOrder (rows f F findings left order) }
@@ -27,7 +27,7 @@ pub fn gaps_are_all()
         → Any (IsRegion (codes "gap") x) (parts table 8 rows) → objects_at x rows ≡ 0 }
 {}
 
-/// Overlaps are all bytes that lie in several objects, and no others.
+/// An overlap consists of bytes that are in several objects, and every such byte is in an overlap.
 pub fn overlaps_are_all()
     ensures { (table : ℕ) (rows : List row) → AreInOrder rows → (x : ℕ)
         → (1 < objects_at x rows) ↔ Any (IsRegion (codes "overlap") x) (parts table 8 rows) }

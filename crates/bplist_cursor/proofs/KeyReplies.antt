@@ -1,4 +1,4 @@
--- What a value replies to a query for its keys, by the head of an object that holds it.
+-- What a value replies to a query for its keys, by the head of the object that holds it.
 use Rattle.std.proofs.Common.{Ok, ◌≡◌, ℕ, List, [], ◌∷◌, refl, ap, ◌∙◌}
 use Rattle.std.specs.List.{AllZip}
 use Rattle.bplist_objects.specs.declared.frame.Frame.{Frame}

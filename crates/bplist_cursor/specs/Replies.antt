@@ -11,7 +11,7 @@ use Rattle.bplist_cursor.specs.Look.{look}
 use Rattle.bplist_cursor.specs.Members.{members}
 use Rattle.bplist_cursor.specs.Nodes.{cap, nodes}
 
--- a leaf itself, or a container's kind and count
+-- the value of a leaf, or the kind and count of a container
 abbrev pub face : Value → Face
 face (leaf null) = faces.Null
 face (leaf (boolean b)) = faces.Bool b

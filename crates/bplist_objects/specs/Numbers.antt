@@ -1,4 +1,4 @@
--- Numbers as bytes spell them, the greatest byte first. Source: the format comment of CFBinaryPList.c.
+-- Big-endian numbers. Source: the format comment of CFBinaryPList.c.
 use Rattle.std.specs.Prelude.{ℕ, zero, suc, ◌+◌, ◌^◌, List, [], ◌∷◌, length, slice_index, nat_lt, nat_le, ◌||◌, if◌then◌else◌, ℤ, pos, ◌-ℤ◌}
 use Rattle.bplist_octets.specs.Octets.{part, num}
 

@@ -1,5 +1,5 @@
--- The rules 14 to 20 of an object by itself: how each is kept, and how it is broken and where. Source: the format comment of
--- CFBinaryPList.c; all words, places and the order are profile.
+-- Rules 14 to 20 of an object by itself: how each is kept, and how it is broken and where. Source: the format comment
+-- of CFBinaryPList.c; all words, places and the order are profile.
 use Rattle.std.specs.Prelude.{◌≡◌, ℕ, ◌+◌, ◌*◌, ◌<◌, ◌≤◌, List, [], ◌∷◌, ◌++◌, slice_index}
 use Rattle.bplist_objects.specs.declared.rule.Rule.{Rule}
 use Rattle.bplist_objects.specs.declared.rule.Rule.TheVariants.{OffsetLow, Marker, Count, Extent, NotAscii, UidLarge, RefHigh}
@@ -26,7 +26,7 @@ body_rules = NotAscii ∷ UidLarge ∷ RefHigh ∷ []
 abbrev pub object_rules : List Rule
 object_rules = shape_rules ++ body_rules
 
--- object n keeps this rule; rules 16 and 17 ask nothing where one of marker and count before is broken
+-- object n keeps this rule; rules 16 and 17 require nothing if the marker, or for rule 17 the count, is already wrong
 abbrev pub KeepsByObject : List ℕ → Frame → ℕ → Rule → Type 0
 KeepsByObject f F n OffsetLow = 8 ≤ off f F n
 KeepsByObject f F n Marker = IsMarker (slice_index f (off f F n))
@@ -61,6 +61,6 @@ BreaksByObject f F n RefHigh place =
     × (place ≡ head.body + i * F.ref_size)
 BreaksByObject f F n rule place = (KeepsByObject f F n rule → ⊥) × (place ≡ off f F n)
 
--- the first of these rules that object n breaks
+-- the fault is of the first of these rules that object n breaks
 abbrev pub IsObjectFault : List ℕ → Frame → ℕ → List Rule → Fault → Type 0
 IsObjectFault f F n rules fault = IsFirstFault (KeepsByObject f F n) (OfObject n (BreaksByObject f F n)) rules fault

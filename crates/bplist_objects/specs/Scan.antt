@@ -1,4 +1,4 @@
--- Numbers of one size that stand one behind the other, and the first of them that is too large. Source: profile.
+-- Consecutive numbers of one size, and the first of them that is too large. Source: profile.
 use Rattle.std.specs.Prelude.{◌≡◌, ℕ, ◌+◌, ◌*◌, ◌<◌, List, length, slice_index, slice_index_or}
 use Rattle.bplist_objects.specs.declared.frame.Frame.{Frame}
 use Rattle.bplist_objects.specs.declared.head.Head.{Head}

@@ -9,7 +9,7 @@ use Rattle.bplint_engine.proofs.PathAnswers.{file_refused, lint_there, lint_yes,
 use Rattle.bplint_engine.proofs.SentAnswers.{raw_says}
 use Rattle.bplint_engine.proofs.raw.show_raw_on.Goals as goal
 
--- what is said of one path and a value
+-- the answer for one path and a value
 abbrev IsShown : List (List (List ℕ)) → Value → Answer → Type 0
 IsShown paths v answer = (steps : List (List ℕ)) × (paths ≡ steps ∷ []) × PathShowsRaw steps v answer
 

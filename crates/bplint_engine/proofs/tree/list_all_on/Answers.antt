@@ -9,7 +9,7 @@ use Rattle.bplint_engine.proofs.PathAnswers.{file_refused, lint_there, lint_yes,
 use Rattle.bplint_engine.proofs.SentAnswers.{lists_all}
 use Rattle.bplint_engine.proofs.tree.list_all_on.Goals as goal
 
--- what is said of one path and a value
+-- the answer for one path and a value
 abbrev IsListed : ℕ → List ℕ → List (List (List ℕ)) → Value → Answer → Type 0
 IsListed limit text paths v answer = (steps : List (List ℕ)) × (paths ≡ steps ∷ []) × PathLists limit text steps v answer
 
