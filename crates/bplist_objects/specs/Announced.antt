@@ -39,8 +39,7 @@ IsFront kinds.Null count front = (count ≡ 0) × (front ≡ 0 ∷ [])
 IsFront kinds.False count front = (count ≡ 0) × (front ≡ 8 ∷ [])
 IsFront kinds.True count front = (count ≡ 0) × (front ≡ 9 ∷ [])
 IsFront kinds.Int count front = (w : ℕ) × (w ≤ 4) × (count ≡ 2 ^ w) × (front ≡ (16 + w) ∷ [])
-IsFront kinds.Real count front =
-    (w : ℕ) × (2 ≤ w) × (w ≤ 3) × (count ≡ 2 ^ w) × (front ≡ (32 + w) ∷ [])
+IsFront kinds.Real count front = (w : ℕ) × (2 ≤ w) × (w ≤ 3) × (count ≡ 2 ^ w) × (front ≡ (32 + w) ∷ [])
 IsFront kinds.Date count front = (count ≡ 8) × (front ≡ 51 ∷ [])
 IsFront kinds.Bytes count front = IsCount 4 count front
 IsFront kinds.Ascii count front = IsCount 5 count front

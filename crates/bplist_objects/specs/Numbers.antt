@@ -6,8 +6,7 @@ use Rattle.bplist_octets.specs.Octets.{part, num}
 abbrev pub integer : List ℕ → ℤ
 integer l =
     if nat_le (length l) 4 || nat_lt (slice_index l 0) 128
-    then pos (num l)
-    else pos (num l) -ℤ pos (256 ^ length l)
+    then pos (num l) else pos (num l) -ℤ pos (256 ^ length l)
 
 -- the number of n bytes from a place on
 abbrev pub num_at : List ℕ → ℕ → ℕ → ℕ
