@@ -1,32 +1,53 @@
 #!/usr/bin/env python3
-"""growth.py CALLS
+"""growth.py CALLS PROGRAM
 
-Shows, without a clock, that no call reads a file again and again. CALLS is bplist_calls, which counts the bytes that `lint`
-and, where the file holds a value, `check` with its certificate of version 1, `upgrade`, and `check` with that of version 2
-ask of their source. For each hostile family, at 64 and 256 kB, a call asks for at most `EACH` bytes a byte of the
-file and `BESIDE` bytes beside them, and at 256 kB for at most `TIMES` times as many as at 64 kB, or as the file of 64 kB has
-bytes; for so many more where the file is more than four times as long, since its numbers have more bytes. The same limit holds
-for the files of both tables of runs. One call on one family, or on all of these files, counts as one test. The calls of `KNOWN`
-grow faster today: they are named and not counted. The last line printed is `N passed, M failed`.
+Shows, without a clock, that no call reads a file again and again.
+
+CALLS is bplist_calls, which counts the bytes that `lint` and, if the file holds a value, `check` with its certificate of version
+1, `upgrade`, and `check` with that of version 2 ask of their source. PROGRAM is bplint, which reads FILE through its windows:
+the system counts the bytes that `lint`, `certify --sorted`, `get`, and `check` of accepted and of refused pairs read.
+
+For each hostile family a call asks for at most the bytes that `EACH` gives it for a byte of the file, and `BESIDE` bytes beside
+them. At four times the length it asks for at most `TIMES` times as many, or as the smaller file has bytes; for so many more
+where the file is more than four times as long, since its numbers have more bytes. The limits of `EACH` hold for the files of both
+tables of runs too. One call on one family, or on all of these files, counts as one test. The calls of `KNOWN` grow faster
+today: they are named and not counted. The last line printed is `N passed, M failed`.
 """
 import concurrent.futures
 import os
 import pathlib
+import resource
 import subprocess
 import sys
+import tempfile
 
 sys.path.insert(0, str(pathlib.Path(__file__).resolve().parents[1]))
 
 from helpers.contents import Hole, content  # noqa: E402
-from helpers.families import FAMILIES  # noqa: E402
+from helpers.families import FAMILIES, REFUSED_PAIRS  # noqa: E402
+from helpers.layout import path_in  # noqa: E402
+from helpers.spelled import write  # noqa: E402
 from helpers.tables import all_runs  # noqa: E402
 
-EACH = 64
+# The calls that CALLS counts, in their order, and then the commands of PROGRAM. What a command reads is a multiple of what its
+# call asks for, because a window reads at least 1,024 bytes.
+EACH = {
+    "lint": 64,
+    "check-1": 64,
+    "upgrade": 64,
+    "check-2": 64,
+    "lint FILE": 64,
+    "certify --sorted FILE": 64,
+    "check FILE, version 1": 64,
+    "check FILE, version 2": 64,
+    "get FILE": 64,
+}
 BESIDE = 1 << 20
 TIMES = 4.6
-SMALL, LARGE = 1 << 16, 1 << 18
+SIZES = 1 << 16, 1 << 18
+READ_SIZES = 1 << 18, 1 << 20  # the windows hold a smaller file whole
 SECONDS = 120
-CALLS = ["lint", "check-1", "upgrade", "check-2"]
+CALLS = [call for call in EACH if "FILE" not in call]
 
 # By family. What stands here and grows no faster is said, so that it can be taken out.
 KNOWN = {
@@ -34,7 +55,7 @@ KNOWN = {
 }
 
 
-def counted(program, file):
+def asked(program, file):
     """Bytes by call, and None where the program was stopped before it answered."""
     try:
         ran = subprocess.run([program, "counts"], input=file, capture_output=True, timeout=SECONDS, check=False)
@@ -49,39 +70,79 @@ def counted(program, file):
     return counts
 
 
-def limit(file):
-    return EACH * len(file) + BESIDE
+def read_by(*words):
+    """The bytes that a command reads from files, and its status; None and its status where it was stopped."""
+    child = subprocess.Popen(words, stdout=subprocess.DEVNULL, stderr=subprocess.DEVNULL)
+    resource.prlimit(child.pid, resource.RLIMIT_CPU, (SECONDS, SECONDS))
+    os.waitid(os.P_PID, child.pid, os.WEXITED | os.WNOWAIT)
+    counters = dict(line.split(": ") for line in pathlib.Path(f"/proc/{child.pid}/io").read_text(encoding="ascii").splitlines())
+    status = child.wait()
+    return int(counters["rchar"]) if status in (0, 1) else None, status
 
 
-def wrong_of_family(program, family):
-    """What is wrong with each call on a family, or None."""
-    files = [family(size) for size in (SMALL, LARGE)]
-    small, large = (counted(program, file) for file in files)
+def read(program, made):
+    """Bytes by command: of a family's file, with its own certificates if it holds a value, or of a refused pair."""
+    with tempfile.TemporaryDirectory(prefix="bplint") as folder:
+        file, path = os.path.join(folder, "file"), None
+        write(made, file)
+        counts = {}
+        counts["lint FILE"], status = read_by(program, "lint", file)
+        if status == 0:
+            path = path_in(made)
+            read_by(program, "certify", file, file + ".1")
+            counts["certify --sorted FILE"], _ = read_by(program, "certify", "--sorted", file, file + ".2")
+        for version in (1, 2):
+            if os.path.exists(f"{file}.{version}"):
+                counts[f"check FILE, version {version}"], _ = read_by(program, "check", file, f"{file}.{version}")
+        if path is not None:
+            counts["get FILE"], _ = read_by(program, "get", file, file + ".2", path)
+        return counts
+
+
+def limit(call, file):
+    return EACH[call] * len(file) + BESIDE
+
+
+def wrong_of_counts(files, small, large):
+    """What is wrong with each call that was counted on a smaller and a larger file, or None."""
     times = TIMES * max(1, len(files[1]) / len(files[0]) / 4)
     wrong = {}
     for call in small:
         was, now = small[call], large.get(call)
+        said = f"{was:,} bytes of {len(files[0]):,}, and {now:,} of {len(files[1]):,}" if was and now else ""
         if was is None or now is None:
             wrong[call] = f"no answer in {SECONDS} seconds"
             break  # the calls after it were not come to
-        elif was > limit(files[0]) or now > limit(files[1]):
-            wrong[call] = f"{was:,} bytes of {len(files[0]):,} and {now:,} of {len(files[1]):,}"
+        elif was > limit(call, files[0]) or now > limit(call, files[1]):
+            wrong[call] = f"too many: {said}"
         elif now > times * max(was, len(files[0])):
-            wrong[call] = f"{was:,} bytes of {len(files[0]):,}, and {now:,} of {len(files[1]):,}"
+            wrong[call] = f"grows too fast: {said}"
         else:
             wrong[call] = None
+        if VERBOSE: print(family_name, call, round(was/len(files[0]),1), round(now/len(files[1]),1), round(now/max(was,1),1))
     return wrong
 
 
-def wrong_of_table(program, pool):
-    """What is wrong with each call on the files of the table, or None."""
+def wrong_of_family(calls, program, family):
+    """What is wrong with each call on a family, or None."""
+    wrong = {}
+    if family in FAMILIES:
+        files = [family(size) for size in SIZES]
+        wrong |= wrong_of_counts(files, *(asked(calls, file) for file in files))
+    made = [family(size) for size in READ_SIZES]
+    files = [getattr(one, "file", one) for one in made]
+    return wrong | wrong_of_counts(files, *(read(program, one) for one in made))
+
+
+def wrong_of_tables(calls, pool):
+    """What is wrong with each call on the files of the tables, or None."""
     columns = sorted({vector.file for vector in all_runs() if "=" not in vector.file})
     files = [file for file in map(content, columns) if file is not None and not isinstance(file, Hole)]
     wrong = dict.fromkeys(CALLS)
-    for file, counts in zip(files, pool.map(lambda file: counted(program, file), files)):
-        for call, asked in counts.items():
-            if asked is None or asked > limit(file):
-                wrong[call] = f"{asked} bytes of {len(file)}: {file[:40].hex()}"
+    for file, counts in zip(files, pool.map(lambda file: asked(calls, file), files)):
+        for call, count in counts.items():
+            if count is None or count > limit(call, file):
+                wrong[call] = f"{count} bytes of {len(file)}: {file[:40].hex()}"
     return wrong
 
 
@@ -103,12 +164,13 @@ def report(name, wrong):
 
 
 def main():
-    if len(sys.argv) != 2:
+    if len(sys.argv) != 3:
         sys.exit(__doc__)
-    program = os.path.abspath(sys.argv[1])
+    calls, program = map(os.path.abspath, sys.argv[1:])
+    families = [*FAMILIES, *REFUSED_PAIRS]
     with concurrent.futures.ThreadPoolExecutor(os.cpu_count()) as pool:
-        names = [family.__name__ for family in FAMILIES] + [TABLE.name]
-        wrongs = [*pool.map(lambda family: wrong_of_family(program, family), FAMILIES), wrong_of_table(program, pool)]
+        wrongs = [*pool.map(lambda family: wrong_of_family(calls, program, family), families), wrong_of_tables(calls, pool)]
+    names = [family.__name__ for family in families] + ["the tables of runs"]
     reports = [report(name, wrong) for name, wrong in zip(names, wrongs)]
     passed, failed = (sum(column) for column in zip(*reports))
     print(f"{passed} passed, {failed} failed")
