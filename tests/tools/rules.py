@@ -10,6 +10,7 @@ With the word or the number of a rule, prints where all of these are.
 import collections
 import pathlib
 import re
+import signal
 import sys
 
 ROOT = pathlib.Path(__file__).resolve().parents[2]
@@ -180,6 +181,8 @@ def main():
     if len(sys.argv) > 2 or sys.argv[1:] in (["-h"], ["--help"]):
         print(__doc__, file=sys.stderr)
         return 2
+    # A reader that has seen enough, such as head, ends the script without a traceback.
+    signal.signal(signal.SIGPIPE, signal.SIG_DFL)
     return show(sys.argv[1]) if sys.argv[1:] else compare_all()
 
 
