@@ -22,12 +22,11 @@ use Rattle.bplint_lines.specs.declared.raw_fault.RawFault.{RawFault}
 use Rattle.bplint_lines.specs.declared.raw_fault.RawFault.TheVariants.{Run, NoRawForm}
 use Rattle.bplint_lines.specs.declared.said.Said.{Said}
 use Rattle.bplint_lines.specs.declared.said.Said.TheVariants.{All, SomeMissing}
-use Rattle.bplint_lines.specs.Answers.{Answer, gives, refuses}
+use Rattle.bplint_lines.specs.Answers.{Answer, gives, refuses, LeavesSomeBy}
 use Rattle.bplint_engine.specs.declared.raw_form.Raw.{Raw}
 use Rattle.bplint_engine.specs.declared.raw_form.Raw.TheVariants.{Data, Text, Word}
 use Rattle.bplint_engine.specs.Get.{found_line}
 use Rattle.bplint_engine.specs.PathTexts.{ForPaths}
-use Rattle.bplint_engine.specs.Streams.{LeavesSomeBy}
 
 -- the UTF-8 of a text with these units, or none if a surrogate has no partner
 abbrev pub utf8_text : List ℕ → Option (List ℕ)

@@ -3,7 +3,7 @@ ghost use Rattle.std.specs.Prelude.{◌≡◌, IsTrue};
 ghost use Rattle.bplint_engine.specs.Prelude.{Gives, OnlyReads, Holds, Value, IsVouchedBy, OnlyReadsFile, LintSays, read_failed};
 ghost use Rattle.bplist_cursor.specs.Found.{IsHeld};
 ghost use Rattle.bplist_cursor.specs.Nodes.{cap, nodes};
-ghost use Rattle.bplint_engine.specs.Streams.{LeavesSomeBy};
+ghost use Rattle.bplint_lines.specs.Answers.{LeavesSomeBy};
 ghost use Rattle.bplint_engine.specs.Tree.{ListsAll, NodeLists, PathLists};
 
 use crate::certified_file::checked_by_lint;

@@ -29,8 +29,13 @@ face (dict ps) = faces.Dict (length (keys ps))
 abbrev pub keys_reply : Value → Reply
 keys_reply v = elim v [ dict ps ↦ replies.Keys (keys ps) | _ ↦ replies.NoKeys ]
 
--- the reply of a value to a query
+-- what is told of the value that these steps lead to, or why they lead nowhere
+abbrev pub reply_at : (Value → Reply) → Value → List (List ℕ) → Reply
+reply_at tell v steps =
+    elim (look 0 v steps) [ Ok w ↦ tell w | Err (k, why) ↦ replies.Missing k why ]
+
+-- a value's reply to a query
 abbrev pub reply : Value → Query → Reply
-reply v (queries.Get steps) = elim (look 0 v steps) [ Ok w ↦ replies.Face (face w) | Err (k, why) ↦ replies.Missing k why ]
-reply v (queries.Keys steps) = elim (look 0 v steps) [ Ok w ↦ keys_reply w | Err (k, why) ↦ replies.Missing k why ]
-reply v (queries.Size steps) = elim (look 0 v steps) [ Ok w ↦ replies.Size (cap (nodes w)) | Err (k, why) ↦ replies.Missing k why ]
+reply v (queries.Get steps) = reply_at (λ w. replies.Face (face w)) v steps
+reply v (queries.Keys steps) = reply_at keys_reply v steps
+reply v (queries.Size steps) = reply_at (λ w. replies.Size (cap (nodes w))) v steps
