@@ -86,6 +86,15 @@ def line_of(name, file):
     return next((number for number, line in enumerate(lines, 1) if head.match(line)), 0)
 
 
+def case_line(name, file, word):
+    """The line at which the case of a definition for this rule begins, or 0 if it has no such case."""
+    crate, base = file.split("/")
+    path = ROOT / "crates" / crate / FOLDERS[pathlib.Path(base).suffix] / base
+    case = re.compile(rf"\s*{re.escape(name)} .*\b{word}\b.* =")
+    lines = path.read_text(encoding="utf-8").split("\n")
+    return next((number for number, line in enumerate(lines, 1) if case.match(line)), 0)
+
+
 def fault_makers():
     """For each rule's word the functions whose text has it as `Rule::WORD`, with their files."""
     found = collections.defaultdict(set)
@@ -165,12 +174,16 @@ def show(asked):
         print(f"{column}: {rule.cells[column]}")
         for name, file in rule.names(column):
             crate, base = file.split("/")
-            print(f"  crates/{crate}/{FOLDERS[pathlib.Path(base).suffix]}/{base}:{line_of(name, file)}: {name}")
+            path = f"crates/{crate}/{FOLDERS[pathlib.Path(base).suffix]}/{base}"
+            print(f"  {path}:{line_of(name, file)}: {name}")
+            case = case_line(name, file, rule.word) if column == "definition" else 0
+            if case:
+                print(f"  {path}:{case}: {name}, case {rule.word}")
     names = breaking_rows()[rule.word]
     print(f"rows that break it: {len(names)}")
     for prefix in rule.list_of("rows"):
         print("  " + " ".join(name for name in names if name.startswith(f"{prefix}.")))
-    print("edits of its functions:")
+    print("edits of its functions:" if rule.list_of("edits of") else "edits of its functions: none")
     for name in rule.list_of("edits of"):
         for path in edits()[name]:
             print(f"  {path}")
