@@ -180,7 +180,7 @@ def show(asked):
             if case:
                 print(f"  {path}:{case}: {name}, case {rule.word}")
     names = breaking_rows()[rule.word]
-    print(f"rows that break it: {len(names)}")
+    print(f"rows of tests/vectors that break it: {len(names)}")
     for prefix in rule.list_of("rows"):
         print("  " + " ".join(name for name in names if name.startswith(f"{prefix}.")))
     print("edits of its functions:" if rule.list_of("edits of") else "edits of its functions: none")
