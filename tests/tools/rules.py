@@ -1,9 +1,9 @@
 #!/usr/bin/env python3
 """rules.py [WORD]
 
-Without WORD, compares the tables of docs/RULES.md with the sources: the definitions and functions are in the files that they
-name, the functions that make a rule's fault are those that say so, rows of tests/vectors break the rule, and there are
-edits of the functions. The last line printed is `N passed, M failed`; the exit status is 1 if one failed.
+Without WORD, compares the tables of docs/RULES.md with the sources: the definitions and functions are in the files that the
+page names, the functions that make a rule's fault are those that it names, rows of tests/vectors break the rule, and there
+are edits of the functions. The last line is `N passed, M failed`. The exit status is 1 if one failed.
 
 With the word or the number of a rule, prints where all of these are.
 """
