@@ -3,15 +3,18 @@
 
 Shows, without a clock, that no call reads a file again and again.
 
-CALLS is bplist_calls, which counts the bytes that `lint` and, if the file holds a value, `check` with its certificate of version
-1, `upgrade`, and `check` with that of version 2 ask of their source. PROGRAM is bplint, which reads FILE through its windows:
-the system counts the bytes that `lint`, `certify --sorted`, `get`, and `check` of accepted and of refused pairs read.
+CALLS is bplist_calls. It counts the bytes that `lint` asks its source for, and, if the file holds a value, those of `check`
+with a certificate of version 1, of `upgrade`, and of `check` with a certificate of version 2. PROGRAM is bplint. It reads
+FILE through its windows, and the system counts the bytes that `lint`, `certify --sorted`, `check` and `get` read. `check`
+also reads pairs that it refuses.
 
-For each hostile family a call asks for at most the bytes that `EACH` gives it for a byte of the file, and `BESIDE` bytes beside
-them. At four times the length it asks for at most `TIMES` times as many, or as the smaller file has bytes; for so many more
-where the file is more than four times as long, since its numbers have more bytes. The limits of `EACH` hold for the files of both
-tables of runs too. One call on one family, or on all of these files, counts as one test. The calls of `KNOWN` grow faster
-today: they are named and not counted. The last line printed is `N passed, M failed`.
+For each hostile family a call may ask for at most `EACH` bytes for each byte of the file and `BESIDE` bytes more. At four times
+the length it may ask for at most `TIMES` times as many, or as the smaller file has bytes. If the file is more than four times
+as long, because its numbers have more bytes, the limit grows with it. The limits of `EACH` also hold for the files of both
+tables of runs.
+
+One call on one family, or on all files of the tables, counts as one test. The calls of `KNOWN` grow faster today: they are
+named and not counted. The last line is `N passed, M failed`.
 """
 import concurrent.futures
 import os

@@ -26,8 +26,8 @@ use std::io::Write;
 /// everything inside it begin with the member's index in brackets. A path that leads nowhere gets the same line as with
 /// `Get`.
 ///
-/// Lines are written as they are made. Memory grows with the number of objects and the depth of the value, and holds
-/// one line.
+/// Lines are written as they are made. Memory grows with the number of objects, the depth of the value and the length
+/// of a line.
 ///
 /// These errors come before anything is written, in this order: `Path` for a wrong path text; `Fault` or `Circle` as
 /// `Lint` returns it; `TooLong` if the value has more than `limit` nodes, or 18446744073709551615 or more. Each key is

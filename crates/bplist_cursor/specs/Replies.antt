@@ -1,5 +1,5 @@
 -- What a value replies to a query. Source: profile.
-use Rattle.std.specs.Prelude.{length, Ok, Err}
+use Rattle.std.specs.Prelude.{ℕ, List, length, Ok, Err}
 use Rattle.bplist_objects.specs.Value.{null, boolean, int, real, date, bytes, text, uid, Value, leaf, array, set, dict, keys}
 use Rattle.bplist_cursor.specs.declared.faces.Face.{Face}
 use Rattle.bplist_cursor.specs.declared.faces.Face.TheVariants as faces
@@ -30,12 +30,12 @@ abbrev pub keys_reply : Value → Reply
 keys_reply v = elim v [ dict ps ↦ replies.Keys (keys ps) | _ ↦ replies.NoKeys ]
 
 -- what is told of the value that these steps lead to, or why they lead nowhere
-abbrev pub reply_at : (Value → Reply) → Value → List (List ℕ) → Reply
-reply_at tell v steps =
+abbrev pub told_of : (Value → Reply) → Value → List (List ℕ) → Reply
+told_of tell v steps =
     elim (look 0 v steps) [ Ok w ↦ tell w | Err (k, why) ↦ replies.Missing k why ]
 
 -- a value's reply to a query
 abbrev pub reply : Value → Query → Reply
-reply v (queries.Get steps) = reply_at (λ w. replies.Face (face w)) v steps
-reply v (queries.Keys steps) = reply_at keys_reply v steps
-reply v (queries.Size steps) = reply_at (λ w. replies.Size (cap (nodes w))) v steps
+reply v (queries.Get steps) = told_of (λ w. replies.Face (face w)) v steps
+reply v (queries.Keys steps) = told_of keys_reply v steps
+reply v (queries.Size steps) = told_of (λ w. replies.Size (cap (nodes w))) v steps
