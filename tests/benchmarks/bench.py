@@ -12,7 +12,7 @@ With --hostile the files are those of the hostile families (tests/helpers/famili
 the script prints the processor time, the least of three runs or of one that takes more than 2 seconds; by which factor it grows
 from one size to the next; and how many times as long it takes as OTHER's call, which need not be bplint's: any program with the
 commands `lint`, `certify [--sorted]` and `check`, and with their lines, will do. `get` is compared with OTHER's `check`. A run
-is stopped after 60 seconds of processor time, and then the larger files are left out.
+is stopped after 20 seconds of processor time, and then the larger files are left out.
 """
 import argparse
 import dataclasses
@@ -36,7 +36,7 @@ from helpers.spelled import write  # noqa: E402
 
 ROUNDS = 10
 SIZES = [1 << 20, 1 << 22, 1 << 24]
-HOSTILE_ROUNDS, LONG, MOST = 3, 2, 60  # runs, seconds of a run that is not repeated, seconds after which it is stopped
+HOSTILE_ROUNDS, LONG, MOST = 3, 2, 20  # runs, seconds of a run that is not repeated, seconds after which it is stopped
 
 
 def nested():
@@ -153,7 +153,7 @@ def time_hostile(name, size, program, other, stopped):
     with tempfile.TemporaryDirectory(prefix="bplint") as folder:
         file, path = os.path.join(folder, "file"), None
         subprocess.run([sys.executable, __file__, "--make-hostile", name, str(size), file], check=True)
-        lint = subprocess.run([program, "lint", "--quiet", file], stdout=subprocess.DEVNULL, stderr=subprocess.DEVNULL, check=False)
+        lint = subprocess.run([program, "lint", file], stdout=subprocess.DEVNULL, stderr=subprocess.DEVNULL, check=False)
         if lint.returncode == 0:
             path = path_in(pathlib.Path(file).read_bytes())
             subprocess.run([program, "certify", file, file + ".1"], check=True)

@@ -8,10 +8,10 @@ with a certificate of version 1, of `upgrade`, and of `check` with a certificate
 FILE through its windows, and the system counts the bytes that `lint`, `certify --sorted`, `check` and `get` read. `check`
 also reads pairs that it refuses.
 
-For each hostile family a call may ask for at most `EACH` bytes for each byte of the file and `BESIDE` bytes more. At four times
-the length it may ask for at most `TIMES` times as many, or as the smaller file has bytes. If the file is more than four times
-as long, because its numbers have more bytes, the limit grows with it. The limits of `EACH` also hold for the files of both
-tables of runs.
+A call may ask for at most `EACH` bytes for each byte of the file and `BESIDE` bytes more. For a few hostile families `EACH_OF`
+allows more. At 256 kB a call may ask for at most `TIMES` times as many as at 64 kB, or as `FREE` for each byte of the smaller
+file. If the file is more than four times as long, because its numbers have more bytes, that limit grows with it. A command may
+read at most `EACH` bytes for each byte of a file of 1 MB. The limits of `EACH` also hold for the files of both tables of runs.
 
 One call on one family, or on all files of the tables, counts as one test. The calls of `KNOWN` grow faster today: they are
 named and not counted. The last line is `N passed, M failed`.
@@ -32,29 +32,41 @@ from helpers.layout import path_in  # noqa: E402
 from helpers.spelled import write  # noqa: E402
 from helpers.tables import all_runs  # noqa: E402
 
-# The calls that CALLS counts, in their order, and then the commands of PROGRAM. What a command reads is a multiple of what its
-# call asks for, because a window reads at least 1,024 bytes.
+# By call: what CALLS counts, in this order, and then what PROGRAM reads. A window reads at least 1,024 bytes, so a command
+# reads more than its call asks for.
 EACH = {
-    "lint": 64,
-    "check-1": 64,
-    "upgrade": 64,
-    "check-2": 64,
-    "lint FILE": 64,
-    "certify --sorted FILE": 64,
-    "check FILE, version 1": 64,
-    "check FILE, version 2": 64,
-    "get FILE": 64,
+    "lint": 10,
+    "check-1": 4,
+    "upgrade": 4,
+    "check-2": 12,
+    "lint FILE": 8,
+    "certify --sorted FILE": 12,
+    "check FILE, version 1": 8,
+    "check FILE, version 2": 8,
+    "get FILE": 8,
 }
-BESIDE = 1 << 20
+CALLS = [call for call in EACH if "FILE" not in call]
+
+# By family: what it needs more of. A key list that is not in the order of the file costs three reads for each key.
+EACH_OF = {
+    "keys_of_one_fingerprint": {"check FILE, version 2": 140, "get FILE": 140},
+    "keys_of_our_fingerprint": {"check-1": 24, "upgrade": 24, "check FILE, version 2": 140, "get FILE": 140},
+}
+
+BESIDE = 4096
 TIMES = 4.6
 SIZES = 1 << 16, 1 << 18
-READ_SIZES = 1 << 18, 1 << 20  # the windows hold a smaller file whole
+READ_SIZE = 1 << 20  # the windows hold a file of 128 kB whole
+FREE = 4
 SECONDS = 120
-CALLS = [call for call in EACH if "FILE" not in call]
 
 # By family. What stands here and grows no faster is said, so that it can be taken out.
 KNOWN = {
-    "pairs_of_keys": ["check-2"],
+    "pairs_of_keys": ["check-2", "check FILE, version 2", "get FILE"],
+    "pairs_in_one_slot": ["check-2", "check FILE, version 2", "get FILE"],
+    "keys_of_our_fingerprint": ["lint", "lint FILE", "certify --sorted FILE", "check FILE, version 1"],
+    "keys_over_keys_vouched": ["check FILE, version 1", "check FILE, version 2"],
+    "keys_over_regions": ["check FILE, version 1", "check FILE, version 2"],
 }
 
 
@@ -102,39 +114,35 @@ def read(program, made):
         return counts
 
 
-def limit(call, file):
-    return EACH[call] * len(file) + BESIDE
+def excess(name, call, file, count):
+    """What is wrong with a count of a call on a file, or None."""
+    if count is None:
+        return f"no answer in {SECONDS} seconds"
+    each = EACH_OF.get(name, EACH).get(call, EACH[call])
+    return None if count <= each * len(file) + BESIDE else f"{count:,} bytes of {len(file):,}, above {each} a byte"
 
 
-def wrong_of_counts(files, small, large):
-    """What is wrong with each call that was counted on a smaller and a larger file, or None."""
+def growth(files, was, now):
+    """What is wrong with how the counts of a call grow, or None."""
     times = TIMES * max(1, len(files[1]) / len(files[0]) / 4)
-    wrong = {}
-    for call in small:
-        was, now = small[call], large.get(call)
-        said = f"{was:,} bytes of {len(files[0]):,}, and {now:,} of {len(files[1]):,}" if was and now else ""
-        if was is None or now is None:
-            wrong[call] = f"no answer in {SECONDS} seconds"
-            break  # the calls after it were not come to
-        elif was > limit(call, files[0]) or now > limit(call, files[1]):
-            wrong[call] = f"too many: {said}"
-        elif now > times * max(was, len(files[0])):
-            wrong[call] = f"grows too fast: {said}"
-        else:
-            wrong[call] = None
-        if VERBOSE: print(family_name, call, round(was/len(files[0]),1), round(now/len(files[1]),1), round(now/max(was,1),1))
-    return wrong
+    if was is None or now is None or now <= times * max(was, FREE * len(files[0])):
+        return None
+    return f"{was:,} bytes of {len(files[0]):,}, and {now:,} of {len(files[1]):,}"
 
 
 def wrong_of_family(calls, program, family):
     """What is wrong with each call on a family, or None."""
-    wrong = {}
+    name, wrong = family.__name__, {}
     if family in FAMILIES:
         files = [family(size) for size in SIZES]
-        wrong |= wrong_of_counts(files, *(asked(calls, file) for file in files))
-    made = [family(size) for size in READ_SIZES]
-    files = [getattr(one, "file", one) for one in made]
-    return wrong | wrong_of_counts(files, *(read(program, one) for one in made))
+        small, large = (asked(calls, file) for file in files)
+        for call, was in small.items():
+            now = large.get(call)
+            wrong[call] = excess(name, call, files[0], was) or excess(name, call, files[1], now) or growth(files, was, now)
+    made = family(READ_SIZE)
+    for call, count in read(program, made).items():
+        wrong[call] = excess(name, call, getattr(made, "file", made), count)
+    return wrong
 
 
 def wrong_of_tables(calls, pool):
@@ -144,8 +152,8 @@ def wrong_of_tables(calls, pool):
     wrong = dict.fromkeys(CALLS)
     for file, counts in zip(files, pool.map(lambda file: asked(calls, file), files)):
         for call, count in counts.items():
-            if count is None or count > limit(call, file):
-                wrong[call] = f"{count} bytes of {len(file)}: {file[:40].hex()}"
+            if why := excess(None, call, file, count):
+                wrong[call] = f"{why}: {file[:40].hex()}"
     return wrong
 
 
