@@ -1,17 +1,29 @@
-//! The tests of the program's engine: lines of faults, reads that fail one by one, writers that fail, a file that changes
-//! while it is read, and files that are cut or changed.
+//! The tests of all crates in Rattle, by subject. What bytes in and bytes out can show is in the tables of tests/vectors.
 //!
-//! It has no code of its own, and is a crate of its own so that a check of the engine need not prove its tests. What the
-//! program itself can show is in the tables of tests/vectors.
+//! It has no code of its own, and is a crate of its own so that a check of the others need not prove their tests.
 #![tactic(auto)]
 
 #[cfg(test)]
+mod checked_files;
+#[cfg(test)]
+mod cursor;
+#[cfg(test)]
 mod damaged_files;
 #[cfg(test)]
-mod failing_reads;
+mod failing_calls;
+#[cfg(test)]
+mod failing_commands;
 #[cfg(test)]
 mod fault_lines;
 #[cfg(test)]
+mod heads;
+#[cfg(test)]
+mod leaves;
+#[cfg(test)]
+mod octets;
+#[cfg(test)]
 mod runs;
+#[cfg(test)]
+mod windows;
 #[cfg(test)]
 mod writers;

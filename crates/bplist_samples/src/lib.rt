@@ -1,5 +1,5 @@
-//! Samples that the test crates share. It is no part of the library: its functions are proved to be safe and to end, and only its
-//! sources have clauses.
+//! Samples that bplint_tests and bplist_calls share. It is no part of the library: its functions are proved to be safe and to
+//! end, and only its sources have clauses.
 //!
 //! ```
 //! for row in tested_rows(alloc)? {

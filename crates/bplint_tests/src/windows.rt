@@ -1,6 +1,6 @@
 //! What windows give, and what they ask their source for.
 
-use crate::sources::{Read, all_answer, answers};
+use crate::octets::{Read, all_answer, answers};
 use bplist_octets::{FaultySource, Pane, ReadFault, SliceSource, Window, Windows};
 
 /// Bytes that tell their place.

@@ -12,8 +12,8 @@ use std::alloc::{AllocError, Global};
 use std::process::Abort;
 use std::test::Fail;
 
-/// More reads than any of the calls makes.
-const MOST_READS: u64 = 100_000;
+/// More reads than any of the calls and commands makes.
+pub(crate) const MOST_READS: u64 = 100_000;
 
 /// What a call said where a read may have failed, and what the same call said when it was made again.
 #[derive(Drop)]
