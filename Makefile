@@ -7,7 +7,8 @@
 ##   make dist           archive, Debian packages, wheel and SHA256SUMS, into dist/
 ##   make install        program, manual page, completions, C library, header and bplist.pc, below PREFIX
 ##   make uninstall      takes all of it away; give it the words that install was given
-##   make gate           every test, as .ci/run; `make test` is the same
+##   make check          for every day, some minutes: proves what changed, and tries tables and scripts on what it built
+##   make gate           every test, as .ci/run does: what decides before a push; `make test` is the same
 ##   make edits          every must-fail edit, also those that the gate leaves out
 ##   make bench          times of program and library
 ##   make clean          takes away what was built
@@ -49,7 +50,7 @@ INSTALLED = $(addprefix $(DESTDIR),$(bindir)/bplint $(mandir)/man1/bplint.1 $(ba
 MADE = $(DESTDIR)$(datadir)/bplint/folders
 FOLDERS = $(sort $(patsubst %/,%,$(dir $(INSTALLED) $(MADE))))
 
-.PHONY: build help look lib link-lib wheel test-wheel dist install uninstall gate test edits bench clean
+.PHONY: build help look lib link-lib wheel test-wheel dist install uninstall check gate test edits bench clean
 
 # rt sees by itself what has to be proved and built again.
 build:
@@ -94,6 +95,11 @@ dist wheel: export SOURCE_DATE_EPOCH ?= $(or $(shell git log -1 --format=%ct 2>/
 dist: build lib
 	$(MAKE) wheel
 	packaging/dist.sh $(DIST)
+
+# The parts of both stand in .ci/run.
+check: build lib
+	cd crates/bplist_calls && rt run <stdin >/dev/null
+	.ci/run --daily
 
 gate test:
 	.ci/run
