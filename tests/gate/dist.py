@@ -4,17 +4,17 @@
 Makes a release of PROGRAM and of the C library in the folder LIBRARY, as `make dist` does, and tests the files of the
 release, not those of the tree.
 
-- Made again in another folder, with another umask, time zone and language, each file is the same to the byte.
-- Archive, packages and wheel are put into folders of their own: the archive is unpacked, dpkg installs the packages below a
-  root that has nothing but an entry of libc6, and pip installs the wheel in a venv, without an index. `make install`
-  installs below a folder too.
-- In each the session of README.md gives what README.md says, `man` shows the manual page, and the example compiles by
-  bplist.pc and runs; in the venv the Python code of README.md runs.
-- What is removed leaves no file and no folder.
-- lintian finds no error, and no file names a folder of the build. README.md says the glibc that the symbols ask for.
+- If the release is made again in another folder, with another umask, time zone and language, each file has the same bytes.
+- The archive is unpacked into a folder of its own. dpkg installs the packages below a root that has only an entry of libc6.
+  pip installs the wheel in a venv, without an index. `make install` installs below a folder too.
+- Each link of the archive's README.md, SECURITY.md and CHANGELOG.md leads to a file of the archive.
+- In each of these places the session of README.md prints what README.md says, `man` shows the manual page, and the example
+  compiles with bplist.pc and runs. In the venv the Python code of README.md runs.
+- Removing what was installed leaves no file and no folder.
+- lintian finds no error, and no file names a folder of the build. README.md names the glibc that the symbols need.
 
-If a tool is missing, nothing is tested. The last line printed is `N passed, M failed`, with `, 1 skipped` then. The exit
-status is 1 if one failed.
+If a tool is missing, nothing is tested. The last line is `N passed, M failed`, then with `, 1 skipped`. The exit status is
+1 if a test failed.
 """
 import dataclasses
 import filecmp
@@ -43,7 +43,7 @@ STRICT = ["-std=c11", "-Wall", "-Wextra", "-Werror", "-pedantic", "-O2"]
 DATE = {"SOURCE_DATE_EPOCH": 1700000000}
 ELSEWHERE = {"TZ": "Asia/Tokyo", "LC_ALL": "C.UTF-8"}
 # No part of a release is made from these.
-UNREAD = [".git", "conformance", "crates", "dist", "docs", "rust", "tests"]
+UNREAD = [".git", "conformance", "crates", "dist", "rust", "tests"]
 
 
 @dataclasses.dataclass
@@ -72,6 +72,12 @@ def below(folder):
 
 def files_below(folder):
     return [path for path in folder.rglob("*") if path.is_file() and not path.is_symlink()]
+
+
+def dead_links(page):
+    """The links of a page that lead to no file."""
+    links = re.findall(r"\]\(([^)#]+)", page.read_text(encoding="utf-8"))
+    return [link for link in links if "://" not in link and not (page.parent / link).exists()]
 
 
 def newest(pattern, text):
@@ -119,6 +125,8 @@ class Tests:
         run("tar", "-xzf", self.dist / f"{ARCHIVE}.tar.gz", folder=place)
         self.count("one folder in the archive", "" if os.listdir(place) == [ARCHIVE] else f"{os.listdir(place)}")
         top = place / ARCHIVE
+        for page in "README.md", "SECURITY.md", "CHANGELOG.md":
+            self.count(f"links of {page} in the archive", ", ".join(dead_links(top / page)))
         self.use(Installed("archive", top, "lib", top / "examples/print_value.c"))
         self.see(place)
         self.linked += [top / "bin/bplint", top / "lib/libbplist.so.0"]

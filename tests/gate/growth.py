@@ -1,13 +1,17 @@
 #!/usr/bin/env python3
 """growth.py CALLS
 
-Shows, without a clock, that no call reads a file again and again. CALLS is bplist_calls, which counts the bytes that `lint`
-and, where the file holds a value, `check` with its certificate of version 1, `upgrade`, and `check` with that of version 2
-ask of their source. For each hostile family, at 64 and 256 kB, a call asks for at most `EACH` bytes a byte of the
-file and `BESIDE` bytes beside them, and at 256 kB for at most `TIMES` times as many as at 64 kB, or as the file of 64 kB has
-bytes; for so many more where the file is more than four times as long, since its numbers have more bytes. The same limit holds
-for the files of both tables of runs. One call on one family, or on all of these files, counts as one test. The calls of `KNOWN`
-grow faster today: they are named and not counted. The last line printed is `N passed, M failed`.
+Shows, without a clock, that no call reads a file again and again. CALLS is bplist_calls. It counts the bytes that `lint` asks
+its source for, and, if the file holds a value, those of `check` with a certificate of version 1, of `upgrade`, and of `check`
+with a certificate of version 2.
+
+For each hostile family, at 64 and at 256 kB, a call may ask for at most `EACH` bytes for each byte of the file and `BESIDE`
+bytes more. At 256 kB it may ask for at most `TIMES` times as many as at 64 kB, or as the file of 64 kB has bytes. If the file
+is more than four times as long, because its numbers have more bytes, the limit grows with it. The same limit holds for the
+files of both tables of runs.
+
+One call on one family, or on all files of the tables, counts as one test. The calls of `KNOWN` grow faster today: they are
+named and not counted. The last line is `N passed, M failed`.
 """
 import concurrent.futures
 import os

@@ -1,12 +1,14 @@
 #!/usr/bin/env python3
 """listing.py PROGRAM
 
-Tries `bplint ls --recursive` and `bplint show --raw`. On each file of tests/vectors that holds a value and on other
-writers' (tests/helpers/writers.py), the lines of `ls -R` are those of a plain walk over the file's bytes, of a walk with `ls`
-from container to container, and of a walk over what plistlib loads; the limit is tried at the number of nodes and one below.
-`show --raw` gives the bytes of data and texts, and the digits and words of numbers and truth values. At the end `ls -R` is
-git's textconv in a repository with two versions of a file. One file counts as one test. Without plistutil its files are
-skipped. The last line printed is `N passed, M failed`, with `, K skipped` where some were.
+Tests `bplint ls --recursive` and `bplint show --raw`, on each file of tests/vectors that holds a value and on files of other
+writers (tests/helpers/writers.py). The lines of `ls -R` are those of a plain walk over the file's bytes, of a walk with `ls`
+from container to container, and of a walk over what plistlib loads. The limit is tried at the number of nodes and one below.
+`show --raw` gives the bytes of data and texts, and the digits and words of numbers and booleans. At the end `ls -R` is git's
+textconv in a repository with two versions of a file.
+
+One file counts as one test. Without plistutil its files are skipped. The last line is `N passed, M failed`, with
+`, K skipped` if some were.
 """
 import os
 import pathlib

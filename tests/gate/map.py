@@ -1,10 +1,10 @@
 #!/usr/bin/env python3
 """map.py PROGRAM
 
-Compares `bplint map` with a plain computation: on each file of tests/vectors, on other writers' (tests/helpers/writers.py),
-on damaged and overlapping ones. What `lint` says of a file is taken from PROGRAM; places, ends, rules 14 to 20, heights, gaps
-and overlaps are computed here, and each byte is counted. Without plistutil its files are skipped. The last line printed is
-`N passed, M failed`, with `, K skipped` if some were.
+Compares `bplint map` with a plain computation: on each file of tests/vectors, on files of other writers
+(tests/helpers/writers.py), and on damaged and overlapping ones. The verdict of `lint` is taken from PROGRAM. Places, ends,
+rules 14 to 20, heights, gaps and overlaps are computed here, and each byte of the file has to be in some line. Without
+plistutil its files are skipped. The last line is `N passed, M failed`, with `, K skipped` if some were.
 """
 import pathlib
 import random

@@ -2,8 +2,8 @@
 """stack.py BPLINT CALLS
 
 Shows that little stack is enough: no function of BPLINT and of CALLS (bplist_calls) has a frame above 64 KiB, and with a stack
-of 256 KiB they give the outputs of the tables of vectors. Frames are read from what objdump prints; without objdump that
-part is skipped. The last line printed is `N passed, M failed`, with `, K skipped` if some were.
+of 256 KiB both give the outputs of the tables. objdump prints the frames; without objdump that part is skipped. The last line
+is `N passed, M failed`, with `, K skipped` if some were.
 """
 import collections
 import pathlib

@@ -1,4 +1,4 @@
-"""How the objects of a file lie in it, by plain reading, also if the file breaks rules 14 to 20.
+"""How the objects of a file lie in it, read plainly, even if the file breaks rules 14 to 20.
 
 plist_value.py reads the values of sound files.
 """

@@ -30,7 +30,7 @@ const TEXTS: &[(&str, &[&[u16]])] = &[
     ("/\u{FFFF}~0", &[&[0xFFFF, 0x7E]]),
 ];
 
-/// The path of these steps.
+/// Returns the path of these steps.
 fn path_of(alloc: Global, steps: &[&[u16]]) -> Result<Path, AllocError> {
     let mut own = Vec::new(alloc);
     for step in steps {
@@ -39,7 +39,7 @@ fn path_of(alloc: Global, steps: &[&[u16]]) -> Result<Path, AllocError> {
     Ok(Path::from_steps(own))
 }
 
-/// `Debug` writes the path so.
+/// `Debug` writes the path like this.
 fn is_shown(
     rt: &impl Abort,
     alloc: Global,
@@ -52,7 +52,7 @@ fn is_shown(
     Ok(())
 }
 
-/// The path of a text and that of the steps are the same.
+/// The path of a text equals the path of its steps.
 #[test]
 fn texts(rt: HostRuntime) -> Result<(), Fail> {
     let alloc = rt.alloc();
@@ -64,7 +64,7 @@ fn texts(rt: HostRuntime) -> Result<(), Fail> {
     Ok(())
 }
 
-/// Whether every call on a node answers `Changed`, and no bytes are lent.
+/// Returns true if every call on a node returns `Changed`, and no bytes are lent.
 fn is_no_node(alloc: Global, checked: &mut Checked<SliceSource<'_>>, node: Node) -> bool {
     let Ok(measures) = measure(alloc, checked) else {
         return false;
@@ -81,7 +81,7 @@ fn is_no_node(alloc: Global, checked: &mut Checked<SliceSource<'_>>, node: Node)
         && bytes_of(checked, node).is_none()
 }
 
-/// Files, and objects that are there and not reached, or that are of no file.
+/// Files, and objects that are not reachable or do not exist.
 const NO_NODES: &[(Parts, u32)] = &[
     (THREE_KEYS, 8),
     (THREE_KEYS, u32::MAX),
@@ -113,10 +113,10 @@ fn lists(rt: HostRuntime) -> Result<(), Fail> {
     Ok(())
 }
 
-/// The greatest number of comparisons and of reads.
+/// The largest allowed number of comparisons and of reads.
 const MOST: (u64, u64) = (10, 400);
 
-/// The look-up of this key finds what it is to find, and takes no more than `MOST`.
+/// The look-up of this key finds what it should, within `MOST`.
 fn is_by_halving(
     rt: &impl Abort,
     alloc: Global,
@@ -163,7 +163,7 @@ fn thousand_keys_by_halving(rt: HostRuntime) -> Result<(), Fail> {
     Ok(())
 }
 
-/// How many reads it takes to tell the size of the file's value so many times in one call.
+/// Returns the number of reads for asking for the size of the file's value this often in one call.
 fn reads_for_sizes(alloc: Global, row: &Row, sizes: usize) -> Result<u64, Fail> {
     let counts = Cell::new(Counts::default());
     let source = CountingSource::new(&row.octets, &counts);

@@ -1,6 +1,7 @@
-//! The tests of all crates in Rattle, by subject. What bytes in and bytes out can show is in the tables of tests/vectors.
+//! The tests of all crates, by subject. Not here: what the bytes of a file and a run of the program can show, which is in
+//! the tables of tests/vectors.
 //!
-//! It has no code of its own, and is a crate of its own so that a check of the others need not prove their tests.
+//! The tests are a crate of their own so that checking the other crates does not prove them again.
 #![tactic(auto)]
 
 #[cfg(test)]

@@ -11,10 +11,11 @@ use std::process::Abort;
 use std::test::Fail;
 use std::{env, fs, io};
 
-/// A read: its place, how many bytes, and its answer.
+/// A read: its place, the number of bytes, and its result.
 pub(crate) type Read = (u64, usize, Result<(), ReadFault>);
 
-/// The source has these bytes, and answers this read so: with the bytes at its place exactly where that is Ok.
+/// Tests that the source has these bytes, and gives this result for the read. The buffer has the bytes at the place if
+/// and only if the result is `Ok`.
 pub(crate) fn answers<S: Source>(rt: &impl Abort, source: &mut S, bytes: &[u8], read: Read) {
     let (at, count, want) = read;
     let from = at as usize;
@@ -24,7 +25,7 @@ pub(crate) fn answers<S: Source>(rt: &impl Abort, source: &mut S, bytes: &[u8], 
     assert_eq!(rt; answer, (want, want.is_ok()), "at {at}");
 }
 
-/// What a read at this place answers, and whether it gives the bytes that stand there.
+/// Returns the result of a read at this place, and whether it gives the bytes that are there.
 fn answer_of<S: Source>(source: &mut S, at: u64, stand: &[u8]) -> (Result<(), ReadFault>, bool)
     requires inside { at + length stand.now ≤ length (S.means source.old).octets }
     requires short { length stand.now ≤ 9000 }
@@ -35,7 +36,7 @@ fn answer_of<S: Source>(source: &mut S, at: u64, stand: &[u8]) -> (Result<(), Re
     (answer, *part == *stand)
 }
 
-/// The source has these bytes, and answers these reads so, one after the other.
+/// Tests that the source has these bytes, and gives these results one after the other.
 pub(crate) fn all_answer<S: Source>(rt: &impl Abort, source: &mut S, bytes: &[u8], reads: &[Read]) {
     for read in reads {
         answers(rt, source, bytes, *read);
@@ -72,7 +73,7 @@ fn the_bytes_change(rt: HostRuntime) {
     }
 }
 
-/// Answers Interrupted some times, and then one byte a read.
+/// A reader that is interrupted some times, and then gives one byte for each read.
 #[derive(Drop)]
 struct Slow {
     interrupts: u64,
@@ -96,7 +97,7 @@ impl io::Read for Slow {
     }
 }
 
-/// How often a reader is interrupted, how five bytes are read of it then, and in how many reads.
+/// How often a reader is interrupted, the result of reading five bytes after that, and the number of reads it takes.
 const INTERRUPTED: &[(u64, Result<(), ReadFault>, u64)] = &[
     (0, Ok(()), 5),
     (64, Ok(()), 69),

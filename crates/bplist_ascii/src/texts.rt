@@ -1,4 +1,4 @@
-//! The old-style form of texts and data.
+//! Texts and data as old-style text, in memory.
 
 ghost use Rattle.std.specs.Prelude.{◌≡◌, ◌≤◌, ◌++◌, ℕ, List, true, length, take, IfOk, OnOk};
 ghost use Rattle.std.specs.Char.{is_ascii_alphanumeric};
@@ -10,10 +10,8 @@ use bplist_cursor::are_plain;
 use std::alloc::{AllocError, Global};
 use std::marker::Model;
 
-/// The old-style text of a text with these 16-bit units: the units themselves where there is one and each is a
-/// letter or a digit of ASCII, else a quoted text, whatever the units are.
-///
-/// The error is a growth that was refused.
+/// Returns the old-style text of a text with these UTF-16 units. If there are units and all are ASCII letters and
+/// digits, these are the text; otherwise it is in quotes. Any units have a text. The only error is refused memory.
 pub fn text_of_units(alloc: Global, units: &[u16]) -> Result<Vec<u8>, AllocError>
     ensures { IfOk result (λ text. text.items ≡ spec.text_of_units units.now) }
 {
@@ -29,7 +27,7 @@ pub fn text_of_units(alloc: Global, units: &[u16]) -> Result<Vec<u8>, AllocError
     Ok(text)
 }
 
-/// The units themselves, a byte for each.
+/// Returns the units, one byte for each.
 fn unquoted_text(alloc: Global, units: &[u16]) -> Result<Vec<u8>, AllocError>
     requires { list_all is_ascii_alphanumeric units.now ≡ true }
     ensures { IfOk result (λ text. text.items ≡ units.now) }
@@ -41,9 +39,8 @@ fn unquoted_text(alloc: Global, units: &[u16]) -> Result<Vec<u8>, AllocError>
     Ok(text)
 }
 
-/// The old-style text of data: two lower-case hexadecimal digits a byte, between `<` and `>`.
-///
-/// The error is a growth that was refused.
+/// Returns the old-style text of data: two lower-case hexadecimal digits for each byte, between `<` and `>`. The only
+/// error is refused memory.
 pub fn text_of_bytes(alloc: Global, bytes: &[u8]) -> Result<Vec<u8>, AllocError>
     ensures { IfOk result (λ text. text.items ≡ spec.text_of_bytes bytes.now) }
 {
@@ -56,7 +53,7 @@ pub fn text_of_bytes(alloc: Global, bytes: &[u8]) -> Result<Vec<u8>, AllocError>
     Ok(text)
 }
 
-/// Adds a unit as it stands between quotes.
+/// Adds a unit as it is written in quotes.
 fn add_quoted(unit: u16, text: &mut Vec<u8>) -> Result<(), AllocError>
     ensures { OnOk result (text.new.items ≡ text.old.items ++ spec.quoted_unit unit) }
 {
@@ -70,20 +67,18 @@ fn add_digits(byte: u8, text: &mut Vec<u8>) -> Result<(), AllocError>
     text.extend_from_slice(&digits_of(byte))
 }
 
-/// The two hexadecimal digits of a byte.
+/// Returns the two hexadecimal digits of a byte.
 #[tactic(auto, unfolding(hex::specs::Hex::encode_with))]
 pub(crate) fn digits_of(byte: u8) -> [u8; 2]
     ensures { result ≡ hex_digits byte }
 {
     let mut digits = [0; 2];
-    // Two digits are the room that one byte wants, so this is never refused.
+    // This cannot fail, because one byte needs exactly two digits.
     let _ = hex::encode_to_slice([byte], &mut digits);
     digits
 }
 
-/// A unit as it stands between quotes, in one to six bytes.
-///
-/// Contracts see these bytes.
+/// A unit as it is written in quotes, in one to six bytes. In contracts, it is these bytes.
 #[derive(Drop)]
 pub(crate) struct QuotedUnit {
     bytes: [u8; 6],
@@ -99,7 +94,7 @@ impl Model for QuotedUnit {
 }
 
 impl QuotedUnit {
-    /// The unit between quotes.
+    /// Makes the quoted form of a unit.
     #[tactic(auto, unfolding(hex::specs::Hex::encode_with))]
     pub(crate) fn new(unit: u16) -> QuotedUnit
         ensures { result ≡ spec.quoted_unit unit }
@@ -117,7 +112,7 @@ impl QuotedUnit {
         }
     }
 
-    /// The bytes.
+    /// Returns the bytes.
     pub(crate) fn as_slice(&self) -> &[u8]
         ensures { result.now ≡ self.now }
     {

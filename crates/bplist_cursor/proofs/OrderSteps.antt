@@ -26,7 +26,7 @@ use Rattle.bplist_cursor.specs.ObjectSizes.{AreVouched, IsOrder, IsEmpty, AreSet
 place_in : (xs : List ℕ) (x : ℕ) → Contains xs x → (j : ℕ) × (j < length xs) × (slice_index xs j ≡ x)
 place_in xs x c = (c.0, c.1, sym (get_or_default_zero xs c.0 x c.1) ∙ c.2)
 
--- one more object that is vouched for
+-- one more object, which is vouched for
 pub vouched_more : (heights order : List ℕ) (n : ℕ) → AreVouched heights n order → IsVouchedBy heights n → AreVouched heights (n + 1) (order ++ n ∷ [])
 vouched_more heights order n so_far vo = record {
   all = λ m l v. elim (cases_eq m n) [
@@ -39,7 +39,7 @@ vouched_more heights order n so_far vo = record {
   ];
 }
 
--- one more object that is not
+-- one more object, which is not vouched for
 pub vouched_same : (heights order : List ℕ) (n : ℕ) → AreVouched heights n order → slice_index heights n < 1 → AreVouched heights (n + 1) order
 vouched_same heights order n so_far low = record {
   all = λ m l v. elim (cases_eq m n) [
@@ -55,7 +55,7 @@ inside_of heights n v = elim (cases_lt n (length heights)) [
   | inr past ↦ absurd (omega (arith, v, get_or_past heights n 0 past))
 ]
 
--- these objects in the order of their heights
+-- the vouched objects in the order of their heights
 pub order_of : (heights before order : List ℕ) → AreVouched heights (length heights) before → IsPermutation before order → IsNonDecreasingBy (slice_index heights) order → IsOrder heights order
 order_of heights before order vouched same ascends = record {
   all = λ n v. Contains-permutation before order n same (vouched.all n (inside_of heights n v) v);
@@ -63,7 +63,7 @@ order_of heights before order vouched same ascends = record {
   ascends = ascends;
 }
 
--- they are numbers of objects
+-- all of these are numbers of objects
 pub order_inside : (heights order : List ℕ) (objects : ℕ) → IsOrder heights order → length heights ≡ objects → (j : ℕ) → j < length order → slice_index order j < objects
 order_inside heights order objects is count j l =
     omega (arith, inside_of heights (slice_index order j) (is.only (slice_index order j) (Contains-get_or order j 0 l)), count)
@@ -79,7 +79,7 @@ module _ (f : List ℕ) (F : Frame) (heights order : List ℕ) (valid : IsValid 
   pub value_at : (k : ℕ) → k < length order → (v : Value) × Holds f F (at k) v
   value_at k l = let o = object_holds f F heights valid (at k) (vouched_at k l) in (o.0, o.1)
 
-  -- and its references have their sizes already
+  -- the references of an object of the order already have their sizes
   pub refs_sized : (k : ℕ) (sizes : Table) → k < length order → AreSet f F heights order k sizes → (c : Content) → Spells f F (at k) c → AllByRecursion (IsSized f F sizes) (refs c)
   refs_sized k sizes l set c s = all_from (IsSized f F sizes) (refs c) (λ m among.
       let lower = references_lower f F heights valid (at k) m (vouched_at k l) (c, s, among) in
@@ -130,7 +130,7 @@ are_measures_prop f F heights sizes = Prim.hlevel props
 abbrev nowhere : Option Size
 nowhere = None
 
--- a table of nothing
+-- a table in which no object has a size
 pub empty_table : (sizes : Table) (n : ℕ) → sizes ≡ replicate n None → IsEmpty sizes
 empty_table sizes n is k = ap (λ t. size_in t k) is ∙ elim (cases_lt k n) [
   | inl l ↦ get_or-replicate n k nowhere None l
