@@ -7,7 +7,8 @@
 ##   make dist           archive, Debian packages, wheel and SHA256SUMS, into dist/
 ##   make install        program, manual page, completions, C library, header and bplist.pc, below PREFIX
 ##   make uninstall      removes all of it; give it the same words as install
-##   make gate           runs every test, as .ci/run does; `make test` is the same
+##   make check          for every day: proves what changed, and tries it by the quick scripts, in some minutes
+##   make gate           runs every test, as .ci/run does, before a push; `make test` is the same
 ##   make edits          tries every must-fail edit, also those that the gate leaves out
 ##   make bench          times program and library
 ##   make clean          removes what was built
@@ -49,7 +50,7 @@ INSTALLED = $(addprefix $(DESTDIR),$(bindir)/bplint $(mandir)/man1/bplint.1 $(ba
 MADE = $(DESTDIR)$(datadir)/bplint/folders
 FOLDERS = $(sort $(patsubst %/,%,$(dir $(INSTALLED) $(MADE))))
 
-.PHONY: build help look lib link-lib wheel test-wheel dist install uninstall gate test edits bench clean
+.PHONY: build help look lib link-lib wheel test-wheel dist install uninstall check gate test edits bench clean
 
 # rt sees by itself what has to be proved and built again.
 build:
@@ -94,6 +95,11 @@ dist wheel: export SOURCE_DATE_EPOCH ?= $(or $(shell git log -1 --format=%ct 2>/
 dist: build lib
 	$(MAKE) wheel
 	packaging/dist.sh $(DIST)
+
+# The parts of both stand in .ci/run.
+check: build lib
+	cd crates/bplist_calls && rt run <stdin >/dev/null
+	.ci/run --daily
 
 gate test:
 	.ci/run

@@ -1,4 +1,4 @@
-//! Samples that the test crates share: small files, calls with their answers as text, and sources and writers that
+//! Samples that bplint_tests and bplist_calls share: small files, calls with their answers as text, and sources and writers that
 //! fail. It is not part of the library: its functions are proved to be safe and to end, and only its sources have
 //! contracts.
 //!

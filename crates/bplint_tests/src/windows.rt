@@ -1,6 +1,6 @@
 //! What windows give, and what they ask of their source.
 
-use crate::sources::{Read, all_answer, answers};
+use crate::octets::{Read, all_answer, answers};
 use bplist_octets::{FaultySource, Pane, ReadFault, SliceSource, Window, Windows};
 
 /// Bytes from which their place can be told.

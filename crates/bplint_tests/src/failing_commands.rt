@@ -3,6 +3,7 @@
 
 ghost use Rattle.bplint_engine.specs.Commands.{PrintsOnePath};
 
+use crate::failing_calls::MOST_READS;
 use crate::runs::{outcome, with_path};
 use bplint_engine::{Command, Verb, run_on, run_over};
 use bplist_octets::ReadFault;
@@ -10,9 +11,6 @@ use bplist_samples::{FailingRead, FailingSource, READ_FAULTS, Row, tested_rows};
 use std::alloc::Global;
 use std::process::Abort;
 use std::test::Fail;
-
-/// More reads than any command makes.
-const MOST_READS: u64 = 100_000;
 
 /// The line and the status that bplint gives for a failed read.
 fn line_of(fault: ReadFault) -> &'static str {

@@ -13,8 +13,8 @@ use std::alloc::{AllocError, Global};
 use std::process::Abort;
 use std::test::Fail;
 
-/// More reads than any call makes.
-const MOST_READS: u64 = 100_000;
+/// More reads than any call or command makes.
+pub(crate) const MOST_READS: u64 = 100_000;
 
 /// The result of a call with a read that may fail, and the result of the same call when it is repeated.
 #[derive(Drop)]

@@ -1,0 +1,192 @@
+//! The cursor: path texts and their steps, nodes that no certificate vouches for, what is lent, and how many comparisons and
+//! reads a look-up among a thousand keys takes, and sizes take.
+
+use bplist_ascii::{PrintFault, print};
+use bplist_cert::Checked;
+use bplist_cursor::{
+    CursorFault, Found, List, Node, Path, Query, Why, answer_all, bytes_of, face, locate_counted,
+    measure, member,
+};
+use bplist_objects::ObjectNo;
+use bplist_octets::SliceSource;
+use bplist_samples::{CountingSource, Counts, Parts, Row, ShortWriter, THREE_KEYS, thousand_keys};
+use std::alloc::{AllocError, Global};
+use std::cell::Cell;
+use std::process::Abort;
+use std::test::Fail;
+
+/// Path texts and their steps.
+const TEXTS: &[(&str, &[&[u16]])] = &[
+    ("", &[]),
+    ("/", &[&[]]),
+    ("/a~1b", &[&[0x61, 0x2F, 0x62]]),
+    ("/~01", &[&[0x7E, 0x31]]),
+    ("/a/0//b", &[&[0x61], &[0x30], &[], &[0x62]]),
+    ("/é/", &[&[0xE9], &[]]),
+    (
+        "/x\u{10000}\u{10FFFF}",
+        &[&[0x78, 0xD800, 0xDC00, 0xDBFF, 0xDFFF]],
+    ),
+    ("/\u{FFFF}~0", &[&[0xFFFF, 0x7E]]),
+];
+
+/// Returns the path of these steps.
+fn path_of(alloc: Global, steps: &[&[u16]]) -> Result<Path, AllocError> {
+    let mut own = Vec::new(alloc);
+    for step in steps {
+        own.push(Vec::from_slice(alloc, step)?)?;
+    }
+    Ok(Path::from_steps(own))
+}
+
+/// `Debug` writes the path like this.
+fn is_shown(
+    rt: &impl Abort,
+    alloc: Global,
+    path: Path,
+    want: &str,
+    text: &str,
+) -> Result<(), AllocError> {
+    let shown = format!(in alloc; "{path:?}")?;
+    assert_eq!(rt; shown.as_str(), want, "at {text}");
+    Ok(())
+}
+
+/// The path of a text equals the path of its steps.
+#[test]
+fn texts(rt: HostRuntime) -> Result<(), Fail> {
+    let alloc = rt.alloc();
+    for (text, steps) in TEXTS {
+        let want = format!(in alloc; "Path {{ steps: {steps:?} }}")?;
+        is_shown(&rt, alloc, Path::parse(alloc, text)?, &want, text)?;
+        is_shown(&rt, alloc, path_of(alloc, steps)?, &want, text)?;
+    }
+    Ok(())
+}
+
+/// Returns true if every call on a node returns `Changed`, and no bytes are lent.
+fn is_no_node(alloc: Global, checked: &mut Checked<SliceSource<'_>>, node: Node) -> bool {
+    let Ok(measures) = measure(alloc, checked) else {
+        return false;
+    };
+    let mut out = ShortWriter::with_room(64);
+    let printed = print(alloc, checked, &measures, node, 64, &mut out);
+    let faced = face(alloc, checked, node).err();
+    let first = member(checked, node, 0);
+    printed == Err(PrintFault::Changed)
+        && out.held.is_empty()
+        && faced == Some(CursorFault::Changed)
+        && first == Err(CursorFault::Changed)
+        && member(checked, node, u64::MAX) == Err(CursorFault::Changed)
+        && bytes_of(checked, node).is_none()
+}
+
+/// Files, and objects that are not reachable or do not exist.
+const NO_NODES: &[(Parts, u32)] = &[
+    (THREE_KEYS, 8),
+    (THREE_KEYS, u32::MAX),
+    ((&[0x61, 0, 0x61, 0x42, 1, 2], &[8, 11]), 1),
+];
+
+#[test]
+fn no_nodes(rt: HostRuntime) -> Result<(), Fail> {
+    let alloc = rt.alloc();
+    for (parts, n) in NO_NODES {
+        let row = Row::small(alloc, "no node", *parts)?;
+        let mut checked = row.checked(alloc, SliceSource::new(&row.octets))?;
+        let node = Node {
+            object: ObjectNo(*n),
+        };
+        assert!(rt;
+            is_no_node(alloc, &mut checked, node),
+            "object {n} of {parts:?}"
+        );
+    }
+    Ok(())
+}
+
+#[test]
+fn lists(rt: HostRuntime) -> Result<(), Fail> {
+    let list = List::new(vec![in rt.alloc(); 7u16, 8, 9]?);
+    assert_eq!(rt; list.as_slice(), [7, 8, 9].as_slice());
+    assert_eq!(rt; list.into_vec().as_slice(), [7, 8, 9].as_slice());
+    Ok(())
+}
+
+/// The largest allowed number of comparisons and of reads.
+const MOST: (u64, u64) = (10, 400);
+
+/// The look-up of this key finds what it should, within `MOST`.
+fn is_by_halving(
+    rt: &impl Abort,
+    alloc: Global,
+    checked: &mut Checked<CountingSource<'_>>,
+    counts: &Cell<Counts>,
+    key: u32,
+) -> Result<(), Fail> {
+    counts.set(Counts::default());
+    let (found, compared) = locate_counted(
+        checked,
+        &Path::parse(alloc, &format!(in alloc; "/{key:04}")?)?,
+    )?;
+    let Counts { reads, .. } = counts.get();
+    let want = if key < 1000 {
+        Found::At(Node {
+            object: ObjectNo(1001),
+        })
+    } else {
+        Found::Missing {
+            step: 0,
+            why: Why::NoKey,
+        }
+    };
+    assert_eq!(rt; found, want, "key {key}");
+    assert!(rt;
+        compared >= 1 && compared <= MOST.0,
+        "key {key} takes {compared}"
+    );
+    assert!(rt; reads <= MOST.1, "key {key} reads {reads}");
+    Ok(())
+}
+
+#[test]
+fn thousand_keys_by_halving(rt: HostRuntime) -> Result<(), Fail> {
+    let alloc = rt.alloc();
+    let row = thousand_keys(alloc)?.sorted(alloc)?;
+    assert_eq!(rt; row.octets.len(), 11049);
+    let counts = Cell::new(Counts::default());
+    let source = CountingSource::new(&row.octets, &counts);
+    let mut checked = row.checked(alloc, source)?;
+    for key in 0..1001 {
+        is_by_halving(&rt, alloc, &mut checked, &counts, key)?;
+    }
+    Ok(())
+}
+
+/// Returns the number of reads for asking for the size of the file's value this often in one call.
+fn reads_for_sizes(alloc: Global, row: &Row, sizes: usize) -> Result<u64, Fail> {
+    let counts = Cell::new(Counts::default());
+    let source = CountingSource::new(&row.octets, &counts);
+    let mut checked = row.checked(alloc, source)?;
+    let mut queries = Vec::new(alloc);
+    for _ in 0..sizes {
+        queries.push(Query::Size(Path::parse(alloc, "")?))?;
+    }
+    counts.set(Counts::default());
+    answer_all(alloc, &mut checked, &queries)?;
+    Ok(counts.get().reads)
+}
+
+#[test]
+fn sizes_are_measured_once(rt: HostRuntime) -> Result<(), Fail> {
+    let alloc = rt.alloc();
+    let row = thousand_keys(alloc)?;
+    let once = reads_for_sizes(alloc, &row, 1)?;
+    assert!(rt; once >= 1000, "{once} reads");
+    let thrice = reads_for_sizes(alloc, &row, 3)?;
+    assert!(rt;
+        thrice < once.saturating_mul(2),
+        "{once} and {thrice} reads"
+    );
+    Ok(())
+}
