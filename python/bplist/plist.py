@@ -2,9 +2,9 @@
 from __future__ import annotations
 
 import builtins
+import collections
 import os
 import stat
-import typing
 
 from . import _bplist
 from .faults import Refused, TooLarge
@@ -18,11 +18,18 @@ TEXT = 1_048_576
 # The greatest number that the library gives for a size.
 MOST_NODES = 2**64 - 1
 
-Octets = typing.Union[bytes, bytearray, memoryview]
-Path = typing.Union[str, os.PathLike]
+# For type checkers alone: `typing` takes as much memory as the rest of the package.
+TYPE_CHECKING = False
+if TYPE_CHECKING:
+    import typing
+
+Octets = bytes | bytearray | memoryview
+Path = str | os.PathLike
 
 
-class Verdict(typing.NamedTuple):
+class Verdict(
+    collections.namedtuple("Verdict", "fault objects reached references height top kind", defaults=(0, 0, 0, 0, 0, None))
+):
     """What the linter says of a file.
 
     fault: None if the file holds a value, else the first broken rule. Of a sound file objects is the number of objects in
@@ -30,13 +37,15 @@ class Verdict(typing.NamedTuple):
     the longest way down has, top the top object and kind its kind; of another file they are 0 and None.
     """
 
+    __slots__ = ()
+
     fault: Refused | None
-    objects: int = 0
-    reached: int = 0
-    references: int = 0
-    height: int = 0
-    top: int = 0
-    kind: Kind | None = None
+    objects: int
+    reached: int
+    references: int
+    height: int
+    top: int
+    kind: Kind | None
 
     @property
     def ok(self) -> bool:

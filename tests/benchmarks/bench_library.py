@@ -10,6 +10,7 @@ memory: it reads three values; or builds the whole tree; or walks over all value
 builds the tree. The time is the best of ten runs, all rows in turn, and the peak the greatest. In brackets is the time as a
 part of plistlib's. All rows must read the same three values.
 """
+import compileall
 import dataclasses
 import datetime
 import math
@@ -235,7 +236,10 @@ def main():
         sys.exit(__doc__)
     library, wheel, *words = sys.argv[1:]
     with tempfile.TemporaryDirectory(prefix="bplist") as folder:
-        zipfile.ZipFile(wheel).extractall(os.path.join(folder, "package"))
+        package = os.path.join(folder, "package")
+        zipfile.ZipFile(wheel).extractall(package)
+        # As pip does. Else each process would compile the package, which takes memory.
+        compileall.compile_dir(package, quiet=1)
         for name in FILES:
             if not words or any(word in name for word in words):
                 time_file(name, folder, pathlib.Path(library).resolve())
