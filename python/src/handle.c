@@ -110,16 +110,21 @@ int handle_sizes(Handle *self, uint32_t object, bplist_sizes *out)
     return expect(status);
 }
 
-int handle_face(Handle *self, uint32_t object, bplist_body *out)
+int handle_faces(Handle *self, const uint32_t *objects, size_t count, bplist_body *out)
 {
     const Source *source = &self->source;
+    uint64_t read;
 
     if (handle_ready(self) < 0)
         return -1;
-    if (expect(bplist_face(&self->handle, source->file, source->length, object, out)) < 0)
+    if (expect(bplist_faces(&self->handle, source->file, source->length, objects, count, out, count, &read)) < 0)
         return -1;
-    if (out->length > source->length || out->place > source->length - out->length)
-        return raise_changed();
+    for (size_t i = 0; i < count; i++) {
+        if (out[i].kind == 0)
+            return raise_status(BPLIST_NO_OBJECT);
+        if (out[i].length > source->length || out[i].place > source->length - out[i].length)
+            return raise_changed();
+    }
     return 0;
 }
 
@@ -140,7 +145,7 @@ PyObject *handle_value(Handle *self, uint32_t object)
 {
     bplist_body body;
 
-    if (handle_face(self, object, &body) < 0)
+    if (handle_faces(self, &object, 1, &body) < 0)
         return NULL;
     if (is_container(body.kind))
         return container_new(class_of(self->state, body.kind), self, object, body.count);

@@ -1,17 +1,15 @@
 /* Trees as plistlib builds them: dict, list and leaves. */
 #include "extension.h"
 
-#include <string.h>
-
-/* How many references are read at once: an even number, since those of pairs come by two. */
-#define BLOCK 256
+/* How many members are read at once: an even number, since those of pairs come by two. */
+#define BLOCK 128
 
 /* A list or a dict that is made, and whose members are not in it yet. */
 typedef struct Empty {
-    PyObject *value;
     uint32_t object;
-    uint32_t kind;
-    uint64_t count;
+    int is_dict;
+    /* How many members it has: of each pair two. */
+    uint64_t end;
 } Empty;
 
 typedef struct Tree {
@@ -24,7 +22,7 @@ typedef struct Tree {
     int is_measured;
     /* By the numbers of objects what was built of them, with a reference to each, or NULL. */
     PyObject **made;
-    /* The stack of containers that are to be filled. What they hold is referred to by `made`. */
+    /* The stack of containers that are to be filled. */
     Empty *empty;
     size_t height;
     size_t room;
@@ -65,95 +63,107 @@ static int tree_push(Tree *tree, const Empty *container)
 /* A container of `body`, to be filled later. */
 static PyObject *tree_empty(Tree *tree, uint32_t object, const bplist_body *body)
 {
-    Empty container = {NULL, object, body->kind, body->count};
+    int is_dict = body->kind == BPLIST_DICT;
+    Empty container = {object, is_dict, is_dict ? 2 * body->count : body->count};
+    PyObject *value;
 
     if (body->count > tree->handle->source.length) {
         raise_changed();
         return NULL;
     }
-    container.value = body->kind == BPLIST_DICT ? PyDict_New() : PyList_New((Py_ssize_t)body->count);
-    if (container.value && body->count > 0 && tree_push(tree, &container) < 0)
-        Py_CLEAR(container.value);
-    return container.value;
-}
-
-/* What was built of an object that is met again. */
-static PyObject *tree_again(Tree *tree, PyObject *made)
-{
-    int is_container = PyList_CheckExact(made) || PyDict_CheckExact(made);
-
-    if (is_container && tree_measure(tree) < 0)
-        return NULL;
-    Py_INCREF(made);
-    return made;
-}
-
-/* The value of an object. */
-static PyObject *tree_value(Tree *tree, uint32_t object)
-{
-    bplist_body body;
-    PyObject *value;
-
-    if (object >= tree->handle->objects) {
-        raise_changed();
-        return NULL;
-    }
-    if (tree->made[object])
-        return tree_again(tree, tree->made[object]);
-    if (handle_face(tree->handle, object, &body) < 0)
-        return NULL;
-    value = is_container(body.kind) ? tree_empty(tree, object, &body) : leaf_of(tree->handle, object, &body);
-    Py_XINCREF(value);
-    tree->made[object] = value;
+    value = is_dict ? PyDict_New() : PyList_New((Py_ssize_t)body->count);
+    if (value && body->count > 0 && tree_push(tree, &container) < 0)
+        Py_CLEAR(value);
     return value;
 }
 
-static int fill_pair(Tree *tree, PyObject *dict, const uint32_t *objects)
+/* Something is met again. The nodes below a container are then more than were met. */
+static int tree_again(Tree *tree, PyObject *made)
 {
-    PyObject *key = tree_value(tree, objects[0]);
-    PyObject *value = key ? tree_value(tree, objects[1]) : NULL;
-    int failed = value ? PyDict_SetItem(dict, key, value) : -1;
-
-    Py_XDECREF(key);
-    Py_XDECREF(value);
-    return failed;
+    if (tree->is_measured || !(PyList_CheckExact(made) || PyDict_CheckExact(made)))
+        return 0;
+    return tree_measure(tree);
 }
 
-/* Puts members into a list or a dict: those whose objects were read, the first of which has number `from`. */
+/* Builds the values of objects, of which one may be there twice: containers without their members. */
+static int tree_make(Tree *tree, const uint32_t *objects, size_t count)
+{
+    bplist_body bodies[BLOCK];
+
+    if (handle_faces(tree->handle, objects, count, bodies) < 0)
+        return -1;
+    for (size_t i = 0; i < count; i++) {
+        uint32_t object = objects[i];
+        PyObject **made = &tree->made[object];
+
+        if (*made) {
+            if (tree_again(tree, *made) < 0)
+                return -1;
+            continue;
+        }
+        /* A leaf may have run code of anybody, which may have closed the property list. */
+        if (handle_ready(tree->handle) < 0)
+            return -1;
+        *made = is_container(bodies[i].kind) ? tree_empty(tree, object, &bodies[i]) : leaf_of(tree->handle, object, &bodies[i]);
+        if (*made == NULL)
+            return -1;
+    }
+    return 0;
+}
+
+/* Builds those of at most BLOCK objects that are not built yet. */
+static int tree_make_new(Tree *tree, const uint32_t *objects, size_t count)
+{
+    uint32_t left[BLOCK];
+    size_t many = 0;
+
+    for (size_t i = 0; i < count; i++) {
+        if (objects[i] >= tree->handle->objects)
+            return raise_changed();
+        if (tree->made[objects[i]] == NULL)
+            left[many++] = objects[i];
+        else if (tree_again(tree, tree->made[objects[i]]) < 0)
+            return -1;
+    }
+    return many > 0 ? tree_make(tree, left, many) : 0;
+}
+
+/* Puts members into a list or a dict, of which the first has number `from`. All are built. */
 static int fill_block(Tree *tree, const Empty *container, uint64_t from, const uint32_t *objects, Py_ssize_t read)
 {
-    int is_dict = container->kind == BPLIST_DICT;
+    PyObject *value = tree->made[container->object];
 
-    for (Py_ssize_t i = 0; i < read; i += is_dict ? 2 : 1) {
-        if (is_dict) {
-            if (fill_pair(tree, container->value, objects + i) < 0)
+    if (container->is_dict) {
+        for (Py_ssize_t i = 0; i < read; i += 2)
+            if (PyDict_SetItem(value, tree->made[objects[i]], tree->made[objects[i + 1]]) < 0)
                 return -1;
-        } else {
-            PyObject *value = tree_value(tree, objects[i]);
+        return 0;
+    }
+    for (Py_ssize_t i = 0; i < read; i++) {
+        PyObject *member = tree->made[objects[i]];
 
-            if (value == NULL || PyList_SetItem(container->value, (Py_ssize_t)from + i, value) < 0)
-                return -1;
-        }
+        Py_INCREF(member);
+        if (PyList_SetItem(value, (Py_ssize_t)from + i, member) < 0)
+            return -1;
     }
     return 0;
 }
 
 static int fill(Tree *tree, const Empty *container)
 {
-    uint64_t end = container->kind == BPLIST_DICT ? 2 * container->count : container->count;
     uint32_t objects[BLOCK];
 
-    for (uint64_t from = 0; from < end;) {
+    for (uint64_t from = 0; from < container->end;) {
         Py_ssize_t read = handle_members(tree->handle, container->object, from, objects, BLOCK);
 
         if (read < 0)
             return -1;
-        if ((uint64_t)read > end - from || (container->kind == BPLIST_DICT && read % 2 != 0))
+        if ((uint64_t)read > container->end - from || (container->is_dict && read % 2 != 0))
             return raise_changed();
         tree->nodes += (uint64_t)read;
         if (tree->nodes > tree->limit && tree_measure(tree) < 0)
             return -1;
-        if (fill_block(tree, container, from, objects, read) < 0)
+        if (tree_make_new(tree, objects, (size_t)read) < 0 || fill_block(tree, container, from, objects, read) < 0)
             return -1;
         from += (uint64_t)read;
     }
@@ -172,14 +182,18 @@ static void tree_free(Tree *tree)
 /* Builds the tree of an object: one that is made, and then filled container by container. */
 static PyObject *tree_build(Tree *tree)
 {
-    PyObject *top = tree_value(tree, tree->object);
+    PyObject *top;
 
-    while (top && tree->height > 0) {
+    if (tree_make_new(tree, &tree->object, 1) < 0)
+        return NULL;
+    while (tree->height > 0) {
         Empty container = tree->empty[--tree->height];
 
         if (fill(tree, &container) < 0)
-            Py_CLEAR(top);
+            return NULL;
     }
+    top = tree->made[tree->object];
+    Py_INCREF(top);
     return top;
 }
 
