@@ -115,7 +115,9 @@ PyThreadState *handle_begin(Handle *self);
 void handle_end(Handle *self, PyThreadState *thread);
 /* How large the value of an object is. Lets the GIL go. */
 int handle_sizes(Handle *self, uint32_t object, bplist_sizes *out);
-/* What objects show of themselves. Their bodies lie in the file. */
+/* What an object shows of itself. Its body lies in the file. */
+int handle_face(Handle *self, uint32_t object, bplist_body *out);
+/* The same of many objects. */
 int handle_faces(Handle *self, const uint32_t *objects, size_t count, bplist_body *out);
 /* The members of a container from number `from` on: how many were written, at least one and at most `room`, or -1. */
 Py_ssize_t handle_members(Handle *self, uint32_t object, uint64_t from, uint32_t *objects, size_t room);

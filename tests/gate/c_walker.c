@@ -178,22 +178,24 @@ static void see_block(bplist_handle *handle, struct file file, uint32_t object, 
     }
 }
 
-/* The bodies of a block of members and of an object that is not there, which are those that bplist_face gives. */
+/* The bodies of a block of members, of an object that may be unreachable and of one that is not there: those that
+   bplist_face gives. */
 static void see_faces(bplist_handle *handle, struct file file, uint32_t object, uint64_t room)
 {
     static const bplist_body none;
     uint32_t objects[5] = {0, 0, 0, 0, UINT32_MAX};
     bplist_body bodies[6], body;
-    uint64_t count;
+    uint64_t members, count;
 
-    HOLDS(bplist_members(handle, file.bytes, file.length, object, 0, objects, 4, &count) == BPLIST_OK);
+    HOLDS(bplist_members(handle, file.bytes, file.length, object, 0, objects, 4, &members) == BPLIST_OK);
     memset(bodies, 0xaa, sizeof bodies);
     HOLDS(bplist_faces(handle, file.bytes, file.length, objects, 5, bodies, room, &count) == BPLIST_OK);
     HOLDS(count == (room < 5 ? room : 5) && bodies[count].kind == 0xaaaaaaaa);
     for (uint64_t i = 0; i < count; i++) {
         bplist_status status = bplist_face(handle, file.bytes, file.length, objects[i], &body);
 
-        HOLDS(status == BPLIST_OK || (i == 4 && status == BPLIST_NO_OBJECT));
+        HOLDS(status == BPLIST_OK || (status == BPLIST_NO_OBJECT && i >= members));
+        HOLDS(status == BPLIST_NO_OBJECT || i < 4);
         body = status == BPLIST_OK ? body : none;
         HOLDS(bodies[i].kind == body.kind && bodies[i].count == body.count);
         HOLDS(bodies[i].place == body.place && bodies[i].length == body.length);
