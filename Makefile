@@ -1,16 +1,16 @@
 ## bplint: `rt` of the kit proves and builds, python3 runs the tests on what is built.
 ##
 ##   make build          proves and builds the program, crates/bplint/out/bplint; half an hour the first time
-##   make look FILE=F    lints F by the program as it stands, unproved, in a minute and a half
+##   make look FILE=F    lints F with the program unproved, in a minute and a half
 ##   make lib            proves and builds the C library, into crates/bplist_c/out
 ##   make wheel          the Python package for pip, with the library in it, into dist/
 ##   make dist           archive, Debian packages, wheel and SHA256SUMS, into dist/
 ##   make install        program, manual page, completions, C library, header and bplist.pc, below PREFIX
-##   make uninstall      takes all of it away; give it the words that install was given
-##   make gate           every test, as .ci/run; `make test` is the same
-##   make edits          every must-fail edit, also those that the gate leaves out
-##   make bench          times of program and library
-##   make clean          takes away what was built
+##   make uninstall      removes all of it; give it the same words as install
+##   make gate           runs every test, as .ci/run does; `make test` is the same
+##   make edits          tries every must-fail edit, also those that the gate leaves out
+##   make bench          times program and library
+##   make clean          removes what was built
 ##
 ## PREFIX is /usr/local. DESTDIR, bindir, libdir, includedir, datadir, mandir, INSTALL, CC, AR, LD and LDFLAGS mean what they
 ## usually mean.

@@ -1,8 +1,9 @@
 #!/usr/bin/env python3
 """walk_backup.py FOLDER [PATH]
 
-Walks through a folder, such as the backup of a device, and prints a line for each binary property list: what is wrong with it, or
-the value at PATH (a JSON Pointer; "" is the top). It also prints a line for each file or folder that it cannot read.
+Walks through a folder, for example a backup of a device. For each file that begins like a binary property list it
+prints a line: the value at PATH (a JSON Pointer; "" is the top), or why the file is refused. A file that cannot be read
+has a line too.
 """
 import os
 import pathlib
@@ -14,7 +15,7 @@ HEADER = b"bplist00"
 
 
 def say(name, words):
-    """Prints a line about a file. Its name may contain bytes that are not UTF-8."""
+    """Prints a line about a file. Its name may have bytes that are not text."""
     print(os.fsencode(name).decode(errors="backslashreplace"), words, sep=": ")
 
 
@@ -38,7 +39,7 @@ def begins_right(file):
 
 
 def words_on(file, path):
-    """What is said of a property list."""
+    """Returns the value of a property list as text, or why there is none."""
     try:
         with bplist.open(file) as plist:
             return repr(plist.at(path))

@@ -1,16 +1,16 @@
-/* The values of objects that are no containers. */
+/* The values of leaves, that is of objects that are not containers. */
 #include "extension.h"
 
 #include <endian.h>
 #include <string.h>
 #include <wchar.h>
 
-/* The longest text of UTF-16 that is laid out on the stack. */
+/* The largest number of units that `few_of` decodes, in a buffer on the stack. */
 #define FEW 64
 
 _Static_assert(sizeof(wchar_t) == 4, "a character of wchar_t is one of Python's");
 
-/* The number of these bytes, the greatest first. */
+/* Decodes a big-endian number. */
 static uint64_t number_of(const uint8_t *bytes, uint64_t length)
 {
     uint64_t number = 0;
@@ -29,7 +29,7 @@ static uint64_t number_of(const uint8_t *bytes, uint64_t length)
     return number;
 }
 
-/* The IEEE 754 number of 4 or 8 bytes. */
+/* Decodes an IEEE 754 number of 4 or 8 bytes. */
 static double real_of(const uint8_t *bytes, uint64_t length)
 {
     uint64_t bits = number_of(bytes, length);
@@ -45,7 +45,7 @@ static double real_of(const uint8_t *bytes, uint64_t length)
     return real;
 }
 
-/* The integer of two halves, in two's complement. */
+/* Makes the integer of two halves in two's complement. */
 static PyObject *joined(bplist_integer halves)
 {
     PyObject *high = PyLong_FromLongLong((long long)halves.high);
@@ -61,7 +61,7 @@ static PyObject *joined(bplist_integer halves)
     return number;
 }
 
-/* An integer: one of 1, 2 or 4 bytes has no sign, one of 8 or 16 has. */
+/* Makes an integer. One of 1, 2 or 4 bytes is unsigned, one of 8 or 16 bytes is signed. */
 static PyObject *integer_of(Handle *self, uint32_t object, const uint8_t *bytes, uint64_t length)
 {
     bplist_integer number;
@@ -75,8 +75,8 @@ static PyObject *integer_of(Handle *self, uint32_t object, const uint8_t *bytes,
     return joined(number);
 }
 
-/* A UID without a call of its __init__, which takes longer than all else. Its __new__ makes room for the attribute: else that
-   would take a dict. */
+/* Makes a UID without calling its __init__, which takes longer than everything else. Its __new__ makes room for the
+   attribute; without it, the attribute would take a dict. */
 static PyObject *bare_uid(State *state, PyObject *number)
 {
     PyTypeObject *class = (PyTypeObject *)state->held[UID];
@@ -104,7 +104,7 @@ static PyObject *uid_of(State *state, const uint8_t *bytes, uint64_t length)
     return uid;
 }
 
-/* A text of at most FEW units of UTF-16, the greater byte first. A surrogate without its other half is kept as it is. */
+/* Decodes at most FEW units of big-endian UTF-16. Keeps an unpaired surrogate as it is. */
 static PyObject *few_of(const uint8_t *bytes, size_t units)
 {
     wchar_t text[FEW];
@@ -121,8 +121,8 @@ static PyObject *few_of(const uint8_t *bytes, size_t units)
     return PyUnicode_FromWideChar(text, length);
 }
 
-/* A text of UTF-16. For a lone surrogate the codec calls its handler, which may be anybody's code: the bytes are kept
-   meanwhile. Few units are read without a codec, which takes four times as long. */
+/* Decodes big-endian UTF-16. For an unpaired surrogate the codec calls its handler, which may be any code, so the bytes
+   are kept alive during the call. A short text needs no codec, which takes four times as long. */
 static PyObject *wide_of(PyObject *owner, const uint8_t *bytes, size_t units)
 {
     int order = 1;

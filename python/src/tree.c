@@ -1,34 +1,34 @@
-/* Trees as plistlib builds them: dict, list and leaves. */
+/* Builds trees like those of plistlib: dict, list and leaves. */
 #include "extension.h"
 
-/* How many members are read at once: an even number, since those of pairs come by two. */
+/* The number of members that one read takes. It is even, because pairs have two. */
 #define BLOCK 128
 
-/* A list or a dict that is made, and whose members are not in it yet. */
+/* A list or a dict that still needs its members. */
 typedef struct Empty {
     uint32_t object;
     int is_dict;
-    /* How many members it has: of each pair two. */
+    /* The number of its members: two for each pair. */
     uint64_t end;
 } Empty;
 
 typedef struct Tree {
     Handle *handle;
-    /* The object at the top, and how many nodes it may have. */
+    /* The root of the tree, and the largest number of nodes that the tree may have. */
     uint32_t object;
     uint64_t limit;
-    /* How many nodes were met. They are all, unless a container was met twice: then the library was asked. */
+    /* The number of nodes so far. If a container occurs twice, the library gives the number for the whole tree. */
     uint64_t nodes;
     int is_measured;
-    /* By the numbers of objects what was built of them, with a reference to each, or NULL. */
+    /* By object number: what was built for the object, with a reference to it, or NULL. */
     PyObject **made;
-    /* The stack of containers that are to be filled. */
+    /* The stack of containers that need their members. */
     Empty *empty;
     size_t height;
     size_t room;
 } Tree;
 
-/* Raises if the tree has more nodes than it may have. Asks the library, once. */
+/* Raises if the tree has too many nodes. Asks the library, once. */
 static int tree_measure(Tree *tree)
 {
     bplist_sizes sizes;
@@ -60,7 +60,7 @@ static int tree_push(Tree *tree, const Empty *container)
     return 0;
 }
 
-/* A container of `body`, to be filled later. */
+/* Makes the empty container of `body`, which is filled later. */
 static PyObject *tree_empty(Tree *tree, uint32_t object, const bplist_body *body)
 {
     int is_dict = body->kind == BPLIST_DICT;
@@ -77,7 +77,7 @@ static PyObject *tree_empty(Tree *tree, uint32_t object, const bplist_body *body
     return value;
 }
 
-/* Something is met again. The nodes below a container are then more than were met. */
+/* Takes note that a value occurs again. If it is a container, the tree has more nodes than were counted. */
 static int tree_again(Tree *tree, PyObject *made)
 {
     if (tree->is_measured || !(PyList_CheckExact(made) || PyDict_CheckExact(made)))
@@ -85,7 +85,7 @@ static int tree_again(Tree *tree, PyObject *made)
     return tree_measure(tree);
 }
 
-/* Builds the values of objects, of which one may be there twice: containers without their members. */
+/* Makes the values of objects, and containers without their members. An object may occur twice. */
 static int tree_make(Tree *tree, const uint32_t *objects, size_t count)
 {
     bplist_body bodies[BLOCK];
@@ -93,25 +93,28 @@ static int tree_make(Tree *tree, const uint32_t *objects, size_t count)
     if (handle_faces(tree->handle, objects, count, bodies) < 0)
         return -1;
     for (size_t i = 0; i < count; i++) {
-        uint32_t object = objects[i];
-        PyObject **made = &tree->made[object];
+        const bplist_body *body = &bodies[i];
+        PyObject **made = &tree->made[objects[i]];
 
         if (*made) {
             if (tree_again(tree, *made) < 0)
                 return -1;
             continue;
         }
-        /* A leaf may have run code of anybody, which may have closed the property list. */
+        /* Making a leaf may have run any code, which may have closed the property list. */
         if (handle_ready(tree->handle) < 0)
             return -1;
-        *made = is_container(bodies[i].kind) ? tree_empty(tree, object, &bodies[i]) : leaf_of(tree->handle, object, &bodies[i]);
+        if (is_container(body->kind))
+            *made = tree_empty(tree, objects[i], body);
+        else
+            *made = leaf_of(tree->handle, objects[i], body);
         if (*made == NULL)
             return -1;
     }
     return 0;
 }
 
-/* Builds those of at most BLOCK objects that are not built yet. */
+/* Makes the values that at most BLOCK objects still lack. */
 static int tree_make_new(Tree *tree, const uint32_t *objects, size_t count)
 {
     uint32_t left[BLOCK];
@@ -128,7 +131,7 @@ static int tree_make_new(Tree *tree, const uint32_t *objects, size_t count)
     return many > 0 ? tree_make(tree, left, many) : 0;
 }
 
-/* Puts members into a list or a dict, of which the first has number `from`. All are built. */
+/* Puts members, whose values are made, into a list or a dict. The first of them has number `from`. */
 static int fill_block(Tree *tree, const Empty *container, uint64_t from, const uint32_t *objects, Py_ssize_t read)
 {
     PyObject *value = tree->made[container->object];
@@ -170,7 +173,7 @@ static int fill(Tree *tree, const Empty *container)
     return 0;
 }
 
-/* Gives back what the tree holds but for its values' own references. */
+/* Frees what the tree holds, except the references that its values hold themselves. */
 static void tree_free(Tree *tree)
 {
     for (uint64_t i = 0; i < tree->handle->objects; i++)
@@ -179,7 +182,7 @@ static void tree_free(Tree *tree)
     PyMem_Free(tree->empty);
 }
 
-/* Builds the tree of an object: one that is made, and then filled container by container. */
+/* Builds the tree of an object: makes its root, and then fills container by container. */
 static PyObject *tree_build(Tree *tree)
 {
     PyObject *top;
@@ -206,7 +209,7 @@ PyObject *tree_of(Handle *self, uint32_t object, uint64_t limit)
     tree.made = PyMem_Calloc(self->objects, sizeof *tree.made);
     if (tree.made == NULL)
         return PyErr_NoMemory();
-    /* Nothing of the tree is garbage yet, and the collector would go over it again and again. */
+    /* No part of the tree is garbage yet, and the collector would look at it again and again. */
     is_collecting = PyGC_Disable();
     top = tree_build(&tree);
     if (is_collecting)

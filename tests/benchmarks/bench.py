@@ -1,10 +1,10 @@
 #!/usr/bin/env python3
 """bench.py [--beside OTHER] PROGRAM [WORD..]
 
-Times PROGRAM on large property lists and prints ratios: how many times as long as reading the file once (`cat` to
-nothing), each the best of ten runs, all rows in turn, and the peak memory of a run. Where gcc and libplist's headers are there,
-libplist's parse of the same file is timed beside it. OTHER is a bplint too, as that of an earlier state: then each row ends with
-the ratio to what OTHER takes in the same run. With words, only the files whose name has one of them are timed.
+Times PROGRAM on large property lists, and prints how many times as long as reading the file once (`cat` to nothing) it
+takes: the best of ten runs, with all rows in turn; and the peak memory of a run. If gcc and libplist's headers are installed,
+libplist's parse of the same file is timed too. OTHER is another bplint, for example of an earlier commit. With it, each row
+ends with the ratio to the time of OTHER in the same run. With words, only the files whose name has one of them are timed.
 
 FILE is read through the program's windows; `-` (standard input) is read whole, so that the run is over a slice.
 """

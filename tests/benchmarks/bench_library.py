@@ -5,10 +5,10 @@ Times reading property lists: from Python by the package `bplist` of WHEEL and b
 libplist, if gcc and libplist's headers are installed (Debian: `libplist-dev`). LIBRARY is the folder in which `make lib`
 leaves the library. With words, only the files whose name has one of them are timed.
 
-Each row is a process of its own, which tells the time from opening the file to the end of what it does, and its peak of
-memory: it reads three values; or builds the whole tree; or walks over all values as they are read on access. plistlib always
-builds the tree. The time is the best of ten runs, all rows in turn, and the peak the greatest. In brackets is the time as a
-part of plistlib's. All rows must read the same three values.
+Each row is a process of its own, which measures the time from opening the file to its end, and its peak of memory. It reads
+three values; or builds the whole tree; or walks over all values, reading each on access. plistlib always builds the tree. The
+time is the best of ten runs, with all rows in turn, and the peak is the greatest. In brackets is the time as a fraction of
+plistlib's. All rows must read the same three values.
 """
 import compileall
 import dataclasses

@@ -1,16 +1,16 @@
 #!/usr/bin/env python3
 """c_library.py
 
-Compiles the programs of C over libbplist.a, all warnings errors, and runs them; `make build lib` comes before.
+Compiles the C programs against libbplist.a, with all warnings as errors, and runs them. Run `make build lib` first.
 
-- The walker (c_walker.c) sees every file of the tables and of other writers, under valgrind if it is installed, and
-  prints what `bplint lint` says; an error or a leak fails the batch. It is run again on some files with each growth refused
-  in turn.
+- The walker (c_walker.c) walks over every file of the tables and of other writers, under valgrind if it is installed, and
+  prints what `bplint lint` says. An error or a leak fails the batch. On some files it runs again with each request for
+  memory refused in turn.
 - c_threads.c calls the library from several threads, under valgrind's helgrind if it is installed.
 - The example prints values.
-- The library shows the calls of bplist.h and has no variables that it writes.
+- The library exports the calls of bplist.h, and has no variables that it writes.
 
-A file counts as a test, and so does each of the others. Without gcc and nm nothing is run. The last line printed is
+Each file counts as one test, and so does each of the other points. Without gcc and nm nothing is run. The last line is
 `N passed, M failed`, with `, K skipped` if some were.
 """
 import os

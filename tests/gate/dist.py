@@ -4,18 +4,17 @@
 Makes a release of PROGRAM and of the C library in the folder LIBRARY, as `make dist` does, and tests the files of the
 release, not those of the tree.
 
-- Made again in another folder, with another umask, time zone and language, each file is the same to the byte.
-- Archive, packages and wheel are put into folders of their own: the archive is unpacked, dpkg installs the packages below a
-  root that has nothing but an entry of libc6, and pip installs the wheel in a venv, without an index. `make install`
-  installs below a folder too.
+- If the release is made again in another folder, with another umask, time zone and language, each file has the same bytes.
+- The archive is unpacked into a folder of its own. dpkg installs the packages below a root that has only an entry of libc6.
+  pip installs the wheel in a venv, without an index. `make install` installs below a folder too.
 - Each link of the archive's README.md, SECURITY.md and CHANGELOG.md leads to a file of the archive.
-- In each the session of README.md gives what README.md says, `man` shows the manual page, and the example compiles by
-  bplist.pc and runs; in the venv the Python code of README.md runs.
-- What is removed leaves no file and no folder.
-- lintian finds no error, and no file names a folder of the build. README.md says the glibc that the symbols ask for.
+- In each of these places the session of README.md prints what README.md says, `man` shows the manual page, and the example
+  compiles with bplist.pc and runs. In the venv the Python code of README.md runs.
+- Removing what was installed leaves no file and no folder.
+- lintian finds no error, and no file names a folder of the build. README.md names the glibc that the symbols need.
 
-If a tool is missing, nothing is tested. The last line printed is `N passed, M failed`, with `, 1 skipped` then. The exit
-status is 1 if one failed.
+If a tool is missing, nothing is tested. The last line is `N passed, M failed`, then with `, 1 skipped`. The exit status is
+1 if a test failed.
 """
 import dataclasses
 import filecmp

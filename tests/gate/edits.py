@@ -1,25 +1,26 @@
 #!/usr/bin/env python3
 """edits.py [--all | CRATE [EDIT..]]
 
-Tries must-fail edits and says what refuses each. With no word it tries those right in tests/edits/CRATE, which the gate
-tries beside those that `rt ci` tries. Of a crate that is named it tries all edits or those named, also in
-crates/CRATE/must-fail and tests/edits/CRATE/more. With --all it tries every crate's. One line an edit: the edit, its
-function, the verdict and the goals. The verdicts:
+Tries must-fail edits, and says what refuses each. Without arguments it tries the edits right in tests/edits/CRATE, which
+the gate tries in addition to those of `rt ci`. With CRATE it tries all edits of the crate, or those named, also from
+crates/CRATE/must-fail and tests/edits/CRATE/more. With --all it does so for every crate. It prints one line for each edit:
+the edit, its function, the verdict and the goals. The verdicts:
 
-  false    the prover found values at which a goal of the edited function does not hold
-  open     a goal that the prover decides by itself stays open
-  answer   the answer that a proof file gives to a goal does not show it any longer; its names still fit
-  stale    names of a proof file no longer fit, which says nothing of the contract
-  unread   the prover could not take the function at all, which says nothing either
-  PROVED   nothing refuses it
+  false    the prover found values for which a goal of the edited function is false
+  open     a goal that the prover decides without help stays open
+  answer   the answer in a proof file no longer proves its goal, and its names still fit
+  stale    names in a proof file no longer fit, which says nothing about the contract
+  unread   the prover could not read the function, which says nothing either
+  PROVED   nothing refuses the edit
 
-An edit is named FUNCTION--what by the function that it changes, and passes if it is refused by one of the first three. The
-last line is `N passed, M failed`, and the status is 1 if one failed.
+An edit is named FUNCTION--what, by the function that it changes. It passes if the verdict is one of the first three. The
+last line is `N passed, M failed`, and the exit status is 1 if one failed.
 
-Edits of different functions are tried together, in a copy of the crate over what its last check kept, so a crate takes a
-few checks; crates are tried side by side. Functions that no edit of the check turns are not proved there: their proofs are
-holes, and a call takes its callee by its contract. An edit that is not refused so is tried once more with all proofs as they
-are. The crates below must be built as they stand: over others a verdict would say nothing, so that none is given.
+Edits of different functions are tried together, in a copy of the crate that begins from what its last check kept, so a
+crate takes only a few checks. Crates are tried side by side. Functions that no edit of a check changes are not proved
+there: their proofs are holes, and a caller relies on their contracts. An edit that is not refused this way is tried once
+more with all proofs as they are. The crates below must be built in their present state. If they are not, a verdict would
+say nothing, and the script gives none.
 """
 import concurrent.futures
 import dataclasses

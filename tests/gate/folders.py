@@ -1,10 +1,10 @@
 #!/usr/bin/env python3
 """folders.py PROGRAM [--files N]
 
-Shows of `lint --recursive` what no table of vectors can: memory does not grow with the number of files beyond their names (N
-files, 2,000 unless given, in one folder and in folders of 100); what may not be read has a line and does not end the run; the
-line of counts is written unasked if standard error is a terminal; a name of any bytes has one line. The last line printed is
-`N passed, M failed`.
+Tests what no table can show of `lint --recursive`. Only the names of the files take memory for each file: N files, 2,000
+unless given, in one folder and in folders of 100. A file or folder that may not be read has a line, and does not end the run.
+The line of counts is written without being asked for if standard error is a terminal. A name of any bytes takes one line.
+The last line is `N passed, M failed`.
 """
 import argparse
 import os

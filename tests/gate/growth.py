@@ -1,13 +1,17 @@
 #!/usr/bin/env python3
 """growth.py CALLS
 
-Shows, without a clock, that no call reads a file again and again. CALLS is bplist_calls, which counts the bytes that `lint`
-and, where the file holds a value, `check` with its certificate of version 1, `upgrade`, and `check` with that of version 2
-ask of their source. For each hostile family, at 64 and 256 kB, a call asks for at most `EACH` bytes a byte of the
-file and `BESIDE` bytes beside them, and at 256 kB for at most `TIMES` times as many as at 64 kB, or as the file of 64 kB has
-bytes; for so many more where the file is more than four times as long, since its numbers have more bytes. The same limit holds
-for the files of vectors/program.tsv. One call on one family, or on all of these files, counts as one test. The calls of `KNOWN`
-grow faster today: they are named and not counted. The last line printed is `N passed, M failed`.
+Shows, without a clock, that no call reads a file again and again. CALLS is bplist_calls. It counts the bytes that `lint` asks
+its source for, and, if the file holds a value, those of `check` with a certificate of version 1, of `upgrade`, and of `check`
+with a certificate of version 2.
+
+For each hostile family, at 64 and at 256 kB, a call may ask for at most `EACH` bytes for each byte of the file and `BESIDE`
+bytes more. At 256 kB it may ask for at most `TIMES` times as many as at 64 kB, or as the file of 64 kB has bytes. If the file
+is more than four times as long, because its numbers have more bytes, the limit grows with it. The same limit holds for the
+files of both tables of runs.
+
+One call on one family, or on all files of the tables, counts as one test. The calls of `KNOWN` grow faster today: they are
+named and not counted. The last line is `N passed, M failed`.
 """
 import concurrent.futures
 import os
@@ -19,7 +23,7 @@ sys.path.insert(0, str(pathlib.Path(__file__).resolve().parents[1]))
 
 from helpers.contents import Hole, content  # noqa: E402
 from helpers.families import FAMILIES  # noqa: E402
-from helpers.tables import VECTORS, read_runs  # noqa: E402
+from helpers.tables import all_runs  # noqa: E402
 
 EACH = 64
 BESIDE = 1 << 20
@@ -27,7 +31,6 @@ TIMES = 4.6
 SMALL, LARGE = 1 << 16, 1 << 18
 SECONDS = 120
 CALLS = ["lint", "check-1", "upgrade", "check-2"]
-TABLE = VECTORS / "program.tsv"
 
 # By family. What stands here and grows no faster is said, so that it can be taken out.
 KNOWN = {
@@ -76,7 +79,7 @@ def wrong_of_family(program, family):
 
 def wrong_of_table(program, pool):
     """What is wrong with each call on the files of the table, or None."""
-    columns = sorted({vector.file for vector in read_runs(TABLE) if "=" not in vector.file})
+    columns = sorted({vector.file for vector in all_runs() if "=" not in vector.file})
     files = [file for file in map(content, columns) if file is not None and not isinstance(file, Hole)]
     wrong = dict.fromkeys(CALLS)
     for file, counts in zip(files, pool.map(lambda file: counted(program, file), files)):

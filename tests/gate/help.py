@@ -1,9 +1,9 @@
 #!/usr/bin/env python3
 """help.py PROGRAM
 
-Compares what `--help` of PROGRAM and of its subcommands names with the manual page, the completions and docs/RULES.md: the
+Compares what `--help` of PROGRAM and of its subcommands says with the manual page, the completions and docs/RULES.md: the
 subcommands, the flags of each and their letters, and what `explain` says of each rule by its word and its number. The last
-line printed is `N passed, M failed`. The exit status is 1 where one failed.
+line is `N passed, M failed`. The exit status is 1 if one failed.
 """
 import pathlib
 import re

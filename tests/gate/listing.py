@@ -1,12 +1,14 @@
 #!/usr/bin/env python3
 """listing.py PROGRAM
 
-Tries `bplint ls --recursive` and `bplint show --raw`. On each file of tests/vectors that holds a value and on other
-writers' (tests/helpers/writers.py), the lines of `ls -R` are those of a plain walk over the file's bytes, of a walk with `ls`
-from container to container, and of a walk over what plistlib loads; the limit is tried at the number of nodes and one below.
-`show --raw` gives the bytes of data and texts, and the digits and words of numbers and truth values. At the end `ls -R` is
-git's textconv in a repository with two versions of a file. One file counts as one test. Without plistutil its files are
-skipped. The last line printed is `N passed, M failed`, with `, K skipped` where some were.
+Tests `bplint ls --recursive` and `bplint show --raw`, on each file of tests/vectors that holds a value and on files of other
+writers (tests/helpers/writers.py). The lines of `ls -R` are those of a plain walk over the file's bytes, of a walk with `ls`
+from container to container, and of a walk over what plistlib loads. The limit is tried at the number of nodes and one below.
+`show --raw` gives the bytes of data and texts, and the digits and words of numbers and booleans. At the end `ls -R` is git's
+textconv in a repository with two versions of a file.
+
+One file counts as one test. Without plistutil its files are skipped. The last line is `N passed, M failed`, with
+`, K skipped` if some were.
 """
 import os
 import pathlib
@@ -19,7 +21,7 @@ import tempfile
 sys.path.insert(0, str(pathlib.Path(__file__).resolve().parents[1]))
 
 from helpers.harness import closing  # noqa: E402
-from helpers.objects import Plist  # noqa: E402
+from helpers.layout import Layout  # noqa: E402
 from helpers.printed import key_step, line_of, quoted, units_of  # noqa: E402
 from helpers.sample_files import table_files  # noqa: E402
 from helpers.writers import written  # noqa: E402
@@ -52,7 +54,7 @@ class Tree:
     """The values of a file that holds one, by plain reading of its bytes."""
 
     def __init__(self, octets):
-        self.plist = Plist(octets)
+        self.plist = Layout(octets)
         self.heads = {}
 
     def head(self, n):

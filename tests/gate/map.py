@@ -1,10 +1,10 @@
 #!/usr/bin/env python3
 """map.py PROGRAM
 
-Compares `bplint map` with a plain computation: on each file of tests/vectors, on other writers' (tests/helpers/writers.py),
-on damaged and overlapping ones. What `lint` says of a file is taken from PROGRAM; places, ends, rules 14 to 20, heights, gaps and overlaps
-are computed here, and each byte is counted. Without plistutil its files are skipped. The last line printed is `N passed, M
-failed`, with `, K skipped` if some were.
+Compares `bplint map` with a plain computation: on each file of tests/vectors, on files of other writers
+(tests/helpers/writers.py), and on damaged and overlapping ones. The verdict of `lint` is taken from PROGRAM. Places, ends,
+rules 14 to 20, heights, gaps and overlaps are computed here, and each byte of the file has to be in some line. Without
+plistutil its files are skipped. The last line is `N passed, M failed`, with `, K skipped` if some were.
 """
 import pathlib
 import random
@@ -16,7 +16,7 @@ sys.path.insert(0, str(pathlib.Path(__file__).resolve().parents[1]))
 
 from helpers.contents import HEADER, trailer  # noqa: E402
 from helpers.harness import closing  # noqa: E402
-from helpers.objects import Plist  # noqa: E402
+from helpers.layout import Layout  # noqa: E402
 from helpers.sample_files import table_files  # noqa: E402
 from helpers.writers import written  # noqa: E402
 
@@ -94,7 +94,7 @@ def trouble_with(program, path, octets):
     words = said[2].split()
     if words and words[0] == "fault" and words[1] in FRAME_RULES:
         return None if got == said else f"wanted {said}, got {got}"
-    plist = Plist(octets)
+    plist = Layout(octets)
     wanted = wanted_map(plist, notes_by(said[1] or said[2], plist))
     if got != (0, wanted, ""):
         pairs = zip(wanted.split("\n"), got[1].split("\n"), strict=False)

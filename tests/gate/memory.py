@@ -1,11 +1,11 @@
 #!/usr/bin/env python3
 """memory.py PROGRAM
 
-Shows that `lint` takes at most 12 bytes an object, beside a constant, and on a faulty file a quarter of its length more: under
-a limit of the process's data that is so large it gives its answer. The files are usual ones of some 400,000 objects (keys that
-share one value, keys with values, numbers, texts, and dictionaries), for which it is also shown that memory is refused under
-a limit of 6 bytes an object, and the hostile families. One run counts as one test. The last line printed
-is `N passed, M failed`.
+Shows that `lint` takes at most 12 bytes of memory for each object and a constant, and for a faulty file a quarter of its
+length more. `lint` runs with a limit of that size on the data of its process, and has to give its answer. The files are the
+hostile families, and usual ones of some 400,000 objects: keys that share one value, keys with values, numbers, texts, and
+dictionaries. For the usual ones memory has to be refused if the limit is 6 bytes for each object. One run counts as one test.
+The last line is `N passed, M failed`.
 
 The family `ring` is left out: the line that names its circle takes more memory than `lint`.
 """

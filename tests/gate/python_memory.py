@@ -1,10 +1,10 @@
 #!/usr/bin/env python3
 """python_memory.py
 
-Makes each call of the Python package again and again, with the first growth of memory refused, then the second, and so on.
-Each call returns what it returns otherwise, or raises MemoryError, and leaves no block of memory behind, and no reference to
-what outlives it. python_package.py runs it over the installed package, with refuse_growth.c in front of malloc
-and with PYTHONMALLOC=malloc_debug. The last line printed is `N passed, M failed`.
+Makes each call of the Python package again and again, with the first request for memory refused, then the second, and so on.
+Each call returns what it returns otherwise, or raises MemoryError. It leaves no block of memory, and no reference to what
+outlives it. python_package.py runs this script on the installed package, with refuse_growth.c in front of malloc and with
+PYTHONMALLOC=malloc_debug. The last line is `N passed, M failed`.
 """
 import ctypes
 import datetime

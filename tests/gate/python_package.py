@@ -1,15 +1,15 @@
 #!/usr/bin/env python3
 """python_package.py WHEEL
 
-Tests the Python package as it is in its wheel, and not the source tree: installs the wheel without an index into a new
-environment of the Python that runs this, and runs there
+Tests the Python package from its wheel, not from the source tree. Installs the wheel without an index into a new environment
+of the Python that runs this script, and runs there
 
 - the tests of python/tests, in Python's development mode;
-- python_memory.py, with each growth of memory refused in turn;
+- python_memory.py, with each request for memory refused in turn;
 - the tests of values and edges again, under valgrind if it is installed.
 
-The wheel's tag names the newest glibc that a symbol of its module asks for, and the module links nothing but the C library.
-What needs gcc or valgrind is skipped without them. The last line printed is `N passed, M failed`, with `, K skipped` if some
+The wheel's tag has to name the newest glibc that a symbol of its module needs, and the module may link only the C library.
+Without gcc or valgrind, the tests that need it are skipped. The last line is `N passed, M failed`, with `, K skipped` if some
 were.
 """
 import os

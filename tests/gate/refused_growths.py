@@ -1,18 +1,18 @@
 #!/usr/bin/env python3
 """refused_growths.py BPLINT CALLS
 
-Runs programs with one growth of memory refused, the first, the second and so on.
+Runs programs with one request for memory refused: the first, then the second, and so on.
 
-BPLINT: each run in which a growth was refused ends with status 4 and `memory` on standard error, up to the first run that
-meets no refusal. Nothing is written then (by `print` at most a first part of its text), and OUT is left as it was. A list that
-std collects is the exception: std begins it with room for all items, and where that is refused it grows the list item by item.
-Such are the words of each command, and the objects of a circle.
+BPLINT: each run in which a request was refused ends with status 4, and with `memory` on standard error. Nothing is written
+(`print` may write a first part of its text), and OUT is unchanged. The last run is the first one without a refusal. A list
+that std collects is an exception: std first asks for room for all items, and if that is refused, it grows the list item by
+item. The words of each command and the objects of a circle are such lists.
 
-CALLS is bplist_calls, which makes each call of the library twice on the same value. Where a growth within the first is
-refused that call answers `Memory`, and the second answers as it does without a refusal; where it is the growth of the
-answer's text, bplist_calls ends and names memory. Each call of `EVER` grows on some file, and no other call does.
+CALLS is bplist_calls, which makes each call of the library twice on the same value. If a request of the first call is
+refused, that call returns `Memory`, and the second returns the same as without a refusal. If the request for the text of the
+answer is refused, bplist_calls ends and names memory. Each call of `EVER` takes memory for some file, and no other call does.
 
-One subcommand, or one call, on one file counts as one test. Without gcc nothing is run. The last line printed is
+One subcommand, or one call, on one file counts as one test. Without gcc nothing is run. The last line is
 `N passed, M failed`, with `, K skipped` if some were.
 """
 import concurrent.futures

@@ -1,8 +1,8 @@
 #!/usr/bin/env python3
 """run_library.py [--only PREFIX] TABLE PROGRAM
 
-Hands all lines of TABLE to PROGRAM, one request a line, and prints every answer that differs. The last line printed is
-`N passed, M failed`. The exit status is 1 where one failed. vectors/README.md has the table's columns, and the head of
+Gives all rows of TABLE to PROGRAM, one request on each line, and prints every answer that differs. The last line is
+`N passed, M failed`. The exit status is 1 if one failed. tests/vectors/README.md describes the columns, and the page of
 bplist_calls the form of a request.
 """
 import argparse

@@ -1,9 +1,9 @@
 #!/usr/bin/env python3
 """run_vectors.py [--jobs N] [--only PREFIX] TABLE PROGRAM
 
-Runs PROGRAM on each line of TABLE and on the lines that follow from it, several at once, and prints every difference in
-standard output, standard error, exit status and OUT. The last line printed is `N passed, M failed`. The exit status is
-1 where one failed. vectors/README.md has the table's columns, and which lines follow.
+Runs PROGRAM on each row of TABLE and on the runs that follow from it, several at once. Prints every difference in standard
+output, standard error, exit status and OUT. The last line is `N passed, M failed`. The exit status is 1 if one failed.
+tests/vectors/README.md describes the columns, and says which runs follow from a row.
 """
 import argparse
 import concurrent.futures

@@ -2,11 +2,11 @@
 """rust_crate.py
 
 Runs the tests of the Rust crate rust/bplist over the built libbplist.a, and compares it with the crate plist
-(rust/compare_plist) on the files of the tables and of other writers; `make lib` comes before. Both are built in a temporary
-folder, with no network.
+(rust/compare_plist) on the files of the tables and of other writers. Run `make lib` first. Both are built in a temporary
+folder, without a network.
 
-The crate plist is Debian's librust-plist-dev. Without it, or without cargo, the tests that need it are skipped, save in the
-gate. The last line printed is `N passed, M failed`, with `, K skipped` where some were.
+The crate plist is Debian's librust-plist-dev. Without it, or without cargo, the tests that need it are skipped; in the gate
+they fail. The last line is `N passed, M failed`, with `, K skipped` if some were.
 """
 import os
 import pathlib

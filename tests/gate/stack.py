@@ -2,8 +2,8 @@
 """stack.py BPLINT CALLS
 
 Shows that little stack is enough: no function of BPLINT and of CALLS (bplist_calls) has a frame above 64 KiB, and with a stack
-of 256 KiB they give the outputs of both tables of vectors. Frames are read from what objdump prints; without objdump that
-part is skipped. The last line printed is `N passed, M failed`, with `, K skipped` if some were.
+of 256 KiB both give the outputs of the tables. objdump prints the frames; without objdump that part is skipped. The last line
+is `N passed, M failed`, with `, K skipped` if some were.
 """
 import collections
 import pathlib
@@ -16,7 +16,7 @@ import tempfile
 sys.path.insert(0, str(pathlib.Path(__file__).resolve().parents[1]))
 
 from helpers.harness import closing, lacks  # noqa: E402
-from helpers.tables import VECTORS  # noqa: E402
+from helpers.tables import CALLS, RUNS  # noqa: E402
 
 HERE = pathlib.Path(__file__).resolve().parent
 MOST_FRAME = 64 * 1024
@@ -59,9 +59,9 @@ def limited(program, folder):
     return script
 
 
-def table(runner, name, program):
+def tried(runner, table, program):
     """Runs a table of vectors, shows what it prints and answers how many passed and failed."""
-    words = [sys.executable, "-B", HERE / runner, VECTORS / name, program]
+    words = [sys.executable, "-B", HERE / runner, table, program]
     ran = subprocess.run(words, capture_output=True, text=True, check=False)
     print(ran.stdout, ran.stderr, sep="", end="")
     closing = re.search(r"^(\d+) passed, (\d+) failed$", ran.stdout, re.MULTILINE)
@@ -83,9 +83,10 @@ def main():
             failed += 1
     with tempfile.TemporaryDirectory(prefix="bplint") as folder:
         bplint, calls = (limited(program, folder) for program in programs)
-        for counts in (table("run_vectors.py", "program.tsv", bplint), table("run_library.py", "library.tsv", calls)):
-            passed += counts[0]
-            failed += counts[1]
+        runs = [tried("run_vectors.py", table, bplint) for table in RUNS]
+        runs += [tried("run_library.py", table, calls) for table in CALLS]
+        passed += sum(run[0] for run in runs)
+        failed += sum(run[1] for run in runs)
     print(closing(passed, failed, skipped))
     return 1 if failed else 0
 

@@ -1,6 +1,6 @@
-"""The files of the tables and of the hostile families as cases for any reader: the expected answer, and why it is that.
+"""The files of the tables and of the hostile families as cases for any reader: the expected answer, and the reason for it.
 
-A file's expected answer is that of its row. Its value and its basis come from plist_value.py.
+The expected answer of a file is that of its row. Its value and its basis come from plist_value.py.
 """
 import collections
 import dataclasses

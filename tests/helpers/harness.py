@@ -1,4 +1,4 @@
-"""What the scripts of tests do where a program that they need is not installed."""
+"""What the scripts of tests do if a program that they need is not installed."""
 import os
 import shutil
 import sys

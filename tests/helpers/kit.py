@@ -1,6 +1,6 @@
-"""The kit's `rt` as a Python module, for what no command of it does. docs/DECISIONS.md says what that is.
+"""The kit's `rt` as a Python module, for what none of its commands does. docs/DECISIONS.md says what that is.
 
-No other file of tests calls the kit by its internals.
+No other file of tests uses the internals of the kit.
 """
 import copy
 import importlib.machinery

@@ -17,7 +17,7 @@ class Sample:
 
 
 def table_files():
-    """Each file that a row of the tables has in its column `file`, once. Left out are files with a hole, which no test reads whole."""
+    """Each file that a row of the tables has in its column `file`, once. No test reads a file with a hole, so it is left out."""
     found = {}
     for row in [*all_runs(), *all_calls()]:
         # `=` names the file of the row before, or the files of one run: those stand in other rows.

@@ -1,7 +1,7 @@
 #!/usr/bin/env python3
 """Counts what the source is made of, crate by crate.
 
-    python3 tests/tools/counts.py [ROOT]     ROOT is the top of the repository, this one where it is left out
+    python3 tests/tools/counts.py [ROOT]     ROOT is the top of a repository; without it, of this one
 
 Lines that are not blank: of code, of tests, of contracts (clauses, ghost members and their imports), of comments,
 of specs and of proofs. Then how often a contract carries a frame beside its source.

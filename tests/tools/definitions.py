@@ -1,13 +1,15 @@
 #!/usr/bin/env python3
 """definitions.py [--write | --count [CALL..]]
 
-Makes docs/DEFINITIONS.md from crates/*/specs: what a reader has to believe, in the order in which it is read. The page has
-the definitions that the theorem leads to with their text, then those that its other clauses add, and then, by name, those
-of all other public calls. With --write the page is written. Without, it is compared with the one that is there, one test a
-section; and three more tests ask that no public contract leads to a definition that computes what the grammar says, that
-each file of the theorem has its place in the reading order, and that README.md has the theorem as it stands in the sources.
-The last line printed is `N passed, M failed`. With --count the table of the page is printed, or how many definitions and
-lines the contracts of these calls lead to, with types as `Checked` for their methods.
+Makes docs/DEFINITIONS.md from crates/*/specs: what a reader has to believe, in reading order. The page has the text of the
+definitions that the theorem leads to, then of those that its other clauses add, and then the names of the definitions of all
+other public calls.
+
+With --write it writes the page. Without, it compares the page with the one that is there, one test for each section. Three
+more tests show that no public contract leads to a definition that computes what the grammar says, that each file of the
+theorem has its place in the reading order, and that README.md has the theorem as the sources have it. The last line is
+`N passed, M failed`. With --count it prints the table of the page, or how many definitions and lines the contracts of these
+calls lead to; a type such as `Checked` means its methods.
 """
 import itertools
 import pathlib

@@ -2,13 +2,13 @@
 """parsers.py [--only NAME] [--write] [--details FILE] [--jobs N]
 
 Runs other parsers of binary property lists on all files of tests/vectors and on hostile ones, and compares the tables of
-docs/PARSERS.md with what it finds; with --write it writes them there. Each file is read by a process of its own, with limits
-of processor time and memory; for plistlib that is a copy of this one. --only runs one parser, and looks at its columns
-alone. --details writes a line for each run.
+docs/PARSERS.md with what it finds. With --write it writes the tables. Each file is read by a process of its own, with limits
+of processor time and memory; for plistlib this is a copy of the script's own process. --only runs one parser, and looks only
+at its columns. --details writes a line for each run.
 
-A cell of a table counts as one test. If files were added since the page was measured, it may have grown. The last line
-printed is `N passed, M failed`, with `, K skipped` if a parser is not installed, or answers otherwise and has another
-version than the page names. The exit status is 1 if one failed.
+A cell of a table counts as one test. If files were added since the page was measured, it may have grown. The last line is
+`N passed, M failed`, with `, K skipped` if a parser is not installed, or if it answers otherwise and has another version than
+the page names. The exit status is 1 if one failed.
 """
 import argparse
 import collections

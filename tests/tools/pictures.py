@@ -1,9 +1,9 @@
 #!/usr/bin/env python3
 """pictures.py [--write]
 
-Draws the pictures of docs/DESIGN.md (docs/*.svg) and compares them with those that are there; with --write it writes them.
-The crates and the steps of `lint` are those of the sources. The last line printed is `N passed, M failed`; the exit status
-is 1 if one failed.
+Draws the pictures of docs/DESIGN.md (docs/*.svg), and compares them with those that are there. With --write it writes them.
+The crates and the steps of `lint` come from the sources. The last line is `N passed, M failed`. The exit status is 1 if one
+failed.
 """
 import pathlib
 import re

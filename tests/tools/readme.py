@@ -1,10 +1,10 @@
 #!/usr/bin/env python3
 """readme.py BPLINT [--write]
 
-Runs the session on README.md's first screen: each line behind `$ ` by a shell, in a folder that holds the files which the session
-speaks of, with BPLINT as `bplint`; and compares what it prints, standard error included. The library in use has to stand word
-for word in crates/examples. With --write the session is written anew. The last line printed is `N passed, M failed`, one test
-for each command and one for the library in use.
+Runs the session on README.md's first screen: each line after `$ ` in a shell, in a folder with the files that the session
+names, with BPLINT as `bplint`. Compares what it prints, with standard error. The Rattle code of README.md has to be in
+crates/examples, word for word. With --write it writes the session anew. The last line is `N passed, M failed`: one test for
+each command, and one for the code.
 """
 import pathlib
 import sys

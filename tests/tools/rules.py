@@ -1,15 +1,16 @@
 #!/usr/bin/env python3
 """rules.py [WORD]
 
-Without WORD, compares the tables of docs/RULES.md with the sources: the definitions and functions are in the files that they
-name, the functions that make a rule's fault are those that say so, rows of tests/vectors break the rule, and there are
-edits of the functions. The last line printed is `N passed, M failed`; the exit status is 1 if one failed.
+Without WORD, compares the tables of docs/RULES.md with the sources: the definitions and functions are in the files that the
+page names, the functions that make a rule's fault are those that it names, rows of tests/vectors break the rule, and there
+are edits of the functions. The last line is `N passed, M failed`. The exit status is 1 if one failed.
 
 With the word or the number of a rule, prints where all of these are.
 """
 import collections
 import pathlib
 import re
+import signal
 import sys
 
 ROOT = pathlib.Path(__file__).resolve().parents[2]
@@ -83,6 +84,15 @@ def line_of(name, file):
     head = re.compile(HEADS[suffix].format(re.escape(name)))
     lines = path.read_text(encoding="utf-8").split("\n")
     return next((number for number, line in enumerate(lines, 1) if head.match(line)), 0)
+
+
+def case_line(name, file, word):
+    """The line at which the case of a definition for this rule begins, or 0 if it has no such case."""
+    crate, base = file.split("/")
+    path = ROOT / "crates" / crate / FOLDERS[pathlib.Path(base).suffix] / base
+    case = re.compile(rf"\s*{re.escape(name)} .*\b{word}\b.* =")
+    lines = path.read_text(encoding="utf-8").split("\n")
+    return next((number for number, line in enumerate(lines, 1) if case.match(line)), 0)
 
 
 def fault_makers():
@@ -164,12 +174,16 @@ def show(asked):
         print(f"{column}: {rule.cells[column]}")
         for name, file in rule.names(column):
             crate, base = file.split("/")
-            print(f"  crates/{crate}/{FOLDERS[pathlib.Path(base).suffix]}/{base}:{line_of(name, file)}: {name}")
+            path = f"crates/{crate}/{FOLDERS[pathlib.Path(base).suffix]}/{base}"
+            print(f"  {path}:{line_of(name, file)}: {name}")
+            case = case_line(name, file, rule.word) if column == "definition" else 0
+            if case:
+                print(f"  {path}:{case}: {name}, case {rule.word}")
     names = breaking_rows()[rule.word]
-    print(f"rows that break it: {len(names)}")
+    print(f"rows of tests/vectors that break it: {len(names)}")
     for prefix in rule.list_of("rows"):
         print("  " + " ".join(name for name in names if name.startswith(f"{prefix}.")))
-    print("edits of its functions:")
+    print("edits of its functions:" if rule.list_of("edits of") else "edits of its functions: none")
     for name in rule.list_of("edits of"):
         for path in edits()[name]:
             print(f"  {path}")
@@ -180,6 +194,8 @@ def main():
     if len(sys.argv) > 2 or sys.argv[1:] in (["-h"], ["--help"]):
         print(__doc__, file=sys.stderr)
         return 2
+    # A reader that has seen enough, such as head, ends the script without a traceback.
+    signal.signal(signal.SIGPIPE, signal.SIG_DFL)
     return show(sys.argv[1]) if sys.argv[1:] else compare_all()
 
 

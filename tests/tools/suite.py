@@ -2,8 +2,8 @@
 """suite.py [--write]
 
 Makes the files of conformance/ and its table cases.tsv, from the tables of tests/vectors and from the hostile families, and
-compares them with those that are there; with --write it writes them. The last line printed is `N passed, M failed`. The exit
-status is 1 if one failed. tests/helpers/cases.py has the expected answers.
+compares them with those that are there. With --write it writes them. The last line is `N passed, M failed`. The exit status
+is 1 if one failed. tests/helpers/cases.py has the expected answers.
 """
 import collections
 import pathlib

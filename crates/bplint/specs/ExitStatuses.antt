@@ -8,13 +8,12 @@ use Rattle.bplint_lines.specs.declared.fault.RunFault.{RunFault}
 use Rattle.bplint_lines.specs.declared.raw_fault.RawFault.{RawFault}
 use Rattle.bplint_lines.specs.declared.said.Said.{Said}
 use Rattle.bplint_lines.specs.declared.said.Said.TheVariants.{All, SomeMissing}
-use Rattle.bplint_lines.specs.Answers.{Leaves, LeavesBy}
+use Rattle.bplint_lines.specs.Answers.{Leaves, LeavesSomeBy}
 use Rattle.bplint_lines.specs.RawFaults.{raw_report_of}
 use Rattle.bplint_engine.specs.Get.{LinesSay, found_line}
 use Rattle.bplint_engine.specs.Lint.{LintSays}
 use Rattle.bplint_engine.specs.Ls.{listed}
 use Rattle.bplint_engine.specs.Print.{PrintSays}
-use Rattle.bplint_engine.specs.Streams.{LeavesSomeBy}
 use Rattle.bplint_engine.specs.Tree.{ListsAll}
 use Rattle.bplint_map.specs.Map.{MapSays}
 
@@ -26,7 +25,7 @@ LeavesShown f (Text path limit) old new result = Leaves (PrintSays limit (LintSa
 LeavesShown f (Members path) old new result = Leaves (LinesSay (listed path.now) (LintSays f) f (path.now ∷ [])) 0 old new result
 LeavesShown f (Tree path limit) old new result =
     ∥ LeavesSomeBy (ListsAll limit (LintSays f) f path.now) old new result ∥₁
-LeavesShown f Map old new result = (most : ℕ) × LeavesBy (MapSays f) most old new result
+LeavesShown f Map old new result = LeavesSomeBy (MapSays f) old new result
 
 -- the exit status of an answer; refused memory may replace another fault, because its line takes memory
 abbrev pub EndsWith : Result Said RawFault → ℕ → Type 0

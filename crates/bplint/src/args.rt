@@ -31,7 +31,7 @@ pub struct Lint<'a> {
     pub hex: bool,
     /// True if nothing is printed for a file that holds a value.
     pub quiet: bool,
-    /// True if a folder stands for the files below it.
+    /// True if a folder means the files below it.
     pub recursive: bool,
     /// True if the counts of files are printed at the end.
     pub summary: bool,

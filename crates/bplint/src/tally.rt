@@ -12,7 +12,7 @@ pub struct Tally {
     unsound: u64,
     /// The number of files and folders that could not be read.
     unreadable: u64,
-    /// The number of files that were skipped because they are no binary property lists.
+    /// The number of entries of folders that were skipped: those that are no files, and files of another format.
     passed: u64,
     /// The greatest exit status.
     status: u8,

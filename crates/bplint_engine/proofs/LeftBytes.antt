@@ -1,12 +1,12 @@
 -- What a run leaves with the writer.
 use Rattle.std.proofs.Common.{◌⊎◌, inl, inr, ℕ, List, [], append-nil, sym, ◌∙◌, Option, None, Some, Result, Ok, Err, refl, arith}
 use Rattle.std.specs.Io.KnownBytes.{Appends, Keeps}
-use Rattle.bplist_ascii.specs.Sending.{SendsSome}
+use Rattle.bplist_ascii.specs.Sending.{AtMost}
 use Rattle.bplint_lines.specs.declared.fault.RunFault.{RunFault}
 use Rattle.bplint_lines.specs.declared.fault.RunFault.TheVariants as faults
 use Rattle.bplint_engine.specs.declared.output.Output.{Output}
 use Rattle.bplint_lines.specs.declared.said.Said.{Said}
-use Rattle.bplint_lines.specs.Answers.{Answer, gives, refuses, BeginsAnswer, LeavesBy}
+use Rattle.bplint_lines.specs.Answers.{Answer, gives, refuses, BeginsAnswer, LeavesBy, LeavesOr}
 use Rattle.bplint_engine.specs.Output.{Answers, IsRefusal, Sends}
 
 -- nothing was added
@@ -15,7 +15,7 @@ nothing None new h = tt
 nothing (Some xs) None h = h
 nothing (Some xs) (Some ys) h = h ∙ sym (append-nil xs)
 
-pub begins_nothing : (Says : Answer → Type 0) (most : ℕ) (old new : Option (List ℕ)) → Keeps old new → BeginsAnswer Says most old new
+pub begins_nothing : (Says : Answer → Type 0) (most : ℕ) (old new : Option (List ℕ)) → Keeps old new → AtMost old new most × BeginsAnswer Says old new
 begins_nothing Says most old new kept = (([], omega arith, nothing old new kept), inl kept)
 
 pub kept_self : (old : Option (List ℕ)) → Keeps old old
@@ -37,25 +37,29 @@ sent Says most old new (Ok output) (Ok said) says sends = (output.bytes.items, r
 sent Says most old new (Ok output) (Err fault) says (n, is, cut) = rw is (output.said, output.bytes.items, says, cut)
 sent Says most old new (Err fault) result says (is, kept) = rw is (refused Says most old new fault says kept)
 
-begins_as : (P Q : Answer → Type 0) (old new : Option (List ℕ)) → ((a : Answer) → P a → Q a)
-    → Keeps old new ⊎ ((said : Said) × (bytes : List ℕ) × P (gives said bytes) × SendsSome old new bytes)
-    → Keeps old new ⊎ ((said : Said) × (bytes : List ℕ) × Q (gives said bytes) × SendsSome old new bytes)
+pub begins_as : (P Q : Answer → Type 0) (old new : Option (List ℕ)) → ((a : Answer) → P a → Q a) → BeginsAnswer P old new → BeginsAnswer Q old new
 begins_as P Q old new to (inl kept) = inl kept
 begins_as P Q old new to (inr (said, bytes, says, some)) = inr (said, bytes, to (gives said bytes) says, some)
 
--- the same under another description of the answer
+-- another way to say the answer, and what may be left of it
+pub left_as : (P Q : Answer → Type 0) (old new : Option (List ℕ)) (A B : Type 0) (result : Result Said RunFault) → ((a : Answer) → P a → Q a)
+    → (A → B) → LeavesOr P old new A result → LeavesOr Q old new B result
+left_as P Q old new A B (Ok said) to also (bytes, says, added) = (bytes, to (gives said bytes) says, added)
+left_as P Q old new A B (Err (faults.Write n)) to also (said, bytes, says, cut) = (said, bytes, to (gives said bytes) says, cut)
+left_as P Q old new A B (Err (faults.Read fault)) to also begun = also begun
+left_as P Q old new A B (Err faults.Memory) to also begun = also begun
+left_as P Q old new A B (Err (faults.Fault fault)) to also (h, kept) = (to (refuses (faults.Fault fault)) h, kept)
+left_as P Q old new A B (Err (faults.Circle ns)) to also (h, kept) = (to (refuses (faults.Circle ns)) h, kept)
+left_as P Q old new A B (Err (faults.Path place)) to also (h, kept) = (to (refuses (faults.Path place)) h, kept)
+left_as P Q old new A B (Err (faults.NoAsciiForm n)) to also (h, kept) = (to (refuses (faults.NoAsciiForm n)) h, kept)
+left_as P Q old new A B (Err faults.TooLong) to also (h, kept) = (to (refuses faults.TooLong) h, kept)
+left_as P Q old new A B (Err faults.Hex) to also (h, kept) = (to (refuses faults.Hex) h, kept)
+left_as P Q old new A B (Err faults.Changed) to also (h, kept) = (to (refuses faults.Changed) h, kept)
+left_as P Q old new A B (Err faults.Open) to also (h, kept) = (to (refuses faults.Open) h, kept)
+left_as P Q old new A B (Err faults.InputTooLong) to also (h, kept) = (to (refuses faults.InputTooLong) h, kept)
+
 pub said_as : (P Q : Answer → Type 0) (most : ℕ) (old new : Option (List ℕ)) (result : Result Said RunFault) → ((a : Answer) → P a → Q a)
     → LeavesBy P most old new result → LeavesBy Q most old new result
-said_as P Q most old new (Ok said) to (bytes, says, added) = (bytes, to (gives said bytes) says, added)
-said_as P Q most old new (Err (faults.Write n)) to (said, bytes, says, cut) = (said, bytes, to (gives said bytes) says, cut)
-said_as P Q most old new (Err (faults.Read fault)) to (bound, begun) = (bound, begins_as P Q old new to begun)
-said_as P Q most old new (Err faults.Memory) to (bound, begun) = (bound, begins_as P Q old new to begun)
-said_as P Q most old new (Err (faults.Fault fault)) to (h, kept) = (to (refuses (faults.Fault fault)) h, kept)
-said_as P Q most old new (Err (faults.Circle ns)) to (h, kept) = (to (refuses (faults.Circle ns)) h, kept)
-said_as P Q most old new (Err (faults.Path place)) to (h, kept) = (to (refuses (faults.Path place)) h, kept)
-said_as P Q most old new (Err (faults.NoAsciiForm n)) to (h, kept) = (to (refuses (faults.NoAsciiForm n)) h, kept)
-said_as P Q most old new (Err faults.TooLong) to (h, kept) = (to (refuses faults.TooLong) h, kept)
-said_as P Q most old new (Err faults.Hex) to (h, kept) = (to (refuses faults.Hex) h, kept)
-said_as P Q most old new (Err faults.Changed) to (h, kept) = (to (refuses faults.Changed) h, kept)
-said_as P Q most old new (Err faults.Open) to (h, kept) = (to (refuses faults.Open) h, kept)
-said_as P Q most old new (Err faults.InputTooLong) to (h, kept) = (to (refuses faults.InputTooLong) h, kept)
+said_as P Q most old new result to left =
+    left_as P Q old new (AtMost old new most × BeginsAnswer P old new) (AtMost old new most × BeginsAnswer Q old new) result to
+    (λ begun. (begun.0, begins_as P Q old new to begun.1)) left

@@ -50,7 +50,7 @@ within old new s limit start (gone, few, added) = (gone, omega (arith, few, ap (
 -- a first part of the text is a first part of the answer
 begun_answer : (old new : Option (List ℕ)) (s : Sending) (f : List ℕ) (F : Frame) (n : ℕ) (w : Value) (limit : ℕ)
     → s ≡ record { sent = 0; held = [] } → HasText w limit (λ t. SendsSome old new (s.held ++ t)) → AtMost old new (length s.held + limit)
-    → BeginsAnswer (NodeSays f F limit n w) limit old new
+    → AtMost old new limit × BeginsAnswer (NodeSays f F limit n w) old new
 begun_answer old new s f F n w limit start (t, is, low, few, some) bound =
     let all : t ++ 10 ∷ [] ≡ some.0 ++ (some.1 ++ 10 ∷ []) =
     ap (λ l. l ++ 10 ∷ []) (sym (ap (λ x. x.held ++ t) start) ∙ some.3) ∙ append_assoc some.0 some.1 (10 ∷ []) in (

@@ -13,8 +13,8 @@ abbrev pub IsWrongAmong : List (List ℕ) → ℕ → Type 0
 IsWrongAmong [] place = ⊥
 IsWrongAmong (text ∷ texts) place = IsNoPath text place ⊎ ((steps : List (List ℕ)) × IsPathOf text steps × IsWrongAmong texts place)
 
--- the answer to a command with path texts: the first wrong text, or else the fault for which Says refuses the file, or
--- else what P says of the paths and the file's value
+-- the answer for path texts: the first wrong text, or the refusal of the file by Says, or what P says of paths and
+-- value
 abbrev pub ForPaths : (Answer → Type 0) → List ℕ → List (List ℕ) → (List (List (List ℕ)) → Value → Answer → Type 0) → Answer → Type 0
 ForPaths Says f texts P answer = ((place : ℕ) × IsWrongAmong texts place × (answer ≡ refuses (Path place)))
     ⊎ ((paths : List (List (List ℕ))) × (own : Answer) × AllZip IsPathOf texts paths × Says own

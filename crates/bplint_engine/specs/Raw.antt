@@ -1,5 +1,5 @@
--- What `show --raw` says: the bytes of data, the UTF-8 of a text, the digits of an integer or UID, the word of a truth
--- value. Source: profile.
+-- What `show --raw` says: bytes of data, UTF-8 of a text, digits of an integer or UID, `true` or `false`. Source:
+-- profile.
 use Rattle.std.specs.Prelude.{◌≡◌, ℕ, ◌∷◌, List, [], codes, Bool, true, false, if◌then◌else◌, Option, None, Some, Result, Ok, Err, MatchOption, MatchResult, encode_utf8_all, ⊤}
 use Rattle.std.specs.Char.Utf16.{has_unpaired_surrogate, utf16_lossy_chars}
 use Rattle.std.specs.Fmt.{decimal, signed_decimal}
@@ -22,12 +22,11 @@ use Rattle.bplint_lines.specs.declared.raw_fault.RawFault.{RawFault}
 use Rattle.bplint_lines.specs.declared.raw_fault.RawFault.TheVariants.{Run, NoRawForm}
 use Rattle.bplint_lines.specs.declared.said.Said.{Said}
 use Rattle.bplint_lines.specs.declared.said.Said.TheVariants.{All, SomeMissing}
-use Rattle.bplint_lines.specs.Answers.{Answer, gives, refuses}
+use Rattle.bplint_lines.specs.Answers.{Answer, gives, refuses, LeavesSomeBy}
 use Rattle.bplint_engine.specs.declared.raw_form.Raw.{Raw}
 use Rattle.bplint_engine.specs.declared.raw_form.Raw.TheVariants.{Data, Text, Word}
 use Rattle.bplint_engine.specs.Get.{found_line}
 use Rattle.bplint_engine.specs.PathTexts.{ForPaths}
-use Rattle.bplint_engine.specs.Streams.{LeavesSomeBy}
 
 -- the UTF-8 of a text with these units, or none if a surrogate has no partner
 abbrev pub utf8_text : List ℕ → Option (List ℕ)

@@ -5,8 +5,6 @@ use Rattle.std.specs.Io.KnownBytes.{Appends}
 use Rattle.bplist_ascii.specs.Sending.{Sending, SendsSome, Takes, TakesPart}
 use Rattle.bplint_lines.specs.declared.fault.RunFault.{RunFault}
 use Rattle.bplint_lines.specs.declared.fault.RunFault.TheVariants as faults
-use Rattle.bplint_lines.specs.declared.said.Said.{Said}
-use Rattle.bplint_lines.specs.Answers.{Answer, LeavesBy}
 
 -- a sink that has sent nothing and holds nothing
 abbrev pub begun : Sending
@@ -29,11 +27,6 @@ Puts old new before after bytes result =
 abbrev pub SendsAll : Option (List ℕ) → Option (List ℕ) → List ℕ → Result (Unit {0}) RunFault → Type 0
 SendsAll old new bytes result = MatchResult result (λ _. Appends old new bytes) (Fails old new begun bytes)
 
--- what a run leaves with the writer; before a failed read or refused memory it may have written a first part of any
--- length
-abbrev pub LeavesSomeBy : (Answer → Type 0) → Option (List ℕ) → Option (List ℕ) → Result Said RunFault → Type 0
-LeavesSomeBy Says old new result = (most : ℕ) × LeavesBy Says most old new result
-
--- this place is not between the two halves of a surrogate pair
+-- no pair of surrogates stands round this place
 abbrev pub IsCut : List ℕ → ℕ → Type 0
 IsCut units place = (is_high_surrogate (slice_index units (place - 1)) && is_low_surrogate (slice_index units place)) ≡ false

@@ -22,8 +22,7 @@ pub record IsOpen (F : Frame) (names : List ℕ) (o : Opened) : Type 0 where
   pub within : o.next ≤ o.count
   pub name : IsNameIn names o.name
 
--- so can all containers of a stack, the innermost first: the name of each outer one ends no later than the one inside
--- it
+-- so can all containers of a stack, the innermost first: each outer name ends no later than the one inside it
 abbrev pub AreOpen : Frame → List ℕ → List Opened → Type 0
 AreOpen F names [] = ⊤
 AreOpen F names (o ∷ os) = IsOpen F names o × AreOpen F (take o.name.«end» names) os

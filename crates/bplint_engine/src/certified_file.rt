@@ -9,8 +9,8 @@ use bplist_objects::{Frame, ObjectFault, trailer_of};
 use bplist_octets::Source;
 use std::alloc::Global;
 
-/// Checks the file against the decoded certificate. Returns the file with the certificate if it is valid, or else the
-/// first fault and the source.
+/// Checks the file against the decoded certificate. Returns the file with the certificate if it is accepted, or else
+/// the first fault and the source.
 pub(crate) fn check_decoded<S: Source>(
     alloc: Global,
     src: S,

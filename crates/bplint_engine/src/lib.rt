@@ -15,7 +15,8 @@
 //! | lint, check, get, certify or print over a source | [`run_on`], with a [`Command`] and its [`Verb`] |
 //! | the same with a certificate that is already decoded | [`run_certified`] |
 //! | the same over bytes or hexadecimal text | [`run_over`], [`undo_hex`] |
-//! | show or list a file that has no certificate | [`show_on`], [`show_text_on`], [`show_raw_on`], [`list_on`], [`list_all_on`] |
+//! | show values of a file that has no certificate | [`show_on`], [`show_text_on`], [`show_raw_on`] |
+//! | list them | [`list_on`], [`list_all_on`] |
 //!
 //! A call returns the `Said` or the `RunFault` of `bplint_lines`. The clause `exact` of each call says which bytes it
 //! wrote; specs/Said.antt defines what each command says. The laws `one_answer` and `one_answer_over` say that a

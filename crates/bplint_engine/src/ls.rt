@@ -19,8 +19,8 @@ use std::io::Write;
 /// or one for a leaf itself. Returns the source too.
 ///
 /// A line has the member's own path text, a tab, and the line of `Get` for the member. If the member has no path text
-/// that can be shown, its index in brackets, counted from 0, stands in for it. That is so for each member of a set, and
-/// for a key whose path text contains
+/// that can be shown, its index in brackets, counted from 0, replaces the path text. That is so for each member of a
+/// set, and for a key whose path text contains
 ///
 /// - a control character, including U+0080 to U+009F,
 /// - a line or paragraph separator (U+2028, U+2029),

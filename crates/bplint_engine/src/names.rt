@@ -16,8 +16,8 @@ pub(crate) struct Name {
     end: usize,
 }
 
-/// The name of a node, after the names of the containers that it is in. The name of a member either extends the name of
-/// its container, or begins after it. In contracts, a `Names` is its bytes.
+/// The names of a node and of the containers that it is in, the outermost first. The name of a member either extends
+/// the name of its container, or begins after it. In contracts, a `Names` is its bytes.
 #[derive(Drop)]
 pub(crate) struct Names {
     text: Vec<u8>,

@@ -28,7 +28,7 @@ use std::io::Write;
 /// - `Fault` or `Circle` for the file or its certificate,
 /// - with `Print`, `NoAsciiForm` and then `TooLong`.
 ///
-/// `Write` means that a write failed after the first `sent` bytes of the answer, but not all of them, had been written.
+/// `Write` means that a write failed: the first `sent` bytes of the answer were written, and some were not.
 ///
 /// `Read` means that a read of the source failed, and `Memory` that memory was refused. Nothing was written then,
 /// except that `Print` may have written a first part of the answer. `Changed` means that the source now gives other
@@ -73,7 +73,7 @@ pub fn run_on<S: Source, W: Write>(
     run_certified(alloc, command, src, decoded, out)
 }
 
-/// Runs a command over the bytes of a file and a certificate. With `hex` both are hexadecimal text, but the text of the
+/// Runs a command over the bytes of a file and a certificate. With `hex` both are hexadecimal text; that of the
 /// certificate is only decoded if the verb uses the certificate.
 ///
 /// `Hex` comes before all errors of [`run_certified`]: the text of the file is wrong, or else that of the certificate.

@@ -3,7 +3,7 @@ ghost use Rattle.std.specs.Prelude.{◌≡◌, IsTrue};
 ghost use Rattle.bplint_engine.specs.Prelude.{Gives, OnlyReads, Holds, Value, IsVouchedBy, OnlyReadsFile, LintSays, read_failed};
 ghost use Rattle.bplist_cursor.specs.Found.{IsHeld};
 ghost use Rattle.bplist_cursor.specs.Nodes.{cap, nodes};
-ghost use Rattle.bplint_engine.specs.Streams.{LeavesSomeBy};
+ghost use Rattle.bplint_lines.specs.Answers.{LeavesSomeBy};
 ghost use Rattle.bplint_engine.specs.Tree.{ListsAll, NodeLists, PathLists};
 
 use crate::certified_file::checked_by_lint;
@@ -26,8 +26,8 @@ use std::io::Write;
 /// everything inside it begin with the member's index in brackets. A path that leads nowhere gets the same line as with
 /// `Get`.
 ///
-/// Lines are written as they are made. Memory grows with the number of objects and the depth of the value, and holds
-/// one line.
+/// Lines are written as they are made. Memory grows with the number of objects, the depth of the value and the length
+/// of a line.
 ///
 /// These errors come before anything is written, in this order: `Path` for a wrong path text; `Fault` or `Circle` as
 /// `Lint` returns it; `TooLong` if the value has more than `limit` nodes, or 18446744073709551615 or more. Each key is

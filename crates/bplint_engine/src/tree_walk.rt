@@ -1,4 +1,5 @@
-//! The walk that lists a value and everything inside it. A stack holds the containers that are not listed to their end.
+//! The walk that lists a value and everything inside it. A stack holds the containers whose members are not all listed
+//! yet.
 ghost use Rattle.std.specs.Prelude.{ℕ, List, ◌≡◌, ◌↔◌, ◌∷◌, ◌++◌, ◌*◌, ◌+◌, ◌^◌, ◌<◌, ◌≤◌, [], IfOk, IfSome, IsTrue, OnOk, Some, MatchOption, MatchResult, codes, length, reverse};
 ghost use Rattle.bplist_ascii.specs.Sending.{Takes};
 ghost use Rattle.bplist_cursor.specs.Found.{IsHeld};

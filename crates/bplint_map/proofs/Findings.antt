@@ -1,5 +1,5 @@
--- What an object breaks by itself is unique.
-use Rattle.std.proofs.Common.{◌≡◌, ◌⊎◌, ℕ, ◌<◌, ◌≤◌, ◌-◌, List, ◌∷◌, None, inl, inr, Bool, true, false, cond, nat_le, refl, sym, ap, ◌∙◌, subst, arith}
+-- What is found of an object is one.
+use Rattle.std.proofs.Common.{◌≡◌, ◌⊎◌, ℕ, ◌<◌, ◌≤◌, ◌-◌, List, [], ◌∷◌, None, inl, inr, Bool, true, false, cond, nat_le, refl, sym, ap, ◌∙◌, subst, arith}
 use Rattle.bplist_objects.specs.declared.fault.Fault.{Fault}
 use Rattle.bplist_objects.specs.declared.frame.Frame.{Frame}
 use Rattle.bplist_objects.specs.declared.head.Head.{Head}
@@ -19,8 +19,17 @@ use Rattle.bplist_objects.specs.Announced.{HasHead}
 use Rattle.bplist_objects.specs.Frame.{IsFrame, off}
 use Rattle.bplist_objects.proofs.KeptOrBroken.{object_kept_or_fault}
 use Rattle.bplist_objects.proofs.HeadTies.{announced_shape, kept_announces}
-use Rattle.bplint_map.specs.Rows.{AreFindings, IsFinding, rows}
+use Rattle.std.specs.List.{sum_by}
+use Rattle.bplint_map.specs.Rows.{AreFindings, IsFinding, looked_at, rows, size, unlooked}
 use Rattle.bplint_map.specs.Layout.{row_end}
+
+-- enough bytes are left for all bodies
+pub all_looked : (left : ℕ) (rows : List Row) → sum_by size rows ≤ left → looked_at left rows ≡ rows
+all_looked left [] h = refl
+all_looked left (row ∷ rows) h =
+    let t : nat_le (size row) left ≡ true = grind (arith, nat_tests) in
+    ap (λ b. cond b (row ∷ looked_at (left - size row) rows) (unlooked row ∷ looked_at left rows)) t
+    ∙ ap (λ l. row ∷ l) (all_looked (left - size row) rows (omega (arith, h)))
 
 module _ (f : List ℕ) (F : Frame) (n : ℕ) where
   pub one_finding : (a b : Finding) → IsFinding f F n a → IsFinding f F n b → a ≡ b

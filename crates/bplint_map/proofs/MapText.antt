@@ -20,7 +20,7 @@ use Rattle.bplint_map.specs.declared.rows.Row.{Row}
 use Rattle.bplint_map.specs.declared.verdict.Verdict.{Verdict}
 use Rattle.bplint_lines.specs.declared.said.Said.TheVariants.{All}
 use Rattle.bplint_lines.specs.declared.said.Said.{Said}
-use Rattle.bplint_lines.specs.Answers.{BeginsAnswer, LeavesBy, gives}
+use Rattle.bplint_lines.specs.Answers.{BeginsAnswer, LeavesSomeBy, gives}
 use Rattle.bplint_map.proofs.Findings.{findings_of}
 use Rattle.bplint_map.specs.Layout.{object, region, parts, row_end}
 use Rattle.bplint_map.specs.Lines.{region_line, row_lines, part_line, part_lines}
@@ -35,7 +35,8 @@ behind_two (Err e) old one two new a b line text first second third is = tt
 behind_two (Ok x) old one two new a b line text first second third is =
     rw (is, third, second, first) (ap (λ l. l ++ line) (append_assoc old a b) ∙ append_assoc old (a ++ b) line)
 
--- the row of an object comes before the rows of the later objects, with so many bytes left to read before and after it
+-- the row of an object comes before the rows of the later objects, with these numbers of bytes left to read before and
+-- after it
 abbrev pub IsRowOf : List ℕ → Frame → ObjectOffset → ℕ → ℕ → Row → Type 0
 IsRowOf f F o left left' found = o ≡ placed f F o.number → (findings : ℕ → Finding) → AreFindings f F findings
     → (behind : List ℕ) → rows f F findings left (o.number ∷ behind) ≡ found ∷ rows f F findings left' behind
@@ -130,24 +131,20 @@ module _ (old new : Option (List ℕ)) (s : Sending) where
 -- ---- what is left with the writer
 -- what a run leaves with the writer, if after a failed read or refused memory any first part of the map may be written
 abbrev LeavesMap : List ℕ → Option (List ℕ) → Option (List ℕ) → Result Said RunFault → Type 0
-LeavesMap f old new result = (most : ℕ) × LeavesBy (MapSays f) most old new result
+LeavesMap f old new result = LeavesSomeBy (MapSays f) old new result
 
 kept_self : (old : Option (List ℕ)) → Keeps old old
 kept_self None = tt
 kept_self (Some xs) = refl
 
-nothing_added : (old : Option (List ℕ)) → Appends old old []
-nothing_added None = tt
-nothing_added (Some xs) = sym (append-nil xs)
-
 -- the file breaks one of rules 1 to 13
 pub fault_out : (f : List ℕ) (old : Option (List ℕ)) (fault : Fault) → IsFrameFault f fault → LeavesMap f old old (Err (faults.Fault fault))
-fault_out f old fault h = (0, (h, kept_self old))
+fault_out f old fault h = (h, kept_self old)
 
 -- a read failed or memory was refused before anything was put in
 pub excused_out : (f : List ℕ) (old : Option (List ℕ)) (fault : RunFault) → IsExcused fault → LeavesMap f old old (Err fault)
-excused_out f old (faults.Read _) h = (0, (([], omega arith, nothing_added old), inl (kept_self old)))
-excused_out f old faults.Memory h = (0, (([], omega arith, nothing_added old), inl (kept_self old)))
+excused_out f old (faults.Read _) h = inl (kept_self old)
+excused_out f old faults.Memory h = inl (kept_self old)
 excused_out f old _ h = absurd h
 
 module _ (f : List ℕ) (F : Frame) (frame : IsFrame f F) (verdict : Verdict) (linted : IsVerdict f verdict) (order : List ℕ) (by_place : IsByPlace f F order) where
@@ -158,14 +155,14 @@ module _ (f : List ℕ) (F : Frame) (frame : IsFrame f F) (verdict : Verdict) (l
   says : MapSays f (gives All the_map)
   says = (F, verdict, (findings_of f F frame).0, order, frame, linted, (findings_of f F frame).1, by_place, refl, refl)
 
-  -- a first part of it was written
-  begun : (old new : Option (List ℕ)) → SendsSome old new the_map → (most : ℕ) × BeginsAnswer (MapSays f) most old new
-  begun old new some = (length some.0, ((some.0, omega arith, some.2), inr (All, the_map, says, some)))
+  -- a first part of it went out
+  begun : (old new : Option (List ℕ)) → SendsSome old new the_map → BeginsAnswer (MapSays f) old new
+  begun old new some = inr (All, the_map, says, some)
 
   -- it was not put in
   pub map_cut : (old new : Option (List ℕ)) (s : Sending) (fault : RunFault) → s ≡ record { sent = 0; held = [] } → PutsSome old new s the_map fault → LeavesMap f old new (Err fault)
   map_cut old new s (faults.Write k) start part =
-      (0, (All, the_map, says, out_part old old new s [] the_map k (out_start old s (ap (λ x. x.sent) start) (ap (λ x. x.held) start)) part))
+      (All, the_map, says, out_part old old new s [] the_map k (out_start old s (ap (λ x. x.sent) start) (ap (λ x. x.held) start)) part)
   map_cut old new s (faults.Read _) start some = begun old new (subst (λ l. SendsSome old new (l ++ the_map)) (ap (λ x. x.held) start) some)
   map_cut old new s faults.Memory start some = begun old new (subst (λ l. SendsSome old new (l ++ the_map)) (ap (λ x. x.held) start) some)
   map_cut old new s _ start some = absurd some
@@ -176,8 +173,8 @@ module _ (f : List ℕ) (F : Frame) (frame : IsFrame f F) (verdict : Verdict) (l
 
     -- its end was not sent
     pub end_cut : (k : ℕ) → TakesPart mid new t [] k → LeavesMap f old new (Err (faults.Write k))
-    end_cut k part = (0, (All, the_map, says, subst (λ l. SendsPart old new 0 l k) (append-nil the_map) (out_part old mid new t ([] ++ the_map) [] k held part)))
+    end_cut k part = (All, the_map, says, subst (λ l. SendsPart old new 0 l k) (append-nil the_map) (out_part old mid new t ([] ++ the_map) [] k held part))
 
     -- all of it was sent
     pub all_out : Takes mid new t u [] → u.held ≡ [] → LeavesMap f old new (Ok All)
-    all_out flushed empty = (0, (the_map, says, subst (Appends old new) (append-nil the_map) (out_end (out_takes held flushed) empty)))
+    all_out flushed empty = (the_map, says, subst (Appends old new) (append-nil the_map) (out_end (out_takes held flushed) empty))

@@ -25,8 +25,8 @@ IsVerdict f (verdicts.Heights heights) = (lint : Lint) × IsLinted f lint × (he
 IsVerdict f (verdicts.Fault fault) = IsFileFault f fault
 IsVerdict f verdicts.Circle = (circle : List ℕ) × IsFileCircle f circle
 
--- all lines of a map: names of columns, header, objects and what is between them, offset table, trailer; bodies are
--- read up to 16 times the bytes before the offset table
+-- all lines of a map: the names of the columns, and the parts of the file: header, objects and what lies between them, offset
+-- table and trailer; all bodies are looked at, if they have at most 16 times the bytes before the offset table together
 unfoldable pub map_text : List ℕ → Frame → Verdict → (ℕ → Finding) → List ℕ → List ℕ
 map_text f F verdict findings order =
     let front = region (codes "header") 0 8 ∷ parts F.table 8 (rows f F findings (16 * F.table) order) in
@@ -34,8 +34,7 @@ map_text f F verdict findings order =
     let back = region (codes "table") F.table end ∷ region (codes "trailer") end (length f) ∷ [] in
     codes "place\tend\tobject\tkind\tcount\theight\n" ++ flat_map (part_line verdict) (front ++ back)
 
--- if the file keeps rules 1 to 13, `map` writes what the linter says and what each object breaks, in byte order;
--- otherwise it returns the first of these rules that is broken
+-- `map` writes the verdict and what each object breaks, in byte order, or returns the first fault of rules 1 to 13
 abbrev pub MapSays : List ℕ → Answer → Type 0
 MapSays f (gives said bytes) =
     (F : Frame) × (verdict : Verdict) × (findings : ℕ → Finding) × (order : List ℕ) × IsFrame f F × IsVerdict f verdict

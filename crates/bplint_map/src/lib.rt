@@ -8,7 +8,7 @@
 //! | to do this | call |
 //! |---|---|
 //! | write the map of a file that keeps rules 1 to 13 | [`map_on`] |
-//! | learn that gaps and overlaps are exactly those of the file | laws [`gaps_are_all`], [`overlaps_are_all`], [`rows_are_in_order`] |
+//! | rely on gaps and overlaps | laws [`gaps_are_all`], [`overlaps_are_all`], [`rows_are_in_order`] |
 //!
 //! The clause `exact` of `map_on` says which bytes were written. specs/Map.antt defines the map.
 //!

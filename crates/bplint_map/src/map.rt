@@ -3,7 +3,7 @@ ghost use Rattle.std.specs.Prelude.{◌≡◌, ℕ, List, ◌+◌, ◌++◌, ◌
 ghost use Rattle.bplist_octets.specs.Meaning.{OnlyReads};
 ghost use Rattle.bplist_objects.specs.Framed.{HonestlyIn, frame_in};
 ghost use Rattle.bplist_objects.specs.Safe.{IsSafe};
-ghost use Rattle.bplint_lines.specs.Answers.{LeavesBy, read_failed};
+ghost use Rattle.bplint_lines.specs.Answers.{LeavesSomeBy, read_failed};
 ghost use Rattle.bplint_map.specs.Layout.{parts};
 ghost use Rattle.bplint_map.specs.Lines.{region_line, part_lines};
 ghost use Rattle.bplint_map.specs.Map.{MapSays, Puts, map_text};
@@ -52,8 +52,8 @@ pub fn map_on<S: Source, W: Write>(
     out: &mut W,
 ) -> Result<Said, RunFault>
     ensures source { OnlyReads (read_failed result) (S.means src.old) (S.means src.new) }
-    ensures exact { IsTrue (S.means src.old).honest → (most : ℕ) × LeavesBy (MapSays (S.means src.old).octets) most
-        (W.contents out.old) (W.contents out.new) result }
+    ensures exact { IsTrue (S.means src.old).honest
+        → LeavesSomeBy (MapSays (S.means src.old).octets) (W.contents out.old) (W.contents out.new) result }
 {
     let frame = match frame_of(src) {
         Ok(frame) => frame,
@@ -147,8 +147,8 @@ fn put_rows<P: Framed, W: Write>(
     Ok(())
 }
 
-/// The total number of bytes of bodies that are read. The limit keeps files with overlapping objects from taking longer
-/// than others.
+/// The total length of the objects whose bodies are read. The limit keeps files with overlapping objects from taking
+/// longer than others.
 fn looked_at_most(frame: &Frame) -> u64
     ensures { frame.now.table < 2 ^ 32 → result ≡ 16 * frame.now.table }
 {

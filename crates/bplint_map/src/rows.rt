@@ -35,7 +35,7 @@ pub(crate) struct Row {
     pub finding: Finding,
 }
 
-/// Returns the row of an object. Reads its body only if the body has at most `left` bytes, and subtracts them from
+/// Returns the row of an object. Reads its body only if the object has at most `left` bytes, and subtracts them from
 /// `left`.
 pub(crate) fn row_of<P: Framed>(
     src: &mut P,

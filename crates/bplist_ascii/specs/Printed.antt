@@ -13,7 +13,7 @@ use Rattle.bplist_ascii.specs.declared.print_fault.PrintFault.TheVariants.{NoAsc
 abbrev pub HasText : Value → ℕ → (List ℕ → Type 0) → Type 0
 HasText v limit P = (t : List ℕ) × (value_text v ≡ Some t) × (length t ≤ limit) × (length t < 18446744073709551615) × P t
 
--- what it means that none, all or a first part of a text was sent, or this many bytes before a write failed
+-- given what it means that nothing, all, a first part or a cut of a text was sent:
 module _ (nothing : Type 0) (all some : List ℕ → Type 0) (cut : List ℕ → ℕ → Type 0) where
   module _ (f : List ℕ) (F : Frame) (n : ℕ) (v : Value) (limit : ℕ) where
     -- the result of printing the value v of object n, and what was sent

@@ -19,7 +19,7 @@ use Rattle.bplist_c.specs.Statuses.{number_of}
 abbrev pub why_status : Why → Status
 why_status why = elim why [ NoKey ↦ statuses.NoKey | NoIndex ↦ statuses.NoIndex | NotSteppable ↦ statuses.NotSteppable ]
 
--- where the path with this text leads from the top, or where the text is wrong; or that it is no UTF-8, or refused
+-- where the path with this text leads from the top, or where the text is wrong; or that it is no UTF-8; or refused
 -- memory
 abbrev pub FindSays : CheckedFile → List ℕ → Result (Result Found ℕ) Status → Type 0
 FindSays checked bytes (Ok (Ok found)) = IsUtf8 bytes × ((steps : List (List ℕ)) × IsPathOf bytes steps × ((v : Value)

@@ -73,7 +73,8 @@ fn sorted_handle(
     handle_of(alloc, checked)
 }
 
-/// Puts the session of a checked file into a closed handle. Writes the verdict, or that memory was refused, to `out`.
+/// Puts the session of a checked file into a closed handle. `out` already has the verdict on the file. If memory is
+/// refused, it becomes a verdict of zeros, and the handle stays closed.
 fn keep(
     alloc: Global,
     handle: &mut BplistHandle,

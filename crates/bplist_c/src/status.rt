@@ -117,7 +117,7 @@ pub(crate) fn tell<T: Drop>(answer: Result<T, Status>, out: &mut T) -> u32
     }
 }
 
-/// Writes all items to the front of a buffer if they fit. Writes their number to `count`.
+/// Writes all items to the front of a buffer if they fit. Writes their number to `count` in any case.
 pub(crate) fn put_all<T: Copy>(items: &[T], buffer: &mut [T], count: &mut u64) -> u32
     ensures { Puts (Ok items.now) buffer.old buffer.new count.old count.new result }
 {

@@ -34,55 +34,70 @@ check_rules keys = rules_before_keys ++ key_rules keys
 
 -- the key list of dictionary n is complete and in order
 abbrev pub HasOrder : List ℕ → Frame → Keyed → ℕ → Head → Type 0
-HasOrder f F keyed n head = IsWhole keyed n head.count × AreInOrder f F head (list_of keyed n head.count) head.count
+HasOrder f F keyed n head =
+    IsWhole keyed n head.count × AreInOrder f F head (list_of keyed n head.count) head.count
 
 -- the key list is incomplete, or number j is its first that is out of order; the place is that in the certificate
 abbrev pub BreaksOrder : List ℕ → Frame → ℕ → Keyed → ℕ → Head → ℕ → Type 0
 BreaksOrder f F count keyed n head place =
-    ((length keyed.positions < slice_index keyed.starts n + head.count) × (place ≡ 16 + 4 * count + 4 * n))
+    ((length keyed.positions < slice_index keyed.starts n + head.count)
+    × (place ≡ 16 + 4 * count + 4 * n))
     ⊎ (IsWhole keyed n head.count
     × ((j : ℕ) × FailsAt (AreInOrder f F head (list_of keyed n head.count)) head.count j
     × (place ≡ 16 + 8 * count + 4 * (slice_index keyed.starts n + j))))
 
 -- rules 21, 22, 28 and 29, which are about an object's references
 abbrev pub is_of_refs : Rule → Bool
-is_of_refs rule = elim rule [ ChildNotVouched ↦ true | HeightNotLess ↦ true | KeyKind ↦ true | KeyTwice ↦ true | _ ↦ false ]
+is_of_refs rule = elim rule [
+  | ChildNotVouched ↦ true
+  | HeightNotLess ↦ true
+  | KeyKind ↦ true
+  | KeyTwice ↦ true
+  | _ ↦ false
+]
 
 module _ (f : List ℕ) (F : Frame) (heights : List ℕ) (n : ℕ) where
   -- the first `many` references of object n are as this rule wants them; those to keys come before all others
   abbrev pub Asks : Rule → Head → ℕ → Type 0
   Asks ChildNotVouched head many = (k : ℕ) → k < many → IsVouchedBy heights (ref f F head k)
-  Asks HeightNotLess head many = (k : ℕ) → k < many → slice_index heights (ref f F head k) < slice_index heights n
+  Asks HeightNotLess head many =
+      (k : ℕ) → k < many → slice_index heights (ref f F head k) < slice_index heights n
   Asks KeyKind head many = head.kind ≡ kinds.Dict → KeysAreTexts f F head (min many head.count)
   Asks KeyTwice head many = head.kind ≡ kinds.Dict → KeysDiffer f F head (min many head.count)
   Asks rule head many = Unit {0}
 
   -- all references of object n are as this rule wants them
   abbrev pub KeepsByRefs : Rule → Type 0
-  KeepsByRefs rule = (head : Head) → HasHead f F n head → Asks rule head (ref_count head.kind head.count)
+  KeepsByRefs rule =
+      (head : Head) → HasHead f F n head → Asks rule head (ref_count head.kind head.count)
 
   -- the first reference of object n that is not as this rule wants it is at this place
   abbrev pub BreaksByRefs : Rule → ℕ → Type 0
   BreaksByRefs rule place =
-      (head : Head) × (i : ℕ) × HasHead f F n head × FailsAt (Asks rule head) (ref_count head.kind head.count) i
-      × (place ≡ head.body + i * F.ref_size)
+      (head : Head) × (i : ℕ) × HasHead f F n head
+      × FailsAt (Asks rule head) (ref_count head.kind head.count) i × (place ≡ head.body + i * F.ref_size)
 
 module _ (f : List ℕ) (F : Frame) (S : ℕ → Type 0) (certificate : Lists) where
   -- object n of S keeps this rule: 31 among S, 32 by its key list, the others by its references or by itself
   abbrev pub KeepsRule : ℕ → Rule → Type 0
   KeepsRule n Overfull = IsOverfull f F S n → ⊥
   KeepsRule n KeyOrder =
-      (head : Head) → HasHead f F n head → head.kind ≡ kinds.Dict → IfSome certificate.keys (λ keyed. HasOrder f F keyed n head)
-  KeepsRule n rule = cond (is_of_refs rule) (KeepsByRefs f F certificate.heights n rule) (KeepsByObject f F n rule)
+      (head : Head) → HasHead f F n head → head.kind ≡ kinds.Dict
+      → IfSome certificate.keys (λ keyed. HasOrder f F keyed n head)
+  KeepsRule n rule =
+      cond (is_of_refs rule) (KeepsByRefs f F certificate.heights n rule) (KeepsByObject f F n rule)
 
   -- object n of S breaks this rule at this place
   abbrev pub BreaksRule : ℕ → Rule → ℕ → Type 0
   BreaksRule n Overfull place = IsOverfull f F S n × (place ≡ off f F n)
   BreaksRule n KeyOrder place =
       (head : Head) × HasHead f F n head × (head.kind ≡ kinds.Dict)
-      × MatchOption certificate.keys ⊥ (λ keyed. BreaksOrder f F (length certificate.heights) keyed n head place)
+      × MatchOption certificate.keys ⊥
+      (λ keyed. BreaksOrder f F (length certificate.heights) keyed n head place)
   BreaksRule n rule place =
-      cond (is_of_refs rule) (BreaksByRefs f F certificate.heights n rule place) (BreaksByObject f F n rule place)
+      cond (is_of_refs rule)
+      (BreaksByRefs f F certificate.heights n rule place)
+      (BreaksByObject f F n rule place)
 
   -- the objects of S below n keep these rules
   abbrev pub KeepBelow : List Rule → ℕ → Type 0

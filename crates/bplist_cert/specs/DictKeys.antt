@@ -29,7 +29,8 @@ IsFirstKeyless f F head i = FailsAt (KeysAreTexts f F head) head.count i
 -- the first `count` keys have different units
 abbrev pub KeysDiffer : List ℕ → Frame → Head → ℕ → Type 0
 KeysDiffer f F head count =
-    (i j : ℕ) → i < j → j < count → (a b : Head) → IsText f F (ref f F head i) a → IsText f F (ref f F head j) b → units_of f a ≢ units_of f b
+    (i j : ℕ) → i < j → j < count → (a b : Head)
+    → IsText f F (ref f F head i) a → IsText f F (ref f F head j) b → units_of f a ≢ units_of f b
 
 -- key j is the first that equals an earlier key
 abbrev pub IsFirstTwice : List ℕ → Frame → Head → ℕ → Type 0
@@ -39,7 +40,9 @@ IsFirstTwice f F head j = FailsAt (KeysDiffer f F head) head.count j
 abbrev pub AreInOrder : List ℕ → Frame → Head → List ℕ → ℕ → Type 0
 AreInOrder f F head list count =
     (j : ℕ) → j < count → (slice_index list j < head.count)
-    × ((i : ℕ) (a b : Head) → suc i ≡ j → IsText f F (ref f F head (slice_index list i)) a → IsText f F (ref f F head (slice_index list j)) b
+    × ((i : ℕ) (a b : Head) → suc i ≡ j
+    → IsText f F (ref f F head (slice_index list i)) a
+    → IsText f F (ref f F head (slice_index list j)) b
     → compare_units (units_of f a) (units_of f b) ≡ Less)
 
 -- whether a key comes after the one before it, if there is one

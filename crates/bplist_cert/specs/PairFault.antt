@@ -15,7 +15,8 @@ use Rattle.bplist_cert.specs.Looks.{IsShown, KeepBeforeKeysBelow}
 
 -- the first fault of the least vouched object that has one
 abbrev pub IsVouchedFault : List ℕ → Frame → Lists → Fault → Type 0
-IsVouchedFault f F certificate fault = IsLeastFault f F (IsVouchedBy certificate.heights) certificate (check_rules certificate.keys) fault
+IsVouchedFault f F certificate fault =
+    IsLeastFault f F (IsVouchedBy certificate.heights) certificate (check_rules certificate.keys) fault
 
 -- a check of vouched object n finds no fault; with it the vouched objects take t bytes, and there is room for them
 pub record IsCheckedObject (f : List ℕ) (F : Frame) (certificate : Lists) (look : Look) (n t : ℕ) : Type 0 where
@@ -53,7 +54,8 @@ pub record KeepsPairRules (f : List ℕ) (F : Frame) (certificate : Lists) : Typ
 -- the first broken rule of 26 and 27: the number of heights is not that of objects, or the top's height is 0
 abbrev pub IsCountFault : Frame → List ℕ → Fault → Type 0
 IsCountFault F heights fault =
-    ((length heights ≢ F.objects) × (fault ≡ record { rule = rules.CertCount; object = None; place = 8 }))
+    ((length heights ≢ F.objects)
+    × (fault ≡ record { rule = rules.CertCount; object = None; place = 8 }))
     ⊎ ((length heights ≡ F.objects) × (slice_index heights F.top.0 ≡ 0)
     × (fault ≡ record { rule = rules.TopNotVouched; object = Some F.top; place = 16 + 4 * F.top.0 }))
 
@@ -63,4 +65,5 @@ IsPairFault f certificate fault =
     IsFrameFault f fault
     ⊎ ((F : Frame) × IsFrame f F
     × (IsCountFault F certificate.heights fault
-    ⊎ ((length certificate.heights ≡ F.objects) × IsVouchedBy certificate.heights F.top.0 × IsVouchedFault f F certificate fault)))
+    ⊎ ((length certificate.heights ≡ F.objects) × IsVouchedBy certificate.heights F.top.0
+    × IsVouchedFault f F certificate fault)))

@@ -27,7 +27,8 @@ module _ (f : List ℕ) (F : Frame) where
   pub record IsVouched (heights : List ℕ) (n : ℕ) : Type 0 where
     pub content : Content
     pub spells : Spells f F n content
-    pub lower : AllByRecursion (λ m. IsVouchedBy heights m × (slice_index heights m < slice_index heights n)) (refs content)
+    pub lower : AllByRecursion (λ m. IsVouchedBy heights m × (slice_index heights m < slice_index heights n))
+        (refs content)
     pub keys : HasKeys content
 
 -- the heights are valid for a file with this frame

@@ -274,13 +274,14 @@ fn check_lists<S: Source>(alloc: Global, src: &mut S, cert: &Certificate) -> Res
 
 /// Checks a certificate of unknown origin against a file.
 ///
-/// The certificate is accepted exactly if the file has a frame (rules 1 to 13), there is one height for each object
-/// (26), the top is vouched for (27), and each vouched object keeps rules 14 to 21 and 31, rule 22 (or 32 if there are
-/// key lists), and refers only to vouched objects (28) of smaller heights (29). After a yes the file holds exactly one
-/// value, every reference in an object that the top reaches is the number of an object, and the top reaches no circle.
+/// Over an honest source the certificate is accepted exactly if the file has a frame (rules 1 to 13), there is one
+/// height for each object (26), the top is vouched for (27), and each vouched object keeps rules 14 to 21 and 31, rule
+/// 22 (or 32 if there are key lists), and refers only to vouched objects (28) of smaller heights (29). After a yes the
+/// file holds exactly one value, every reference in an object that the top reaches is the number of an object, and the
+/// top reaches no circle.
 ///
-/// Otherwise the fault is the first one: the first broken rule of 1 to 13, 26 and 27, else that of the least vouched
-/// object that breaks a rule, with the first that it breaks in the order 14 to 20, 31, 28, 29, 21 and then 22 or 32.
+/// Otherwise the fault is the first one: the first broken rule of 1 to 13, 26 and 27; or else, of the lowest-numbered
+/// vouched object that breaks a rule, the first that it breaks in the order 14 to 20, 31, 28, 29, 21 and then 22 or 32.
 /// Places of rules 26, 27 and 32 count from the certificate's first byte, all others from the file's.
 ///
 /// Errors other than a fault: `Read` if a read failed; `Memory` if an allocation was refused, which never happens with

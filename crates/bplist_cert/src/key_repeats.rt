@@ -47,8 +47,8 @@ fn key_classes<P: Offsets>(
 }
 
 /// Checks the keys of vouched object `n` by their classes, if it is a dictionary. The fault is that of the first key
-/// that is not a text by marker and count, else that of the first with the units of an earlier one. Only if all vouched
-/// objects were seen do marker and count tell whether a key is a text.
+/// that is not a text, or else that of the first key with the units of an earlier one. If all vouched objects were
+/// seen, a key that is a text by marker and count is a text, so the classes alone show that the keys are good.
 fn check_dict_repeats<P: Offsets>(
     src: &mut P,
     seen: &VouchedPrefix,
@@ -122,8 +122,8 @@ fn check_named<P: Offsets>(
 /// Checks that the keys of the vouched dictionaries seen so far are texts that differ. If all vouched objects were
 /// seen, each named text is read once for its class, and again only if another has the same fingerprint.
 ///
-/// Without keys there is nothing to check, so both tables are skipped. With few keys, places are read on demand and not
-/// loaded as a table.
+/// Without keys there is nothing to check, so neither classes nor places are read. With few keys, places are read when
+/// they are needed, and not kept in a table.
 pub(crate) fn check_key_repeats<P: Offsets>(
     alloc: Global,
     src: &mut P,

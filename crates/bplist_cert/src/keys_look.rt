@@ -21,7 +21,7 @@ pub(crate) struct VouchedPrefix<'a> {
     pub ghost within: { bound ≤ length heights.now },
 }
 
-/// What the walk over the vouched objects finds out about the keys of dictionaries.
+/// What the walk over the vouched objects has found out about the keys of dictionaries so far.
 #[derive(Drop)]
 pub(crate) struct KeysLook {
     /// For version 1: the objects that are named as keys, if they are to be collected.

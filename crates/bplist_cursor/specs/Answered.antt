@@ -28,4 +28,5 @@ answer_read answer = elim answer [ Err (faults.Read _) ↦ true | _ ↦ false ]
 
 -- Q holds of the broken rule, unless a read failed or memory was refused; the fault is never `Changed`
 abbrev pub RefusesBy : (Fault → Type 0) → AnswerFault → Type 0
-RefusesBy Q fault = elim fault [ faults.Fault broken ↦ Q broken | faults.Changed ↦ ⊥ | _ ↦ Unit {0} ]
+RefusesBy Q fault =
+    elim fault [ faults.Fault broken ↦ Q broken | faults.Changed ↦ ⊥ | _ ↦ Unit {0} ]

@@ -13,7 +13,8 @@ use Rattle.bplist_cursor.specs.declared.found.Why.TheVariants.{NoKey, NoIndex, N
 abbrev pub stepped : Value → List ℕ → Result Value Why
 stepped (dict ps) s = ok_or (option_map (λ e. e.1) (find (λ e. bytes_eq e.0 s) (entries ps))) NoKey
 stepped (array vs) s =
-    ok_or (option_map (λ e. e.1) (find (λ e. bytes_eq (decimal e.0) s) (enumerate_from 0 (members vs)))) NoIndex
+    let with_index = enumerate_from 0 (members vs) in
+    ok_or (option_map (λ e. e.1) (find (λ e. bytes_eq (decimal e.0) s) with_index)) NoIndex
 stepped _ s = Err NotSteppable
 
 -- what the steps lead to, or the number of the first step that can't be taken and why; steps are numbered from k on

@@ -103,7 +103,7 @@ fn answer_at<S: Source>(
     }
 }
 
-/// Returns the reply to a query, from the top on. Takes measures made for an earlier query.
+/// Returns the reply to a query whose path begins at the top. Uses the measures of an earlier query, if there are any.
 fn answer_by<S: Source>(
     alloc: Global,
     checked: &mut Checked<S>,

@@ -62,7 +62,8 @@ fn position_of<S: Source>(checked: &Checked<S>, at: u64) -> Option<u32>
     lists.positions.get(at as usize).copied()
 }
 
-/// Returns the key index at place `at` of the certificate's positions, and how that key compares with these units.
+/// Returns the key index that is number `at` of the certificate's positions, and how that key compares with these
+/// units.
 fn compare_listed<S: Source>(
     checked: &mut Checked<S>,
     head: &Head,
@@ -123,7 +124,7 @@ fn search_keys<S: Source>(
     Ok(None)
 }
 
-/// Returns the place among the certificate's positions at which the key list of dictionary `n`, with `count` pairs,
+/// Returns the index in the certificate's positions at which the key list of dictionary `n`, with `count` pairs,
 /// begins. Returns None if the certificate has no key lists, and `Changed` if the list is incomplete.
 fn list_start<S: Source>(
     checked: &Checked<S>,

@@ -14,7 +14,8 @@ pub fn one_place()
     ensures { (text : List ℕ) (p q : ℕ) → IsNoPath text p → IsNoPath text q → p ≡ q }
 {}
 
-/// A step can be taken exactly if it takes a reference, and the object of that reference holds what the step leads to.
+/// A step of a value can be taken exactly if it takes a reference of the object that holds the value. The object of
+/// that reference holds what the step leads to.
 pub fn steps_follow_references()
     ensures taken { (f : List ℕ) (F : frame) → IsFrame f F → (n : ℕ) (v : Value) (step : List ℕ) (m : ℕ) → Holds f F n v
         → LeadTo f F n (step ∷ []) m → (w : Value) × (stepped v step ≡ Ok w) × Holds f F m w }
@@ -32,8 +33,8 @@ pub(crate) fn references_decide_steps()
         → IsTaken f F c step m → Contains (refs c) m × (m < F.objects) }
 {}
 
-/// Let a table give each vouched object one more than the sum of its references' entries, and let these objects refer
-/// to vouched ones only. Then the table holds the number of nodes of each value's tree.
+/// Let vouched objects refer to vouched ones only, and let a table give each of them one more than the sum of its
+/// references' entries. Then the table holds the number of nodes of each value's tree.
 pub(crate) fn measured_is_nodes()
     ensures { (f : List ℕ) (F : frame) (H M : List ℕ) → ((n : ℕ) → 1 ≤ slice_index H n → Measured f F M n)
         → ((n m : ℕ) → 1 ≤ slice_index H n → Refs f F n m → 1 ≤ slice_index H m)
@@ -52,8 +53,8 @@ pub fn one_formless()
     ensures one { (f : List ℕ) (F : frame) (n : ℕ) (v : Value) (x y : ℕ) → IsFormless f F n v x → IsFormless f F n v y → x ≡ y }
 {}
 
-/// Let a table give each vouched object the form that its references' forms make, and let these objects refer to
-/// vouched ones only. Then the table holds the form of each value.
+/// Let vouched objects refer to vouched ones only, and let a table give each of them the form that its references'
+/// forms make. Then the table holds the form of each value.
 pub(crate) fn formed_is_form()
     ensures { (f : List ℕ) (F : frame) (H : List ℕ) (T : List Form) → ((n : ℕ) → 1 ≤ slice_index H n → Formed f F T n)
         → ((n m : ℕ) → 1 ≤ slice_index H n → Refs f F n m → 1 ≤ slice_index H m)

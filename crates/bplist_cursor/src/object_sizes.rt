@@ -158,7 +158,8 @@ fn vouched<S: Source>(alloc: Global, checked: &Checked<S>) -> Result<Vec<u32>, C
     Ok(order)
 }
 
-/// Returns the same numbers in the order of their heights, so that each object comes after those that it refers to.
+/// Returns the numbers of the vouched objects in the order of their heights, so that each object comes after those that
+/// it refers to.
 fn in_order<S: Source>(alloc: Global, checked: &Checked<S>) -> Result<Vec<u32>, CursorFault>
     ensures order { IfOk result (λ order. IsOrder checked.now.certificate.heights order.items) }
     ensures inside { IfOk result (λ order. AreInside order.items checked.now.frame.objects) }

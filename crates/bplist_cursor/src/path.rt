@@ -28,7 +28,7 @@ impl Model for Path {
 pub enum PathFault {
     /// The text does not spell a path.
     Text {
-        /// The offset in bytes, from the start of the text, at which the text is wrong.
+        /// The place of the wrong byte, from the start of the text.
         place: usize,
     },
     /// An allocation was refused.

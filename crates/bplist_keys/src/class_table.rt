@@ -116,7 +116,8 @@ impl ClassTable {
         None
     }
 
-    /// Returns the first defect of the keys of dictionary `n` with this head, or None. An error is a failed read.
+    /// Returns the first defect of the keys of dictionary `n` with this head, or None. Call it only once for each
+    /// dictionary: a second call would take its keys for repeated ones. An error is a failed read.
     pub fn first_wrong<P: Framed>(
         &mut self,
         src: &mut P,

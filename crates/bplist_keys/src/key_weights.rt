@@ -12,8 +12,8 @@ use bplist_objects::Framed;
 #[derive(Drop)]
 pub(crate) struct Weighing {
     pub by: Weight,
-    /// A number for each object: 0 if it is not named, otherwise nonzero. Once the object has been weighed, it is the
-    /// weight, or 0 if the object is not a text.
+    /// A number for each object: 0 if it is not named, and not 0 if it is. Once a named object has been weighed, its
+    /// number is its weight, which is 0 if the object is not a text.
     pub weights: Vec<u32>,
     /// The objects that have been weighed and are texts.
     pub texts: Vec<u32>,

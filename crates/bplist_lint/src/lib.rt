@@ -1,5 +1,5 @@
-//! The linter: whether a file holds a value, the certificate with the least heights for it, or else the first fault.
-//! Checking a certificate is in `bplist_cert`; reading objects one at a time is in `bplist_objects`.
+//! The linter: decides whether a file holds a value, and returns the certificate of its least heights, or else the
+//! first fault. Checking a certificate is in `bplist_cert`; reading objects one at a time is in `bplist_objects`.
 //!
 //! ```
 //! let mut source = SliceSource::new(file);

@@ -84,7 +84,7 @@ fn find_reached<P: Offsets>(alloc: Global, src: &mut P) -> Result<(Reached, Name
 }
 
 /// Checks the reached objects by rules 14 to 20 and 31. If at most a third of all objects are named as keys, checks the
-/// keys too; else returns the named objects, for a check that needs the memory of the table.
+/// keys too. If more are, returns the named objects: the caller frees the table before it checks the keys.
 fn check_rules_by_table<P: Offsets>(
     alloc: Global,
     src: &mut P,
@@ -218,8 +218,8 @@ pub fn lint_with_kind<S: Source>(alloc: Global, src: &mut S) -> Result<(Lint, Ki
     Ok((lint, kind))
 }
 
-/// Decides whether a file holds a value. Returns the least certificate for it, or else the first fault of the file, and
-/// then no heights are valid for it.
+/// Decides whether a file holds a value. Returns the certificate of the least heights, or else the first fault of the
+/// file. After a fault or a circle no heights are valid for the file.
 ///
 /// The place of a fault counts from the file's first byte. Errors other than a fault: `Read` if a read of the source
 /// failed; `Memory` if an allocation was refused. After an error the source is as before, except for its count of

@@ -14,8 +14,8 @@ use bplist_octets::ReadFault;
 pub enum LintRefusal {
     /// The first fault of the file, if it is a broken rule other than 23 Circle.
     Fault(Fault),
-    /// The first fault of the file, if it is a circle of references. The objects of the circle, starting with the one
-    /// that the walk from the top met twice, each once.
+    /// The first fault of the file, if it is a circle of references: the objects of the circle, each once, beginning
+    /// with the one that the walk from the top met twice.
     Circle(ObjectNos),
     /// A read of the source failed.
     Read(ReadFault),

@@ -11,7 +11,13 @@ use Rattle.bplist_objects.specs.Frame.{off}
 -- the number of body bytes for each item of the count
 abbrev pub item_size : ℕ → Kind → ℕ
 item_size ref_size kind =
-    elim kind [ kinds.Wide ↦ 2 | kinds.Array ↦ ref_size | kinds.Set ↦ ref_size | kinds.Dict ↦ 2 * ref_size | _ ↦ 1 ]
+    elim kind [
+      | kinds.Wide ↦ 2
+      | kinds.Array ↦ ref_size
+      | kinds.Set ↦ ref_size
+      | kinds.Dict ↦ 2 * ref_size
+      | _ ↦ 1
+    ]
 
 -- a short count is below 15, and is the low half of the marker
 abbrev pub IsShortCount : ℕ → ℕ → List ℕ → Type 0
@@ -20,7 +26,8 @@ IsShortCount high count front = (count < 15) × (front ≡ (16 * high + count) �
 -- a long count follows a marker with low half 15, as an integer object of 1, 2, 4, 8 or 16 bytes
 abbrev pub IsLongCount : ℕ → ℕ → List ℕ → Type 0
 IsLongCount high count front =
-    (w : ℕ) × (l : List ℕ) × (w ≤ 4) × (length l ≡ 2 ^ w) × (num l ≡ count) × (front ≡ (16 * high + 15) ∷ (16 + w) ∷ l)
+    (w : ℕ) × (l : List ℕ) × (w ≤ 4) × (length l ≡ 2 ^ w) × (num l ≡ count)
+    × (front ≡ (16 * high + 15) ∷ (16 + w) ∷ l)
 
 -- the front is a marker with this high half and this count, short or long
 abbrev pub IsCount : ℕ → ℕ → List ℕ → Type 0

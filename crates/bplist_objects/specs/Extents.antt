@@ -31,9 +31,11 @@ module _ (f : List ℕ) (F : Frame) where
 
   -- any distinct objects of S fit between the header and the table
   abbrev pub HaveRoom : (ℕ → Type 0) → Type 0
-  HaveRoom S = (ns : List ℕ) (r : ℕ) → AreDistinct ns → AllByRecursion S ns → TakeOctets ns r → r + 8 ≤ F.table
+  HaveRoom S =
+      (ns : List ℕ) (r : ℕ) → AreDistinct ns → AllByRecursion S ns → TakeOctets ns r → r + 8 ≤ F.table
 
   -- rule 31 is broken: the objects of S up to and including object n take too many bytes
   abbrev pub IsOverfull : (ℕ → Type 0) → ℕ → Type 0
   IsOverfull S n =
-      (ns : List ℕ) × (r : ℕ) × AreDistinct ns × AllByRecursion (λ m. S m × (m ≤ n)) ns × TakeOctets ns r × (F.table < r + 8)
+      (ns : List ℕ) × (r : ℕ) × AreDistinct ns × AllByRecursion (λ m. S m × (m ≤ n)) ns
+      × TakeOctets ns r × (F.table < r + 8)

@@ -27,7 +27,8 @@ off f F n = num_at f (F.table + n * F.offset_size) F.offset_size
 
 -- the rules of the trailer's numbers, in order
 abbrev pub number_rules : List Rule
-number_rules = NoObjects ∷ Top ∷ TableEarly ∷ TableLate ∷ OffsetSize ∷ RefSize ∷ Length ∷ RefNarrow ∷ OffsetNarrow ∷ []
+number_rules =
+    NoObjects ∷ Top ∷ TableEarly ∷ TableLate ∷ OffsetSize ∷ RefSize ∷ Length ∷ RefNarrow ∷ OffsetNarrow ∷ []
 
 -- rules 1 to 12 in order
 abbrev pub trailer_rules : List Rule

@@ -17,12 +17,15 @@ from_end = 0 ∷ 0 ∷ 0 ∷ 24 ∷ 16 ∷ 8 ∷ 8 ∷ 26 ∷ 25 ∷ 32 ∷ 25 �
 
 -- the file breaks this one of rules 1 to 13 with this object and place; rule 13 with its first such entry
 abbrev pub Breaks : List ℕ → Rule → Option ObjectNo → ℕ → Type 0
-Breaks f Magic object place = FailsAt (λ n. (i : ℕ) → i < n → slice_index f i ≡ slice_index header i) 8 place × (object ≡ None)
+Breaks f Magic object place =
+    FailsAt (λ n. (i : ℕ) → i < n → slice_index f i ≡ slice_index header i) 8 place × (object ≡ None)
 Breaks f OffsetHigh object place =
-    (n : ℕ) × IsFirstNotBelow f (trailer f).table (trailer f).offset_size (trailer f).objects (trailer f).table n
-    × (object ≡ Some (record { 0 = n })) × (place ≡ (trailer f).table + n * (trailer f).offset_size)
+    let F = trailer f in
+    (n : ℕ) × IsFirstNotBelow f F.table F.offset_size F.objects F.table n
+    × (object ≡ Some (record { 0 = n })) × (place ≡ F.table + n * F.offset_size)
 Breaks f rule object place =
-    (Keeps f rule → ⊥) × (object ≡ None) × (place + slice_index from_end (tag_of the_type rule) ≡ length f)
+    (Keeps f rule → ⊥) × (object ≡ None)
+    × (place + slice_index from_end (tag_of the_type rule) ≡ length f)
 
 -- the fault is of the first broken one of rules 1 to 13
 abbrev pub IsFrameFault : List ℕ → Fault → Type 0

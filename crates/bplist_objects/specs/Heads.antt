@@ -42,7 +42,8 @@ module _ (f : List ℕ) (F : Frame) where
   content_of kinds.Uid count body = leaf (uid (num_at f body count))
   content_of kinds.Array count body = array (nums_at f body F.ref_size count)
   content_of kinds.Set count body = set (nums_at f body F.ref_size count)
-  content_of kinds.Dict count body = dict (nums_at f body F.ref_size count) (nums_at f (body + count * F.ref_size) F.ref_size count)
+  content_of kinds.Dict count body =
+      dict (nums_at f body F.ref_size count) (nums_at f (body + count * F.ref_size) F.ref_size count)
 
   -- what the body of this head means
   abbrev pub content_at : Head → Content

@@ -17,7 +17,8 @@ module _ (f : List ℕ) (F : Frame) where
     Holds n (leaf l) = Spells f F n (Content.leaf l)
     Holds n (array vs) = (ms : List ℕ) × Spells f F n (Content.array ms) × HoldEach ms vs
     Holds n (set vs) = (ms : List ℕ) × Spells f F n (Content.set ms) × HoldEach ms vs
-    Holds n (dict ps) = (ks ms : List ℕ) × Spells f F n (Content.dict ks ms) × HoldPairs ks ms ps × AreDistinct (keys ps)
+    Holds n (dict ps) =
+        (ks ms : List ℕ) × Spells f F n (Content.dict ks ms) × HoldPairs ks ms ps × AreDistinct (keys ps)
 
     -- each object holds the value at its index
     pub HoldEach : List ℕ → Values → Type 0
@@ -28,5 +29,6 @@ module _ (f : List ℕ) (F : Frame) where
     -- the first objects spell the keys, and the second ones hold the values
     pub HoldPairs : List ℕ → List ℕ → Pairs → Type 0
     HoldPairs [] [] no_pairs = ⊤
-    HoldPairs (k ∷ ks) (m ∷ ms) (pair u v ps) = Spells f F k (Content.leaf (text u)) × Holds m v × HoldPairs ks ms ps
+    HoldPairs (k ∷ ks) (m ∷ ms) (pair u v ps) =
+        Spells f F k (Content.leaf (text u)) × Holds m v × HoldPairs ks ms ps
     HoldPairs _ _ _ = ⊥

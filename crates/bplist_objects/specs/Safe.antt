@@ -22,7 +22,8 @@ pub record IsSafeFrame (len : ℕ) (frame : Frame) : Type 0 where
 
 -- the number of references of an object with this kind and count
 abbrev pub ref_count : Kind → ℕ → ℕ
-ref_count kind count = elim kind [ kinds.Array ↦ count | kinds.Set ↦ count | kinds.Dict ↦ 2 * count | _ ↦ 0 ]
+ref_count kind count =
+    elim kind [ kinds.Array ↦ count | kinds.Set ↦ count | kinds.Dict ↦ 2 * count | _ ↦ 0 ]
 
 -- the parts of an object with this head are before the table
 pub record IsSafeHead (frame : Frame) (head : Head) : Type 0 where

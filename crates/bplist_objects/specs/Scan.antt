@@ -23,7 +23,8 @@ AreBelow f place size count bound = (k : ℕ) → k < count → nth_number f pla
 
 -- number i is the first that is not below the bound
 abbrev pub IsFirstNotBelow : List ℕ → ℕ → ℕ → ℕ → ℕ → ℕ → Type 0
-IsFirstNotBelow f place size count bound i = FailsAt (λ many. AreBelow f place size many bound) count i
+IsFirstNotBelow f place size count bound i =
+    FailsAt (λ many. AreBelow f place size many bound) count i
 
 -- reference i of an object with this head
 abbrev pub ref : List ℕ → Frame → Head → ℕ → ℕ

@@ -16,7 +16,8 @@ IsTextKind kind = elim kind [ kinds.Ascii ↦ Unit {0} | kinds.Wide ↦ Unit {0}
 
 -- consecutive units of a text of this kind; in Ascii each byte is a unit
 abbrev pub units_at : List ℕ → Kind → ℕ → ℕ → List ℕ
-units_at f kind count at = elim kind [ kinds.Ascii ↦ part f at count | kinds.Wide ↦ nums_at f at 2 count | _ ↦ [] ]
+units_at f kind count at =
+    elim kind [ kinds.Ascii ↦ part f at count | kinds.Wide ↦ nums_at f at 2 count | _ ↦ [] ]
 
 -- the units of the text with this head
 abbrev pub units_of : List ℕ → Head → List ℕ

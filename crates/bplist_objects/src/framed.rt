@@ -26,7 +26,7 @@ pub struct Plist<'a, S: Source> {
 }
 
 impl<'a, S: Source> Plist<'a, S> {
-    /// Returns a source with this frame, which must be the one that `frame_of` returns for it.
+    /// Returns a source with this frame, which must be one that `frame_of` returned for it.
     pub fn new(source: &'a mut S, frame: Frame) -> Plist<'a, S>
         requires safe { IsSafeFrame (length (S.means source.old).octets) frame }
         requires framed { IsTrue (S.means source.old).honest → IsFrame (S.means source.old).octets frame }

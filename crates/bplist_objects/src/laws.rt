@@ -93,8 +93,8 @@ pub fn references_by_index()
         → slice_index (refs (content_at f F h)) i ≡ nth_number f h.body F.ref_size i }
 {}
 
-/// The bounds that frames and heads of a file meet, and so hold over any source: a reference ends before the table. A
-/// source of fewer than 2^64 bytes has fewer references than that, and its bodies have fewer items.
+/// Frames and heads of a file are safe (`IsSafeFrame`, `IsSafeHead`). A safe head's references end before the table. In
+/// a source of fewer than 2^64 bytes, it also has fewer than 2^64 references, and a count below 2^64.
 pub fn references_fit()
     ensures frames { (f : List ℕ) (F : frame) → IsFrame f F → IsSafeFrame (length f) F }
     ensures heads { (f : List ℕ) (F : frame) (n : ℕ) (h : head) → HasShape f F n h → IsSafeHead F h }

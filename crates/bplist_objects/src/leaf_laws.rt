@@ -24,8 +24,8 @@ pub fn leaves_by_parts()
     ensures units { (f : List ℕ) (F : frame) (h : head) → IsTextKind h.kind → content_at f F h ≡ leaf (text (units_of f h)) }
 {}
 
-/// The order of units is total: only equal units compare as equal, swapping the two reverses the result, and if one is
-/// less than a second and that less than a third, the first is less than the third.
+/// The order of units is total: only equal units compare as equal, swapping two lists reverses the result, and if one
+/// list is less than a second and the second less than a third, the first is less than the third.
 pub fn units_are_ordered()
     ensures equal { (us vs : List ℕ) → (compare_units us vs ≡ Equal) ↔ (us ≡ vs) }
     ensures reverse { (us vs : List ℕ) → compare_units vs us ≡ ordering_reverse (compare_units us vs) }

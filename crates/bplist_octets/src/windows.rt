@@ -57,8 +57,8 @@ struct Span {
 }
 
 /// Chooses what a pane reads to have the `count` bytes from place `at` on. After a jump it reads the block of 1,024
-/// bytes with that place, and more if the request is longer. Right after or before the bytes of a pane it reads four
-/// times as many as that pane has, because sequential reading will ask for them.
+/// bytes with that place, and more if the request ends after the block. Near the end of a pane, or just before a pane,
+/// it reads four times as many bytes as that pane has, because sequential reading will ask for them.
 fn span_of(panes: &[Pane], at: u64, count: usize) -> Span
     requires { count ≤ 8192 }
     ensures start { result.start ≤ at }
@@ -170,9 +170,10 @@ fn empty_all(panes: &mut [Pane])
 /// that source.
 ///
 /// If one pane has all bytes of a request, nothing is read. Otherwise the pane that was used longest ago moves there.
-/// After a jump it reads 1,024 bytes or the length of the request, whichever is greater. If the request goes on from
-/// the bytes of a pane, forward or backward, it reads four times as many bytes as that pane has, at most 16,384. A
-/// request of more than 8,192 bytes goes straight to the source. After a failed read the pane is empty.
+/// After a jump it reads the block of 1,024 bytes with that place, and more if the request ends after the block. If the
+/// request goes on from the bytes of a pane, forward or backward, it reads four times as many bytes as that pane has,
+/// at most 16,384. A request of more than 8,192 bytes goes straight to the source. After a failed read the pane is
+/// empty.
 #[derive(Drop)]
 pub struct Windows<'a, S: Source> {
     /// The source that the panes read.
@@ -182,8 +183,8 @@ pub struct Windows<'a, S: Source> {
     panes: &'a mut [Pane],
     /// The index of the pane used last.
     last: usize,
-    /// For each block of 8,192 bytes, by its number modulo 16: the pane used last for it. A reader that alternates
-    /// between a few places so finds each place's pane at the first try.
+    /// For each block of 8,192 bytes, by its number modulo 16: the pane used last for it. With it, a reader that
+    /// alternates between a few places finds the pane of each place at the first try.
     likely: [usize; LIKELY],
     /// The number of turns: how often a pane was chosen.
     turn: u64,

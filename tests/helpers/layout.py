@@ -1,4 +1,4 @@
-"""The objects of a binary property list by plain reading, where the file may break rules 14 to 20.
+"""How the objects of a file lie in it, read plainly, even if the file breaks rules 14 to 20.
 
 plist_value.py reads the values of sound files.
 """
@@ -7,7 +7,7 @@ FIXED = {0x00: ("null", 0), 0x08: ("false", 0), 0x09: ("true", 0), 0x33: ("date"
 COUNTED = {4: ("data", 1), 5: ("text", 1), 6: ("text", 2), 10: ("array", "r"), 12: ("set", "r"), 13: ("dict", "rr")}
 
 
-class Plist:
+class Layout:
     """The numbers of a file's trailer, and its objects."""
 
     def __init__(self, octets):
