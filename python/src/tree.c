@@ -173,6 +173,18 @@ static int fill(Tree *tree, const Empty *container)
     return 0;
 }
 
+/* Reverses the order of the containers above a height of the stack. The one that comes first in the file is then filled
+   first, which is faster, because memory is read and written forwards. */
+static void tree_turn(Tree *tree, size_t height)
+{
+    for (size_t above = tree->height; height + 1 < above; height++) {
+        Empty first = tree->empty[height];
+
+        tree->empty[height] = tree->empty[--above];
+        tree->empty[above] = first;
+    }
+}
+
 /* Frees what the tree holds, except the references that its values hold themselves. */
 static void tree_free(Tree *tree)
 {
@@ -191,9 +203,11 @@ static PyObject *tree_build(Tree *tree)
         return NULL;
     while (tree->height > 0) {
         Empty container = tree->empty[--tree->height];
+        size_t height = tree->height;
 
         if (fill(tree, &container) < 0)
             return NULL;
+        tree_turn(tree, height);
     }
     top = tree->made[tree->object];
     Py_INCREF(top);

@@ -46,7 +46,8 @@ IsFace checked n body = (answer : Result BplistBody Status) × (body ≡ body_or
 
 -- the bodies of these objects, one by one
 abbrev pub AreFaces : CheckedFile → List ℕ → List BplistBody → Type 0
-AreFaces checked objects bodies = (k : ℕ) (d : BplistBody) → k < length bodies → IsFace checked (slice_index objects k) (slice_index_or bodies k d)
+AreFaces checked objects bodies = (k : ℕ) (d : BplistBody) → k < length bodies
+    → IsFace checked (slice_index objects k) (slice_index_or bodies k d)
 
 -- the bodies of these objects, as many as fit
 abbrev pub FacesSay : List ℕ → ℕ → CheckedFile → Result (List BplistBody) Status → Type 0
