@@ -1,14 +1,17 @@
 #!/usr/bin/env python3
-"""growth.py CALLS
+"""growth.py CALLS PROGRAM
 
-Shows, without a clock, that no call reads a file again and again. CALLS is bplist_calls. It counts the bytes that `lint` asks
-its source for, and, if the file holds a value, those of `check` with a certificate of version 1, of `upgrade`, and of `check`
-with a certificate of version 2.
+Shows, without a clock, that no call reads a file again and again.
 
-For each hostile family, at 64 and at 256 kB, a call may ask for at most `EACH` bytes for each byte of the file and `BESIDE`
-bytes more. At 256 kB it may ask for at most `TIMES` times as many as at 64 kB, or as the file of 64 kB has bytes. If the file
-is more than four times as long, because its numbers have more bytes, the limit grows with it. The same limit holds for the
-files of both tables of runs.
+CALLS is bplist_calls. It counts the bytes that `lint` asks its source for, and, if the file holds a value, those of `check`
+with a certificate of version 1, of `upgrade`, and of `check` with a certificate of version 2. PROGRAM is bplint. It reads
+FILE through its windows, and the system counts the bytes that `lint`, `certify --sorted`, `check` and `get` read. `check`
+also reads pairs that it refuses.
+
+A call may ask for at most `EACH` bytes for each byte of the file and `BESIDE` bytes more. For a few hostile families `EACH_OF`
+allows more. At 256 kB a call may ask for at most `TIMES` times as many as at 64 kB, or as `FREE` for each byte of the smaller
+file. If the file is more than four times as long, because its numbers have more bytes, that limit grows with it. A command may
+read at most `EACH` bytes for each byte of a file of 1 MB. The limits of `EACH` also hold for the files of both tables of runs.
 
 One call on one family, or on all files of the tables, counts as one test. The calls of `KNOWN` grow faster today: they are
 named and not counted. The last line is `N passed, M failed`.
@@ -16,29 +19,59 @@ named and not counted. The last line is `N passed, M failed`.
 import concurrent.futures
 import os
 import pathlib
+import resource
 import subprocess
 import sys
+import tempfile
 
 sys.path.insert(0, str(pathlib.Path(__file__).resolve().parents[1]))
 
 from helpers.contents import Hole, content  # noqa: E402
-from helpers.families import FAMILIES  # noqa: E402
+from helpers.families import FAMILIES, REFUSED_PAIRS  # noqa: E402
+from helpers.layout import path_in  # noqa: E402
+from helpers.spelled import write  # noqa: E402
 from helpers.tables import all_runs  # noqa: E402
 
-EACH = 64
-BESIDE = 1 << 20
+# By call: what CALLS counts, in this order, and then what PROGRAM reads. A window reads at least 1,024 bytes, so a command
+# reads more than its call asks for.
+EACH = {
+    "lint": 10,
+    "check-1": 4,
+    "upgrade": 4,
+    "check-2": 12,
+    "lint FILE": 8,
+    "certify --sorted FILE": 12,
+    "check FILE, version 1": 8,
+    "check FILE, version 2": 8,
+    "get FILE": 8,
+}
+CALLS = [call for call in EACH if "FILE" not in call]
+
+# By family: what it needs more of. A key list that is not in the order of the file costs three reads for each key. Keys that
+# lie in one another are compared with each other.
+EACH_OF = {
+    "keys_of_one_fingerprint": {"check FILE, version 2": 140, "get FILE": 140},
+    "keys_of_our_fingerprint": {"check-1": 24, "upgrade": 24, "check FILE, version 2": 140, "get FILE": 140},
+    "keys_over_keys_vouched": {"check FILE, version 1": 40, "check FILE, version 2": 40},
+}
+
+BESIDE = 4096
 TIMES = 4.6
-SMALL, LARGE = 1 << 16, 1 << 18
+SIZES = 1 << 16, 1 << 18
+READ_SIZE = 1 << 20  # the windows hold a file of 128 kB whole
+FREE = 4
 SECONDS = 120
-CALLS = ["lint", "check-1", "upgrade", "check-2"]
 
 # By family. What stands here and grows no faster is said, so that it can be taken out.
 KNOWN = {
-    "pairs_of_keys": ["check-2"],
+    "pairs_of_keys": ["check-2", "check FILE, version 2", "get FILE"],
+    "pairs_in_one_slot": ["check-2", "check FILE, version 2", "get FILE"],
+    "keys_of_our_fingerprint": ["lint", "lint FILE", "certify --sorted FILE", "check FILE, version 1"],
+    "keys_over_regions": ["check FILE, version 1", "check FILE, version 2"],
 }
 
 
-def counted(program, file):
+def asked(program, file):
     """Bytes by call, and None where the program was stopped before it answered."""
     try:
         ran = subprocess.run([program, "counts"], input=file, capture_output=True, timeout=SECONDS, check=False)
@@ -53,39 +86,75 @@ def counted(program, file):
     return counts
 
 
-def limit(file):
-    return EACH * len(file) + BESIDE
+def read_by(*words):
+    """The bytes that a command reads from files, and its status; None and its status where it was stopped."""
+    child = subprocess.Popen(words, stdout=subprocess.DEVNULL, stderr=subprocess.DEVNULL)
+    resource.prlimit(child.pid, resource.RLIMIT_CPU, (SECONDS, SECONDS))
+    os.waitid(os.P_PID, child.pid, os.WEXITED | os.WNOWAIT)
+    counters = dict(line.split(": ") for line in pathlib.Path(f"/proc/{child.pid}/io").read_text(encoding="ascii").splitlines())
+    status = child.wait()
+    return int(counters["rchar"]) if status in (0, 1) else None, status
 
 
-def wrong_of_family(program, family):
-    """What is wrong with each call on a family, or None."""
-    files = [family(size) for size in (SMALL, LARGE)]
-    small, large = (counted(program, file) for file in files)
+def read(program, made):
+    """Bytes by command: of a family's file, with its own certificates if it holds a value, or of a refused pair."""
+    with tempfile.TemporaryDirectory(prefix="bplint") as folder:
+        file, path = os.path.join(folder, "file"), None
+        write(made, file)
+        counts = {}
+        counts["lint FILE"], status = read_by(program, "lint", file)
+        if status == 0:
+            path = path_in(made)
+            read_by(program, "certify", file, file + ".1")
+            counts["certify --sorted FILE"], _ = read_by(program, "certify", "--sorted", file, file + ".2")
+        for version in (1, 2):
+            if os.path.exists(f"{file}.{version}"):
+                counts[f"check FILE, version {version}"], _ = read_by(program, "check", file, f"{file}.{version}")
+        if path is not None:
+            counts["get FILE"], _ = read_by(program, "get", file, file + ".2", path)
+        return counts
+
+
+def excess(name, call, file, count):
+    """What is wrong with a count of a call on a file, or None."""
+    if count is None:
+        return f"no answer in {SECONDS} seconds"
+    each = EACH_OF.get(name, EACH).get(call, EACH[call])
+    return None if count <= each * len(file) + BESIDE else f"{count:,} bytes of {len(file):,}, above {each} a byte"
+
+
+def growth(files, was, now):
+    """What is wrong with how the counts of a call grow, or None."""
     times = TIMES * max(1, len(files[1]) / len(files[0]) / 4)
-    wrong = {}
-    for call in small:
-        was, now = small[call], large.get(call)
-        if was is None or now is None:
-            wrong[call] = f"no answer in {SECONDS} seconds"
-            break  # the calls after it were not come to
-        elif was > limit(files[0]) or now > limit(files[1]):
-            wrong[call] = f"{was:,} bytes of {len(files[0]):,} and {now:,} of {len(files[1]):,}"
-        elif now > times * max(was, len(files[0])):
-            wrong[call] = f"{was:,} bytes of {len(files[0]):,}, and {now:,} of {len(files[1]):,}"
-        else:
-            wrong[call] = None
+    if was is None or now is None or now <= times * max(was, FREE * len(files[0])):
+        return None
+    return f"{was:,} bytes of {len(files[0]):,}, and {now:,} of {len(files[1]):,}"
+
+
+def wrong_of_family(calls, program, family):
+    """What is wrong with each call on a family, or None."""
+    name, wrong = family.__name__, {}
+    if family in FAMILIES:
+        files = [family(size) for size in SIZES]
+        small, large = (asked(calls, file) for file in files)
+        for call, was in small.items():
+            now = large.get(call)
+            wrong[call] = excess(name, call, files[0], was) or excess(name, call, files[1], now) or growth(files, was, now)
+    made = family(READ_SIZE)
+    for call, count in read(program, made).items():
+        wrong[call] = excess(name, call, getattr(made, "file", made), count)
     return wrong
 
 
-def wrong_of_table(program, pool):
-    """What is wrong with each call on the files of the table, or None."""
+def wrong_of_tables(calls, pool):
+    """What is wrong with each call on the files of the tables, or None."""
     columns = sorted({vector.file for vector in all_runs() if "=" not in vector.file})
     files = [file for file in map(content, columns) if file is not None and not isinstance(file, Hole)]
     wrong = dict.fromkeys(CALLS)
-    for file, counts in zip(files, pool.map(lambda file: counted(program, file), files)):
-        for call, asked in counts.items():
-            if asked is None or asked > limit(file):
-                wrong[call] = f"{asked} bytes of {len(file)}: {file[:40].hex()}"
+    for file, counts in zip(files, pool.map(lambda file: asked(calls, file), files)):
+        for call, count in counts.items():
+            if why := excess(None, call, file, count):
+                wrong[call] = f"{why}: {file[:40].hex()}"
     return wrong
 
 
@@ -107,12 +176,13 @@ def report(name, wrong):
 
 
 def main():
-    if len(sys.argv) != 2:
+    if len(sys.argv) != 3:
         sys.exit(__doc__)
-    program = os.path.abspath(sys.argv[1])
+    calls, program = map(os.path.abspath, sys.argv[1:])
+    families = [*FAMILIES, *REFUSED_PAIRS]
     with concurrent.futures.ThreadPoolExecutor(os.cpu_count()) as pool:
-        names = [family.__name__ for family in FAMILIES] + [TABLE.name]
-        wrongs = [*pool.map(lambda family: wrong_of_family(program, family), FAMILIES), wrong_of_table(program, pool)]
+        wrongs = [*pool.map(lambda family: wrong_of_family(calls, program, family), families), wrong_of_tables(calls, pool)]
+    names = [family.__name__ for family in families] + ["the tables of runs"]
     reports = [report(name, wrong) for name, wrong in zip(names, wrongs)]
     passed, failed = (sum(column) for column in zip(*reports))
     print(f"{passed} passed, {failed} failed")

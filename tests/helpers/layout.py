@@ -6,6 +6,8 @@ plist_value.py reads the values of sound files.
 FIXED = {0x00: ("null", 0), 0x08: ("false", 0), 0x09: ("true", 0), 0x33: ("date", 8)}
 COUNTED = {4: ("data", 1), 5: ("text", 1), 6: ("text", 2), 10: ("array", "r"), 12: ("set", "r"), 13: ("dict", "rr")}
 
+LONGEST_PATH = 100_000  # a word of a command has at most 131,071 bytes
+
 
 class Layout:
     """The numbers of a file's trailer, and its objects."""
@@ -75,3 +77,31 @@ class Layout:
             stack.pop()
             heights.setdefault(n, 1 + max((heights[m] for m in below), default=0))
         return heights
+
+    def text(self, n):
+        """The text of a key."""
+        place = self.places[n]
+        _, _, begin, end = self.head(place)
+        return self.octets[begin:end].decode("utf-16-be" if self.octets[place] >> 4 == 6 else "ascii", "replace")
+
+    def last_step(self, n):
+        """The last member of a container that a path can name, and the step of the path to it, or None."""
+        head = self.head(self.places[n])
+        references = self.references(head)
+        kind, count, _, _ = head
+        if kind == "array" and count > 0:
+            return references[-1], f"/{count - 1}"
+        for key, value in zip(references[:count][::-1], references[count:][::-1]):
+            text = self.text(key) if kind == "dict" else "\0"
+            if len(text) <= LONGEST_PATH and not set("\0\ufffd") & set(text):
+                return value, "/" + text.replace("~", "~0").replace("/", "~1")
+        return None
+
+
+def path_in(octets):
+    """A path that leads far into a file that holds a value: to the last member of the last member, and so on."""
+    plist, path = Layout(octets), ""
+    n = plist.top
+    while (step := plist.last_step(n)) and len((path + step[1]).encode()) <= LONGEST_PATH:
+        n, path = step[0], path + step[1]
+    return path

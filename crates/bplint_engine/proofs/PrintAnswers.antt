@@ -1,5 +1,5 @@
 -- What `print` says and leaves, derived from the contracts of the cursor and the printer.
-use Rattle.std.proofs.Common.{◌≡◌, inl, inr, ◌∙◌, append_assoc, ℕ, ◌+◌, List, [], ◌∷◌, ◌++◌, length, ap, sym, subst, refl, arith, Option, Result, Ok, Err}
+use Rattle.std.proofs.Common.{◌≡◌, inl, inr, ◌∙◌, append_assoc, ℕ, ◌+◌, List, [], ◌∷◌, ◌++◌, length, ap, sym, subst, refl, arith, Option, Some, Result, Ok, Err}
 use Rattle.std.specs.List.{AllZip}
 use Rattle.std.specs.Prelude.{IfOk, IfErr, MatchResult}
 use Rattle.std.proofs.Math.Logic.{∥∥₁_map}
@@ -50,7 +50,7 @@ within old new s limit start (gone, few, added) = (gone, omega (arith, few, ap (
 -- a first part of the text is a first part of the answer
 begun_answer : (old new : Option (List ℕ)) (s : Sending) (f : List ℕ) (F : Frame) (n : ℕ) (w : Value) (limit : ℕ)
     → s ≡ record { sent = 0; held = [] } → HasText w limit (λ t. SendsSome old new (s.held ++ t)) → AtMost old new (length s.held + limit)
-    → AtMost old new limit × BeginsAnswer (NodeSays f F limit n w) old new
+    → BeginsAnswer (NodeSays f F limit n w) (Some limit) old new
 begun_answer old new s f F n w limit start (t, is, low, few, some) bound =
     let all : t ++ 10 ∷ [] ≡ some.0 ++ (some.1 ++ 10 ∷ []) =
     ap (λ l. l ++ 10 ∷ []) (sym (ap (λ x. x.held ++ t) start) ∙ some.3) ∙ append_assoc some.0 some.1 (10 ∷ []) in (

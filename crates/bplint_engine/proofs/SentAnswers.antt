@@ -1,5 +1,5 @@
 -- What a run leaves that sends its answer in parts.
-use Rattle.std.proofs.Common.{◌≡◌, ◌++◌, inl, inr, ℕ, List, [], ◌∷◌, Option, Result, Ok, Err, refl, subst, sym}
+use Rattle.std.proofs.Common.{◌≡◌, ◌++◌, inl, inr, ℕ, List, [], ◌∷◌, Option, None, Result, Ok, Err, refl, subst, sym}
 use Rattle.std.specs.Prelude.{IfOk, IfErr}
 use Rattle.std.specs.List.{AllZip}
 use Rattle.bplist_objects.specs.declared.frame.Frame.{Frame}
@@ -16,7 +16,7 @@ use Rattle.bplint_lines.specs.declared.raw_fault.RawFault.{RawFault}
 use Rattle.bplint_lines.specs.declared.raw_fault.RawFault.TheVariants.{Run, NoRawForm}
 use Rattle.bplint_lines.specs.declared.said.Said.{Said}
 use Rattle.bplint_lines.specs.declared.said.Said.TheVariants.{SomeMissing}
-use Rattle.bplint_lines.specs.Answers.{Answer, BeginsAnswer, LeavesSomeBy, gives}
+use Rattle.bplint_lines.specs.Answers.{Answer, LeavesSomeBy, gives}
 use Rattle.bplint_lines.specs.Faults.{IsExcused}
 use Rattle.bplint_lines.specs.OutputLines.{missing_line}
 use Rattle.bplint_engine.specs.declared.output.Output.{Output}
@@ -26,32 +26,32 @@ use Rattle.bplint_engine.specs.Streams.{Fails, begun}
 use Rattle.bplint_engine.specs.Tree.{ListsAll, PathLists}
 use Rattle.bplint_engine.proofs.PathAnswers.{IsThere, IsYes}
 use Rattle.bplint_engine.proofs.EqualAnswers.{same_gives}
-use Rattle.bplint_engine.proofs.LeftBytes.{begins_as, kept_self, left_as}
+use Rattle.bplint_engine.proofs.LeftBytes.{kept_self, said_within}
 use Rattle.bplint_engine.proofs.LowerFaults.{cursor_fault}
 
 -- only a first part of an answer was written
 pub some_failed : (Says : Answer → Type 0) (said : Said) (bytes : List ℕ) (old new : Option (List ℕ)) (fault : RunFault) → Says (gives said bytes)
     → Fails old new begun bytes fault → LeavesSomeBy Says old new (Err fault)
 some_failed Says said bytes old new (faults.Write sent) says part = (said, bytes, says, part)
-some_failed Says said bytes old new (faults.Read _) says some = inr (said, bytes, says, some)
-some_failed Says said bytes old new faults.Memory says some = inr (said, bytes, says, some)
+some_failed Says said bytes old new (faults.Read _) says some = (tt, inr (said, bytes, says, some))
+some_failed Says said bytes old new faults.Memory says some = (tt, inr (said, bytes, says, some))
 some_failed Says said bytes old new _ says h = absurd h
 
 -- a read failed or memory was refused before anything was written
 pub excused_leaves : (Says : Answer → Type 0) (old : Option (List ℕ)) (fault : RunFault) → IsExcused fault → LeavesSomeBy Says old old (Err fault)
-excused_leaves Says old (faults.Read _) h = inl (kept_self old)
-excused_leaves Says old faults.Memory h = inl (kept_self old)
+excused_leaves Says old (faults.Read _) h = (tt, inl (kept_self old))
+excused_leaves Says old faults.Memory h = (tt, inl (kept_self old))
 excused_leaves Says old _ h = absurd h
 
 pub cursor_leaves : (Says : Answer → Type 0) (old : Option (List ℕ)) (fault : CursorFault) → IsCursorExcused fault → LeavesSomeBy Says old old (Err (cursor_fault fault))
-cursor_leaves Says old (cursor_faults.Read _) h = inl (kept_self old)
+cursor_leaves Says old (cursor_faults.Read _) h = (tt, inl (kept_self old))
 cursor_leaves Says old cursor_faults.Changed h = absurd (h refl)
-cursor_leaves Says old cursor_faults.Memory h = inl (kept_self old)
+cursor_leaves Says old cursor_faults.Memory h = (tt, inl (kept_self old))
 
 -- the same under another description of the answer
 pub some_as : (P Q : Answer → Type 0) (old new : Option (List ℕ)) (result : Result Said RunFault) → ((a : Answer) → P a → Q a)
     → LeavesSomeBy P old new result → LeavesSomeBy Q old new result
-some_as P Q old new result to left = left_as P Q old new (BeginsAnswer P old new) (BeginsAnswer Q old new) result to (begins_as P Q old new to) left
+some_as P Q old new result to left = said_within P Q None old new result to left
 
 pub raw_as : (P Q : Answer → Type 0) (R T : ℕ → Type 0) (old new : Option (List ℕ)) (result : Result Said RawFault) → ((a : Answer) → P a → Q a)
     → ((n : ℕ) → R n → T n) → LeavesRawBy P R old new result → LeavesRawBy Q T old new result

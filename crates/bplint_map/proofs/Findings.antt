@@ -20,6 +20,7 @@ use Rattle.bplist_objects.specs.Frame.{IsFrame, off}
 use Rattle.bplist_objects.proofs.KeptOrBroken.{object_kept_or_fault}
 use Rattle.bplist_objects.proofs.HeadTies.{announced_shape, kept_announces}
 use Rattle.std.specs.List.{sum_by}
+use Rattle.std.proofs.lemmas.List.Sums.{sum_by-cons}
 use Rattle.bplint_map.specs.Rows.{AreFindings, IsFinding, looked_at, rows, size, unlooked}
 use Rattle.bplint_map.specs.Layout.{row_end}
 
@@ -27,9 +28,11 @@ use Rattle.bplint_map.specs.Layout.{row_end}
 pub all_looked : (left : ℕ) (rows : List Row) → sum_by size rows ≤ left → looked_at left rows ≡ rows
 all_looked left [] h = refl
 all_looked left (row ∷ rows) h =
-    let t : nat_le (size row) left ≡ true = grind (arith, nat_tests) in
+    let all = sum_by-cons size row rows in
+    let low : size row ≤ left = omega (arith, all, h) in
+    let t : nat_le (size row) left ≡ true = grind (arith, nat_tests, low) in
     ap (λ b. cond b (row ∷ looked_at (left - size row) rows) (unlooked row ∷ looked_at left rows)) t
-    ∙ ap (λ l. row ∷ l) (all_looked (left - size row) rows (omega (arith, h)))
+    ∙ ap (λ l. row ∷ l) (all_looked (left - size row) rows (omega (arith, all, h)))
 
 module _ (f : List ℕ) (F : Frame) (n : ℕ) where
   pub one_finding : (a b : Finding) → IsFinding f F n a → IsFinding f F n b → a ≡ b

@@ -143,8 +143,8 @@ fault_out f old fault h = (h, kept_self old)
 
 -- a read failed or memory was refused before anything was put in
 pub excused_out : (f : List ℕ) (old : Option (List ℕ)) (fault : RunFault) → IsExcused fault → LeavesMap f old old (Err fault)
-excused_out f old (faults.Read _) h = inl (kept_self old)
-excused_out f old faults.Memory h = inl (kept_self old)
+excused_out f old (faults.Read _) h = (tt, inl (kept_self old))
+excused_out f old faults.Memory h = (tt, inl (kept_self old))
 excused_out f old _ h = absurd h
 
 module _ (f : List ℕ) (F : Frame) (frame : IsFrame f F) (verdict : Verdict) (linted : IsVerdict f verdict) (order : List ℕ) (by_place : IsByPlace f F order) where
@@ -156,8 +156,8 @@ module _ (f : List ℕ) (F : Frame) (frame : IsFrame f F) (verdict : Verdict) (l
   says = (F, verdict, (findings_of f F frame).0, order, frame, linted, (findings_of f F frame).1, by_place, refl, refl)
 
   -- a first part of it went out
-  begun : (old new : Option (List ℕ)) → SendsSome old new the_map → BeginsAnswer (MapSays f) old new
-  begun old new some = inr (All, the_map, says, some)
+  begun : (old new : Option (List ℕ)) → SendsSome old new the_map → BeginsAnswer (MapSays f) None old new
+  begun old new some = (tt, inr (All, the_map, says, some))
 
   -- it was not put in
   pub map_cut : (old new : Option (List ℕ)) (s : Sending) (fault : RunFault) → s ≡ record { sent = 0; held = [] } → PutsSome old new s the_map fault → LeavesMap f old new (Err fault)
