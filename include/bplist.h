@@ -352,11 +352,21 @@ bplist_status bplist_find_key(bplist_handle *handle, const uint8_t *file, size_t
 
 /*
  * Gives the kind of an object, and the count, place and length of its body. The bytes of
- * a real, a date, data or a text are in the file from `place` on. With bplist_members,
- * a caller walks a tree with two calls for each object. BPLIST_NO_OBJECT.
+ * a real, a date, data or a text are in the file from `place` on. BPLIST_NO_OBJECT.
  */
 bplist_status bplist_face(bplist_handle *handle, const uint8_t *file, size_t length,
                           uint32_t object, bplist_body *out);
+
+/*
+ * Gives the same of each of `object_count` objects: body k is that of object k. Writes as
+ * many as there are and as fit to the first `*count` of the `room` elements at `bodies`,
+ * and leaves the other elements unchanged. The members of a body are all 0 if the object
+ * number does not exist, or if the object is not reachable from the top. With
+ * bplist_members, a caller walks a tree with two calls for each block of members.
+ */
+bplist_status bplist_faces(bplist_handle *handle, const uint8_t *file, size_t length,
+                           const uint32_t *objects, size_t object_count, bplist_body *bodies,
+                           size_t room, uint64_t *count);
 
 /* Gives the value of a BPLIST_INT. BPLIST_OTHER_KIND, BPLIST_NO_OBJECT. */
 bplist_status bplist_int(bplist_handle *handle, const uint8_t *file, size_t length,

@@ -2,9 +2,9 @@
 from __future__ import annotations
 
 import builtins
+import collections
 import os
 import stat
-import typing
 
 from . import _bplist
 from .faults import Refused, TooLarge
@@ -18,11 +18,21 @@ TEXT = 1_048_576
 # The largest size that the library gives.
 MOST_NODES = 2**64 - 1
 
-Octets = typing.Union[bytes, bytearray, memoryview]
-Path = typing.Union[str, os.PathLike]
+# For type checkers alone: `typing` takes as much memory as the rest of the package.
+TYPE_CHECKING = False
+if TYPE_CHECKING:
+    import typing
+
+Octets = bytes | bytearray | memoryview
+Path = str | os.PathLike
 
 
-class Verdict(typing.NamedTuple):
+_VERDICT = collections.namedtuple(
+    "Verdict", "fault objects reached references height top kind", defaults=(0, 0, 0, 0, 0, None)
+)
+
+
+class Verdict(_VERDICT):
     """The verdict of the linter on a file.
 
     fault: None if the file holds a value, otherwise the first broken rule. If there is a fault, the numbers are 0 and
@@ -35,13 +45,15 @@ class Verdict(typing.NamedTuple):
     kind: its kind.
     """
 
+    __slots__ = ()
+
     fault: Refused | None
-    objects: int = 0
-    reached: int = 0
-    references: int = 0
-    height: int = 0
-    top: int = 0
-    kind: Kind | None = None
+    objects: int
+    reached: int
+    references: int
+    height: int
+    top: int
+    kind: Kind | None
 
     @property
     def ok(self) -> bool:

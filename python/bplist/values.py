@@ -13,11 +13,14 @@ import collections.abc
 import datetime
 import enum
 import plistlib
-import typing
 
 from . import _bplist
 
-if typing.TYPE_CHECKING:
+# For type checkers alone: `typing` takes as much memory as the rest of the package.
+TYPE_CHECKING = False
+if TYPE_CHECKING:
+    import typing
+
     SequenceBase = collections.abc.Sequence[typing.Any]
     MappingBase = collections.abc.Mapping[str, typing.Any]
     IterableBase = collections.abc.Iterable[typing.Any]

@@ -118,6 +118,8 @@ void handle_end(Handle *self, PyThreadState *thread);
 int handle_sizes(Handle *self, uint32_t object, bplist_sizes *out);
 /* Gives the kind of an object, and its body, which is inside the file. */
 int handle_face(Handle *self, uint32_t object, bplist_body *out);
+/* Gives the same for each of these objects. */
+int handle_faces(Handle *self, const uint32_t *objects, size_t count, bplist_body *out);
 /* Gives the members of a container from number `from` on. Returns their number, 1 to `room`, or -1. */
 Py_ssize_t handle_members(Handle *self, uint32_t object, uint64_t from, uint32_t *objects, size_t room);
 /* Returns a leaf, or a container that is read on access. */

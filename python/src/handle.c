@@ -110,6 +110,12 @@ int handle_sizes(Handle *self, uint32_t object, bplist_sizes *out)
     return expect(status);
 }
 
+/* Whether a body lies in the file. */
+static inline int is_inside(const bplist_body *body, const Source *source)
+{
+    return body->length <= source->length && body->place <= source->length - body->length;
+}
+
 int handle_face(Handle *self, uint32_t object, bplist_body *out)
 {
     const Source *source = &self->source;
@@ -118,9 +124,25 @@ int handle_face(Handle *self, uint32_t object, bplist_body *out)
         return -1;
     if (expect(bplist_face(&self->handle, source->file, source->length, object, out)) < 0)
         return -1;
-    if (out->length > source->length || out->place > source->length - out->length)
-        return raise_changed();
-    return 0;
+    return is_inside(out, source) ? 0 : raise_changed();
+}
+
+int handle_faces(Handle *self, const uint32_t *objects, size_t count, bplist_body *out)
+{
+    const Source *source = &self->source;
+    uint64_t given;
+
+    if (handle_ready(self) < 0)
+        return -1;
+    if (expect(bplist_faces(&self->handle, source->file, source->length, objects, count, out, count, &given)) < 0)
+        return -1;
+    for (uint64_t i = 0; i < given; i++) {
+        if (out[i].kind == 0)
+            return raise_status(BPLIST_NO_OBJECT);
+        if (!is_inside(&out[i], source))
+            return raise_changed();
+    }
+    return given == count ? 0 : raise_changed();
 }
 
 Py_ssize_t handle_members(Handle *self, uint32_t object, uint64_t from, uint32_t *objects, size_t room)

@@ -3,6 +3,12 @@
 
 #include <endian.h>
 #include <string.h>
+#include <wchar.h>
+
+/* The largest number of units that `few_of` decodes, in a buffer on the stack. */
+#define FEW 64
+
+_Static_assert(sizeof(wchar_t) == 4, "a character of wchar_t is one of Python's");
 
 /* Decodes a big-endian number. */
 static uint64_t number_of(const uint8_t *bytes, uint64_t length)
@@ -69,11 +75,16 @@ static PyObject *integer_of(Handle *self, uint32_t object, const uint8_t *bytes,
     return joined(number);
 }
 
-/* Makes a UID without calling its __init__, which takes longer than everything else. */
+/* Makes a UID without calling its __init__, which takes longer than everything else. Its __new__ makes room for the
+   attribute; without it, the attribute would take a dict. */
 static PyObject *bare_uid(State *state, PyObject *number)
 {
-    PyObject *uid = instance_of(state->held[UID]);
+    PyTypeObject *class = (PyTypeObject *)state->held[UID];
+    newfunc make = (newfunc)PyType_GetSlot(class, Py_tp_new);
+    PyObject *arguments = PyTuple_New(0);
+    PyObject *uid = arguments ? make(class, arguments, NULL) : NULL;
 
+    Py_XDECREF(arguments);
     if (uid && PyObject_SetAttr(uid, state->held[UID_DATA], number) < 0)
         Py_CLEAR(uid);
     return uid;
@@ -93,15 +104,34 @@ static PyObject *uid_of(State *state, const uint8_t *bytes, uint64_t length)
     return uid;
 }
 
+/* Decodes at most FEW units of big-endian UTF-16. Keeps an unpaired surrogate as it is. */
+static PyObject *few_of(const uint8_t *bytes, size_t units)
+{
+    wchar_t text[FEW];
+    Py_ssize_t length = 0;
+
+    for (size_t i = 0; i < units; i++) {
+        wchar_t unit = bytes[2 * i] << 8 | bytes[2 * i + 1];
+
+        if (unit >> 10 == 0xdc00 >> 10 && length > 0 && text[length - 1] >> 10 == 0xd800 >> 10)
+            text[length - 1] = 0x10000 + ((text[length - 1] & 0x3ff) << 10 | (unit & 0x3ff));
+        else
+            text[length++] = unit;
+    }
+    return PyUnicode_FromWideChar(text, length);
+}
+
 /* Decodes big-endian UTF-16. For an unpaired surrogate the codec calls its handler, which may be any code, so the bytes
-   are kept alive during the call. */
-static PyObject *wide_of(PyObject *owner, const char *bytes, Py_ssize_t length)
+   are kept alive during the call. A short text needs no codec, which takes four times as long. */
+static PyObject *wide_of(PyObject *owner, const uint8_t *bytes, size_t units)
 {
     int order = 1;
     PyObject *text;
 
+    if (units <= FEW)
+        return few_of(bytes, units);
     Py_INCREF(owner);
-    text = PyUnicode_DecodeUTF16(bytes, length, "surrogatepass", &order);
+    text = PyUnicode_DecodeUTF16((const char *)bytes, (Py_ssize_t)(2 * units), "surrogatepass", &order);
     Py_DECREF(owner);
     return text;
 }
@@ -131,7 +161,7 @@ PyObject *leaf_of(Handle *self, uint32_t object, const bplist_body *body)
     case BPLIST_ASCII:
         return PyUnicode_DecodeASCII((const char *)bytes, length, NULL);
     case BPLIST_WIDE:
-        return wide_of(self->source.owner, (const char *)bytes, length);
+        return wide_of(self->source.owner, bytes, (size_t)length / 2);
     default:
         raise_changed();
         return NULL;

@@ -1,17 +1,15 @@
 /* Builds trees like those of plistlib: dict, list and leaves. */
 #include "extension.h"
 
-#include <string.h>
-
-/* The number of references that one read takes. It is even, because pairs have two. */
-#define BLOCK 256
+/* The number of members that one read takes. It is even, because pairs have two. */
+#define BLOCK 128
 
 /* A list or a dict that still needs its members. */
 typedef struct Empty {
-    PyObject *value;
     uint32_t object;
-    uint32_t kind;
-    uint64_t count;
+    int is_dict;
+    /* The number of its members: two for each pair. */
+    uint64_t end;
 } Empty;
 
 typedef struct Tree {
@@ -24,7 +22,7 @@ typedef struct Tree {
     int is_measured;
     /* By object number: what was built for the object, with a reference to it, or NULL. */
     PyObject **made;
-    /* The stack of containers that need their members. `made` has the references to their values. */
+    /* The stack of containers that need their members. */
     Empty *empty;
     size_t height;
     size_t room;
@@ -65,99 +63,126 @@ static int tree_push(Tree *tree, const Empty *container)
 /* Makes the empty container of `body`, which is filled later. */
 static PyObject *tree_empty(Tree *tree, uint32_t object, const bplist_body *body)
 {
-    Empty container = {NULL, object, body->kind, body->count};
+    int is_dict = body->kind == BPLIST_DICT;
+    Empty container = {object, is_dict, is_dict ? 2 * body->count : body->count};
+    PyObject *value;
 
     if (body->count > tree->handle->source.length) {
         raise_changed();
         return NULL;
     }
-    container.value = body->kind == BPLIST_DICT ? PyDict_New() : PyList_New((Py_ssize_t)body->count);
-    if (container.value && body->count > 0 && tree_push(tree, &container) < 0)
-        Py_CLEAR(container.value);
-    return container.value;
-}
-
-/* Returns what was built for an object that occurs again. */
-static PyObject *tree_again(Tree *tree, PyObject *made)
-{
-    int is_container = PyList_CheckExact(made) || PyDict_CheckExact(made);
-
-    if (is_container && tree_measure(tree) < 0)
-        return NULL;
-    Py_INCREF(made);
-    return made;
-}
-
-/* Returns the value of an object. */
-static PyObject *tree_value(Tree *tree, uint32_t object)
-{
-    bplist_body body;
-    PyObject *value;
-
-    if (object >= tree->handle->objects) {
-        raise_changed();
-        return NULL;
-    }
-    if (tree->made[object])
-        return tree_again(tree, tree->made[object]);
-    if (handle_face(tree->handle, object, &body) < 0)
-        return NULL;
-    value = is_container(body.kind) ? tree_empty(tree, object, &body) : leaf_of(tree->handle, object, &body);
-    Py_XINCREF(value);
-    tree->made[object] = value;
+    value = is_dict ? PyDict_New() : PyList_New((Py_ssize_t)body->count);
+    if (value && body->count > 0 && tree_push(tree, &container) < 0)
+        Py_CLEAR(value);
     return value;
 }
 
-static int fill_pair(Tree *tree, PyObject *dict, const uint32_t *objects)
+/* Takes note that a value occurs again. If it is a container, the tree has more nodes than were counted. */
+static int tree_again(Tree *tree, PyObject *made)
 {
-    PyObject *key = tree_value(tree, objects[0]);
-    PyObject *value = key ? tree_value(tree, objects[1]) : NULL;
-    int failed = value ? PyDict_SetItem(dict, key, value) : -1;
-
-    Py_XDECREF(key);
-    Py_XDECREF(value);
-    return failed;
+    if (tree->is_measured || !(PyList_CheckExact(made) || PyDict_CheckExact(made)))
+        return 0;
+    return tree_measure(tree);
 }
 
-/* Puts the members whose objects were read into a list or a dict. The first of them has number `from`. */
+/* Makes the values of objects, and containers without their members. An object may occur twice. */
+static int tree_make(Tree *tree, const uint32_t *objects, size_t count)
+{
+    bplist_body bodies[BLOCK];
+
+    if (handle_faces(tree->handle, objects, count, bodies) < 0)
+        return -1;
+    for (size_t i = 0; i < count; i++) {
+        const bplist_body *body = &bodies[i];
+        PyObject **made = &tree->made[objects[i]];
+
+        if (*made) {
+            if (tree_again(tree, *made) < 0)
+                return -1;
+            continue;
+        }
+        /* Making a leaf may have run any code, which may have closed the property list. */
+        if (handle_ready(tree->handle) < 0)
+            return -1;
+        if (is_container(body->kind))
+            *made = tree_empty(tree, objects[i], body);
+        else
+            *made = leaf_of(tree->handle, objects[i], body);
+        if (*made == NULL)
+            return -1;
+    }
+    return 0;
+}
+
+/* Makes the values that at most BLOCK objects still lack. */
+static int tree_make_new(Tree *tree, const uint32_t *objects, size_t count)
+{
+    uint32_t left[BLOCK];
+    size_t many = 0;
+
+    for (size_t i = 0; i < count; i++) {
+        if (objects[i] >= tree->handle->objects)
+            return raise_changed();
+        if (tree->made[objects[i]] == NULL)
+            left[many++] = objects[i];
+        else if (tree_again(tree, tree->made[objects[i]]) < 0)
+            return -1;
+    }
+    return many > 0 ? tree_make(tree, left, many) : 0;
+}
+
+/* Puts members, whose values are made, into a list or a dict. The first of them has number `from`. */
 static int fill_block(Tree *tree, const Empty *container, uint64_t from, const uint32_t *objects, Py_ssize_t read)
 {
-    int is_dict = container->kind == BPLIST_DICT;
+    PyObject *value = tree->made[container->object];
 
-    for (Py_ssize_t i = 0; i < read; i += is_dict ? 2 : 1) {
-        if (is_dict) {
-            if (fill_pair(tree, container->value, objects + i) < 0)
+    if (container->is_dict) {
+        for (Py_ssize_t i = 0; i < read; i += 2)
+            if (PyDict_SetItem(value, tree->made[objects[i]], tree->made[objects[i + 1]]) < 0)
                 return -1;
-        } else {
-            PyObject *value = tree_value(tree, objects[i]);
+        return 0;
+    }
+    for (Py_ssize_t i = 0; i < read; i++) {
+        PyObject *member = tree->made[objects[i]];
 
-            if (value == NULL || PyList_SetItem(container->value, (Py_ssize_t)from + i, value) < 0)
-                return -1;
-        }
+        Py_INCREF(member);
+        if (PyList_SetItem(value, (Py_ssize_t)from + i, member) < 0)
+            return -1;
     }
     return 0;
 }
 
 static int fill(Tree *tree, const Empty *container)
 {
-    uint64_t end = container->kind == BPLIST_DICT ? 2 * container->count : container->count;
     uint32_t objects[BLOCK];
 
-    for (uint64_t from = 0; from < end;) {
+    for (uint64_t from = 0; from < container->end;) {
         Py_ssize_t read = handle_members(tree->handle, container->object, from, objects, BLOCK);
 
         if (read < 0)
             return -1;
-        if ((uint64_t)read > end - from || (container->kind == BPLIST_DICT && read % 2 != 0))
+        if ((uint64_t)read > container->end - from || (container->is_dict && read % 2 != 0))
             return raise_changed();
         tree->nodes += (uint64_t)read;
         if (tree->nodes > tree->limit && tree_measure(tree) < 0)
             return -1;
-        if (fill_block(tree, container, from, objects, read) < 0)
+        if (tree_make_new(tree, objects, (size_t)read) < 0 || fill_block(tree, container, from, objects, read) < 0)
             return -1;
         from += (uint64_t)read;
     }
     return 0;
+}
+
+/* Reverses the order of the containers above a height of the stack. The one that comes first in the file is then filled
+   first, which is faster, because memory is read and written forwards. */
+static void tree_turn(Tree *tree, size_t height)
+{
+    for (size_t above = tree->height; height + 1 < above; height++) {
+        Empty first = tree->empty[height];
+
+        tree->empty[height] = tree->empty[--above];
+        tree->empty[above] = first;
+    }
 }
 
 /* Frees what the tree holds, except the references that its values hold themselves. */
@@ -172,14 +197,20 @@ static void tree_free(Tree *tree)
 /* Builds the tree of an object: makes its root, and then fills container by container. */
 static PyObject *tree_build(Tree *tree)
 {
-    PyObject *top = tree_value(tree, tree->object);
+    PyObject *top;
 
-    while (top && tree->height > 0) {
+    if (tree_make_new(tree, &tree->object, 1) < 0)
+        return NULL;
+    while (tree->height > 0) {
         Empty container = tree->empty[--tree->height];
+        size_t height = tree->height;
 
         if (fill(tree, &container) < 0)
-            Py_CLEAR(top);
+            return NULL;
+        tree_turn(tree, height);
     }
+    top = tree->made[tree->object];
+    Py_INCREF(top);
     return top;
 }
 

@@ -261,6 +261,15 @@ class Edges(unittest.TestCase):
     def test_lone_surrogate(self):
         self.assertEqual(value_of(b"\x61\xd8\x00"), "\ud800")
 
+    def test_wide_texts(self):
+        """Two surrogates that belong together are one character, and others stay, in short and in long texts."""
+        given = random.Random(5)
+        for length in range(110):
+            units = given.choices([0x41, 0xE9, 0x20AC, 0xFFFF, 0xD800, 0xDBFF, 0xDC00, 0xDFFF], k=length)
+            spelled = struct.pack(f">{length}H", *units)
+            count = bytes([0x60 | length]) if length < 15 else b"\x6f\x10" + bytes([length])
+            self.assertEqual(value_of(count + spelled), spelled.decode("utf-16-be", "surrogatepass"))
+
     def test_keys_of_lone_surrogates(self):
         file = b"bplist00" + b"\xd1\x01\x02" + b"\x61\xdc\x00" + b"\x09" + b"\x08\x0b\x0e"
         file += bytes(6) + b"\x01\x01" + (3).to_bytes(8, "big") + bytes(8) + (15).to_bytes(8, "big")

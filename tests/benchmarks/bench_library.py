@@ -7,9 +7,10 @@ leaves the library. With words, only the files whose name has one of them are ti
 
 Each row is a process of its own, which measures the time from opening the file to its end, and its peak of memory. It reads
 three values; or builds the whole tree; or walks over all values, reading each on access. plistlib always builds the tree. The
-time is the best of ten runs, with all rows in turn, and the peak is the greatest. In brackets is the time as a fraction of
-plistlib's. All rows must read the same three values.
+time is the best of ten runs, or of forty if the file is short, and the peak is the greatest. Each round runs all rows, in a
+new order. In brackets is the time as a fraction of plistlib's. All rows must read the same three values.
 """
+import compileall
 import dataclasses
 import datetime
 import math
@@ -26,6 +27,9 @@ import zipfile
 ROOT = pathlib.Path(__file__).resolve().parents[2]
 HERE = pathlib.Path(__file__).resolve().parent
 ROUNDS = 10
+# A file below so many bytes is read in a moment, which other work on the machine may spoil.
+SHORT = 2_000_000
+SHORT_ROUNDS = 40
 DOMAINS = 64
 LETTERS = "abcdefghijklmnopqrstuvwxyz0123456789 /.-_"
 
@@ -216,8 +220,8 @@ def time_file(name, folder, library):
     file = os.path.join(folder, "file")
     subprocess.run([sys.executable, "-B", __file__, "--make", name, file], check=True)
     timed = list(rows(folder, library, file, FILES[name][1]))
-    for _ in range(ROUNDS):
-        for row in timed:
+    for _ in range(SHORT_ROUNDS if os.path.getsize(file) < SHORT else ROUNDS):
+        for row in random.sample(timed, len(timed)):
             row.run()
     print(f"{name}: {os.path.getsize(file):,} bytes")
     for row in timed:
@@ -235,7 +239,10 @@ def main():
         sys.exit(__doc__)
     library, wheel, *words = sys.argv[1:]
     with tempfile.TemporaryDirectory(prefix="bplist") as folder:
-        zipfile.ZipFile(wheel).extractall(os.path.join(folder, "package"))
+        package = os.path.join(folder, "package")
+        zipfile.ZipFile(wheel).extractall(package)
+        # As pip does. Else each process would compile the package, which takes memory.
+        compileall.compile_dir(package, quiet=1)
         for name in FILES:
             if not words or any(word in name for word in words):
                 time_file(name, folder, pathlib.Path(library).resolve())

@@ -178,6 +178,30 @@ static void see_block(bplist_handle *handle, struct file file, uint32_t object, 
     }
 }
 
+/* The bodies of a block of members, of an object that may be unreachable and of one that is not there: those that
+   bplist_face gives. */
+static void see_faces(bplist_handle *handle, struct file file, uint32_t object, uint64_t room)
+{
+    static const bplist_body none;
+    uint32_t objects[5] = {0, 0, 0, 0, UINT32_MAX};
+    bplist_body bodies[6], body;
+    uint64_t members, count;
+
+    HOLDS(bplist_members(handle, file.bytes, file.length, object, 0, objects, 4, &members) == BPLIST_OK);
+    memset(bodies, 0xaa, sizeof bodies);
+    HOLDS(bplist_faces(handle, file.bytes, file.length, objects, 5, bodies, room, &count) == BPLIST_OK);
+    HOLDS(count == (room < 5 ? room : 5) && bodies[count].kind == 0xaaaaaaaa);
+    for (uint64_t i = 0; i < count; i++) {
+        bplist_status status = bplist_face(handle, file.bytes, file.length, objects[i], &body);
+
+        HOLDS(status == BPLIST_OK || (status == BPLIST_NO_OBJECT && i >= members));
+        HOLDS(status == BPLIST_NO_OBJECT || i < 4);
+        body = status == BPLIST_OK ? body : none;
+        HOLDS(bodies[i].kind == body.kind && bodies[i].count == body.count);
+        HOLDS(bodies[i].place == body.place && bodies[i].length == body.length);
+    }
+}
+
 static void see_members(bplist_handle *handle, struct file file, uint32_t object, uint64_t members)
 {
     static const uint64_t rooms[] = {0, 1, 2, 64, 65, 200};
@@ -190,6 +214,8 @@ static void see_members(bplist_handle *handle, struct file file, uint32_t object
         see_block(handle, file, object, members, members, rooms[i]);
         see_block(handle, file, object, members, UINT64_MAX, rooms[i]);
     }
+    for (uint64_t room = 0; room <= 6; room++)
+        see_faces(handle, file, object, room);
 }
 
 /* The integer by the bytes of its body: 1, 2 and 4 have no sign. */
@@ -303,6 +329,8 @@ static void see_refusals(bplist_handle *handle, struct file file, const bplist_v
     ASK(status, bplist_open(handle, file.bytes, file.length, false, &again));
     HOLDS(status == BPLIST_OPENED);
     HOLDS(bplist_face(handle, file.bytes, file.length - 1, verdict->top, &body) == BPLIST_OTHER_FILE);
+    status = bplist_faces(handle, file.bytes, file.length - 1, &object, 1, &body, 1, &count);
+    HOLDS(status == BPLIST_OTHER_FILE && count == 9);
     HOLDS(bplist_face(handle, file.bytes, file.length, UINT32_MAX, &body) == BPLIST_NO_OBJECT);
     HOLDS(bplist_member(handle, file.bytes, file.length, UINT32_MAX, 0, &object) == BPLIST_NO_OBJECT && object == 7);
     HOLDS(bplist_members(handle, file.bytes, file.length, UINT32_MAX, 0, &object, 1, &count) == BPLIST_NO_OBJECT);
@@ -348,6 +376,7 @@ static void see_closed(bplist_handle *handle, struct file file)
     HOLDS(handle->length == 0);
     HOLDS(bplist_close(handle) == BPLIST_CLOSED);
     HOLDS(bplist_face(handle, file.bytes, file.length, 0, &body) == BPLIST_CLOSED);
+    HOLDS(bplist_faces(handle, file.bytes, file.length, (const uint32_t[]){0}, 1, &body, 1, &count) == BPLIST_CLOSED);
     HOLDS(bplist_find(handle, file.bytes, file.length, "", 0, &found) == BPLIST_CLOSED);
     HOLDS(bplist_members(handle, file.bytes, file.length, 0, 0, &object, 1, &count) == BPLIST_CLOSED);
     HOLDS(bplist_read(handle, file.bytes, file.length, 0, 0, &byte, 1, &count) == BPLIST_CLOSED);

@@ -22,7 +22,7 @@ as_fit xs n room e = elim (cases_lt room (length xs)) [
 ]
 
 -- items that fit are written
-pub fitting : (items old new : List ℕ) (was count : ℕ) → length items ≤ length old → count ≡ length items → new ≡ items ++ drop (length items) old
+pub fitting : {X : Type 0} (items old new : List X) (was count : ℕ) → length items ≤ length old → count ≡ length items → new ≡ items ++ drop (length items) old
     → Puts (Ok items) old new was count 0
 fitting items old new was count fits counted put = (counted, rw (le-leb (length items) (length old) fits) (refl, put))
 

@@ -1,5 +1,5 @@
 -- What C is given of an object. Source: profile.
-use Rattle.std.specs.Prelude.{◌≡◌, ℕ, suc, ◌-◌, ◌/◌, ◌%◌, ◌^◌, List, Result, Ok, Err}
+use Rattle.std.specs.Prelude.{◌≡◌, ℕ, suc, ◌-◌, ◌/◌, ◌%◌, ◌^◌, ◌<◌, min, List, length, slice_index, slice_index_or, Result, Ok, Err}
 use Rattle.std.specs.Int.{w128, cast_unsigned}
 use denote.Enum.Declared.{tag_of}
 use Rattle.bplist_octets.specs.Octets.{part}
@@ -8,7 +8,7 @@ use Rattle.bplist_objects.specs.Value.{int, text, uid}
 use Rattle.bplist_objects.specs.declared.frame.Frame.{Frame}
 use Rattle.bplist_objects.specs.declared.head.Head.{Head}
 use Rattle.bplist_objects.specs.declared.kind.Kind.{Kind}
-use Rattle.bplist_objects.specs.Heads.{Content, leaf}
+use Rattle.bplist_objects.specs.Heads.{Content, IsHeadOf, leaf}
 use Rattle.bplist_cert.specs.CheckedFile.{CheckedFile}
 use Rattle.bplist_cert.specs.Valid.{IsVouchedBy}
 use Rattle.bplist_c.specs.declared.object.BplistBody.{BplistBody}
@@ -33,6 +33,26 @@ pub record OnObject {X Y : Type 0} (checked : CheckedFile) (n : ℕ) (Has : List
     (Says : Y → Result X Status → Type 0) (answer : Result X Status) : Type 0 where
   pub none : (IsVouchedBy checked.certificate.heights n → ⊥) → answer ≡ Err statuses.NoObject
   pub said : IsVouchedBy checked.certificate.heights n → (y : Y) → Has checked.source.octets checked.frame n y → Says y answer
+
+-- the body in an answer, all zeros if there is none
+abbrev pub body_or_zeros : Result BplistBody Status → BplistBody
+body_or_zeros (Ok body) = body
+body_or_zeros (Err why) = record { kind = 0; count = 0; place = 0; length = 0 }
+
+-- the body of an object, all zeros if the object is not vouched
+abbrev pub IsFace : CheckedFile → ℕ → BplistBody → Type 0
+IsFace checked n body = (answer : Result BplistBody Status) × (body ≡ body_or_zeros answer)
+    × OnObject checked n IsHeadOf (λ head answer. answer ≡ Ok (body_of head)) answer
+
+-- the bodies of these objects, one by one
+abbrev pub AreFaces : CheckedFile → List ℕ → List BplistBody → Type 0
+AreFaces checked objects bodies = (k : ℕ) (d : BplistBody) → k < length bodies
+    → IsFace checked (slice_index objects k) (slice_index_or bodies k d)
+
+-- the bodies of these objects, as many as fit
+abbrev pub FacesSay : List ℕ → ℕ → CheckedFile → Result (List BplistBody) Status → Type 0
+FacesSay objects room checked (Ok bodies) = (length bodies ≡ min (length objects) room) × AreFaces checked objects bodies
+FacesSay objects room checked (Err why) = ⊥
 
 -- the integer that is spelled, as the two halves of a number in two's complement
 abbrev pub int_answer : Content → Result BplistInteger Status

@@ -32,7 +32,7 @@ pub use Rattle.bplist_cursor.specs.declared.found.Found.{Found}
 pub use Rattle.bplist_c.specs.Lifecycle.{CertificateSays, IsAcceptedFor, IsCheckedFor, IsOpened, IsPair, certified}
 pub use Rattle.bplist_c.specs.Lookup.{FindSays, step_answer, told_found, why_status}
 pub use Rattle.bplist_c.specs.Members.{AreSpelled, MembersSay}
-pub use Rattle.bplist_c.specs.Objects.{OnObject, body_of, bytes_of_body, int_answer, kind_number, uid_answer, units_answer}
+pub use Rattle.bplist_c.specs.Objects.{AreFaces, FacesSay, IsFace, OnObject, body_of, bytes_of_body, int_answer, kind_number, uid_answer, units_answer}
 pub use Rattle.bplist_c.specs.Sessions.{IsFileOf, IsRefused, IsSame, IsSessionOf, OnHandle, checked_of}
 pub use Rattle.bplist_c.specs.Sizes.{sizes_by}
 pub use Rattle.bplist_c.specs.Statuses.{Puts, Tells, items_of, number_of, sentence_of}

@@ -24,6 +24,7 @@
 //! | `loan` | lends the checked file of a handle to one call |
 //! | `lookup` | `bplist_find`, `bplist_find_key` |
 //! | `object` | `bplist_face`, `bplist_int`, `bplist_uid` |
+//! | `faces` | `bplist_faces` |
 //! | `members` | `bplist_member`, `bplist_members` |
 //! | `parts` | `bplist_read`, `bplist_units` |
 //! | `sizes`, `text` | `bplist_size`, `bplist_text` |
@@ -33,6 +34,7 @@
 //! again and makes a `Checked` of both by moving them, without a new check.
 #![tactic(auto)]
 
+mod faces;
 mod handle;
 mod lifecycle;
 mod linter;

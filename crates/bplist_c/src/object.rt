@@ -64,7 +64,7 @@ pub(crate) fn number_of(kind: Kind) -> u32
 }
 
 /// Returns the kind and the body of an object.
-fn face_of(checked: &Checked<SliceSource<'_>>, object: u32) -> Result<BplistBody, Status>
+pub(crate) fn face_of(checked: &Checked<SliceSource<'_>>, object: u32) -> Result<BplistBody, Status>
     ensures { OnObject checked.now object IsHeadOf (λ head answer. answer ≡ Ok (body_of head)) result }
 {
     let head = head_of_object(checked, object)?;
