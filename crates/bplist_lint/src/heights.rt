@@ -1,6 +1,6 @@
 //! Finds which objects are founded, and their least heights.
 
-ghost use Rattle.std.specs.Prelude.{◌≡◌, ◌≢◌, ℕ, ◌+◌, ◌^◌, ◌<◌, Bool, List, [], ◌∷◌, ◌++◌, IsTrue, length, map, set, vec_len, IfOk, OnOk};
+ghost use Rattle.std.specs.Prelude.{◌≡◌, ◌≢◌, ℕ, ◌+◌, ◌^◌, ◌<◌, Bool, List, [], ◌∷◌, ◌++◌, IsTrue, count_by, length, map, not, set, vec_len, IfOk, OnOk};
 ghost use Rattle.bplist_lint.specs.Prelude.{from_bool, OnlyReads, failed_to_read, IsWhole, AreObjects, IsMarked, Finds, Shows, Standing, IsHeightWalk, AreClosed, AreLeastOf, state_at, first_state};
 ghost use Rattle.bplist_lint.specs.declared.heights.State.TheVariants as states;
 
@@ -46,13 +46,26 @@ struct HeightWalk {
     stack: Vec<u32>,
 }
 
+/// Returns how many marks are not set. The loop makes a sum and nothing else, so that it takes several at a time.
+pub fn unmarked(marks: &[bool]) -> usize
+    ensures { result ≡ count_by not marks.now }
+{
+    let mut count = 0usize;
+    for i in 0..marks.len() {
+        if !marks[i] {
+            count += 1;
+        }
+    }
+    count
+}
+
 /// Returns the states before the walk: an object known to have no references is founded.
 fn first_states(alloc: Global, childless: &[bool]) -> Result<Vec<State>, AllocError>
     ensures { IfOk result (λ states. states.items ≡ map first_state childless.now) }
 {
-    let mut states = Vec::with_capacity(alloc, childless.len())?;
-    for known in childless {
-        states.push(if *known { State::Founded } else { State::New })?;
+    let mut states = vec![in alloc; State::New; childless.len()]?;
+    for (i, known) in childless.iter().enumerate() {
+        states[i] = if *known { State::Founded } else { State::New };
     }
     Ok(states)
 }
@@ -65,11 +78,10 @@ impl HeightWalk {
         ensures heights { IfOk result (λ walk. walk.heights.items ≡ map from_bool childless.now) }
         ensures empty { IfOk result (λ walk. vec_len walk.stack ≡ 0) }
     {
-        let containers = childless.iter().filter(|known| !**known).count();
         Ok(HeightWalk {
             states: first_states(alloc, childless)?,
             heights: numbers_of(alloc, childless)?,
-            stack: Vec::with_capacity(alloc, containers)?,
+            stack: Vec::with_capacity(alloc, unmarked(childless))?,
         })
     }
 

@@ -1,11 +1,24 @@
 //! Checks the places of all objects, rule 13, and reads the head at a place.
 
-ghost use Rattle.std.specs.Prelude.{◌≡◌, ◌<◌, MatchResult, MatchOption, IfOk, IfSome, is_err, length};
+ghost use Rattle.std.specs.Prelude.{◌≡◌, ℕ, ◌<◌, IsTrue, slice_index, MatchResult, MatchOption, IfOk, IfSome, is_err, length};
 ghost use Rattle.bplist_lint.specs.Prelude.{OnlyReads, frame_in, HonestlyIn, HasShape, IsSafe, IsSafeHead, Head as head, AreBelowTable, IsOffsetFault};
 
 use bplist_keys::{Offsets, object_shape};
 use bplist_objects::{Fault, Frame, Head, ObjectFault, ObjectNo, high_entry};
 use bplist_octets::ReadFault;
+
+/// Returns whether all these places are below the bound. The loop has no other exit, so that it takes several at a time.
+fn are_below(places: &[u32], bound: u32) -> bool
+    ensures { IsTrue result → (k : ℕ) → k < length places.now → slice_index places.now k < bound }
+{
+    let mut below = true;
+    for place in places {
+        if *place >= bound {
+            below = false;
+        }
+    }
+    below
+}
 
 /// Checks all places by rule 13 OffsetHigh, in a file of `len` bytes.
 pub fn check_offsets(frame: &Frame, places: &[u32], len: u64) -> Result<(), Fault>
@@ -13,6 +26,9 @@ pub fn check_offsets(frame: &Frame, places: &[u32], len: u64) -> Result<(), Faul
     requires all { length places.now ≡ frame.now.objects }
     ensures { MatchResult result (λ _. AreBelowTable frame.now places.now) (IsOffsetFault frame.now places.now) }
 {
+    if are_below(places, frame.table.min(u32::MAX as u64) as u32) {
+        return Ok(());
+    }
     for n in 0..frame.objects {
         if places[n as usize] as u64 >= frame.table {
             return Err(high_entry(frame, ObjectNo(n), len));

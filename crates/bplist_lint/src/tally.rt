@@ -1,9 +1,9 @@
 //! Counts the reached objects, their bytes and their references.
 
 ghost use Rattle.std.specs.Prelude.{◌≡◌, ◌+◌, ◌-◌, ◌≤◌, ◌<◌, IfSome, MatchOption};
-ghost use Rattle.bplist_lint.specs.Prelude.{IsSafeHead, ref_count, IsRoomy};
+ghost use Rattle.bplist_lint.specs.Prelude.{IsRoomy};
 
-use bplist_objects::{Frame, Head, refs_of};
+use bplist_objects::Frame;
 
 /// Sums over the reached objects seen so far.
 #[derive(Clone, Copy, Debug, PartialEq, Eq, Drop)]
@@ -28,29 +28,28 @@ impl Tally {
         }
     }
 
-    /// Returns the tally with one more object, which is at `place` and has this head. Returns None if there is no room
-    /// for the object (rule 31).
+    /// Returns the tally with one more object, from `place` to `end` and with so many references. Returns None if there is no
+    /// room for the object (rule 31).
     #[inline(always)]
-    pub fn with(self, frame: &Frame, place: u64, head: &Head) -> Option<Tally>
-        requires low { 1 ≤ frame.now.ref_size }
-        requires head { IsSafeHead frame.now head.now }
-        requires behind { place < head.now.body }
+    pub fn with(self, frame: &Frame, place: u64, end: u64, references: u64) -> Option<Tally>
+        requires extent { place + references < «end» }
+        requires inside { «end» ≤ frame.now.table }
         requires roomy { IsRoomy frame.now self }
-        ensures used { MatchOption result (frame.now.table < self.used + (head.now.«end» - place) + 8)
-            (λ now. now.used ≡ self.used + (head.now.«end» - place)) }
+        ensures used { MatchOption result (frame.now.table < self.used + («end» - place) + 8)
+            (λ now. now.used ≡ self.used + («end» - place)) }
         ensures reached { IfSome result (λ now. now.reached ≡ self.reached + 1) }
-        ensures references { IfSome result (λ now. now.references ≡ self.references + ref_count head.now.kind head.now.count) }
+        ensures references { IfSome result (λ now. now.references ≡ self.references + references) }
         ensures roomy { IfSome result (IsRoomy frame.now) }
     {
         let table = frame.table;
-        let extent = head.end - place;
+        let extent = end - place;
         if extent > table - 8 - self.used {
             return None;
         }
         Some(Tally {
             reached: self.reached + 1,
             used: self.used + extent,
-            references: self.references + refs_of(head),
+            references: self.references + references,
         })
     }
 }

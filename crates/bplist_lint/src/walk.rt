@@ -4,10 +4,11 @@ ghost use Rattle.std.specs.Prelude.{◌≡◌, ◌≢◌, ◌↔◌, ℕ, ◌+�
 ghost use Rattle.bplist_lint.specs.Prelude.{OnlyReads, ObjectFault as object_fault, frame_in, HonestlyIn, content_at, refs, IsSafeHead, ref_count, AreBelow, ref, Dict, failed_to_read, IsMarked, IsRoomy, IsSteady, IsSteadyWalk, Noted, IsWalking, HasRoomFor, IsWalked, AreNamed, of_object, stop_failed, Read as is_read};
 ghost use Rattle.bplist_lint.specs.declared.walk.Stop.TheVariants.{Memory as is_memory};
 
+use crate::heights::unmarked;
 use crate::tally::Tally;
 use bplist_keys::{Failure, NamedKeys, Offsets};
 use bplist_objects::{
-    Framed, Head, Kind, ObjectFault, ObjectNo, check_body, read_refs_in, refs_of, shape_in,
+    Framed, Head, Kind, ObjectFault, ObjectNo, Visit, check_body, read_refs_in, refs_of, visit_in,
 };
 use bplist_octets::ReadFault;
 use std::alloc::{AllocError, AllocFailed, Global};
@@ -98,10 +99,7 @@ impl Reached {
     pub fn containers(&self) -> usize
         ensures { result ≡ count_by not self.now.childless.items }
     {
-        self.childless
-            .iter()
-            .filter(|childless| !**childless)
-            .count()
+        unmarked(&self.childless)
     }
 }
 
@@ -202,17 +200,31 @@ fn visit<P: Offsets>(src: &mut P, n: u32, progress: &mut Progress) -> Result<(),
 {
     let frame = src.frame();
     let place = src.offset(n)?;
-    let head = shape_in(src, ObjectNo(n), place)?;
-    let Some(tally) = progress.tally.with(&frame, place, &head) else {
-        return Err(Stop::Trouble);
-    };
-    progress.tally = tally;
-    if refs_of(&head) == 0 {
-        progress.childless[n as usize] = true;
-        check_body(src, &frame, ObjectNo(n), place, &head)?;
-        Ok(())
-    } else {
-        mark_body(src, &head, &mut progress.worklist, &mut progress.named)
+    match visit_in(src, ObjectNo(n), place)? {
+        Visit::Done(end) => {
+            let Some(tally) = progress.tally.with(&frame, place, end, 0) else {
+                return Err(Stop::Trouble);
+            };
+            progress.tally = tally;
+            progress.childless[n as usize] = true;
+            Ok(())
+        }
+        Visit::Body(head) => {
+            let references = refs_of(&head);
+            let Some(tally) = progress.tally.with(&frame, place, head.end, references) else {
+                return Err(Stop::Trouble);
+            };
+            progress.tally = tally;
+            if references == 0 {
+                progress.childless[n as usize] = true;
+                check_body(src, &frame, ObjectNo(n), place, &head)?;
+                Ok(())
+            } else {
+                // A copy, so that the head of a leaf stays in registers.
+                let container = head;
+                mark_body(src, &container, &mut progress.worklist, &mut progress.named)
+            }
+        }
     }
 }
 
