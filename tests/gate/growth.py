@@ -77,8 +77,8 @@ def wrong_of_family(program, family):
     return wrong
 
 
-def wrong_of_table(program, pool):
-    """What is wrong with each call on the files of the table, or None."""
+def wrong_of_tables(program, pool):
+    """What is wrong with each call on the files of the tables, or None."""
     columns = sorted({vector.file for vector in all_runs() if "=" not in vector.file})
     files = [file for file in map(content, columns) if file is not None and not isinstance(file, Hole)]
     wrong = dict.fromkeys(CALLS)
@@ -111,8 +111,8 @@ def main():
         sys.exit(__doc__)
     program = os.path.abspath(sys.argv[1])
     with concurrent.futures.ThreadPoolExecutor(os.cpu_count()) as pool:
-        names = [family.__name__ for family in FAMILIES] + [TABLE.name]
-        wrongs = [*pool.map(lambda family: wrong_of_family(program, family), FAMILIES), wrong_of_table(program, pool)]
+        names = [family.__name__ for family in FAMILIES] + ["tables"]
+        wrongs = [*pool.map(lambda family: wrong_of_family(program, family), FAMILIES), wrong_of_tables(program, pool)]
     reports = [report(name, wrong) for name, wrong in zip(names, wrongs)]
     passed, failed = (sum(column) for column in zip(*reports))
     print(f"{passed} passed, {failed} failed")
