@@ -20,19 +20,19 @@ punctuation_of _ count = NoForm
 abbrev pub AreInside : List ℕ → ℕ → Type 0
 AreInside order objects = (j : ℕ) → j < length order → slice_index order j < objects
 
--- of the objects below this number, those that the heights vouch for are among these, and each of these is one
-pub record AreVouched (heights : List ℕ) (below : ℕ) (order : List ℕ) : Type 0 where
-  pub all : (n : ℕ) → n < below → IsVouchedBy heights n → Contains order n
-  pub only : (n : ℕ) → Contains order n → IsVouchedBy heights n
+-- of the objects below this number, those that are higher than this are among these, and each of these is one
+pub record AreHigher (heights : List ℕ) (height below : ℕ) (order : List ℕ) : Type 0 where
+  pub all : (n : ℕ) → n < below → height < slice_index heights n → Contains order n
+  pub only : (n : ℕ) → Contains order n → height < slice_index heights n
 
 -- the table has nothing yet
 abbrev pub IsEmpty : Table → Type 0
 IsEmpty sizes = (n : ℕ) → size_in sizes n ≡ None
 
--- the objects that the heights vouch for, in the order of their heights
-pub record IsOrder (heights order : List ℕ) : Type 0 where
-  pub all : (n : ℕ) → IsVouchedBy heights n → Contains order n
-  pub only : (n : ℕ) → Contains order n → IsVouchedBy heights n
+-- the objects that are higher than this, in the order of their heights
+pub record IsOrder (heights : List ℕ) (height : ℕ) (order : List ℕ) : Type 0 where
+  pub all : (n : ℕ) → height < slice_index heights n → Contains order n
+  pub only : (n : ℕ) → Contains order n → height < slice_index heights n
   pub ascends : IsNonDecreasingBy (slice_index heights) order
 
 -- the first k objects of the order have their sizes, and no object that the heights do not vouch for has any

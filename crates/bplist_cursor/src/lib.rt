@@ -19,6 +19,7 @@
 //! | replies to many queries | [`answer`], [`answer_all`], [`Query`], [`Reply`], [`List`] |
 //! | the same from a file and a certificate, which carries the theorem | [`answer_certified`], [`AnswerFault`] |
 //! | numbers of nodes and lengths of texts | [`measure`], [`Measures`], [`Form`] |
+//! | the number of nodes of one value, without a look at a leaf | [`count_nodes`] |
 //! | units that need no quotes | [`is_plain`], [`are_plain`] |
 //!
 //! Every answer is that of the one value that the file holds. `CursorFault::Changed` says that the node's object has no height,
@@ -34,6 +35,7 @@ mod faces;
 mod faults;
 mod form;
 mod found;
+mod height_order;
 mod index;
 mod key_search;
 mod key_texts;
@@ -42,6 +44,7 @@ mod list;
 mod lookup;
 mod measures;
 mod members;
+mod node_counts;
 mod node_face;
 mod node_object;
 mod object_sizes;
@@ -64,6 +67,7 @@ pub use list::List;
 pub use lookup::{locate, locate_counted, locate_in_slice};
 pub use measures::Measures;
 pub use members::{member, member_by_head};
+pub use node_counts::count_nodes;
 pub use node_face::face;
 pub use node_object::node_head;
 pub use object_sizes::measure;
