@@ -14,7 +14,7 @@
 //! |---|---|
 //! | the text of a node's value, up to a limit | [`print`], [`PrintFault`] |
 //! | the same behind other bytes | [`print_into`] |
-//! | the text of units, and of data | [`text_of_units`], [`text_of_bytes`] |
+//! | the text of units, and of data | [`text_of_units`], [`text_of_bytes`]; added to bytes [`add_text_of_units`], [`add_text_of_bytes`] |
 //! | a buffer before a writer, which knows what went out | [`Sink`], [`WriteFault`] |
 //!
 //! `NoAsciiForm` and `TooLong` are decided before the first byte is written. Memory is taken by the depth of the value.
@@ -33,4 +33,4 @@ mod walk;
 pub use print_fault::PrintFault;
 pub use printer::{print, print_into};
 pub use sink::{Sink, WriteFault};
-pub use texts::{text_of_bytes, text_of_units};
+pub use texts::{add_text_of_bytes, add_text_of_units, text_of_bytes, text_of_units};

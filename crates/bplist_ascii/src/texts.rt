@@ -2,13 +2,15 @@
 
 ghost use Rattle.std.specs.Prelude.{◌≡◌, ◌≤◌, ◌++◌, ℕ, List, true, length, take, IfOk, OnOk};
 ghost use Rattle.std.specs.Char.{is_ascii_alphanumeric};
-ghost use Rattle.std.specs.List.{list_all};
+ghost use Rattle.std.specs.List.{flat_map, list_all};
 ghost use Rattle.bplist_cursor.specs.Texts as spec;
 ghost use Rattle.bplist_ascii.specs.Prelude.{hex_digits};
 
 use bplist_cursor::are_plain;
 use std::alloc::{AllocError, Global};
 use std::marker::Model;
+
+const DIGITS: &[u8; 16] = b"0123456789abcdef";
 
 /// The old-style text of a text with these 16-bit units: the units themselves where there is one and each is a
 /// letter or a digit of ASCII, else a quoted text, whatever the units are.
@@ -17,28 +19,32 @@ use std::marker::Model;
 pub fn text_of_units(alloc: Global, units: &[u16]) -> Result<Vec<u8>, AllocError>
     ensures { IfOk result (λ text. text.items ≡ spec.text_of_units units.now) }
 {
-    if !units.is_empty() && are_plain(units) {
-        return unquoted_text(alloc, units);
-    }
     let mut text = Vec::new(alloc);
-    text.push(b'"')?;
-    for unit in units {
-        add_quoted(*unit, &mut text)?;
-    }
-    text.push(b'"')?;
+    add_text_of_units(units, &mut text)?;
     Ok(text)
 }
 
-/// The units themselves, a byte for each.
-fn unquoted_text(alloc: Global, units: &[u16]) -> Result<Vec<u8>, AllocError>
-    requires { list_all is_ascii_alphanumeric units.now ≡ true }
-    ensures { IfOk result (λ text. text.items ≡ units.now) }
+/// Adds the old-style text of a text with these 16-bit units, as [`text_of_units`] gives it.
+pub fn add_text_of_units(units: &[u16], text: &mut Vec<u8>) -> Result<(), AllocError>
+    ensures { OnOk result (text.new.items ≡ text.old.items ++ spec.text_of_units units.now) }
 {
-    let mut text = Vec::new(alloc);
+    if !units.is_empty() && are_plain(units) {
+        return add_plain(units, text);
+    }
+    text.push(b'"')?;
+    add_quoted(units, text)?;
+    Ok(text.push(b'"')?)
+}
+
+/// Adds the units themselves, a byte for each.
+fn add_plain(units: &[u16], text: &mut Vec<u8>) -> Result<(), AllocError>
+    requires { list_all is_ascii_alphanumeric units.now ≡ true }
+    ensures { OnOk result (text.new.items ≡ text.old.items ++ units.now) }
+{
     for unit in units {
         text.push(*unit as u8)?;
     }
-    Ok(text)
+    Ok(())
 }
 
 /// The old-style text of data: two lower-case hexadecimal digits a byte, between `<` and `>`.
@@ -48,37 +54,45 @@ pub fn text_of_bytes(alloc: Global, bytes: &[u8]) -> Result<Vec<u8>, AllocError>
     ensures { IfOk result (λ text. text.items ≡ spec.text_of_bytes bytes.now) }
 {
     let mut text = Vec::new(alloc);
-    text.push(b'<')?;
-    for byte in bytes {
-        add_digits(*byte, &mut text)?;
-    }
-    text.push(b'>')?;
+    add_text_of_bytes(bytes, &mut text)?;
     Ok(text)
 }
 
-/// Adds a unit as it stands between quotes.
-fn add_quoted(unit: u16, text: &mut Vec<u8>) -> Result<(), AllocError>
-    ensures { OnOk result (text.new.items ≡ text.old.items ++ spec.quoted_unit unit) }
+/// Adds the old-style text of data, as [`text_of_bytes`] gives it.
+pub fn add_text_of_bytes(bytes: &[u8], text: &mut Vec<u8>) -> Result<(), AllocError>
+    ensures { OnOk result (text.new.items ≡ text.old.items ++ spec.text_of_bytes bytes.now) }
 {
-    text.extend_from_slice(QuotedUnit::new(unit).as_slice())
+    text.push(b'<')?;
+    add_digits(bytes, text)?;
+    Ok(text.push(b'>')?)
 }
 
-/// Adds the two hexadecimal digits of a byte.
-fn add_digits(byte: u8, text: &mut Vec<u8>) -> Result<(), AllocError>
-    ensures { OnOk result (text.new.items ≡ text.old.items ++ hex_digits byte) }
+/// Adds units as they stand between quotes.
+fn add_quoted(units: &[u16], text: &mut Vec<u8>) -> Result<(), AllocError>
+    ensures { OnOk result (text.new.items ≡ text.old.items ++ flat_map spec.quoted_unit units.now) }
 {
-    text.extend_from_slice(&digits_of(byte))
+    for unit in units {
+        text.extend_from_slice(QuotedUnit::new(*unit).as_slice())?;
+    }
+    Ok(())
+}
+
+/// Adds the two hexadecimal digits of each byte.
+fn add_digits(bytes: &[u8], text: &mut Vec<u8>) -> Result<(), AllocError>
+    ensures { OnOk result (text.new.items ≡ text.old.items ++ flat_map hex_digits bytes.now) }
+{
+    for byte in bytes {
+        text.extend_from_slice(&digits_of(*byte))?;
+    }
+    Ok(())
 }
 
 /// The two hexadecimal digits of a byte.
-#[tactic(auto, unfolding(hex::specs::Hex::encode_with))]
 pub(crate) fn digits_of(byte: u8) -> [u8; 2]
     ensures { result ≡ hex_digits byte }
 {
-    let mut digits = [0; 2];
-    // Two digits are the room that one byte wants, so this is never refused.
-    let _ = hex::encode_to_slice([byte], &mut digits);
-    digits
+    let (high, low) = (byte / 16, byte % 16);
+    [DIGITS[high as usize], DIGITS[low as usize]]
 }
 
 /// A unit as it stands between quotes, in one to six bytes.
